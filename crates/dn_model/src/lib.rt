@@ -1,13 +1,28 @@
-// A library with one function.
+//! The types of `deltanet`, the definitions that its contracts cite (`specs/`), and a plain evaluator of them.
+//!
+//! Addresses are IPv4 destination addresses as numbers from 0 to 2^32 - 1.
 #![tactic(auto)]
 
-ghost use Rattle.std.specs.Prelude.{◌≡◌};
-ghost use Rattle.dn_model.specs.Echo.{echo_of};
+mod answer;
+mod entry;
+mod ids;
+mod list;
+mod memory;
+mod name;
+mod prefix;
+mod query;
+mod target;
+mod text;
+mod told;
 
-// The `ensures` clause is the contract: what `echo` returns is `echo_of` of its argument, a definition
-// in `specs/Echo.antt`, which a caller's clause can cite too.
-pub fn echo(x: usize) -> usize
-    ensures { result ≡ echo_of x }
-{
-    x
-}
+pub use answer::{Answer, PathEnd};
+pub use entry::{Entry, Op, Posted, Route};
+pub use ids::{LinkId, RouterId};
+pub use list::List;
+pub use memory::OutOfMemory;
+pub use name::{Name, is_name};
+pub use prefix::Prefix;
+pub use query::{Ask, Query, Unknown};
+pub use target::{DropKind, Target};
+pub use text::Text;
+pub use told::{FeedEnd, FeedTold, JobTold, Outcome, RefusedFrame, Told};

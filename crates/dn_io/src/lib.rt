@@ -5,6 +5,8 @@
 #![tactic(auto)]
 
 mod refusals;
+#[cfg(test)]
+mod tests;
 mod traits;
 
 pub use refusals::Failed;

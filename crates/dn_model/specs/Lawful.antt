@@ -1,0 +1,100 @@
+-- When a history and the pins of queries are lawful: the history is a shuffle of what the feeds gave, and each query's
+-- pin holds exactly what its job's earlier lines took.
+use Rattle.std.specs.Prelude.{ℕ, Bool, true, false, List, [], ◌∷◌, ◌++◌, ◌≡◌, ◌≤◌, ◌==◌, suc, not, All, length, map, filter, take, drop, Option, None, Some, if◌then◌else◌, IsTrue}
+use Rattle.std.specs.List.{list_any}
+use Rattle.dn_model.specs.Answer.{unknown_of, IsAnswer}
+use Rattle.dn_model.specs.Steps.{FrameStep, updates, FeedRead, entries_of}
+use Rattle.dn_model.specs.declared.ids.RouterId.{RouterId}
+use Rattle.dn_model.specs.declared.topology.Topology.{Topology}
+use Rattle.dn_model.specs.declared.entry.Entry.{Entry}
+use Rattle.dn_model.specs.declared.query.Query.{Query}
+use Rattle.dn_model.specs.declared.script.Line.{Line}
+use Rattle.dn_model.specs.declared.script.Line.TheVariants.{Take, Ask}
+use Rattle.dn_model.specs.declared.told.Outcome.{Outcome}
+use Rattle.dn_model.specs.declared.told.Outcome.TheVariants.{Answered, Unknown}
+use Rattle.dn_model.specs.declared.told.Told.{Told}
+use Rattle.dn_model.specs.declared.told.JobTold.{JobTold}
+
+-- whether an entry came from a feed
+abbrev pub is_from : FeedRead → Entry → Bool
+is_from f e = e.feed_no == f.feed_no
+
+-- whether an entry came from one of these feeds
+abbrev pub is_from_some : List FeedRead → Entry → Bool
+is_from_some feeds e = list_any (λ f. is_from f e) feeds
+
+-- a history is a shuffle of the updates of the feeds: each feed's are there, in order, and no others
+pub record IsShuffle (feeds : List FeedRead) (history : List Entry) : Type 0 where
+  pub each : All (λ f. filter (is_from f) history ≡ entries_of f (updates f.steps)) feeds
+  pub only : All (λ e. IsTrue (is_from_some feeds e)) history
+
+-- whether a line takes frames of this router's feed
+abbrev pub takes : RouterId → Line → Bool
+takes r (Take l q count) = q.0 == r.0
+takes r (Ask l query) = false
+
+-- the frames of a feed that are left where a line took all, or some from the front
+abbrev pub taken_by_count : Option ℕ → List FrameStep → List FrameStep
+taken_by_count None steps = steps
+taken_by_count (Some n) steps = take n steps
+
+abbrev pub left_by_count : Option ℕ → List FrameStep → List FrameStep
+left_by_count None steps = []
+left_by_count (Some n) steps = drop n steps
+
+-- the frames of a router's feed that lines take of it, of these that are left
+abbrev pub taken : List Line → RouterId → List FrameStep → List FrameStep
+taken [] r steps = []
+taken (Ask l query ∷ lines) r steps = taken lines r steps
+taken (Take l q count ∷ lines) r steps =
+    if q.0 == r.0 then taken_by_count count steps ++ taken lines r (left_by_count count steps) else taken lines r steps
+
+-- a job: the lines of its script, none where it has no script, and the feeds that it alone takes
+pub record Job : Type 0 where
+  pub lines : List Line
+  pub feeds : List FeedRead
+
+-- whether a script takes a feed
+abbrev pub takes_feed : List Line → FeedRead → Bool
+takes_feed lines f = list_any (takes f.router) lines
+
+-- a job for each script, which has the feeds that it takes, and then one for each feed that no script takes
+abbrev pub jobs_of : List (List Line) → List FeedRead → List Job
+jobs_of scripts feeds =
+    map (λ lines. record { lines = lines; feeds = filter (takes_feed lines) feeds }) scripts
+    ++ map (λ f. record { lines = []; feeds = f ∷ [] }) (filter (λ f. not (list_any (λ lines. takes_feed lines f) scripts)) feeds)
+
+-- the history as a query's pin shows it holds of each feed of the job exactly the updates that the lines before took
+abbrev pub HoldsWhatWasTaken : List FeedRead → List Line → List Entry → Type 0
+HoldsWhatWasTaken feeds before seen = All (λ f. filter (is_from f) seen ≡ entries_of f (updates (taken before f.router f.steps))) feeds
+
+-- What is told of a query after some lines, where the last pin was `last`: its first unknown name, or the answer over
+-- the first entries of the history, up to its pin.
+abbrev pub IsOutcome : Topology → List Entry → Job → List Line → ℕ → Query → Outcome → Type 0
+IsOutcome t history job before last q (Unknown u) = unknown_of t q ≡ Some u
+IsOutcome t history job before last q (Answered n answer) =
+    (unknown_of t q ≡ None) × (last ≤ n) × (n ≤ length history)
+    × HoldsWhatWasTaken job.feeds before (take n history) × IsAnswer t (take n history) q answer
+
+-- the last pin after this outcome
+abbrev pub pin_after : ℕ → Outcome → ℕ
+pin_after last (Unknown u) = last
+pin_after last (Answered n answer) = n
+
+-- What is told of the lines that are left: one outcome for each query, in order, each with its line.
+abbrev pub Tells : Topology → List Entry → Job → List Line → ℕ → List Line → List Told → Type 0
+Tells t history job before last [] [] = Unit {0}
+Tells t history job before last [] (told ∷ rest) = ⊥
+Tells t history job before last (Take l q count ∷ lines) tolds = Tells t history job (before ++ Take l q count ∷ []) last lines tolds
+Tells t history job before last (Ask l query ∷ lines) [] = ⊥
+Tells t history job before last (Ask l query ∷ lines) (told ∷ rest) =
+    (told.line ≡ l) × (told.query ≡ query) × IsOutcome t history job before last query told.outcome
+    × Tells t history job (before ++ Ask l query ∷ []) (pin_after last told.outcome) lines rest
+
+-- what is told of each job, numbered from the first's number
+abbrev pub TellsAll : Topology → List Entry → ℕ → List Job → List JobTold → Type 0
+TellsAll t history number [] [] = Unit {0}
+TellsAll t history number [] (told ∷ rest) = ⊥
+TellsAll t history number (job ∷ jobs) [] = ⊥
+TellsAll t history number (job ∷ jobs) (told ∷ rest) =
+    (told.number ≡ number) × Tells t history job [] 0 job.lines told.told × TellsAll t history (suc number) jobs rest

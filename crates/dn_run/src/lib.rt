@@ -1,8 +1,5 @@
 //! The whole run of the program: words, topology, script, feed, jobs, report.
 #![tactic(auto)]
 
-mod decimal;
 mod files;
-mod script_text;
-mod text_cut;
-mod words;
+mod status;

@@ -4,6 +4,7 @@
 #![tactic(auto)]
 
 mod answer;
+pub mod cause;
 mod entry;
 mod ids;
 mod list;
@@ -19,6 +20,7 @@ mod target;
 mod text;
 mod told;
 mod topology;
+mod topology_fault;
 
 pub use answer::{Answer, PathEnd};
 pub use entry::{Entry, Op, Posted, Route};
@@ -36,3 +38,4 @@ pub use target::{DropKind, Target};
 pub use text::Text;
 pub use told::{FeedEnd, FeedTold, JobTold, Outcome, RefusedFrame, Told};
 pub use topology::{TopoEnd, TopoLink, Topology};
+pub use topology_fault::{TopoFault, TopoPart, TopoRefused};

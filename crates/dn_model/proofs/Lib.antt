@@ -1,0 +1,3 @@
+pub mod FramesLemmas
+pub mod Lookups
+pub mod Walks

@@ -5,6 +5,7 @@
 
 mod answer;
 mod entry;
+mod error_line;
 mod ids;
 mod list;
 mod lookup;
@@ -24,6 +25,7 @@ mod topology;
 
 pub use answer::{Answer, PathEnd};
 pub use entry::{Entry, Op, Posted, Route};
+pub use error_line::ErrorLine;
 pub use ids::{LinkId, RouterId};
 pub use list::List;
 pub use lookup::{link, port, router};

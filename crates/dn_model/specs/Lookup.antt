@@ -1,19 +1,35 @@
--- How names of routers and links are looked up.
-use Rattle.std.specs.Prelude.{ℕ, List, map, position, Option}
-use Rattle.std.specs.Option.{option_map}
-use Rattle.dn_model.specs.Topology.{same_text}
+-- How names and interfaces are looked up in a topology.
+use Rattle.std.specs.Prelude.{ℕ, Bool, List, [], ◌∷◌, ◌++◌, ◌+◌, map, position, Option, option_map}
+use Rattle.std.specs.Map.{lookup}
 use Rattle.dn_model.specs.declared.ids.RouterId.{RouterId}
 use Rattle.dn_model.specs.declared.ids.LinkId.{LinkId}
+use Rattle.dn_model.specs.declared.topology.TopoEnd.{TopoEnd}
+use Rattle.dn_model.specs.declared.topology.TopoLink.{TopoLink}
 use Rattle.dn_model.specs.declared.topology.Topology.{Topology}
+use Rattle.dn_model.specs.declared.lookup.Port.{Port}
+use Rattle.dn_model.specs.declared.lookup.Port.TheVariants.{Link, Edge}
+use Rattle.dn_model.specs.Topology.{same_text, same_end}
 
--- the first place of a text in a list
-abbrev pub place_of : List ℕ → List (List ℕ) → Option ℕ
-place_of text names = position (same_text text) names
-
--- the router of this name
+-- the router of a name: the first place in the list that has it
 abbrev pub router_of : Topology → List ℕ → Option RouterId
-router_of t name = option_map (λ i. record { 0 = i }) (place_of name t.routers)
+router_of t name = option_map (λ i. record { 0 = i }) (position (λ n. same_text n name) t.routers)
 
--- the link of this name
+-- the link of a name: the first place in the list that has it
 abbrev pub link_of : Topology → List ℕ → Option LinkId
-link_of t name = option_map (λ i. record { 0 = i }) (place_of name (map (λ l. l.name) t.links))
+link_of t name = option_map (λ i. record { 0 = i }) (position (λ l. same_text l.name name) t.links)
+
+-- both ends of each link, numbered from i, and beside each end what is there: the router at the other end
+abbrev pub ports_of_links : ℕ → List TopoLink → List (TopoEnd × Port)
+ports_of_links i [] = []
+ports_of_links i (l ∷ ls) =
+    (l.first, Link l.second.router (record { 0 = i }) l.unnumbered)
+    ∷ (l.second, Link l.first.router (record { 0 = i }) l.unnumbered)
+    ∷ ports_of_links (i + 1) ls
+
+-- each interface of the network, and what is there
+abbrev pub ports_of : Topology → List (TopoEnd × Port)
+ports_of t = ports_of_links 0 t.links ++ map (λ e. (e, Edge)) t.edges
+
+-- what is at a router's interface of this number
+abbrev pub port_of : Topology → RouterId → ℕ → Option Port
+port_of t r index = lookup (same_end (record { router = r; index = index })) (ports_of t)

@@ -1,2 +1,3 @@
+pub mod FramesLemmas
 pub mod Lookups
 pub mod Message

@@ -115,8 +115,8 @@ again : (del : Bool) (p : Cidr) (metric : Option ℕ) (kind : RouteKind) (via : 
     guessed (message_text (with_fields del p metric kind via oif)) ≡ with_fields del p metric kind via oif
 unfolding route
 again true p metric kind via oif c k h f g = rw (k, h.0, h.1) (delete_again p.base p.len metric (p.len == 0) refl c f)
-again false p None kind via oif c k h f g = absurd h.0
-again false p (Some m) kind via None c k h f g = absurd h.1
+again false p None kind via oif c k h f g = cc
+again false p (Some m) kind via None c k h f g = cc
 again false p (Some m) kind via (Some i) c k h f g = rw k (set_again p.base p.len m i via (p.len == 0) refl c f g)
 
 -- the fields of a route's message are the route's

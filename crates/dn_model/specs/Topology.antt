@@ -1,9 +1,8 @@
 -- What a topology is, and how its routers, links and interfaces are found.
-use Rattle.std.specs.Prelude.{ℕ, Bool, true, false, List, [], ◌∷◌, ◌++◌, length, nat_le, nat_lt, ◌&&◌, ◌||◌, ◌==◌, not, map, Option, None, Some}
+use Rattle.std.specs.Prelude.{ℕ, Bool, true, false, List, [], ◌∷◌, ◌++◌, length, nat_le, nat_lt, ◌&&◌, ◌==◌, not, map}
 use Rattle.std.specs.List.{list_all, list_any}
 use Rattle.std.specs.Str.{bytes_eq}
 use Rattle.dn_model.specs.Name.{is_name_text}
-use Rattle.dn_model.specs.declared.ids.RouterId.{RouterId}
 use Rattle.dn_model.specs.declared.topology.TopoEnd.{TopoEnd}
 use Rattle.dn_model.specs.declared.topology.TopoLink.{TopoLink}
 

@@ -1,0 +1,8 @@
+//! The whole run of the program: words, topology, script, feed, jobs, report.
+#![tactic(auto)]
+
+mod decimal;
+mod files;
+mod script_text;
+mod text_cut;
+mod words;

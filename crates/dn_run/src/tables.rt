@@ -1,6 +1,6 @@
 //! The routing tables of all routers, as plain lists of routes.
 
-ghost use Rattle.std.specs.Prelude.{◌≡◌, ◌<◌, ◌++◌, ◌∷◌, [], List, IfOk, OnOk, OnErr, length, filter, map, not, slice_set, slice_index_or, replicate, vec_len, vec_capacity};
+ghost use Rattle.std.specs.Prelude.{◌≡◌, ◌<◌, ◌≤◌, ◌++◌, ◌∷◌, [], List, IfOk, OnOk, OnErr, length, filter, map, not, slice_set, slice_index_or, replicate, vec_len, vec_capacity};
 ghost use Rattle.dn_model.specs.Cidr.{covers};
 ghost use Rattle.dn_model.specs.Table.{is_of_prefix, has_key, after_op, goes_before, better, best, target_in, TablesOf};
 ghost use Rattle.dn_model.specs.Walk.{is_down, without, next, next_in, walk, walk_end};
@@ -116,7 +116,8 @@ fn first_of(x: Option<Route>, y: Route) -> Option<Route>
     let Some(x) = x else {
         return Some(y);
     };
-    let goes_first = x.prefix.len() < y.prefix.len() || (y.prefix.len() == x.prefix.len() && y.metric < x.metric);
+    let goes_first = x.prefix.len() < y.prefix.len()
+        || (y.prefix.len() == x.prefix.len() && y.metric < x.metric);
     if goes_first { Some(y) } else { Some(x) }
 }
 
@@ -170,7 +171,13 @@ fn next_by(routers: &[Vec<Route>], down: &[LinkId], a: u32, router: RouterId) ->
 }
 
 /// The walk of an address by the lists of all routers.
-fn walk_by(alloc: Global, routers: &[Vec<Route>], down: &[LinkId], first: RouterId, a: u32) -> Result<(List<RouterId>, PathEnd), OutOfMemory>
+fn walk_by(
+    alloc: Global,
+    routers: &[Vec<Route>],
+    down: &[LinkId],
+    first: RouterId,
+    a: u32,
+) -> Result<(List<RouterId>, PathEnd), OutOfMemory>
     ensures hops { IfOk result (λ answer. answer.0 ≡ walk (next_in (map (λ v. v.items) routers.now) down.now a) (length routers.now) first) }
     ensures end { IfOk result (λ answer. answer.1 ≡ walk_end (next_in (map (λ v. v.items) routers.now) down.now a) (length routers.now) first) }
 {
@@ -230,7 +237,13 @@ impl Tables {
 
     /// The walk of the address `a` (0 to 2^32 - 1) from a router, where the links `down` are down: its routers in
     /// order, the first one included, and how it ends. At most as many hops are made as there are routers.
-    pub fn walk(&self, alloc: Global, down: &[LinkId], first: RouterId, a: u32) -> Result<(List<RouterId>, PathEnd), OutOfMemory>
+    pub fn walk(
+        &self,
+        alloc: Global,
+        down: &[LinkId],
+        first: RouterId,
+        a: u32,
+    ) -> Result<(List<RouterId>, PathEnd), OutOfMemory>
         ensures hops { IfOk result (λ answer. (history : List Entry) → TablesOf self.now history → answer.0 ≡ walk (next history down.now a) (length self.now) first) }
         ensures end { IfOk result (λ answer. (history : List Entry) → TablesOf self.now history → answer.1 ≡ walk_end (next history down.now a) (length self.now) first) }
     {

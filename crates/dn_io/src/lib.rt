@@ -4,11 +4,17 @@
 //! what contracts name, so code above is generic over them.
 #![tactic(auto)]
 
+mod mem_sink;
+mod mem_source;
+mod plan;
 mod refusals;
+mod remainder;
 #[cfg(test)]
 mod tests;
 mod traits;
 
+pub use mem_sink::MemSink;
+pub use mem_source::MemSource;
 pub use refusals::Failed;
 pub use refusals::WorldRefused;
 pub use traits::Gate;

@@ -1,4 +1,6 @@
-//! Running a network's feeds and scripts.
+//! The whole run of the program: words, topology, script, feed, jobs, report.
 #![tactic(auto)]
 
+mod files;
+mod status;
 mod tables;

@@ -36,7 +36,7 @@ pub use lookup::{link, port, router};
 pub use memory::OutOfMemory;
 pub use name::{Name, is_name};
 pub use ports::Port;
-pub use plain::{plain_routes, plain_target, plain_walk};
+pub use plain::{plain_answer, plain_routes, plain_target, plain_walk};
 pub use prefix::Prefix;
 pub use print::{print_address, print_prefix, print_run, print_target, push_address, push_bytes, push_decimal, push_link, push_prefix, push_router, push_target};
 pub use query::{Ask, Query, Unknown};

@@ -1,3 +1,4 @@
+mod TablesLemmas
 pub mod CallsLemmas
 pub mod Cuts
 pub mod Digits

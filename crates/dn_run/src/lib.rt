@@ -8,3 +8,4 @@ mod script_text;
 mod status;
 mod text_cut;
 mod words;
+mod tables;

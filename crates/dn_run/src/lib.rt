@@ -2,10 +2,13 @@
 #![tactic(auto)]
 
 mod decimal;
+mod feed_reader;
+mod feed_step;
 mod files;
+mod network;
 mod script_line;
 mod script_text;
 mod status;
+mod tables;
 mod text_cut;
 mod words;
-mod tables;

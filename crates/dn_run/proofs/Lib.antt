@@ -1,4 +1,5 @@
 mod TablesLemmas
+pub mod TracksLemmas
 pub mod CallsLemmas
 pub mod Cuts
 pub mod Digits

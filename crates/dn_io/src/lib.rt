@@ -4,19 +4,25 @@
 //! what contracts name, so code above is generic over them.
 #![tactic(auto)]
 
+mod call_book;
 mod mem_sink;
 mod mem_source;
 mod plan;
 mod refusals;
 mod remainder;
+mod sure;
 #[cfg(test)]
 mod tests;
 mod traits;
 
+pub use call_book::CallBook;
 pub use mem_sink::MemSink;
 pub use mem_source::MemSource;
 pub use refusals::Failed;
 pub use refusals::WorldRefused;
+pub use sure::NoGate;
+pub use sure::SureSink;
+pub use sure::SureSource;
 pub use traits::Gate;
 pub use traits::Point;
 pub use traits::Sink;

@@ -5,6 +5,7 @@
 #![tactic(auto)]
 
 mod call_book;
+mod files;
 mod mem_sink;
 mod mem_source;
 mod plan;
@@ -16,6 +17,8 @@ mod tests;
 mod traits;
 
 pub use call_book::CallBook;
+pub use files::MemFile;
+pub use files::SureFile;
 pub use mem_sink::MemSink;
 pub use mem_source::MemSource;
 pub use refusals::Failed;

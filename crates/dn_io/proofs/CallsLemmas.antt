@@ -1,7 +1,7 @@
 -- Laws of lists of calls.
-use Rattle.std.proofs.Common.{◌≡◌, ℕ, zero, suc, ◌<◌, List, [], ◌∷◌, ◌++◌, length, get_or, set, refl, ap, sym, ◌∙◌, subst, arith, Option, Some, None, string_bytes, map}
+use Rattle.std.proofs.Common.{◌≡◌, ℕ, zero, suc, ◌<◌, List, [], ◌∷◌, ◌++◌, length, get_or, set, refl, ap, sym, ◌∙◌, subst, arith, Option, Some, None, string_bytes, map, Bool, true, false, ◌||◌}
 use Rattle.std.proofs.lemmas.List.{length-map}
-use Rattle.dn_io.specs.Calls.{Call, CallState, call_of, with_state, state_at, name_at}
+use Rattle.dn_io.specs.Calls.{Call, CallState, Back, call_of, with_out, with_state, state_at, name_at, some_failed, state_failed, NoneFailed}
 use Rattle.dn_io.specs.BookView.{shown_entry, shown_state}
 use Rattle.dn_io.specs.declared.call_book.Entry.{Entry}
 use Rattle.dn_io.specs.declared.call_book.NameState.{NameState}
@@ -43,3 +43,29 @@ pub set-kept : (es : List Entry) (calls : List Call) (i : ℕ) (e : Entry) (s : 
 set-kept es calls i e s v below is =
     shown-set es i (record { name = e.name; state = s }) e (below_kept es calls i v below) (ap (λ x. x.name) is)
       ∙ ap (λ t. with_state t i (shown_state s)) v
+
+-- what has a state is a place of the calls
+pub state_at-below : (calls : List Call) (i : ℕ) (s : CallState) → state_at calls i ≡ Some s → i < length calls
+state_at-below [] i s e = grind (arith, e)
+state_at-below (x ∷ calls) zero s e = omega arith
+state_at-below (x ∷ calls) (suc i) s e = let h = state_at-below calls i s e in omega (arith, h)
+
+-- a name that was handed out has not failed
+pub some_failed-out : (calls : List Call) (name : List ℕ) → some_failed (with_out calls name) ≡ some_failed calls
+some_failed-out [] name = refl
+some_failed-out (x ∷ calls) name = ap (λ b. state_failed x.state || b) (some_failed-out calls name)
+
+or_right : (a b : Bool) → (a || b) ≡ false → b ≡ false
+or_right true b h = grind (arith, h)
+or_right false b h = h
+
+or_left : (a b : Bool) → (a || b) ≡ false → a ≡ false
+or_left true b h = h
+or_left false b h = refl
+
+-- a source that came back without a fault adds none
+pub NoneFailed-back : (calls : List Call) (i : ℕ) (left : Option (List ℕ)) → NoneFailed calls → NoneFailed (with_state calls i (Back false left))
+NoneFailed-back [] i left h = h
+NoneFailed-back (x ∷ calls) zero left h = or_right (state_failed x.state) (some_failed calls) h
+NoneFailed-back (x ∷ calls) (suc i) left h =
+    rw (or_left (state_failed x.state) (some_failed calls) h) (NoneFailed-back calls i left (or_right (state_failed x.state) (some_failed calls) h))

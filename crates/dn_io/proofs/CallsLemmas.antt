@@ -1,7 +1,7 @@
 -- Laws of lists of calls.
-use Rattle.std.proofs.Common.{◌≡◌, ℕ, zero, suc, ◌<◌, List, [], ◌∷◌, ◌++◌, length, get_or, set, refl, ap, sym, ◌∙◌, subst, arith, Option, Some, None, string_bytes, map, Bool, true, false, ◌||◌}
+use Rattle.std.proofs.Common.{◌≡◌, ℕ, zero, suc, ◌<◌, List, [], ◌∷◌, ◌++◌, length, get_or, set, refl, ap, sym, ◌∙◌, subst, arith, Option, Some, None, string_bytes, map, Bool, true, false, ◌||◌, Result, Ok, Err, OnOk, OnErr}
 use Rattle.std.proofs.lemmas.List.{length-map}
-use Rattle.dn_io.specs.Calls.{Call, CallState, Back, call_of, with_out, with_state, state_at, name_at, some_failed, state_failed, NoneFailed}
+use Rattle.dn_io.specs.Calls.{Call, CallState, Back, call_of, with_out, with_state, state_at, name_at, some_failed, state_failed, NoneFailed, IsOutAt}
 use Rattle.dn_io.specs.BookView.{shown_entry, shown_state}
 use Rattle.dn_io.specs.declared.call_book.Entry.{Entry}
 use Rattle.dn_io.specs.declared.call_book.NameState.{NameState}
@@ -44,11 +44,11 @@ set-kept es calls i e s v below is =
     shown-set es i (record { name = e.name; state = s }) e (below_kept es calls i v below) (ap (λ x. x.name) is)
       ∙ ap (λ t. with_state t i (shown_state s)) v
 
--- what has a state is a place of the calls
-pub state_at-below : (calls : List Call) (i : ℕ) (s : CallState) → state_at calls i ≡ Some s → i < length calls
-state_at-below [] i s e = grind (arith, e)
-state_at-below (x ∷ calls) zero s e = omega arith
-state_at-below (x ∷ calls) (suc i) s e = let h = state_at-below calls i s e in omega (arith, h)
+-- what is Out is a place of the calls
+pub IsOutAt-below : (calls : List Call) (i : ℕ) → IsOutAt calls i → i < length calls
+IsOutAt-below [] i e = grind (arith, e)
+IsOutAt-below (x ∷ calls) zero e = omega arith
+IsOutAt-below (x ∷ calls) (suc i) e = let h = IsOutAt-below calls i e in omega (arith, h)
 
 -- a name that was handed out has not failed
 pub some_failed-out : (calls : List Call) (name : List ℕ) → some_failed (with_out calls name) ≡ some_failed calls
@@ -69,3 +69,8 @@ NoneFailed-back [] i left h = h
 NoneFailed-back (x ∷ calls) zero left h = or_right (state_failed x.state) (some_failed calls) h
 NoneFailed-back (x ∷ calls) (suc i) left h =
     rw (or_left (state_failed x.state) (some_failed calls) h) (NoneFailed-back calls i left (or_right (state_failed x.state) (some_failed calls) h))
+
+-- whether or not a name was added as handed out, none has failed
+pub NoneFailed-added : {T E : Type 0} (r : Result T E) (old new : List Call) (name : List ℕ) → OnOk r (new ≡ with_out old name) → OnErr r (new ≡ old) → NoneFailed old → NoneFailed new
+NoneFailed-added (Ok x) old new name added same h = ap some_failed added ∙ some_failed-out old name ∙ h
+NoneFailed-added (Err x) old new name added same h = ap some_failed same ∙ h

@@ -75,9 +75,12 @@ impl MemWorld {
         }
     }
 
+    #[tactic(auto, using(crate::proofs::FilesLemmas::named))]
     fn hand_out(&mut self, name: &str) -> Result<MemSource, WorldRefused>
         requires { length self.old.calls < 2 ^ 32 }
         ensures opened { IfOk result (λ src. IsSomeAnd (file_named self.old.files name.now) (λ file. src ≡ fresh_source file (length self.old.calls))) }
+        ensures has_bytes { IfOk result (λ src. IsSome (bytes_of (mem_files self.old) name.now)) }
+        ensures left { IfOk result (λ src. Some src.left ≡ bytes_of (mem_files self.old) name.now) }
         ensures handed_out { OnOk result (self.new.calls ≡ with_out self.old.calls name.now) }
         ensures refused { IfErr result (λ cause. self.new.calls ≡ with_refusal cause self.old.calls name.now) }
         ensures failed { IfErr result (λ cause. cause ≡ WorldRefused.Failed → file_named self.old.files name.now ≡ None) }

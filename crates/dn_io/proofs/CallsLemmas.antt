@@ -42,7 +42,7 @@ name-kept es calls i e v below is =
 pub set-kept : (es : List Entry) (calls : List Call) (i : ℕ) (e : Entry) (s : NameState) → map shown_entry es ≡ calls → i < length calls → e ≡ get_or es i e → map shown_entry (set es i (record { name = e.name; state = s })) ≡ with_state calls i (shown_state s)
 set-kept es calls i e s v below is =
     shown-set es i (record { name = e.name; state = s }) e (below_kept es calls i v below) (ap (λ x. x.name) is)
-      ∙ ap (λ t. with_state t i (shown_state s)) v
+    ∙ ap (λ t. with_state t i (shown_state s)) v
 
 -- what is Out is a place of the calls
 pub IsOutAt-below : (calls : List Call) (i : ℕ) → IsOutAt calls i → i < length calls

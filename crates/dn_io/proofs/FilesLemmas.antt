@@ -9,6 +9,6 @@ pub bytes_among-named : (files : List MemFileView) (name : List ℕ) → bytes_a
 bytes_among-named [] name = refl
 bytes_among-named (file ∷ files) name =
     elim (bytes_eq file.name name) as (λ b. cond b (Some file.bytes) (bytes_among (map told_file files) None name) ≡ option_map (λ f. f.bytes) (cond b (Some file) (file_named files name)))
-      [ true ↦ refl | false ↦ bytes_among-named files name ]
+    [ true ↦ refl | false ↦ bytes_among-named files name ]
 
 pub ruleset named = (bytes_among-named)

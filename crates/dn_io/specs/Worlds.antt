@@ -45,7 +45,8 @@ fresh_source file place = record {
   left = file.bytes;
   step = file.step;
   place = place;
-  plan = record { fails = file.fails; calls = 0; faults = 0 } }
+  plan = record { fails = file.fails; calls = 0; faults = 0 };
+}
 
 -- a world that never fails: its files and its calls
 pub record SureWorldView : Type 0 where

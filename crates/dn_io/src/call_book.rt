@@ -1,14 +1,13 @@
 //! What a world was asked for: a list of names, each with its state.
 
-use crate::remainder::Remainder;
-use std::alloc::AllocError;
-use std::alloc::Global;
-use std::marker::Model;
-
 ghost use Rattle.std.specs.Prelude.{◌≡◌, ℕ, ◌==◌, ◌<◌, Option, Some, None, [], ◌++◌, ◌∷◌, length, List, OnOk, OnErr};
 ghost use Rattle.std.specs.Option.{option_copied, option_map};
 ghost use Rattle.dn_io.specs.BookView.{shown_state};
 ghost use Rattle.dn_io.specs.Calls.{Call, call_of, with_out, with_state, IsOutAt, state_at, state_failed, state_is_out, left_in, name_at, Out as WasOut, Refused as WasRefused, Back as CameBack};
+
+use crate::remainder::Remainder;
+use std::alloc::{AllocError, Global};
+use std::marker::Model;
 
 /// What became of a name.
 #[derive(Drop)]

@@ -1,13 +1,13 @@
 //! The files of worlds in memory.
 
-use crate::mem_source::MemSource;
-use crate::refusals::WorldRefused;
-use std::alloc::Global;
-
 ghost use Rattle.std.specs.Prelude.{◌≡◌, ◌≤◌, length, map, IfOk, IfErr, IfSome, Some, All, []};
 ghost use Rattle.std.specs.Option.{option_copied, option_map};
 ghost use Rattle.dn_io.specs.Files.{bytes_among};
 ghost use Rattle.dn_io.specs.Worlds.{mem_file, sure_file, file_named, fresh_source};
+
+use crate::mem_source::MemSource;
+use crate::refusals::WorldRefused;
+use std::alloc::Global;
 
 /// A file of a `MemWorld`.
 #[derive(Drop)]
@@ -46,7 +46,11 @@ pub(crate) fn find_mem_file<'a>(files: &'a [MemFile], name: &str) -> Option<&'a 
 }
 
 /// A fresh source of a file, at this place of a world's calls.
-pub(crate) fn open_mem_file(alloc: Global, file: &MemFile, place: u32) -> Result<MemSource, WorldRefused>
+pub(crate) fn open_mem_file(
+    alloc: Global,
+    file: &MemFile,
+    place: u32,
+) -> Result<MemSource, WorldRefused>
     requires { 1 ≤ file.now.step }
     ensures opened { IfOk result (λ src. src ≡ fresh_source (mem_file file.now) place) }
     ensures memory { IfErr result (λ cause. cause ≡ WorldRefused.OutOfMemory) }

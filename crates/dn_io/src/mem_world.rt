@@ -1,23 +1,20 @@
 //! A world in memory, whose failures a test chooses.
 
-use crate::call_book::CallBook;
-use crate::files::MemFile;
-use crate::files::find_mem_file;
-use crate::files::open_mem_file;
-use crate::mem_source::MemSource;
-use crate::plan::Plan;
-use crate::refusals::WorldRefused;
-use crate::traits::Source;
-use crate::traits::World;
-use std::alloc::Global;
-use std::marker::Model;
-
 ghost use Rattle.std.specs.Prelude.{◌≡◌, ℕ, ◌<◌, ◌≤◌, ◌^◌, ◌⊎◌, [], length, map, All, Some, None, true, false, IfOk, IfErr, OnOk, IfSome, IsSome};
 ghost use Rattle.std.specs.Option.{option_map, IsSomeAnd};
 ghost use Rattle.dn_io.specs.Files.{Files, bytes_of};
 ghost use Rattle.dn_io.specs.Calls.{Call, with_out, with_refusal, with_state, back_with, IsOutAt};
 ghost use Rattle.dn_io.specs.Memory.{counted, fails_next};
 ghost use Rattle.dn_io.specs.Worlds.{MemWorldView, mem_file, mem_files, file_named, fresh_source};
+
+use crate::call_book::CallBook;
+use crate::files::{MemFile, find_mem_file, open_mem_file};
+use crate::mem_source::MemSource;
+use crate::plan::Plan;
+use crate::refusals::WorldRefused;
+use crate::traits::{Source, World};
+use std::alloc::Global;
+use std::marker::Model;
 
 /// A world in memory: its files, of which an earlier one hides a later one of its name, and the `source_of`
 /// calls that fail.

@@ -1,17 +1,14 @@
 //! A source and a sink that never fail, and a gate that does nothing.
 
-use crate::refusals::Failed;
-use crate::remainder::Remainder;
-use crate::traits::Gate;
-use crate::traits::Point;
-use crate::traits::Sink;
-use crate::traits::Source;
-use std::marker::Model;
-
 ghost use Rattle.std.specs.Prelude.{◌≡◌, ℕ, ◌<◌, ◌≤◌, [], length, take, drop, min, Option, Some, None, Ok, IfOk, OnOk, OnErr, IsOk};
 ghost use Rattle.dn_io.specs.Faults.{Rose};
 ghost use Rattle.dn_io.specs.Told.{with_front, with_end, without_first, NothingLeft};
 ghost use Rattle.dn_io.specs.Memory.{SureSourceView};
+
+use crate::refusals::Failed;
+use crate::remainder::Remainder;
+use crate::traits::{Gate, Point, Sink, Source};
+use std::marker::Model;
 
 /// A source in memory that never fails: a read gives as much as the buffer holds.
 #[derive(Drop)]

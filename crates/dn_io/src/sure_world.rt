@@ -1,19 +1,17 @@
 //! A world in memory that never fails.
 
-use crate::call_book::CallBook;
-use crate::files::SureFile;
-use crate::files::find_sure_bytes;
-use crate::refusals::WorldRefused;
-use crate::sure::SureSource;
-use crate::traits::Source;
-use crate::traits::World;
-use std::alloc::Global;
-use std::marker::Model;
-
 ghost use Rattle.std.specs.Prelude.{◌≡◌, ℕ, ◌<◌, ◌^◌, [], length, map, Some, IfOk, IfErr, OnOk, IfSome, IsSome};
 ghost use Rattle.dn_io.specs.Files.{Files, bytes_of};
 ghost use Rattle.dn_io.specs.Calls.{Call, with_out, with_refusal, with_state, back_with, IsOutAt, NoneFailed};
 ghost use Rattle.dn_io.specs.Worlds.{SureWorldView, sure_file, sure_files};
+
+use crate::call_book::CallBook;
+use crate::files::{SureFile, find_sure_bytes};
+use crate::refusals::WorldRefused;
+use crate::sure::SureSource;
+use crate::traits::{Source, World};
+use std::alloc::Global;
+use std::marker::Model;
 
 /// A world in memory that never fails: an earlier file hides a later one of its name, and a name that no file
 /// has is an empty file.

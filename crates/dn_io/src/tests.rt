@@ -1,13 +1,13 @@
 //! Generic callers, as the crates above are, and the objects in memory through them.
 
-use super::*;
-use std::alloc::Global;
-use std::test::Fail;
-
 ghost use Rattle.std.specs.Prelude.{◌≡◌, ◌+◌, ◌<◌, ◌≤◌, ◌^◌, [], length, IfOk, OnOk, IfSome, Some};
 ghost use Rattle.dn_io.specs.Calls.{NoneOut};
 ghost use Rattle.dn_io.specs.Files.{bytes_of};
 ghost use Rattle.dn_io.specs.Told.{with_front, NothingLeft};
+
+use super::*;
+use std::alloc::Global;
+use std::test::Fail;
 
 #[derive(Debug, Drop)]
 enum NotRead {
@@ -81,7 +81,13 @@ fn passes<G: Gate>(gate: &G) {
     gate.at(1, Point::BeforeApply);
 }
 
-fn mem_file(alloc: Global, name: &str, bytes: &[u8], step: usize, fails: &[u64]) -> Result<MemFile, Fail>
+fn mem_file(
+    alloc: Global,
+    name: &str,
+    bytes: &[u8],
+    step: usize,
+    fails: &[u64],
+) -> Result<MemFile, Fail>
     requires { 1 ≤ step }
     ensures { IfOk result (λ file. file.step ≡ step) }
 {

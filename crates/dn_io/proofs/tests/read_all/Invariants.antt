@@ -6,4 +6,4 @@ use Rattle.dn_io.proofs.tests.read_all.Given as goal
 abbrev pub invariant-loop : goal.invariant-loop
 invariant-loop g l =
     (with_front l.all.items (g.S.Source.left l.source) ≡ g.S.Source.left l.initial.source)
-      × (g.S.Source.place l.source ≡ g.S.Source.place l.initial.source)
+    × (g.S.Source.place l.source ≡ g.S.Source.place l.initial.source)

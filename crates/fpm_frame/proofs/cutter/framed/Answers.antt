@@ -1,5 +1,5 @@
 -- The lengths that the header says and that are there.
-use Rattle.std.proofs.Common.{◌≡◌, ◌≤◌, ◌<◌, ◌-◌, ◌+◌, ◌*◌, ℕ, List, [], ◌∷◌, ◌++◌, length, take, drop, refl, arith}
+use Rattle.std.proofs.Common.{◌≡◌, ◌-◌, ◌+◌, ◌*◌, ℕ, List, [], ◌∷◌, ◌++◌, take, drop, refl, arith}
 use Rattle.std.specs.Int.{w16, from_be_bytes}
 use Rattle.dn_model.specs.Frames.{Frame, frame_text, IsFrame}
 use Rattle.fpm_frame.specs.Answers.{HoldsFrame}

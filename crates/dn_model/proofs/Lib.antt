@@ -1,1 +1,5 @@
 pub mod FramesLemmas
+pub mod Lookups
+pub mod Message
+pub mod TopologySound
+pub mod Walks

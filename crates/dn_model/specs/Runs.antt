@@ -1,5 +1,5 @@
 -- Sets of addresses as lists of intervals.
-use Rattle.std.specs.Prelude.{ℕ, Bool, true, List, [], ◌∷◌, ◌≡◌, ◌+◌, ◌<◌, ◌≤◌, ◌^◌, IsTrue, nat_le, ◌&&◌}
+use Rattle.std.specs.Prelude.{ℕ, Bool, List, [], ◌∷◌, ◌≡◌, ◌+◌, ◌<◌, ◌≤◌, ◌^◌, nat_le, ◌&&◌}
 use Rattle.std.specs.List.{list_any}
 
 -- the addresses from `lo` to `hi`, both included

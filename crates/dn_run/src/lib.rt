@@ -1,0 +1,5 @@
+//! The whole run of the program: words, topology, script, feed, jobs, report.
+#![tactic(auto)]
+
+mod files;
+mod status;

@@ -21,7 +21,10 @@ pub enum Next<'a> {
     /// Nothing, or the front of a frame.
     More,
     /// No frame: the framing is lost here. The cause is 15 where the version isn't 1, and 16 where the length is below 4.
-    Lost { offset: u64, cause: u8 },
+    Lost {
+        offset: u64,
+        cause: u8,
+    },
 }
 
 /// How a stream ends that was not lost.
@@ -54,6 +57,7 @@ impl Model for Cutter {
 }
 
 const BAD_VERSION: u8 = 15;
+
 const BAD_FRAME_LENGTH: u8 = 16;
 
 impl Cutter {

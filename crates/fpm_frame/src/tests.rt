@@ -16,11 +16,7 @@ enum Cut {
 }
 
 /// Takes the frame at the front, if one stands there.
-fn take_frame(
-    alloc: Global,
-    cutter: &mut Cutter,
-    cuts: &mut Vec<Cut>,
-) -> Result<bool, OutOfMemory>
+fn take_frame(alloc: Global, cutter: &mut Cutter, cuts: &mut Vec<Cut>) -> Result<bool, OutOfMemory>
     ensures count { cutter.new.offset + length cutter.new.held ≡ cutter.old.offset + length cutter.old.held }
 {
     match cutter.next() {
@@ -131,8 +127,14 @@ fn loses_the_framing(rt: HostRuntime) -> Result<(), Fail> {
 #[test]
 fn writes_frames(rt: HostRuntime) -> Result<(), Fail> {
     let alloc = rt.alloc();
-    assert_eq!(rt; write_frame(alloc, 2, b"")?.as_slice(), [1, 2, 0, 4].as_slice());
-    assert_eq!(rt; write_frame(alloc, 1, b"abc")?.as_slice(), [1, 1, 0, 7, 97, 98, 99].as_slice());
+    assert_eq!(rt;
+        write_frame(alloc, 2, b"")?.as_slice(),
+        [1, 2, 0, 4].as_slice()
+    );
+    assert_eq!(rt;
+        write_frame(alloc, 1, b"abc")?.as_slice(),
+        [1, 1, 0, 7, 97, 98, 99].as_slice()
+    );
     Ok(())
 }
 

@@ -1,6 +1,9 @@
+pub mod Best
 pub mod FramesLemmas
 pub mod Lookups
+pub mod Loops
 pub mod Message
+pub mod RunsOnce
 pub mod Tables
 pub mod TopologySound
 pub mod Walks

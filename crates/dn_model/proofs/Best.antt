@@ -23,10 +23,10 @@ contains-at : {X : Type 0} (x r : X) (xs : List X) (k : ℕ) → k < length (x �
 contains-at x r xs zero l e = inl e
 contains-at x r xs (suc k) l e = inr (k, omega arith, e)
 
-contains-cases : {X : Type 0} (x r : X) (xs : List X) → Contains (x ∷ xs) r → (x ≡ r) ⊎ Contains xs r
+pub contains-cases : {X : Type 0} (x r : X) (xs : List X) → Contains (x ∷ xs) r → (x ≡ r) ⊎ Contains xs r
 contains-cases x r xs h = contains-at x r xs h.0 h.1 h.2
 
-contains-none : {X : Type 0} (r : X) → Contains [] r → ⊥
+pub contains-none : {X : Type 0} (r : X) → Contains [] r → ⊥
 contains-none r h = let l : h.0 < 0 = h.1 in omega arith
 
 contains-filter : {X : Type 0} (p : X → Bool) (r : X) (xs : List X) → Contains xs r → p r ≡ true → Contains (filter p xs) r

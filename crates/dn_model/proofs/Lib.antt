@@ -1,6 +1,7 @@
 pub mod Best
 pub mod FramesLemmas
 pub mod Lookups
+pub mod Keys
 pub mod Loops
 pub mod Message
 pub mod RunsOnce

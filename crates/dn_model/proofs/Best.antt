@@ -1,22 +1,18 @@
 -- The route of an address: what it is, and that the order of the table doesn't matter.
-use Rattle.std.proofs.Common.{◌≡◌, ℕ, zero, suc, ◌+◌, ◌-◌, ◌*◌, ◌/◌, ◌%◌, ◌^◌, ◌<◌, ◌≤◌, ◌⊎◌, ◌∙◌, ◌&&◌, ◌||◌, not, Bool, true, false, cond, Option, Some, None, List, [], ◌∷◌, ◌++◌, length, get_or, filter, fold, map, refl, ap, sym, subst, inl, inr, ⊎_elim, arith, eqb, ltb, leb}
-use Rattle.std.specs.List.{list_any, Contains}
-use Rattle.std.specs.List.Sorted.{IsPermutation}
-use Rattle.std.proofs.lemmas.Bool.{cases_Bool, both_ways, true≢false, false_from_ne_true, and_parts, and_from, or_parts, or_from, not-true, not_from_false, eqb-true, leb-true, ltb-true, cond_both}
+use Rattle.std.proofs.Common.{◌≡◌, ℕ, zero, suc, ◌<◌, ◌⊎◌, ◌∙◌, ◌&&◌, ◌||◌, Bool, true, false, cond, Option, Some, None, List, [], ◌∷◌, length, get_or, filter, fold, refl, ap, sym, subst, inl, inr, ⊎_elim, arith, eqb, ltb}
+use Rattle.std.specs.List.{Contains}
+use Rattle.std.proofs.lemmas.Bool.{false_from_ne_true, cond_both}
 use Rattle.std.proofs.lemmas.Bool.Decides.{nat_tests}
-use Rattle.dn_model.specs.Cidr.{Cidr, IsCidr, covers}
-use Rattle.dn_model.specs.Topology.{all_differ}
-use Rattle.dn_model.specs.declared.ids.RouterId.{RouterId}
-use Rattle.dn_model.specs.declared.entry.Entry.{Entry}
+use Rattle.dn_model.specs.Cidr.{covers}
 use Rattle.dn_model.specs.declared.entry.Route.{Route}
-use Rattle.dn_model.specs.Table.{goes_before, better, best, same_key, has_key, HasKeysOnce, IsBest}
+use Rattle.dn_model.specs.Table.{goes_before, better, best, IsBest}
 
 -- ---- elements
 
-contains-here : {X : Type 0} (x : X) (xs : List X) → Contains (x ∷ xs) x
+pub contains-here : {X : Type 0} (x : X) (xs : List X) → Contains (x ∷ xs) x
 contains-here x xs = (0, omega arith, refl)
 
-contains-there : {X : Type 0} (x r : X) (xs : List X) → Contains xs r → Contains (x ∷ xs) r
+pub contains-there : {X : Type 0} (x r : X) (xs : List X) → Contains xs r → Contains (x ∷ xs) r
 contains-there x r xs h = (suc h.0, (let l : h.0 < length xs = h.1 in omega arith), h.2)
 
 contains-at : {X : Type 0} (x r : X) (xs : List X) (k : ℕ) → k < length (x ∷ xs) → get_or (x ∷ xs) k r ≡ r → (x ≡ r) ⊎ Contains xs r
@@ -33,24 +29,24 @@ contains-filter : {X : Type 0} (p : X → Bool) (r : X) (xs : List X) → Contai
 contains-filter {X} p r [] h e = absurd (contains-none r h)
 contains-filter {X} p r (x ∷ xs) h e = ⊎_elim
     (λ (same : x ≡ r).
-      let here : p x ≡ true = ap p same ∙ e in
-      let P : X → Type 0 = λ y. Contains (cond (p x) (x ∷ filter p xs) (filter p xs)) y in
-      let Q : Bool → Type 0 = λ b. Contains (cond b (x ∷ filter p xs) (filter p xs)) x in
-      subst P same (subst Q (sym here) (contains-here x (filter p xs))))
+    let here : p x ≡ true = ap p same ∙ e in
+    let P : X → Type 0 = λ y. Contains (cond (p x) (x ∷ filter p xs) (filter p xs)) y in
+    let Q : Bool → Type 0 = λ b. Contains (cond b (x ∷ filter p xs) (filter p xs)) x in
+    subst P same (subst Q (sym here) (contains-here x (filter p xs))))
     (λ (rest : Contains xs r).
-      let P : List X → Type 0 = λ ys. Contains ys r in
-      cond_both (p x) (x ∷ filter p xs) (filter p xs) P (λ t. contains-there x r (filter p xs) (contains-filter p r xs rest e)) (λ f. contains-filter p r xs rest e))
+    let P : List X → Type 0 = λ ys. Contains ys r in
+    cond_both (p x) (x ∷ filter p xs) (filter p xs) P (λ t. contains-there x r (filter p xs) (contains-filter p r xs rest e)) (λ f. contains-filter p r xs rest e))
     (contains-cases x r xs h)
 
-filter-contains : {X : Type 0} (p : X → Bool) (r : X) (xs : List X) → Contains (filter p xs) r → Contains xs r × (p r ≡ true)
+pub filter-contains : {X : Type 0} (p : X → Bool) (r : X) (xs : List X) → Contains (filter p xs) r → Contains xs r × (p r ≡ true)
 filter-contains {X} p r [] h = absurd (contains-none r h)
 filter-contains {X} p r (x ∷ xs) h =
     let P : List X → Type 0 = λ ys. Contains ys r → Contains (x ∷ xs) r × (p r ≡ true) in
     cond_both (p x) (x ∷ filter p xs) (filter p xs) P
     (λ t k. ⊎_elim
-      (λ (same : x ≡ r). (let Q : X → Type 0 = λ y. Contains (x ∷ xs) y in subst Q same (contains-here x xs), ap p (sym same) ∙ t))
-      (λ (rest : Contains (filter p xs) r). (contains-there x r xs (filter-contains p r xs rest).0, (filter-contains p r xs rest).1))
-      (contains-cases x r (filter p xs) k))
+    (λ (same : x ≡ r). (let Q : X → Type 0 = λ y. Contains (x ∷ xs) y in subst Q same (contains-here x xs), ap p (sym same) ∙ t))
+    (λ (rest : Contains (filter p xs) r). (contains-there x r xs (filter-contains p r xs rest).0, (filter-contains p r xs rest).1))
+    (contains-cases x r (filter p xs) k))
     (λ f k. (contains-there x r xs (filter-contains p r xs k).0, (filter-contains p r xs k).1))
     h
 
@@ -84,9 +80,9 @@ leads-alone x = record {
   is = refl;
   from = contains-here x [];
   leads = λ r h. ⊎_elim
-    (λ (same : x ≡ r). let P : Route → Type 0 = λ y. goes_before y x ≡ false in subst P same (before-itself x.prefix.len x.metric))
-    (λ (rest : Contains [] r). absurd (contains-none r rest))
-    (contains-cases x r [] h);
+      (λ (same : x ≡ r). let P : Route → Type 0 = λ y. goes_before y x ≡ false in subst P same (before-itself x.prefix.len x.metric))
+      (λ (rest : Contains [] r). absurd (contains-none r rest))
+      (contains-cases x r [] h);
 }
 
 -- one more route, which goes before the first so far, or doesn't
@@ -96,11 +92,11 @@ leads-before x y ys o h k = record {
   is = k.is;
   from = contains-there x k.first (y ∷ ys) k.from;
   leads = λ r i. ⊎_elim
-    (λ (same : x ≡ r).
+      (λ (same : x ≡ r).
       let P : Route → Type 0 = λ z. goes_before z k.first ≡ false in
       subst P same (chain x y k.first (before-turned y.prefix.len y.metric x.prefix.len x.metric h) (k.leads y (contains-here y ys))))
-    (λ (rest : Contains (y ∷ ys) r). k.leads r rest)
-    (contains-cases x r (y ∷ ys) i);
+      (λ (rest : Contains (y ∷ ys) r). k.leads r rest)
+      (contains-cases x r (y ∷ ys) i);
 }
 
 leads-after : (x y : Route) (ys : List Route) (o : Option Route) → goes_before y x ≡ false → Leads x ys o → Leads x (y ∷ ys) o
@@ -111,16 +107,16 @@ leads-after x y ys o h k =
       first = k.first;
       is = k.is;
       from = ⊎_elim
-        (λ (same : x ≡ k.first). let P : Route → Type 0 = λ z. Contains (x ∷ y ∷ ys) z in subst P same (contains-here x (y ∷ ys)))
-        (λ (rest : Contains ys k.first). contains-there x k.first (y ∷ ys) (contains-there y k.first ys rest))
-        (contains-cases x k.first ys k.from);
+          (λ (same : x ≡ k.first). let P : Route → Type 0 = λ z. Contains (x ∷ y ∷ ys) z in subst P same (contains-here x (y ∷ ys)))
+          (λ (rest : Contains ys k.first). contains-there x k.first (y ∷ ys) (contains-there y k.first ys rest))
+          (contains-cases x k.first ys k.from);
       leads = λ r i. ⊎_elim
-        (λ (same : x ≡ r). let P : Route → Type 0 = λ z. goes_before z k.first ≡ false in subst P same at_x)
-        (λ (rest : Contains (y ∷ ys) r). ⊎_elim
+          (λ (same : x ≡ r). let P : Route → Type 0 = λ z. goes_before z k.first ≡ false in subst P same at_x)
+          (λ (rest : Contains (y ∷ ys) r). ⊎_elim
           (λ (same : y ≡ r). let P : Route → Type 0 = λ z. goes_before z k.first ≡ false in subst P same at_y)
           (λ (more : Contains ys r). k.leads r (contains-there x r ys more))
           (contains-cases y r ys rest))
-        (contains-cases x r (y ∷ ys) i);
+          (contains-cases x r (y ∷ ys) i);
     }
 
 fold-leads : (x : Route) (xs : List Route) → Leads x xs (fold better (Some x) xs)

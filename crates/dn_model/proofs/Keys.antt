@@ -1,8 +1,8 @@
 -- Tables have each key once, so the order of a table doesn't matter.
-use Rattle.std.proofs.Common.{◌≡◌, ℕ, zero, suc, ◌+◌, ◌-◌, ◌*◌, ◌/◌, ◌%◌, ◌^◌, ◌<◌, ◌≤◌, ◌⊎◌, ◌∙◌, ◌&&◌, ◌||◌, not, Bool, true, false, cond, Option, Some, None, List, [], ◌∷◌, ◌++◌, length, get_or, filter, fold, map, refl, ap, sym, subst, inl, inr, ⊎_elim, arith, eqb, ltb, leb}
+use Rattle.std.proofs.Common.{◌≡◌, ℕ, ◌+◌, ◌-◌, ◌*◌, ◌/◌, ◌%◌, ◌^◌, ◌<◌, ◌≤◌, ◌⊎◌, ◌∙◌, ◌&&◌, ◌||◌, not, Bool, true, false, Option, Some, None, List, [], ◌∷◌, ◌++◌, filter, fold, map, refl, ap, sym, subst, ⊎_elim, arith, eqb, ltb, leb}
 use Rattle.std.specs.List.{list_any, Contains}
 use Rattle.std.specs.List.Sorted.{IsPermutation}
-use Rattle.std.proofs.lemmas.Bool.{cases_lt, cases_order, both_ways, true≢false, false≢true, false_from_ne_true, and_parts, and_from, or_parts, or_from, or_left, or_right, not-true, not_from_false, not-false, eqb-true, eq-eqb, leb-true, ltb-true, cond_both}
+use Rattle.std.proofs.lemmas.Bool.{cases_lt, cases_order, both_ways, and_parts, and_from, or_parts, or_from, or_left, or_right, not-true, not_from_false, eq-eqb, leb-true, ltb-true, cond_both}
 use Rattle.std.proofs.lemmas.Bool.Decides.{nat_tests}
 use Rattle.std.proofs.lemmas.List.Folds.{list_any-append}
 use Rattle.std.proofs.lemmas.List.Sorted.{Contains-permutation, IsPermutation-sym}
@@ -14,8 +14,7 @@ use Rattle.dn_model.specs.declared.entry.Entry.{Entry}
 use Rattle.dn_model.specs.declared.entry.Op.{Op}
 use Rattle.dn_model.specs.declared.entry.Op.TheVariants.{Set, Clear}
 use Rattle.dn_model.specs.declared.entry.Route.{Route}
-use Rattle.dn_model.specs.declared.target.Target.{Target}
-use Rattle.dn_model.specs.Table.{goes_before, better, best, is_of_prefix, has_key, same_key, after_op, table, is_of_router, HasKeysOnce, IsBest}
+use Rattle.dn_model.specs.Table.{goes_before, best, is_of_prefix, has_key, same_key, after_op, table, is_of_router, HasKeysOnce, IsBest}
 use Rattle.dn_model.proofs.Best.{best-is, contains-cases, contains-none}
 
 -- ---- tests that no two elements pass
@@ -102,13 +101,13 @@ key-once (z ∷ zs) x y h i j e =
     let none : list_any (same_key z) zs ≡ false = not-true (list_any (same_key z) zs) parts.0 in
     ⊎_elim
     (λ (at_x : z ≡ x). ⊎_elim
-      (λ (at_y : z ≡ y). sym at_x ∙ at_y)
-      (λ (rest : Contains zs y). absurd (both_ways (list_any (same_key z) zs) none (any-contains (same_key z) y zs rest (ap (λ (w : Route). same_key w y) at_x ∙ e))))
-      (contains-cases z y zs j))
+    (λ (at_y : z ≡ y). sym at_x ∙ at_y)
+    (λ (rest : Contains zs y). absurd (both_ways (list_any (same_key z) zs) none (any-contains (same_key z) y zs rest (ap (λ (w : Route). same_key w y) at_x ∙ e))))
+    (contains-cases z y zs j))
     (λ (in_x : Contains zs x). ⊎_elim
-      (λ (at_y : z ≡ y). absurd (both_ways (list_any (same_key z) zs) none (any-contains (same_key z) x zs in_x (ap (λ (w : Route). same_key w x) at_y ∙ key-turned y x ∙ e))))
-      (λ (in_y : Contains zs y). key-once zs x y parts.1 in_x in_y e)
-      (contains-cases z y zs j))
+    (λ (at_y : z ≡ y). absurd (both_ways (list_any (same_key z) zs) none (any-contains (same_key z) x zs in_x (ap (λ (w : Route). same_key w x) at_y ∙ key-turned y x ∙ e))))
+    (λ (in_y : Contains zs y). key-once zs x y parts.1 in_x in_y e)
+    (contains-cases z y zs j))
     (contains-cases z x zs i)
 
 -- ---- prefixes of one length that cover one address are one prefix
@@ -131,9 +130,9 @@ block-once : (b c s a : ℕ) → b % s ≡ 0 → c % s ≡ 0 → b ≤ a → a <
 block-once b c s a bz cz bl bh cl ch = ⊎_elim
     (λ (e : b ≡ c). e)
     (λ (o : (b < c) ⊎ (c < b)). ⊎_elim
-      (λ (l : b < c). absurd (block-lower b c s a bz cz bh cl l))
-      (λ (l : c < b). absurd (block-lower c b s a cz bz ch bl l))
-      o)
+    (λ (l : b < c). absurd (block-lower b c s a bz cz bh cl l))
+    (λ (l : c < b). absurd (block-lower c b s a cz bz ch bl l))
+    o)
     (cases_order b c)
 
 base-once : (p q : Cidr) (a : ℕ) → IsCidr p → IsCidr q → p.len ≡ q.len → covers p a ≡ true → covers q a ≡ true → p.base ≡ q.base

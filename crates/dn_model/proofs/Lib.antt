@@ -8,3 +8,4 @@ pub mod RunsOnce
 pub mod Tables
 pub mod TopologySound
 pub mod Walks
+pub mod Within

@@ -1,6 +1,6 @@
 -- How walks end: at a router that goes on to none, or never.
-use Rattle.std.proofs.Common.{◌≡◌, ◌≢◌, ℕ, zero, suc, ◌+◌, ◌<◌, ◌≤◌, ◌⊎◌, ◌∙◌, Bool, true, false, cond, List, [], ◌∷◌, ◌++◌, refl, ap, sym, subst, inl, inr, ⊎_elim, arith}
-use Rattle.std.proofs.lemmas.Bool.{cases_Bool, cases_lt, cases_eq, both_ways, true≢false, false_from_ne_true}
+use Rattle.std.proofs.Common.{◌≡◌, ℕ, zero, suc, ◌+◌, ◌<◌, ◌≤◌, ◌⊎◌, ◌∙◌, Bool, true, false, cond, List, [], ◌∷◌, refl, ap, sym, subst, inl, inr, ⊎_elim, arith}
+use Rattle.std.proofs.lemmas.Bool.{cases_lt, cases_eq, both_ways, true≢false}
 use Rattle.dn_model.specs.declared.ids.RouterId.{RouterId}
 use Rattle.dn_model.specs.declared.ids.LinkId.{LinkId}
 use Rattle.dn_model.specs.declared.target.Target.{Target}
@@ -58,25 +58,25 @@ count-stronger p q (suc n) h =
     ⊎_elim
     (λ (less : count p n < count q n). inl (weight-less (p n) (q n) (count p n) (count q n) here less))
     (λ (same : (s : ℕ) → s < n → p s ≡ q s). ⊎_elim
-      (λ (e : p n ≡ q n). inr (λ s l. ⊎_elim
-        (λ (at : s ≡ n). subst (λ (k : ℕ). p k ≡ q k) (sym at) e)
-        (λ (other : s ≡ n → ⊥). same s (omega arith))
-        (cases_eq s n)))
-      (λ (l : cond (p n) 1 0 < cond (q n) 1 0).
-        let rest : count p n ≡ count q n = count-same p q n same in
-        inl (omega arith))
-      (weigh (p n) (q n) here))
+    (λ (e : p n ≡ q n). inr (λ s l. ⊎_elim
+    (λ (at : s ≡ n). subst (λ (k : ℕ). p k ≡ q k) (sym at) e)
+    (λ (other : s ≡ n → ⊥). same s (omega arith))
+    (cases_eq s n)))
+    (λ (l : cond (p n) 1 0 < cond (q n) 1 0).
+    let rest : count p n ≡ count q n = count-same p q n same in
+    inl (omega arith))
+    (weigh (p n) (q n) here))
     (count-stronger p q n (λ s l. h s (omega arith)))
 
 count-some : (p : ℕ → Bool) (n s : ℕ) → s < n → p s ≡ true → 0 < count p n
 count-some p zero s l e = absurd (omega arith)
 count-some p (suc n) s l e = ⊎_elim
     (λ (at : s ≡ n).
-      let here : cond (p n) 1 0 ≡ 1 = ap weight (subst (λ (k : ℕ). p k ≡ true) at e) in
-      omega arith)
+    let here : cond (p n) 1 0 ≡ 1 = ap weight (subst (λ (k : ℕ). p k ≡ true) at e) in
+    omega arith)
     (λ (other : s ≡ n → ⊥).
-      let rest : 0 < count p n = count-some p n s (omega arith) e in
-      omega arith)
+    let rest : 0 < count p n = count-some p n s (omega arith) e in
+    omega arith)
     (cases_eq s n)
 
 -- ---- walks that go on
@@ -112,7 +112,7 @@ goes-fewer : (f : RouterId → Target) (k : ℕ) (r : RouterId) → goes f (suc 
 goes-fewer f zero r h = refl
 goes-fewer f (suc k) r h = ⊎_elim
     (λ (far : (s : RouterId) × (l : LinkId) × (f r ≡ To s l)).
-      goes-to f k r far.0 far.1 far.2 ∙ goes-fewer f k far.0 (sym (goes-to f (suc k) r far.0 far.1 far.2) ∙ h))
+    goes-to f k r far.0 far.1 far.2 ∙ goes-fewer f k far.0 (sym (goes-to f (suc k) r far.0 far.1 far.2) ∙ h))
     (λ (last : (s : RouterId) (l : LinkId) → f r ≡ To s l → ⊥). absurd (both_ways (goes f (suc (suc k)) r) (goes-last f (suc k) r last) h))
     (target_cases (f r))
 
@@ -130,7 +130,7 @@ Settled f n k = (r : RouterId) → r.0 < n → goes f (suc k) r ≡ goes f k r
 settled-next : (f : RouterId → Target) (n k : ℕ) → LeadsWithin n f → Settled f n k → Settled f n (suc k)
 settled-next f n k within settled r l = ⊎_elim
     (λ (far : (s : RouterId) × (l : LinkId) × (f r ≡ To s l)).
-      goes-to f (suc k) r far.0 far.1 far.2 ∙ settled far.0 (within r far.0 far.1 l far.2) ∙ sym (goes-to f k r far.0 far.1 far.2))
+    goes-to f (suc k) r far.0 far.1 far.2 ∙ settled far.0 (within r far.0 far.1 l far.2) ∙ sym (goes-to f k r far.0 far.1 far.2))
     (λ (last : (s : RouterId) (l : LinkId) → f r ≡ To s l → ⊥). goes-last f (suc k) r last ∙ sym (goes-last f k r last))
     (target_cases (f r))
 
@@ -156,17 +156,17 @@ settled-or_fewer f n zero within =
 settled-or_fewer f n (suc k) within = ⊎_elim
     (λ (settled : Settled f n k). inl (settled-next f n k within settled))
     (λ (few : count (λ s. goes f k (record { 0 = s })) n + k ≤ n). ⊎_elim
-      (λ (less : count (λ s. goes f (suc k) (record { 0 = s })) n < count (λ s. goes f k (record { 0 = s })) n). inr (omega arith))
-      (λ (same : (s : ℕ) → s < n → goes f (suc k) (record { 0 = s }) ≡ goes f k (record { 0 = s })). inl (settled-next f n k within (λ r l. same r.0 l)))
-      (count-stronger (λ s. goes f (suc k) (record { 0 = s })) (λ s. goes f k (record { 0 = s })) n (λ s l. goes-fewer f k (record { 0 = s }))))
+    (λ (less : count (λ s. goes f (suc k) (record { 0 = s })) n < count (λ s. goes f k (record { 0 = s })) n). inr (omega arith))
+    (λ (same : (s : ℕ) → s < n → goes f (suc k) (record { 0 = s }) ≡ goes f k (record { 0 = s })). inl (settled-next f n k within (λ r l. same r.0 l)))
+    (count-stronger (λ s. goes f (suc k) (record { 0 = s })) (λ s. goes f k (record { 0 = s })) n (λ s l. goes-fewer f k (record { 0 = s }))))
     (settled-or_fewer f n k within)
 
 settled-at_last : (f : RouterId → Target) (n : ℕ) (r : RouterId) → LeadsWithin n f → r.0 < n → goes f n r ≡ true → Settled f n n
 settled-at_last f n r within l g = ⊎_elim
     (λ (settled : Settled f n n). settled)
     (λ (few : count (λ s. goes f n (record { 0 = s })) n + n ≤ n).
-      let some : 0 < count (λ s. goes f n (record { 0 = s })) n = count-some (λ s. goes f n (record { 0 = s })) n r.0 l g in
-      absurd (omega arith))
+    let some : 0 < count (λ s. goes f n (record { 0 = s })) n = count-some (λ s. goes f n (record { 0 = s })) n r.0 l g in
+    absurd (omega arith))
     (settled-or_fewer f n n within)
 
 -- a walk among n routers that goes on for n hops goes on for ever
@@ -174,9 +174,9 @@ pub walk-loops : (f : RouterId → Target) (n : ℕ) (r : RouterId) → LeadsWit
 walk-loops f n r within l e m =
     let g : goes f n r ≡ true = ap is_loop e in
     is_loop-true (walk_end f m r) (⊎_elim
-      (λ (past : n < m). goes-from f n n m r within l (omega arith) (settled-at_last f n r within l g) g)
-      (λ (short : m ≤ n). goes-at_most f n m r short g)
-      (cases_lt n m))
+    (λ (past : n < m). goes-from f n n m r within l (omega arith) (settled-at_last f n r within l g) g)
+    (λ (short : m ≤ n). goes-at_most f n m r short g)
+    (cases_lt n m))
 
 -- ---- walks that end
 
@@ -188,21 +188,21 @@ pub walk-ends : (f : RouterId → Target) (n : ℕ) (r : RouterId) (t : Target) 
 walk-ends f zero r t e = absurd (let h : Loop ≡ At t = e in cc)
 walk-ends f (suc n) r t e = ⊎_elim
     (λ (far : (s : RouterId) × (l : LinkId) × (f r ≡ To s l)).
-      let rest : EndsWith f (walk f n far.0) t = walk-ends f n far.0 t (sym (ap (λ u. on_far u (At u) (λ x. walk_end f n x)) far.2) ∙ e) in
-      record {
-        front = r ∷ rest.front;
-        last = rest.last;
-        split = ap (λ u. r ∷ on_far u [] (λ x. walk f n x)) far.2 ∙ ap (λ (rs : List RouterId). r ∷ rs) rest.split;
-        is = rest.is;
-        stays = rest.stays;
-      })
+    let rest : EndsWith f (walk f n far.0) t = walk-ends f n far.0 t (sym (ap (λ u. on_far u (At u) (λ x. walk_end f n x)) far.2) ∙ e) in
+    record {
+      front = r ∷ rest.front;
+      last = rest.last;
+      split = ap (λ u. r ∷ on_far u [] (λ x. walk f n x)) far.2 ∙ ap (λ (rs : List RouterId). r ∷ rs) rest.split;
+      is = rest.is;
+      stays = rest.stays;
+    })
     (λ (last : (s : RouterId) (l : LinkId) → f r ≡ To s l → ⊥).
-      let is : f r ≡ t = at-same (f r) t (sym (on_far-last (f r) (At (f r)) (λ x. walk_end f n x) last) ∙ e) in
-      record {
-        front = [];
-        last = r;
-        split = ap (λ (rs : List RouterId). r ∷ rs) (on_far-last (f r) [] (λ x. walk f n x) last);
-        is = is;
-        stays = λ s l u. last s l (is ∙ u);
-      })
+    let is : f r ≡ t = at-same (f r) t (sym (on_far-last (f r) (At (f r)) (λ x. walk_end f n x) last) ∙ e) in
+    record {
+      front = [];
+      last = r;
+      split = ap (λ (rs : List RouterId). r ∷ rs) (on_far-last (f r) [] (λ x. walk f n x) last);
+      is = is;
+      stays = λ s l u. last s l (is ∙ u);
+    })
     (target_cases (f r))

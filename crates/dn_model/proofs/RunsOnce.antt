@@ -1,5 +1,5 @@
 -- A set of addresses has one list of runs.
-use Rattle.std.proofs.Common.{◌≡◌, ◌≢◌, ℕ, ◌+◌, ◌<◌, ◌≤◌, ◌^◌, ◌⊎◌, ◌∙◌, Bool, true, false, ◌&&◌, ◌||◌, List, [], ◌∷◌, refl, ap, sym, subst, inl, inr, ⊎_elim, arith, leb}
+use Rattle.std.proofs.Common.{◌≡◌, ℕ, ◌+◌, ◌<◌, ◌≤◌, ◌^◌, ◌⊎◌, ◌∙◌, Bool, true, false, ◌||◌, List, [], ◌∷◌, refl, ap, sym, subst, ⊎_elim, arith, leb}
 use Rattle.std.specs.List.{list_any}
 use Rattle.std.proofs.lemmas.Bool.{cases_order, cases_lt, le-leb, lt-leb, and_from, and_left, and_right, or_left, or_from, both_ways}
 use Rattle.dn_model.specs.Runs.{Interval, holds, AreApart, AreRuns}
@@ -82,8 +82,8 @@ same_first i j is js h k same =
 same_rest : (i : Interval) (is js : List Interval) → AreApart (i ∷ is) → AreApart (i ∷ js) → HoldSame (i ∷ is) (i ∷ js) → HoldSame is js
 same_rest i is js h k same a l = ⊎_elim
     (λ (past : i.hi < a).
-      let skip : holds a i ≡ false = holds-above a i past in
-      ap (λ b. b || list_any (holds a) is) (sym skip) ∙ same a l ∙ ap (λ b. b || list_any (holds a) js) skip)
+    let skip : holds a i ≡ false = holds-above a i past in
+    ap (λ b. b || list_any (holds a) is) (sym skip) ∙ same a l ∙ ap (λ b. b || list_any (holds a) js) skip)
     (λ (within : a ≤ i.hi). apart-after a i is h (omega arith) ∙ sym (apart-after a i js k (omega arith)))
     (cases_lt i.hi a)
 

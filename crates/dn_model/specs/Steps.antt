@@ -47,6 +47,9 @@ told_of f = record {
     feed_no = f.feed_no; router = f.router; updates = length (updates f.steps); skipped = sum (map skipped_of f.steps);
     refused = refusals f.steps; end = Some f.end }
 
--- updates as entries of the history
+-- updates of a router's feed as entries of the history
+abbrev pub entries_by : ℕ → RouterId → List Op → List Entry
+entries_by feed_no router ops = map (λ op. record { router = router; feed_no = feed_no; op = op }) ops
+
 abbrev pub entries_of : FeedRead → List Op → List Entry
-entries_of f ops = map (λ op. record { router = f.router; feed_no = f.feed_no; op = op }) ops
+entries_of f ops = entries_by f.feed_no f.router ops

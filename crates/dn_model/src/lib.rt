@@ -26,6 +26,7 @@ mod text;
 mod told;
 mod topology;
 mod topology_fault;
+mod unknown;
 
 pub use answer::{Answer, PathEnd};
 pub use entry::{Entry, Op, Posted, Route};

@@ -1,6 +1,11 @@
 //! The whole run of the program: words, topology, script, feed, jobs, report.
 #![tactic(auto)]
 
+mod decimal;
 mod files;
+mod script_line;
+mod script_text;
 mod status;
+mod text_cut;
+mod words;
 mod tables;

@@ -14,6 +14,8 @@ mod lookup;
 mod memory;
 mod name;
 mod plain;
+#[cfg(test)]
+mod plain_tests;
 mod ports;
 mod prefix;
 mod print;

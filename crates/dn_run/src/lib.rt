@@ -6,6 +6,8 @@ mod files;
 mod script_line;
 mod script_text;
 mod status;
+mod tables;
+#[cfg(test)]
+mod tables_tests;
 mod text_cut;
 mod words;
-mod tables;

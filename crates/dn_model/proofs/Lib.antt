@@ -1,6 +1,11 @@
+pub mod Best
 pub mod FramesLemmas
 pub mod Lookups
+pub mod Keys
+pub mod Loops
 pub mod Message
+pub mod RunsOnce
 pub mod Tables
 pub mod TopologySound
 pub mod Walks
+pub mod Within

@@ -12,5 +12,7 @@ mod script_line;
 mod script_text;
 mod status;
 mod tables;
+#[cfg(test)]
+mod tables_tests;
 mod text_cut;
 mod words;

@@ -25,7 +25,7 @@ pub back_empty : {A : Type 0} (xs ys : List A) → xs ++ ys ≡ [] → ys ≡ []
 back_empty [] ys e = e
 back_empty (x ∷ xs) ys e = cc
 
-map_empty : {A B : Type 0} (f : A → B) (xs : List A) → map f xs ≡ [] → xs ≡ []
+pub map_empty : {A B : Type 0} (f : A → B) (xs : List A) → map f xs ≡ [] → xs ≡ []
 map_empty f [] e = refl
 map_empty f (x ∷ xs) e = cc
 
@@ -83,5 +83,5 @@ routers_sound es (x ∷ more) sound none =
     let stand : standing (router_table es) x ≡ [] = map_empty (λ (cause : ℕ). record { part = Routers; entry = length es + 1; cause = cause }) _ (front_empty _ _ none) in
     let rows : NoneStands (router_table es) x = none_stands (router_table es) x stand in
     let more_sound : AreRouters ((es ++ x ∷ []) ++ more) =
-      routers_sound (es ++ x ∷ []) more (router_push es x (as_str x) refl sound rows.0 rows.1.0 rows.1.1.0 rows.1.1.1.0) (back_empty _ _ none) in
+    routers_sound (es ++ x ∷ []) more (router_push es x (as_str x) refl sound rows.0 rows.1.0 rows.1.1.0 rows.1.1.1.0) (back_empty _ _ none) in
     rw append_assoc at more_sound

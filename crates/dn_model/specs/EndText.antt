@@ -23,5 +23,5 @@ end_at None index = None
 abbrev pub read_end : List (List ℕ) → List ℕ → Option TopoEnd
 read_end routers text =
     option_and_then
-      (λ colon. end_at (position (λ name. same_text name (take colon text)) routers) (number_up_to 2147483647 (drop (colon + 1) text)))
-      (position (λ byte. byte == 58) text)
+    (λ colon. end_at (position (λ name. same_text name (take colon text)) routers) (number_up_to 2147483647 (drop (colon + 1) text)))
+    (position (λ byte. byte == 58) text)

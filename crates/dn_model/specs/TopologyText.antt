@@ -107,7 +107,7 @@ link_from _ _ _ _ = None
 abbrev pub link_of_table : List (List ℕ) → Members → Option TopoLink
 link_of_table routers ms =
     link_from (name_in ms) (option_and_then (λ ends. read_end routers ends.0) (ends_in ms))
-      (option_and_then (λ ends. read_end routers ends.1) (ends_in ms)) (unnumbered_in ms)
+    (option_and_then (λ ends. read_end routers ends.1) (ends_in ms)) (unnumbered_in ms)
 
 -- the name and the link of an entry of `link`, and the end of an entry of `edge`
 abbrev pub name_of_entry : Data → Option (List ℕ)

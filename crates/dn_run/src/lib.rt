@@ -2,9 +2,4 @@
 #![tactic(auto)]
 
 mod decimal;
-mod script_text;
 mod text_cut;
-mod words;
-
-pub use script_text::{ScriptRefused, read_script};
-pub use words::{Command, FeedPart, WordsRefused, read_words};

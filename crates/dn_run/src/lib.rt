@@ -2,4 +2,8 @@
 #![tactic(auto)]
 
 mod decimal;
+mod script_line;
+mod script_text;
 mod text_cut;
+
+pub use script_text::{ScriptRefused, read_script};

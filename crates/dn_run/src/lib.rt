@@ -5,5 +5,7 @@ mod decimal;
 mod script_line;
 mod script_text;
 mod text_cut;
+mod words;
 
 pub use script_text::{ScriptRefused, read_script};
+pub use words::{Command, FeedPart, WordsRefused, read_words};

@@ -7,8 +7,6 @@ use Rattle.std.proofs.lemmas.List.Elements.{filter_map-append}
 use Rattle.std.proofs.lemmas.List.Folds.{list_all-append, list_any-append}
 use Rattle.std.proofs.lemmas.List.Quantifiers.{position-Some}
 use Rattle.std.specs.List.{list_any, list_all, filter_map}
-use Rattle.std.specs.Str.Parse.{digits_value}
-use Rattle.std.specs.Str.{all_ascii_digits}
 use Rattle.toml.specs.Data.{Data, Members, as_str, as_table}
 use Rattle.dn_model.specs.declared.topology.TopoEnd.{TopoEnd}
 use Rattle.dn_model.specs.declared.topology.TopoLink.{TopoLink}
@@ -18,7 +16,8 @@ use Rattle.dn_model.specs.declared.topology_fault.TopoPart.TheVariants.{Top, Rou
 use Rattle.dn_model.specs.declared.cause.TheConstants.{TOO_LONG}
 use Rattle.dn_model.specs.Name.{is_name_text}
 use Rattle.dn_model.specs.Topology.{same_text, same_end, all_differ, all_ends, is_end_of, is_link_of, is_sound_topology}
-use Rattle.dn_model.specs.EndText.{read_end, end_at, number_up_to, is_number_up_to}
+use Rattle.dn_model.specs.EndText.{read_end, end_at}
+use Rattle.dn_model.specs.Decimal.{is_decimal, decimal_value, number_within}
 use Rattle.dn_model.specs.TopologyText.{passes, standing, faults_along, has_text, has_end, link_from, link_of_table, link_of_entry, name_of_entry, end_of_entry, name_in, ends_in, unnumbered_in, at_in, link_table, links_said, edge_table, edges_said, router_table, routers_said, Parts, parts_of, faults_of, unless_faulty, entries_at, topology_of, top_fault, top_causes, said_by, document_of}
 use Rattle.dn_model.proofs.TopologySound.{AreRouters, routers_sound, NoneStands, none_stands, map_empty, front_empty, back_empty, all_differ-push}
 
@@ -37,18 +36,18 @@ end_at-parts (Some place) (Some index) e is = (ap (λ o. Some o.router.0) (same_
 end_at-parts (Some place) None e is = cc
 end_at-parts None index e is = cc
 
-number_bounds : (limit : ℕ) (text : List ℕ) (n : ℕ) → number_up_to limit text ≡ Some n → (nat_le 1 n ≡ true) × (nat_le n limit ≡ true)
-number_bounds limit text n is =
-    let parts = cond_some (is_number_up_to limit text) (digits_value 10 text) n is in
-    let bounds = and_parts _ _ parts.0 in
-    (rw (← parts.1) ((and_parts _ _ bounds.0).1), rw (← parts.1) bounds.1)
+number_bounds : (low high : ℕ) (text : List ℕ) (n : ℕ) → number_within low high text ≡ Some n → (nat_le low n ≡ true) × (nat_le n high ≡ true)
+number_bounds low high text n is =
+    let parts = cond_some (is_decimal text && (nat_le low (decimal_value text) && nat_le (decimal_value text) high)) (decimal_value text) n is in
+    let bounds = and_parts _ _ (and_parts _ _ parts.0).1 in
+    (rw (← parts.1) bounds.0, rw (← parts.1) bounds.1)
 
 -- an end that a text is has its router in the list
 pub read_end-sound : (routers : List (List ℕ)) (text : List ℕ) (e : TopoEnd) → read_end routers text ≡ Some e → is_end_of (length routers) e ≡ true
 read_end-sound routers text e is =
     let split = and_then_some _ (position (λ byte. byte == 58) text) e is in
     let parts = end_at-parts _ _ e split.1.1 in
-    let bounds = number_bounds 2147483647 (drop (split.0 + 1) text) e.index parts.1 in
+    let bounds = number_bounds 1 2147483647 (drop (split.0 + 1) text) e.index parts.1 in
     let place : e.router.0 < length routers = (position-Some _ routers e.router.0 [] parts.0).0 in
     and_from _ _ (and_from _ _ (lt-ltb _ _ place) bounds.0) bounds.1
 

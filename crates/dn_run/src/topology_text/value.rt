@@ -1,6 +1,8 @@
 //! The values of a TOML document, by key and type.
 
-ghost use Rattle.std.specs.Prelude.{◌≡◌, map, Some, option_map};
+ghost use Rattle.std.specs.Prelude.{◌≡◌, map, not, Some, option_map, string_bytes};
+ghost use Rattle.std.specs.List.{list_any};
+ghost use Rattle.std.specs.BTreeMap.{keys};
 ghost use Rattle.toml.specs.Data.{get_member, as_array};
 ghost use Rattle.toml.specs.View.{view, table_view};
 ghost use Rattle.dn_model.specs.TopologyText.{items_in, text_at, list_at, list_or_none_at, flag_or_none_at, is_top_key, is_link_key, is_edge_key, has_key_besides};
@@ -85,23 +87,44 @@ fn is_edge_key(key: &str) -> bool
     key == "at"
 }
 
+/// Whether one of the keys has no meaning at the top.
+fn some_key_is_no_top_key(table: &Table) -> bool
+    ensures { result ≡ list_any (λ k. not (is_top_key (string_bytes k))) (keys table.now) }
+{
+    table.keys().any(|key| !is_top_key(key.as_str()))
+}
+
 /// Whether a document has a key without a meaning at the top.
 pub fn has_unknown_top_key(table: &Table) -> bool
     ensures { result ≡ has_key_besides is_top_key (table_view table.now) }
 {
-    table.keys().any(|key| !is_top_key(key.as_str()))
+    some_key_is_no_top_key(table)
+}
+
+/// Whether one of the keys has no meaning in a link.
+fn some_key_is_no_link_key(table: &Table) -> bool
+    ensures { result ≡ list_any (λ k. not (is_link_key (string_bytes k))) (keys table.now) }
+{
+    table.keys().any(|key| !is_link_key(key.as_str()))
 }
 
 /// Whether a table has a key without a meaning in a link.
 pub fn has_unknown_link_key(table: &Table) -> bool
     ensures { result ≡ has_key_besides is_link_key (table_view table.now) }
 {
-    table.keys().any(|key| !is_link_key(key.as_str()))
+    some_key_is_no_link_key(table)
+}
+
+/// Whether one of the keys has no meaning in an edge.
+fn some_key_is_no_edge_key(table: &Table) -> bool
+    ensures { result ≡ list_any (λ k. not (is_edge_key (string_bytes k))) (keys table.now) }
+{
+    table.keys().any(|key| !is_edge_key(key.as_str()))
 }
 
 /// Whether a table has a key without a meaning in an edge.
 pub fn has_unknown_edge_key(table: &Table) -> bool
     ensures { result ≡ has_key_besides is_edge_key (table_view table.now) }
 {
-    table.keys().any(|key| !is_edge_key(key.as_str()))
+    some_key_is_no_edge_key(table)
 }

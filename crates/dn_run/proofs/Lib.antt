@@ -1,0 +1,5 @@
+mod Cuts
+mod Digits
+mod Parts
+mod ScriptLines
+mod TopologyValues

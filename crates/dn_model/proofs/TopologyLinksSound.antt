@@ -18,7 +18,7 @@ use Rattle.dn_model.specs.Name.{is_name_text}
 use Rattle.dn_model.specs.Topology.{same_text, same_end, all_differ, all_ends, is_end_of, is_link_of, is_sound_topology}
 use Rattle.dn_model.specs.EndText.{read_end, end_at}
 use Rattle.dn_model.specs.Decimal.{is_decimal, decimal_value, number_within}
-use Rattle.dn_model.specs.TopologyText.{passes, standing, faults_along, has_text, has_end, link_from, link_of_table, link_of_entry, name_of_entry, end_of_entry, name_in, ends_in, unnumbered_in, at_in, link_table, links_said, edge_table, edges_said, router_table, routers_said, Parts, parts_of, faults_of, unless_faulty, entries_at, topology_of, top_fault, top_causes, said_by, document_of}
+use Rattle.dn_model.specs.TopologyText.{passes, standing, faults_along, has_text, has_end, link_from, link_of_table, both_ends, ends_of_table, ends_of_entry, link_of_entry, name_of_entry, end_of_entry, name_in, ends_in, unnumbered_in, at_in, link_table, links_said, edge_table, edges_said, router_table, routers_said, Parts, parts_of, faults_of, unless_faulty, entries_at, topology_of, top_fault, top_causes, said_by, document_of}
 use Rattle.dn_model.proofs.TopologySound.{AreRouters, routers_sound, NoneStands, none_stands, map_empty, front_empty, back_empty, all_differ-push}
 
 -- ---- ends
@@ -53,23 +53,52 @@ read_end-sound routers text e is =
 
 -- ---- what an entry of `link` says
 
-link_from-parts : (name : Option (List ℕ)) (first second : Option TopoEnd) (mark : Option Bool) (l : TopoLink) → link_from name first second mark ≡ Some l
-    → (name ≡ Some l.name) × (first ≡ Some l.first) × (second ≡ Some l.second)
-link_from-parts (Some n) (Some f) (Some s) (Some u) l is =
-    (ap (λ o. Some o.name) (same_Some _ _ is), ap (λ o. Some o.first) (same_Some _ _ is), ap (λ o. Some o.second) (same_Some _ _ is))
-link_from-parts (Some n) (Some f) (Some s) None l is = cc
-link_from-parts (Some n) (Some f) None mark l is = cc
-link_from-parts (Some n) None second mark l is = cc
-link_from-parts None first second mark l is = cc
+both_ends-parts : (first second : Option TopoEnd) (both : TopoEnd × TopoEnd) → both_ends first second ≡ Some both → (first ≡ Some both.0) × (second ≡ Some both.1)
+both_ends-parts (Some f) (Some s) both is = (ap (λ o. Some o.0) (same_Some _ _ is), ap (λ o. Some o.1) (same_Some _ _ is))
+both_ends-parts (Some f) None both is = cc
+both_ends-parts None second both is = cc
 
-pub link_of_entry-parts : (routers : List (List ℕ)) (x : Data) (l : TopoLink) → link_of_entry routers x ≡ Some l
-    → (name_of_entry x ≡ Some l.name) × (is_end_of (length routers) l.first ≡ true) × (is_end_of (length routers) l.second ≡ true)
+link_from-parts : (name : Option (List ℕ)) (ends : Option (TopoEnd × TopoEnd)) (mark : Option Bool) (l : TopoLink) → link_from name ends mark ≡ Some l
+    → (name ≡ Some l.name) × (ends ≡ Some (l.first, l.second))
+link_from-parts (Some n) (Some both) (Some u) l is = (ap (λ o. Some o.name) (same_Some _ _ is), ap (λ o. Some (o.first, o.second)) (same_Some _ _ is))
+link_from-parts (Some n) (Some both) None l is = cc
+link_from-parts (Some n) None mark l is = cc
+link_from-parts None ends mark l is = cc
+
+-- what is known of an entry that says a link
+pub record SaysLink (routers : List (List ℕ)) (x : Data) (l : TopoLink) : Type 0 where
+  pub name : name_of_entry x ≡ Some l.name
+  pub ends : ends_of_entry routers x ≡ Some (l.first, l.second)
+  pub first : is_end_of (length routers) l.first ≡ true
+  pub second : is_end_of (length routers) l.second ≡ true
+
+pub link_of_entry-parts : (routers : List (List ℕ)) (x : Data) (l : TopoLink) → link_of_entry routers x ≡ Some l → SaysLink routers x l
 link_of_entry-parts routers x l is =
     let table = and_then_some (link_of_table routers) (as_table x) l is in
-    let parts = link_from-parts _ _ _ _ l table.1.1 in
-    let first = and_then_some (λ (ends : List ℕ × List ℕ). read_end routers ends.0) (ends_in table.0) l.first parts.1 in
-    let second = and_then_some (λ (ends : List ℕ × List ℕ). read_end routers ends.1) (ends_in table.0) l.second parts.2 in
-    (ap (option_and_then name_in) table.1.0 ∙ parts.0, read_end-sound routers first.0.0 l.first first.1.1, read_end-sound routers second.0.1 l.second second.1.1)
+    let parts = link_from-parts (name_in table.0) (ends_of_table routers table.0) (unnumbered_in table.0) l table.1.1 in
+    let texts = and_then_some (λ (texts : List ℕ × List ℕ). both_ends (read_end routers texts.0) (read_end routers texts.1)) (ends_in table.0) (l.first, l.second) parts.1 in
+    let both = both_ends-parts (read_end routers texts.0.0) (read_end routers texts.0.1) (l.first, l.second) texts.1.1 in
+    record {
+      name = ap (option_and_then name_in) table.1.0 ∙ parts.0;
+      ends = ap (option_and_then (ends_of_table routers)) table.1.0 ∙ parts.1;
+      first = read_end-sound routers texts.0.0 l.first both.0;
+      second = read_end-sound routers texts.0.1 l.second both.1;
+    }
+
+link_from_there : (name : Option (List ℕ)) (ends : Option (TopoEnd × TopoEnd)) (mark : Option Bool) → is_none name ≡ false → is_none ends ≡ false → is_none mark ≡ false → is_none (link_from name ends mark) ≡ false
+link_from_there (Some n) (Some both) (Some u) one two three = refl
+link_from_there (Some n) (Some both) None one two three = three
+link_from_there (Some n) None mark one two three = two
+link_from_there None ends mark one two three = one
+
+-- an entry with all that a link wants says a link
+pub link_there : (routers : List (List ℕ)) (table : Option Members) → is_none table ≡ false
+    → passes (λ ms. is_none (name_in ms) || is_none (ends_in ms) || is_none (unnumbered_in ms)) table ≡ false
+    → is_none (option_and_then (ends_of_table routers) table) ≡ false → is_none (option_and_then (link_of_table routers) table) ≡ false
+link_there routers None there keys ends = there
+link_there routers (Some ms) there keys ends =
+    let all = or_parts (is_none (name_in ms) || is_none (ends_in ms)) (is_none (unnumbered_in ms)) keys in
+    link_from_there (name_in ms) (ends_of_table routers ms) (unnumbered_in ms) (or_parts (is_none (name_in ms)) (is_none (ends_in ms)) all.0).0 ends all.1
 
 -- ---- links
 
@@ -103,14 +132,14 @@ link_push : (routers : List (List ℕ)) (es : List Data) (x : Data) (l : TopoLin
 link_push routers es x l is sound few named fresh apart ends =
     let said : links_said routers (es ++ x ∷ []) ≡ links_said routers es ++ l ∷ [] = filter_map-append (link_of_entry routers) es (x ∷ []) ∙ rw is in
     let facts = link_of_entry-parts routers x l is in
-    let name_is : name_of_entry x ≡ Some l.name = facts.0 in
+    let name_is : name_of_entry x ≡ Some l.name = facts.name in
     let low : length es < 4096 = leb-false _ _ few in
     let more_named : map (λ (k : TopoLink). k.name) (links_said routers es ++ l ∷ []) ≡ map (λ (k : TopoLink). k.name) (links_said routers es) ++ l.name ∷ [] =
     map-append (λ (k : TopoLink). k.name) (links_said routers es) (l ∷ []) in
     let own_name : not (is_name_text l.name) ≡ false = ap (passes (λ n. not (is_name_text n))) (sym name_is) ∙ named in
     let new_name : has_text (filter_map name_of_entry es) l.name ≡ false = ap (passes (has_text (filter_map name_of_entry es))) (sym name_is) ∙ fresh in
     let good : is_link_of (length routers) l ≡ true =
-    and_from _ _ (and_from _ _ (and_from _ _ (not-false _ own_name) facts.1) facts.2) (ap not apart) in
+    and_from _ _ (and_from _ _ (and_from _ _ (not-false _ own_name) facts.first) facts.second) (ap not apart) in
     let entries_named : filter_map name_of_entry (es ++ x ∷ []) ≡ filter_map name_of_entry es ++ l.name ∷ [] = filter_map-append name_of_entry es (x ∷ []) ∙ rw name_is in
     record {
       few = rw (length-append es (x ∷ [])) (omega arith);
@@ -121,13 +150,18 @@ link_push routers es x l is sound few named fresh apart ends =
       ends = rw said (ends_push (links_said routers es) l sound.ends apart ends);
     }
 
--- where the entry says no link, its table has a row that stands
+-- an entry at which no row of its table stands
 link_step : (routers : List (List ℕ)) (es : List Data) (x : Data) (l : Option TopoLink) → link_of_entry routers x ≡ l → AreLinks routers es → nat_le 4096 (length es) ≡ false
     → passes (λ n. not (is_name_text n)) (name_of_entry x) ≡ false → passes (has_text (filter_map name_of_entry es)) (name_of_entry x) ≡ false
-    → is_none l ≡ false → passes (λ k. k.first.router.0 == k.second.router.0) l ≡ false
-    → passes (λ k. has_end (all_ends (links_said routers es)) k.first || has_end (all_ends (links_said routers es)) k.second) l ≡ false → AreLinks routers (es ++ x ∷ [])
+    → is_none l ≡ false → passes (λ both. both.0.router.0 == both.1.router.0) (ends_of_entry routers x) ≡ false
+    → passes (λ both. has_end (all_ends (links_said routers es)) both.0 || has_end (all_ends (links_said routers es)) both.1) (ends_of_entry routers x) ≡ false → AreLinks routers (es ++ x ∷ [])
 link_step routers es x None is sound few named fresh there apart ends = absurd (true≢false there)
-link_step routers es x (Some l) is sound few named fresh there apart ends = link_push routers es x l is sound few named fresh apart ends
+link_step routers es x (Some l) is sound few named fresh there apart ends =
+    let ends_are : ends_of_entry routers x ≡ Some (l.first, l.second) = (link_of_entry-parts routers x l is).ends in
+    let taken = all_ends (links_said routers es) in
+    link_push routers es x l is sound few named fresh
+    (ap (passes (λ both. both.0.router.0 == both.1.router.0)) (sym ends_are) ∙ apart)
+    (ap (passes (λ both. has_end taken both.0 || has_end taken both.1)) (sym ends_are) ∙ ends)
 
 pub links_sound : (routers : List (List ℕ)) (es more : List Data) → AreLinks routers es → faults_along Link (link_table routers) es more ≡ [] → AreLinks routers (es ++ more)
 unfolding faults_along
@@ -137,7 +171,7 @@ links_sound routers es (x ∷ more) sound none =
     let rows : NoneStands (link_table routers es) x = none_stands (link_table routers es) x stand in
     let more_sound : AreLinks routers ((es ++ x ∷ []) ++ more) =
     links_sound routers (es ++ x ∷ []) more
-    (link_step routers es x (link_of_entry routers x) refl sound rows.0 rows.1.1.1.1.0 rows.1.1.1.1.1.0 rows.1.1.1.1.1.1.0 rows.1.1.1.1.1.1.1.0 rows.1.1.1.1.1.1.1.1.0)
+    (link_step routers es x (link_of_entry routers x) refl sound rows.0 rows.1.1.1.1.0 rows.1.1.1.1.1.0 (link_there routers (as_table x) rows.1.0 rows.1.1.1.0 rows.1.1.1.1.1.1.0) rows.1.1.1.1.1.1.1.0 rows.1.1.1.1.1.1.1.1.0)
     (back_empty _ _ none) in
     rw append_assoc at more_sound
 

@@ -97,21 +97,31 @@ unnumbered_in = flag_or_none_at (codes "unnumbered")
 abbrev pub at_in : Members → Option (List ℕ)
 at_in = text_at (codes "at")
 
+-- the two ends that two texts are
+abbrev pub both_ends : Option TopoEnd → Option TopoEnd → Option (TopoEnd × TopoEnd)
+both_ends (Some first) (Some second) = Some (first, second)
+both_ends (Some first) None = None
+both_ends None second = None
+
+abbrev pub ends_of_table : List (List ℕ) → Members → Option (TopoEnd × TopoEnd)
+ends_of_table routers ms = option_and_then (λ texts. both_ends (read_end routers texts.0) (read_end routers texts.1)) (ends_in ms)
+
 -- the link of a name, two ends and a mark
-abbrev pub link_from : Option (List ℕ) → Option TopoEnd → Option TopoEnd → Option Bool → Option TopoLink
-link_from (Some name) (Some first) (Some second) (Some unnumbered) =
-    Some (record { name = name; first = first; second = second; unnumbered = unnumbered })
-link_from _ _ _ _ = None
+abbrev pub link_from : Option (List ℕ) → Option (TopoEnd × TopoEnd) → Option Bool → Option TopoLink
+link_from (Some name) (Some ends) (Some unnumbered) = Some (record { name = name; first = ends.0; second = ends.1; unnumbered = unnumbered })
+link_from (Some name) (Some ends) None = None
+link_from (Some name) None mark = None
+link_from None ends mark = None
 
--- the link that a table says
 abbrev pub link_of_table : List (List ℕ) → Members → Option TopoLink
-link_of_table routers ms =
-    link_from (name_in ms) (option_and_then (λ ends. read_end routers ends.0) (ends_in ms))
-    (option_and_then (λ ends. read_end routers ends.1) (ends_in ms)) (unnumbered_in ms)
+link_of_table routers ms = link_from (name_in ms) (ends_of_table routers ms) (unnumbered_in ms)
 
--- the name and the link of an entry of `link`, and the end of an entry of `edge`
+-- the name, the ends and the link of an entry of `link`, and the end of an entry of `edge`
 abbrev pub name_of_entry : Data → Option (List ℕ)
 name_of_entry d = option_and_then name_in (as_table d)
+
+abbrev pub ends_of_entry : List (List ℕ) → Data → Option (TopoEnd × TopoEnd)
+ends_of_entry routers d = option_and_then (ends_of_table routers) (as_table d)
 
 abbrev pub link_of_entry : List (List ℕ) → Data → Option TopoLink
 link_of_entry routers d = option_and_then (link_of_table routers) (as_table d)
@@ -152,9 +162,9 @@ link_causes routers count names ends =
     ∷ (MISSING_KEY, λ entry. passes (λ ms. is_none (name_in ms) || is_none (ends_in ms) || is_none (unnumbered_in ms)) (as_table entry))
     ∷ (BAD_NAME, λ entry. passes (λ name. not (is_name_text name)) (name_of_entry entry))
     ∷ (TWICE_NAMED, λ entry. passes (has_text names) (name_of_entry entry))
-    ∷ (BAD_END, λ entry. is_none (link_of_entry routers entry))
-    ∷ (SELF_LINK, λ entry. passes (λ l. l.first.router.0 == l.second.router.0) (link_of_entry routers entry))
-    ∷ (END_TWICE, λ entry. passes (λ l. has_end ends l.first || has_end ends l.second) (link_of_entry routers entry))
+    ∷ (BAD_END, λ entry. is_none (ends_of_entry routers entry))
+    ∷ (SELF_LINK, λ entry. passes (λ both. both.0.router.0 == both.1.router.0) (ends_of_entry routers entry))
+    ∷ (END_TWICE, λ entry. passes (λ both. has_end ends both.0 || has_end ends both.1) (ends_of_entry routers entry))
     ∷ []
 
 -- at an entry of `edge`, which so many entries and these ends (those of the links too) stand before

@@ -1,3 +1,5 @@
 //! Reading the text of a topology.
 
+mod end;
+mod router;
 mod value;

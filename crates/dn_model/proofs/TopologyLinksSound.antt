@@ -163,16 +163,17 @@ link_step routers es x (Some l) is sound few named fresh there apart ends =
     (ap (passes (λ both. both.0.router.0 == both.1.router.0)) (sym ends_are) ∙ apart)
     (ap (passes (λ both. has_end taken both.0 || has_end taken both.1)) (sym ends_are) ∙ ends)
 
+pub link_next : (routers : List (List ℕ)) (es : List Data) (x : Data) → AreLinks routers es → NoneStands (link_table routers es) x → AreLinks routers (es ++ x ∷ [])
+link_next routers es x sound rows =
+    link_step routers es x (link_of_entry routers x) refl sound rows.0 rows.1.1.1.1.0 rows.1.1.1.1.1.0 (link_there routers (as_table x) rows.1.0 rows.1.1.1.0 rows.1.1.1.1.1.1.0) rows.1.1.1.1.1.1.1.0 rows.1.1.1.1.1.1.1.1.0
+
 pub links_sound : (routers : List (List ℕ)) (es more : List Data) → AreLinks routers es → faults_along Link (link_table routers) es more ≡ [] → AreLinks routers (es ++ more)
 unfolding faults_along
 links_sound routers es [] sound none = rw (append-nil es) sound
 links_sound routers es (x ∷ more) sound none =
     let stand : standing (link_table routers es) x ≡ [] = map_empty (λ (cause : ℕ). record { part = Link; entry = length es + 1; cause = cause }) _ (front_empty _ _ none) in
-    let rows : NoneStands (link_table routers es) x = none_stands (link_table routers es) x stand in
     let more_sound : AreLinks routers ((es ++ x ∷ []) ++ more) =
-    links_sound routers (es ++ x ∷ []) more
-    (link_step routers es x (link_of_entry routers x) refl sound rows.0 rows.1.1.1.1.0 rows.1.1.1.1.1.0 (link_there routers (as_table x) rows.1.0 rows.1.1.1.0 rows.1.1.1.1.1.1.0) rows.1.1.1.1.1.1.1.0 rows.1.1.1.1.1.1.1.1.0)
-    (back_empty _ _ none) in
+    links_sound routers (es ++ x ∷ []) more (link_next routers es x sound (none_stands (link_table routers es) x stand)) (back_empty _ _ none) in
     rw append_assoc at more_sound
 
 -- ---- edges
@@ -198,16 +199,16 @@ edge_step routers links es x (Some e) is sound few there fresh =
       ends = rw (said, ← append_assoc) (all_differ-push same_end (all_ends links ++ edges_said routers es) e sound.ends fresh);
     }
 
+pub edge_next : (routers : List (List ℕ)) (links : List TopoLink) (es : List Data) (x : Data) → AreEdges routers links es → NoneStands (edge_table routers links es) x → AreEdges routers links (es ++ x ∷ [])
+edge_next routers links es x sound rows = edge_step routers links es x (end_of_entry routers x) refl sound rows.0 rows.1.1.1.1.0 rows.1.1.1.1.1.0
+
 pub edges_sound : (routers : List (List ℕ)) (links : List TopoLink) (es more : List Data) → AreEdges routers links es → faults_along Edge (edge_table routers links) es more ≡ [] → AreEdges routers links (es ++ more)
 unfolding faults_along
 edges_sound routers links es [] sound none = rw (append-nil es) sound
 edges_sound routers links es (x ∷ more) sound none =
     let stand : standing (edge_table routers links es) x ≡ [] = map_empty (λ (cause : ℕ). record { part = Edge; entry = length es + 1; cause = cause }) _ (front_empty _ _ none) in
-    let rows : NoneStands (edge_table routers links es) x = none_stands (edge_table routers links es) x stand in
     let more_sound : AreEdges routers links ((es ++ x ∷ []) ++ more) =
-    edges_sound routers links (es ++ x ∷ []) more
-    (edge_step routers links es x (end_of_entry routers x) refl sound rows.0 rows.1.1.1.1.0 rows.1.1.1.1.1.0)
-    (back_empty _ _ none) in
+    edges_sound routers links (es ++ x ∷ []) more (edge_next routers links es x sound (none_stands (edge_table routers links es) x stand)) (back_empty _ _ none) in
     rw append_assoc at more_sound
 
 -- ---- the whole

@@ -2,4 +2,5 @@ mod Cuts
 mod Digits
 mod Parts
 mod ScriptLines
+mod TopologyRuns
 mod TopologyValues

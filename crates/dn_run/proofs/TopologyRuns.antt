@@ -1,7 +1,10 @@
 -- The entries of a topology's text, one after the other.
 use Rattle.std.proofs.Common.{◌≡◌, ℕ, ◌+◌, ◌<◌, ◌≤◌, Bool, true, false, not, cond, List, [], ◌∷◌, ◌++◌, length, get_or, take, drop, map, filter, Option, Some, None, is_none, option_map, refl, sym, ap, ◌∙◌, subst, arith, lit≤, length-append}
 use Rattle.std.proofs.lemmas.Bool.{true≢false, leb-false}
-use Rattle.std.proofs.lemmas.List.{drop_more, take_more, take_all, drop_all}
+use Rattle.std.proofs.lemmas.List.{drop_more, take_more, take_all, drop_all, length-map}
+use Rattle.std.proofs.Math.ListN.{get_or-map}
+use Rattle.toml.specs.declared.value.Value.{Value}
+use Rattle.toml.specs.View.{view}
 use Rattle.std.proofs.lemmas.List.Elements.{filter_map-append}
 use Rattle.std.specs.List.{filter_map, cons_option}
 use Rattle.std.specs.Option.{option_to_list}
@@ -93,6 +96,19 @@ left_none part causes all i past left = left.same ∙ rw (drop_all i all past)
 -- one more entry, and what it says
 pub said_more : {A : Type 0} (h : Data → Option A) (es : List Data) (x : Data) → filter_map h (es ++ x ∷ []) ≡ filter_map h es ++ option_to_list (h x)
 said_more h es x = filter_map-append h es (x ∷ []) ∙ ap (λ more. filter_map h es ++ more) (cons_option-nil (h x))
+
+-- the fault of a cause is the refusal
+pub refusal_is : (part : TopoPart) (entry : ℕ) (cause : ℕ) (first : Option ℕ) (refused : TopoRefused) → refused ≡ Fault (fault_at part entry cause) → first ≡ Some cause → IsRefusalAt part entry first refused
+refusal_is part entry cause first refused is stands =
+    let P : TopoRefused → Type 0 = λ r. IsRefusalAt part entry first r in
+    subst P (sym is) (ap (option_map (fault_at part entry)) stands)
+
+-- the entry at a place, as data
+item_is : (vs : List Value) (i : ℕ) (v : Value) → v ≡ get_or vs i v → get_or (map view vs) i (view v) ≡ view v
+item_is vs i v e = get_or-map view vs i v ∙ ap view (sym e)
+
+item_within : (vs : List Value) (i : ℕ) → i < length vs → i < length (map view vs)
+item_within vs i h = rw length-map h
 
 -- ---- routers
 
@@ -235,3 +251,57 @@ edges_refused routers links all i edges d refused within far here =
 pub edges_done : (routers : List (List ℕ)) (links : List TopoLink) (all : List Data) (i : ℕ) (edges : List TopoEnd) → length all ≤ i → EdgesSoFar routers links all i edges → SayEdges routers links all edges
 edges_done routers links all i edges past far =
     record { faultless = left_none Edge (edge_table routers links) all i past far.left; said = far.said ∙ ap (edges_said routers) (take_all i all past) }
+
+-- ---- the same at values of `toml`
+
+pub routers_step : (vs : List Value) (i : ℕ) (names new : List (List ℕ)) (v : Value) → i < length vs → v ≡ get_or vs i v → RoutersSoFar (map view vs) i names
+    → first_standing (router_causes (length names) names) (view v) ≡ None → new ≡ names ++ option_to_list (as_str (view v)) → RoutersSoFar (map view vs) (i + 1) new
+routers_step vs i names new v within is far none pushed =
+    routers_more (map view vs) i names new (view v) (item_within vs i within) far
+      (ap (λ x. first_standing (router_causes (length names) names) x) (item_is vs i v is) ∙ none)
+      (pushed ∙ ap (λ x. names ++ option_to_list (as_str x)) (sym (item_is vs i v is)))
+
+pub routers_stop : (vs : List Value) (i : ℕ) (names : List (List ℕ)) (v : Value) (refused : TopoRefused) → i < length vs → v ≡ get_or vs i v → RoutersSoFar (map view vs) i names
+    → IsRefusalAt Routers (length names + 1) (first_standing (router_causes (length names) names) (view v)) refused → IsFirstFault (faults_along Routers router_table [] (map view vs)) refused
+routers_stop vs i names v refused within is far here =
+    let P : Data → Type 0 = λ x. IsRefusalAt Routers (length names + 1) (first_standing (router_causes (length names) names) x) refused in
+    routers_refused (map view vs) i names (view v) refused (item_within vs i within) far (subst P (sym (item_is vs i v is)) here)
+
+pub routers_end : (vs : List Value) (i : ℕ) (names : List (List ℕ)) → length vs ≤ i → RoutersSoFar (map view vs) i names → SayRouters (map view vs) names
+routers_end vs i names past far = routers_done (map view vs) i names (rw length-map past) far
+
+pub links_step : (routers : List (List ℕ)) (vs : List Value) (i : ℕ) (links new : List TopoLink) (v : Value) → i < length vs → v ≡ get_or vs i v → LinksSoFar routers (map view vs) i links
+    → first_standing (link_causes routers (length links) (map (λ l. l.name) links) (all_ends links)) (view v) ≡ None
+    → new ≡ links ++ option_to_list (link_of_entry routers (view v)) → LinksSoFar routers (map view vs) (i + 1) new
+links_step routers vs i links new v within is far none pushed =
+    links_more routers (map view vs) i links new (view v) (item_within vs i within) far
+      (ap (λ x. first_standing (link_causes routers (length links) (map (λ l. l.name) links) (all_ends links)) x) (item_is vs i v is) ∙ none)
+      (pushed ∙ ap (λ x. links ++ option_to_list (link_of_entry routers x)) (sym (item_is vs i v is)))
+
+pub links_stop : (routers : List (List ℕ)) (vs : List Value) (i : ℕ) (links : List TopoLink) (v : Value) (refused : TopoRefused) → i < length vs → v ≡ get_or vs i v → LinksSoFar routers (map view vs) i links
+    → IsRefusalAt Link (length links + 1) (first_standing (link_causes routers (length links) (map (λ l. l.name) links) (all_ends links)) (view v)) refused
+    → IsFirstFault (faults_along Link (link_table routers) [] (map view vs)) refused
+links_stop routers vs i links v refused within is far here =
+    let P : Data → Type 0 = λ x. IsRefusalAt Link (length links + 1) (first_standing (link_causes routers (length links) (map (λ l. l.name) links) (all_ends links)) x) refused in
+    links_refused routers (map view vs) i links (view v) refused (item_within vs i within) far (subst P (sym (item_is vs i v is)) here)
+
+pub links_end : (routers : List (List ℕ)) (vs : List Value) (i : ℕ) (links : List TopoLink) → length vs ≤ i → LinksSoFar routers (map view vs) i links → SayLinks routers (map view vs) links
+links_end routers vs i links past far = links_done routers (map view vs) i links (rw length-map past) far
+
+pub edges_step : (routers : List (List ℕ)) (links : List TopoLink) (vs : List Value) (i : ℕ) (edges new : List TopoEnd) (v : Value) → i < length vs → v ≡ get_or vs i v → EdgesSoFar routers links (map view vs) i edges
+    → first_standing (edge_causes routers (length edges) (all_ends links ++ edges)) (view v) ≡ None
+    → new ≡ edges ++ option_to_list (end_of_entry routers (view v)) → EdgesSoFar routers links (map view vs) (i + 1) new
+edges_step routers links vs i edges new v within is far none pushed =
+    edges_more routers links (map view vs) i edges new (view v) (item_within vs i within) far
+      (ap (λ x. first_standing (edge_causes routers (length edges) (all_ends links ++ edges)) x) (item_is vs i v is) ∙ none)
+      (pushed ∙ ap (λ x. edges ++ option_to_list (end_of_entry routers x)) (sym (item_is vs i v is)))
+
+pub edges_stop : (routers : List (List ℕ)) (links : List TopoLink) (vs : List Value) (i : ℕ) (edges : List TopoEnd) (v : Value) (refused : TopoRefused) → i < length vs → v ≡ get_or vs i v → EdgesSoFar routers links (map view vs) i edges
+    → IsRefusalAt Edge (length edges + 1) (first_standing (edge_causes routers (length edges) (all_ends links ++ edges)) (view v)) refused
+    → IsFirstFault (faults_along Edge (edge_table routers links) [] (map view vs)) refused
+edges_stop routers links vs i edges v refused within is far here =
+    let P : Data → Type 0 = λ x. IsRefusalAt Edge (length edges + 1) (first_standing (edge_causes routers (length edges) (all_ends links ++ edges)) x) refused in
+    edges_refused routers links (map view vs) i edges (view v) refused (item_within vs i within) far (subst P (sym (item_is vs i v is)) here)
+
+pub edges_end : (routers : List (List ℕ)) (links : List TopoLink) (vs : List Value) (i : ℕ) (edges : List TopoEnd) → length vs ≤ i → EdgesSoFar routers links (map view vs) i edges → SayEdges routers links (map view vs) edges
+edges_end routers links vs i edges past far = edges_done routers links (map view vs) i edges (rw length-map past) far

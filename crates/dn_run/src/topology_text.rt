@@ -3,6 +3,8 @@
 mod edge;
 mod end;
 mod link;
+mod lists;
 mod router;
+mod steps;
 mod taken;
 mod value;

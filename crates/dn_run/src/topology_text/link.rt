@@ -60,7 +60,7 @@ fn both_ends(first: Option<TopoEnd>, second: Option<TopoEnd>) -> Option<(TopoEnd
 }
 
 /// The ends of a link's table.
-fn ends_of_table(routers: &[Name], table: &Table) -> Option<(TopoEnd, TopoEnd)>
+pub fn ends_of_table(routers: &[Name], table: &Table) -> Option<(TopoEnd, TopoEnd)>
     requires { length routers.now ≤ 1024 }
     ensures { result ≡ ends_of_table routers.now (table_view table.now) }
 {

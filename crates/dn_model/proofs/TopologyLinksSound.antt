@@ -230,17 +230,18 @@ entries_sound routers links edges no_router no_link no_edge =
     let few_edges : nat_le (length (edges_said names edges)) 16384 ≡ true = le-leb _ _ (rw third.as_many third.few) in
     and_from _ _ (and_from _ _ (and_from _ _ (and_from _ _ (and_from _ _ (and_from _ _ (and_from _ _ (and_from _ _ few_routers few_links) few_edges) first.names) first.differ) second.sound) second.names) third.sound) third.ends
 
-four_empty : {A : Type 0} (a b c d : List A) → a ++ b ++ c ++ d ≡ [] → (b ≡ []) × (c ≡ []) × (d ≡ [])
-four_empty a b c d none =
-    let three : a ++ b ++ c ≡ [] = front_empty (a ++ b ++ c) d none in
-    (back_empty a b (front_empty (a ++ b) c three), back_empty (a ++ b) c three, back_empty (a ++ b ++ c) d none)
-
 pub document_sound : (doc : Members) → faults_of doc ≡ [] → is_sound_topology (parts_of doc).routers (parts_of doc).links (parts_of doc).edges ≡ true
 document_sound doc none =
-    let names : List (List ℕ) = (parts_of doc).routers in
-    let parts = four_empty {A = TopoFault} (map top_fault (standing top_causes doc)) (faults_along Routers router_table [] (entries_at (codes "routers") doc))
-    (faults_along Link (link_table names) [] (entries_at (codes "link") doc)) (faults_along Edge (edge_table names (parts_of doc).links) [] (entries_at (codes "edge") doc)) none in
-    entries_sound (entries_at (codes "routers") doc) (entries_at (codes "link") doc) (entries_at (codes "edge") doc) parts.0 parts.1 parts.2
+    let routers : List Data = entries_at (codes "routers") doc in
+    let links : List Data = entries_at (codes "link") doc in
+    let edges : List Data = entries_at (codes "edge") doc in
+    let names : List (List ℕ) = routers_said routers in
+    let first : List TopoFault = faults_along Routers router_table [] routers in
+    let second : List TopoFault = faults_along Link (link_table names) [] links in
+    let third : List TopoFault = faults_along Edge (edge_table names (links_said names links)) [] edges in
+    let lists : first ++ second ++ third ≡ [] = back_empty (map top_fault (standing top_causes doc)) (first ++ second ++ third) none in
+    let both : first ++ second ≡ [] = front_empty (first ++ second) third lists in
+    entries_sound routers links edges (front_empty first second both) (back_empty first second both) (back_empty (first ++ second) third lists)
 
 unless_faulty_sound : (doc : Members) (faults : List TopoFault) (p : Parts) → faults_of doc ≡ faults → unless_faulty faults (parts_of doc) ≡ Ok p
     → is_sound_topology p.routers p.links p.edges ≡ true

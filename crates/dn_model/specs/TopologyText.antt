@@ -13,6 +13,8 @@ use Rattle.dn_model.specs.declared.topology.Topology.{Topology}
 use Rattle.dn_model.specs.declared.topology_fault.TopoFault.{TopoFault}
 use Rattle.dn_model.specs.declared.topology_fault.TopoPart.{TopoPart}
 use Rattle.dn_model.specs.declared.topology_fault.TopoPart.TheVariants.{Top, Routers, Link, Edge}
+use Rattle.dn_model.specs.declared.topology_fault.TopoRefused.{TopoRefused}
+use Rattle.dn_model.specs.declared.topology_fault.TopoRefused.TheVariants.{Fault, OutOfMemory}
 use Rattle.dn_model.specs.Name.{is_name_text}
 use Rattle.dn_model.specs.Topology.{same_text, same_end, all_ends}
 use Rattle.dn_model.specs.EndText.{read_end}
@@ -211,22 +213,28 @@ link_table routers earlier = link_causes routers (length earlier) (filter_map na
 abbrev pub edge_table : List (List ℕ) → List TopoLink → List Data → List (ℕ × (Data → Bool))
 edge_table routers links earlier = edge_causes routers (length earlier) (all_ends links ++ edges_said routers earlier)
 
+-- what the entries of the three lists say, and their faults: those of the routers, then the links, then the edges
+abbrev pub parts_said : List Data → List Data → List Data → Parts
+parts_said routers links edges =
+    record { routers = routers_said routers; links = links_said (routers_said routers) links; edges = edges_said (routers_said routers) edges }
+
+abbrev pub list_faults : List Data → List Data → List Data → List TopoFault
+list_faults routers links edges =
+    faults_along Routers router_table [] routers ++ faults_along Link (link_table (routers_said routers)) [] links
+    ++ faults_along Edge (edge_table (routers_said routers) (links_said (routers_said routers) links)) [] edges
+
 -- what a document says
 abbrev pub parts_of : Members → Parts
-parts_of doc =
-    let routers = routers_said (entries_at (codes "routers") doc) in
-    record { routers = routers; links = links_said routers (entries_at (codes "link") doc); edges = edges_said routers (entries_at (codes "edge") doc) }
+parts_of doc = parts_said (entries_at (codes "routers") doc) (entries_at (codes "link") doc) (entries_at (codes "edge") doc)
 
 abbrev pub top_fault : ℕ → TopoFault
 top_fault cause = record { part = Top; entry = 0; cause = cause }
 
--- its faults: at the top, then in the routers, the links and the edges
+-- its faults: at the top, then in the lists
 abbrev pub faults_of : Members → List TopoFault
 faults_of doc =
     map top_fault (standing top_causes doc)
-    ++ faults_along Routers router_table [] (entries_at (codes "routers") doc)
-    ++ faults_along Link (link_table (parts_of doc).routers) [] (entries_at (codes "link") doc)
-    ++ faults_along Edge (edge_table (parts_of doc).routers (parts_of doc).links) [] (entries_at (codes "edge") doc)
+    ++ list_faults (entries_at (codes "routers") doc) (entries_at (codes "link") doc) (entries_at (codes "edge") doc)
 
 -- the first fault, or else what was said
 abbrev pub unless_faulty : {A : Type 0} → List TopoFault → A → Result A TopoFault
@@ -248,3 +256,8 @@ topology_of bytes = if nat_lt 16777216 (length bytes) then Err (top_fault TOO_LO
 -- a text of this topology
 abbrev pub IsTopologyText : List ℕ → Topology → Type 0
 IsTopologyText bytes t = topology_of bytes ≡ Ok (parts t)
+
+-- a refusal of bytes: their first fault, or want of memory
+abbrev pub IsTopologyRefused : List ℕ → TopoRefused → Type 0
+IsTopologyRefused bytes (Fault fault) = topology_of bytes ≡ Err fault
+IsTopologyRefused bytes OutOfMemory = Unit {0}

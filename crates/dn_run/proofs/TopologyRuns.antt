@@ -1,6 +1,7 @@
 -- The entries of a topology's text, one after the other.
-use Rattle.std.proofs.Common.{◌≡◌, ℕ, ◌+◌, ◌<◌, ◌≤◌, Bool, true, false, not, cond, List, [], ◌∷◌, ◌++◌, length, get_or, take, drop, map, filter, Option, Some, None, is_none, option_map, refl, sym, ap, ◌∙◌, subst, arith, lit≤, length-append}
+use Rattle.std.proofs.Common.{◌≡◌, ℕ, ◌+◌, ◌<◌, ◌≤◌, Bool, true, false, not, cond, codes, List, [], ◌∷◌, ◌++◌, length, get_or, take, drop, map, filter, Option, Some, None, is_none, option_map, Result, Ok, Err, refl, sym, ap, ◌∙◌, subst, arith, lit≤, length-append}
 use Rattle.std.proofs.lemmas.Bool.{true≢false, leb-false}
+use Rattle.std.proofs.lemmas.Option.{same_Some}
 use Rattle.std.proofs.lemmas.List.{drop_more, take_more, take_all, drop_all, length-map}
 use Rattle.std.proofs.Math.ListN.{get_or-map}
 use Rattle.toml.specs.declared.value.Value.{Value}
@@ -8,7 +9,7 @@ use Rattle.toml.specs.View.{view}
 use Rattle.std.proofs.lemmas.List.Elements.{filter_map-append}
 use Rattle.std.specs.List.{filter_map, cons_option}
 use Rattle.std.specs.Option.{option_to_list}
-use Rattle.toml.specs.Data.{Data, as_str, as_table}
+use Rattle.toml.specs.Data.{Data, Members, as_str, as_table}
 use Rattle.dn_model.specs.declared.topology.TopoEnd.{TopoEnd}
 use Rattle.dn_model.specs.declared.topology.TopoLink.{TopoLink}
 use Rattle.dn_model.specs.declared.topology_fault.TopoFault.{TopoFault}
@@ -16,10 +17,11 @@ use Rattle.dn_model.specs.declared.topology_fault.TopoPart.{TopoPart}
 use Rattle.dn_model.specs.declared.topology_fault.TopoPart.TheVariants.{Top, Routers, Link, Edge}
 use Rattle.dn_model.specs.declared.topology_fault.TopoRefused.{TopoRefused}
 use Rattle.dn_model.specs.declared.topology_fault.TopoRefused.TheVariants.{Fault, OutOfMemory}
-use Rattle.dn_model.specs.Topology.{all_ends}
-use Rattle.dn_model.specs.TopologyText.{standing, faults_along, router_causes, link_causes, edge_causes, router_table, link_table, edge_table, routers_said, links_said, edges_said, link_of_entry, end_of_entry, name_of_entry}
+use Rattle.dn_model.specs.declared.topology.Topology.{Topology}
+use Rattle.dn_model.specs.Topology.{all_ends, is_sound_topology}
+use Rattle.dn_model.specs.TopologyText.{top_causes, top_fault, entries_at, faults_of, Parts, parts, parts_said, list_faults, unless_faulty, standing, faults_along, router_causes, link_causes, edge_causes, router_table, link_table, edge_table, routers_said, links_said, edges_said, link_of_entry, end_of_entry, name_of_entry}
 use Rattle.dn_model.proofs.TopologySound.{NoneStands, AreRouters, router_next}
-use Rattle.dn_model.proofs.TopologyLinksSound.{AreLinks, AreEdges, link_next, edge_next}
+use Rattle.dn_model.proofs.TopologyLinksSound.{AreLinks, AreEdges, link_next, edge_next, entries_sound}
 use Rattle.dn_run.specs.TopologyReading.{first_standing, fault_at, IsRefusalAt, first_of, IsFirstFault, SayRouters, SayLinks, SayEdges}
 
 -- ---- one entry
@@ -305,3 +307,95 @@ edges_stop routers links vs i edges v refused within is far here =
 
 pub edges_end : (routers : List (List ℕ)) (links : List TopoLink) (vs : List Value) (i : ℕ) (edges : List TopoEnd) → length vs ≤ i → EdgesSoFar routers links (map view vs) i edges → SayEdges routers links (map view vs) edges
 edges_end routers links vs i edges past far = edges_done routers links (map view vs) i edges (rw length-map past) far
+
+-- ---- the three lists, and the whole
+
+pub lists_sound : (rs ls es : List Data) (names : List (List ℕ)) (links : List TopoLink) (edges : List TopoEnd) → SayRouters rs names → SayLinks names ls links → SayEdges names links es edges
+    → is_sound_topology names links edges ≡ true
+lists_sound rs ls es names links edges r l e =
+    let said_names : List (List ℕ) = routers_said rs in
+    let P : List (List ℕ) → Type 0 = λ n. faults_along Link (link_table n) [] ls ≡ [] in
+    let Q : List (List ℕ) → Type 0 = λ n. links ≡ links_said n ls in
+    let R : List (List ℕ) → Type 0 = λ n. faults_along Edge (edge_table n links) [] es ≡ [] in
+    let S : List (List ℕ) → Type 0 = λ n. edges ≡ edges_said n es in
+    let T : List (List ℕ) → Type 0 = λ n. is_sound_topology n links edges ≡ true in
+    let said_links : links ≡ links_said said_names ls = subst Q r.said l.said in
+    let said_edges : edges ≡ edges_said said_names es = subst S r.said e.said in
+    let U : List TopoLink → Type 0 = λ k. faults_along Edge (edge_table said_names k) [] es ≡ [] in
+    let V : List TopoLink → Type 0 = λ k. is_sound_topology said_names k edges ≡ true in
+    let W : List TopoEnd → Type 0 = λ k. is_sound_topology said_names (links_said said_names ls) k ≡ true in
+    subst T (sym r.said) (subst V (sym said_links) (subst W (sym said_edges)
+      (entries_sound rs ls es r.faultless (subst P r.said l.faultless) (subst U said_links (subst R r.said e.faultless)))))
+
+pub first_of-front : (xs ys : List TopoFault) (refused : TopoRefused) → IsFirstFault xs refused → IsFirstFault (xs ++ ys) refused
+first_of-front xs ys OutOfMemory h = tt
+first_of-front [] ys (Fault f) h = cc
+first_of-front (x ∷ xs) ys (Fault f) h = h
+
+pub first_of-back : (xs ys : List TopoFault) (refused : TopoRefused) → xs ≡ [] → IsFirstFault ys refused → IsFirstFault (xs ++ ys) refused
+first_of-back xs ys refused none h = let P : List TopoFault → Type 0 = λ zs. IsFirstFault (zs ++ ys) refused in subst P (sym none) h
+
+no_faults : (xs ys : List TopoFault) → xs ≡ [] → ys ≡ [] → xs ++ ys ≡ []
+no_faults xs ys one two = rw (one, two)
+
+pub lists_faultless : (rs ls es : List Data) (names : List (List ℕ)) (links : List TopoLink) (edges : List TopoEnd) → SayRouters rs names → SayLinks names ls links → SayEdges names links es edges
+    → list_faults rs ls es ≡ []
+lists_faultless rs ls es names links edges r l e =
+    let said_names : List (List ℕ) = routers_said rs in
+    let P : List (List ℕ) → Type 0 = λ n. faults_along Link (link_table n) [] ls ≡ [] in
+    let Q : List (List ℕ) → Type 0 = λ n. links ≡ links_said n ls in
+    let R : List (List ℕ) → Type 0 = λ n. faults_along Edge (edge_table n links) [] es ≡ [] in
+    let said_links : links ≡ links_said said_names ls = subst Q r.said l.said in
+    let U : List TopoLink → Type 0 = λ k. faults_along Edge (edge_table said_names k) [] es ≡ [] in
+    no_faults _ _ (no_faults _ _ r.faultless (subst P r.said l.faultless)) (subst U said_links (subst R r.said e.faultless))
+
+same_parts : (t : Topology) (rs : List (List ℕ)) (ls : List TopoLink) (es : List TopoEnd) → t.routers ≡ rs → t.links ≡ ls → t.edges ≡ es → parts t ≡ record { routers = rs; links = ls; edges = es }
+same_parts t rs ls es one two three = cc
+
+pub lists_said : (rs ls es : List Data) (t : Topology) → SayRouters rs t.routers → SayLinks t.routers ls t.links → SayEdges t.routers t.links es t.edges
+    → parts t ≡ parts_said rs ls es
+lists_said rs ls es t r l e =
+    let Q : List (List ℕ) → Type 0 = λ n. t.links ≡ links_said n ls in
+    let S : List (List ℕ) → Type 0 = λ n. t.edges ≡ edges_said n es in
+    let said_links : t.links ≡ links_said (routers_said rs) ls = subst Q r.said l.said in
+    let said_edges : t.edges ≡ edges_said (routers_said rs) es = subst S r.said e.said in
+    same_parts t (routers_said rs) (links_said (routers_said rs) ls) (edges_said (routers_said rs) es) r.said said_links said_edges
+
+pub lists_refused-routers : (rs ls es : List Data) (refused : TopoRefused) → IsFirstFault (faults_along Routers router_table [] rs) refused → IsFirstFault (list_faults rs ls es) refused
+lists_refused-routers rs ls es refused h = first_of-front _ _ refused (first_of-front _ _ refused h)
+
+pub lists_refused-links : (rs ls es : List Data) (names : List (List ℕ)) (refused : TopoRefused) → SayRouters rs names
+    → IsFirstFault (faults_along Link (link_table names) [] ls) refused → IsFirstFault (list_faults rs ls es) refused
+lists_refused-links rs ls es names refused r h =
+    let P : List (List ℕ) → Type 0 = λ n. IsFirstFault (faults_along Link (link_table n) [] ls) refused in
+    first_of-front _ _ refused (first_of-back _ _ refused r.faultless (subst P r.said h))
+
+pub lists_refused-edges : (rs ls es : List Data) (names : List (List ℕ)) (links : List TopoLink) (refused : TopoRefused) → SayRouters rs names → SayLinks names ls links
+    → IsFirstFault (faults_along Edge (edge_table names links) [] es) refused → IsFirstFault (list_faults rs ls es) refused
+lists_refused-edges rs ls es names links refused r l h =
+    let said_names : List (List ℕ) = routers_said rs in
+    let P : List (List ℕ) → Type 0 = λ n. faults_along Link (link_table n) [] ls ≡ [] in
+    let Q : List (List ℕ) → Type 0 = λ n. links ≡ links_said n ls in
+    let R : List (List ℕ) → Type 0 = λ n. IsFirstFault (faults_along Edge (edge_table n links) [] es) refused in
+    let said_links : links ≡ links_said said_names ls = subst Q r.said l.said in
+    let U : List TopoLink → Type 0 = λ k. IsFirstFault (faults_along Edge (edge_table said_names k) [] es) refused in
+    first_of-back _ _ refused (no_faults _ _ r.faultless (subst P r.said l.faultless)) (subst U said_links (subst R r.said h))
+
+-- ---- the whole
+
+-- a refusal by the first of the faults
+pub said_refused : (faults : List TopoFault) (said : Parts) (f : TopoFault) → first_of faults ≡ Some f → unless_faulty faults said ≡ Err f
+said_refused [] said f e = cc
+said_refused (x ∷ more) said f e = ap Err (same_Some _ _ e)
+
+-- a document with no cause at the top is refused for its lists
+pub document_refused : (doc : Members) (rs ls es : List Data) (refused : TopoRefused) → first_standing top_causes doc ≡ None
+    → rs ≡ entries_at (codes "routers") doc → ls ≡ entries_at (codes "link") doc → es ≡ entries_at (codes "edge") doc
+    → IsFirstFault (list_faults rs ls es) refused → IsFirstFault (faults_of doc) refused
+document_refused doc rs ls es refused none one two three h =
+    let P : List Data → Type 0 = λ x. IsFirstFault (list_faults x ls es) refused in
+    let Q : List Data → Type 0 = λ x. IsFirstFault (list_faults (entries_at (codes "routers") doc) x es) refused in
+    let R : List Data → Type 0 = λ x. IsFirstFault (list_faults (entries_at (codes "routers") doc) (entries_at (codes "link") doc) x) refused in
+    first_of-back (map top_fault (standing top_causes doc)) (list_faults (entries_at (codes "routers") doc) (entries_at (codes "link") doc) (entries_at (codes "edge") doc)) refused
+      (ap (map top_fault) (standing-none top_causes doc (none_from_first top_causes doc none)))
+      (subst R three (subst Q two (subst P one h)))

@@ -1,6 +1,6 @@
 -- What the reader of a topology answers, entry by entry.
-use Rattle.std.specs.Prelude.{◌≡◌, ℕ, ◌+◌, ◌≤◌, Bool, List, [], ◌∷◌, length, map, Option, None, Some, option_map, if◌then◌else◌}
-use Rattle.toml.specs.Data.{Data}
+use Rattle.std.specs.Prelude.{◌≡◌, ℕ, ◌+◌, ◌≤◌, Bool, List, [], ◌∷◌, length, map, Option, None, Some, option_map, Err, if◌then◌else◌}
+use Rattle.toml.specs.Data.{Data, Members}
 use Rattle.dn_model.specs.declared.topology.TopoEnd.{TopoEnd}
 use Rattle.dn_model.specs.declared.topology.TopoLink.{TopoLink}
 use Rattle.dn_model.specs.declared.topology_fault.TopoFault.{TopoFault}
@@ -8,7 +8,7 @@ use Rattle.dn_model.specs.declared.topology_fault.TopoPart.{TopoPart}
 use Rattle.dn_model.specs.declared.topology_fault.TopoPart.TheVariants.{Routers, Link, Edge}
 use Rattle.dn_model.specs.declared.topology_fault.TopoRefused.{TopoRefused}
 use Rattle.dn_model.specs.declared.topology_fault.TopoRefused.TheVariants.{Fault, OutOfMemory}
-use Rattle.dn_model.specs.TopologyText.{faults_along, router_table, link_table, edge_table, routers_said, links_said, edges_said}
+use Rattle.dn_model.specs.TopologyText.{said_by, faults_along, router_table, link_table, edge_table, routers_said, links_said, edges_said}
 
 -- the cause of the first row that stands
 abbrev pub first_standing : {A : Type 0} → List (ℕ × (A → Bool)) → A → Option ℕ
@@ -31,6 +31,11 @@ first_of (fault ∷ more) = Some fault
 abbrev pub IsFirstFault : List TopoFault → TopoRefused → Type 0
 IsFirstFault faults (Fault fault) = first_of faults ≡ Some fault
 IsFirstFault faults OutOfMemory = Unit {0}
+
+-- a refusal of a document, or of what is none
+abbrev pub IsSaidRefusal : Option Members → TopoRefused → Type 0
+IsSaidRefusal doc (Fault fault) = said_by doc ≡ Err fault
+IsSaidRefusal doc OutOfMemory = Unit {0}
 
 -- entries without a fault, and what they say
 pub record SayRouters (entries : List Data) (names : List (List ℕ)) : Type 0 where

@@ -89,7 +89,7 @@ unfolding faults_along
 left_refused part causes all i d OutOfMemory within left here = tt
 left_refused part causes all i d (Fault f) within left here =
     rw (left.same, drop_more all i d within)
-      (first_of_standing part (length (take i all) + 1) (causes (take i all)) (get_or all i d) (faults_along part causes (take i all ++ get_or all i d ∷ []) (drop (i + 1) all)) f here)
+    (first_of_standing part (length (take i all) + 1) (causes (take i all)) (get_or all i d) (faults_along part causes (take i all ++ get_or all i d ∷ []) (drop (i + 1) all)) f here)
 
 pub left_none : (part : TopoPart) (causes : List Data → List (ℕ × (Data → Bool))) (all : List Data) (i : ℕ) → length all ≤ i → Left part causes all i → faults_along part causes [] all ≡ []
 unfolding faults_along
@@ -135,7 +135,7 @@ pub routers_more : (all : List Data) (i : ℕ) (names new : List (List ℕ)) (d 
     → first_standing (router_causes (length names) names) (get_or all i d) ≡ None → new ≡ names ++ option_to_list (as_str (get_or all i d)) → RoutersSoFar all (i + 1) new
 routers_more all i names new d within far none pushed =
     let rows : NoneStands (router_table (take i all)) (get_or all i d) =
-      none_from_first (router_table (take i all)) (get_or all i d) (ap (λ rows. first_standing rows (get_or all i d)) (router_table-so_far all i names far) ∙ none) in
+    none_from_first (router_table (take i all)) (get_or all i d) (ap (λ rows. first_standing rows (get_or all i d)) (router_table-so_far all i names far) ∙ none) in
     record {
       left = left_more Routers router_table all i d within far.left rows;
       said = rw (pushed, take_more all i d within, far.said) (sym (said_more as_str (take i all) (get_or all i d)));
@@ -184,7 +184,7 @@ pub links_more : (routers : List (List ℕ)) (all : List Data) (i : ℕ) (links 
     → new ≡ links ++ option_to_list (link_of_entry routers (get_or all i d)) → LinksSoFar routers all (i + 1) new
 links_more routers all i links new d within far none pushed =
     let rows : NoneStands (link_table routers (take i all)) (get_or all i d) =
-      none_from_first (link_table routers (take i all)) (get_or all i d) (ap (λ rows. first_standing rows (get_or all i d)) (link_table-so_far routers all i links far) ∙ none) in
+    none_from_first (link_table routers (take i all)) (get_or all i d) (ap (λ rows. first_standing rows (get_or all i d)) (link_table-so_far routers all i links far) ∙ none) in
     record {
       left = left_more Link (link_table routers) all i d within far.left rows;
       said = rw (pushed, take_more all i d within, far.said) (sym (said_more (link_of_entry routers) (take i all) (get_or all i d)));
@@ -230,7 +230,7 @@ pub edges_more : (routers : List (List ℕ)) (links : List TopoLink) (all : List
 edges_more routers links all i edges new d within far none pushed =
     let x : Data = get_or all i d in
     let rows : NoneStands (edge_table routers links (take i all)) (get_or all i d) =
-      none_from_first (edge_table routers links (take i all)) (get_or all i d) (ap (λ rows. first_standing rows (get_or all i d)) (edge_table-so_far routers links all i edges far) ∙ none) in
+    none_from_first (edge_table routers links (take i all)) (get_or all i d) (ap (λ rows. first_standing rows (get_or all i d)) (edge_table-so_far routers links all i edges far) ∙ none) in
     let low : length (take i all) < 16384 = leb-false _ _ rows.0 in
     let same : length edges ≡ length (take i all) = far.as_many in
     let one_more : length new ≡ length edges + 1 = edge_said edges new (end_of_entry routers (get_or all i d)) rows.1.1.1.1.0 pushed in
@@ -260,8 +260,8 @@ pub routers_step : (vs : List Value) (i : ℕ) (names new : List (List ℕ)) (v 
     → first_standing (router_causes (length names) names) (view v) ≡ None → new ≡ names ++ option_to_list (as_str (view v)) → RoutersSoFar (map view vs) (i + 1) new
 routers_step vs i names new v within is far none pushed =
     routers_more (map view vs) i names new (view v) (item_within vs i within) far
-      (ap (λ x. first_standing (router_causes (length names) names) x) (item_is vs i v is) ∙ none)
-      (pushed ∙ ap (λ x. names ++ option_to_list (as_str x)) (sym (item_is vs i v is)))
+    (ap (λ x. first_standing (router_causes (length names) names) x) (item_is vs i v is) ∙ none)
+    (pushed ∙ ap (λ x. names ++ option_to_list (as_str x)) (sym (item_is vs i v is)))
 
 pub routers_stop : (vs : List Value) (i : ℕ) (names : List (List ℕ)) (v : Value) (refused : TopoRefused) → i < length vs → v ≡ get_or vs i v → RoutersSoFar (map view vs) i names
     → IsRefusalAt Routers (length names + 1) (first_standing (router_causes (length names) names) (view v)) refused → IsFirstFault (faults_along Routers router_table [] (map view vs)) refused
@@ -277,8 +277,8 @@ pub links_step : (routers : List (List ℕ)) (vs : List Value) (i : ℕ) (links 
     → new ≡ links ++ option_to_list (link_of_entry routers (view v)) → LinksSoFar routers (map view vs) (i + 1) new
 links_step routers vs i links new v within is far none pushed =
     links_more routers (map view vs) i links new (view v) (item_within vs i within) far
-      (ap (λ x. first_standing (link_causes routers (length links) (map (λ l. l.name) links) (all_ends links)) x) (item_is vs i v is) ∙ none)
-      (pushed ∙ ap (λ x. links ++ option_to_list (link_of_entry routers x)) (sym (item_is vs i v is)))
+    (ap (λ x. first_standing (link_causes routers (length links) (map (λ l. l.name) links) (all_ends links)) x) (item_is vs i v is) ∙ none)
+    (pushed ∙ ap (λ x. links ++ option_to_list (link_of_entry routers x)) (sym (item_is vs i v is)))
 
 pub links_stop : (routers : List (List ℕ)) (vs : List Value) (i : ℕ) (links : List TopoLink) (v : Value) (refused : TopoRefused) → i < length vs → v ≡ get_or vs i v → LinksSoFar routers (map view vs) i links
     → IsRefusalAt Link (length links + 1) (first_standing (link_causes routers (length links) (map (λ l. l.name) links) (all_ends links)) (view v)) refused
@@ -295,8 +295,8 @@ pub edges_step : (routers : List (List ℕ)) (links : List TopoLink) (vs : List 
     → new ≡ edges ++ option_to_list (end_of_entry routers (view v)) → EdgesSoFar routers links (map view vs) (i + 1) new
 edges_step routers links vs i edges new v within is far none pushed =
     edges_more routers links (map view vs) i edges new (view v) (item_within vs i within) far
-      (ap (λ x. first_standing (edge_causes routers (length edges) (all_ends links ++ edges)) x) (item_is vs i v is) ∙ none)
-      (pushed ∙ ap (λ x. edges ++ option_to_list (end_of_entry routers x)) (sym (item_is vs i v is)))
+    (ap (λ x. first_standing (edge_causes routers (length edges) (all_ends links ++ edges)) x) (item_is vs i v is) ∙ none)
+    (pushed ∙ ap (λ x. edges ++ option_to_list (end_of_entry routers x)) (sym (item_is vs i v is)))
 
 pub edges_stop : (routers : List (List ℕ)) (links : List TopoLink) (vs : List Value) (i : ℕ) (edges : List TopoEnd) (v : Value) (refused : TopoRefused) → i < length vs → v ≡ get_or vs i v → EdgesSoFar routers links (map view vs) i edges
     → IsRefusalAt Edge (length edges + 1) (first_standing (edge_causes routers (length edges) (all_ends links ++ edges)) (view v)) refused
@@ -325,7 +325,7 @@ lists_sound rs ls es names links edges r l e =
     let V : List TopoLink → Type 0 = λ k. is_sound_topology said_names k edges ≡ true in
     let W : List TopoEnd → Type 0 = λ k. is_sound_topology said_names (links_said said_names ls) k ≡ true in
     subst T (sym r.said) (subst V (sym said_links) (subst W (sym said_edges)
-      (entries_sound rs ls es r.faultless (subst P r.said l.faultless) (subst U said_links (subst R r.said e.faultless)))))
+    (entries_sound rs ls es r.faultless (subst P r.said l.faultless) (subst U said_links (subst R r.said e.faultless)))))
 
 pub first_of-front : (xs ys : List TopoFault) (refused : TopoRefused) → IsFirstFault xs refused → IsFirstFault (xs ++ ys) refused
 first_of-front xs ys OutOfMemory h = tt
@@ -397,5 +397,5 @@ document_refused doc rs ls es refused none one two three h =
     let Q : List Data → Type 0 = λ x. IsFirstFault (list_faults (entries_at (codes "routers") doc) x es) refused in
     let R : List Data → Type 0 = λ x. IsFirstFault (list_faults (entries_at (codes "routers") doc) (entries_at (codes "link") doc) x) refused in
     first_of-back (map top_fault (standing top_causes doc)) (list_faults (entries_at (codes "routers") doc) (entries_at (codes "link") doc) (entries_at (codes "edge") doc)) refused
-      (ap (map top_fault) (standing-none top_causes doc (none_from_first top_causes doc none)))
-      (subst R three (subst Q two (subst P one h)))
+    (ap (map top_fault) (standing-none top_causes doc (none_from_first top_causes doc none)))
+    (subst R three (subst Q two (subst P one h)))

@@ -13,6 +13,8 @@ mod lists;
 mod router;
 mod steps;
 mod taken;
+#[cfg(test)]
+mod tests;
 mod value;
 
 use self::lists::{read_edges, read_links, read_routers};

@@ -73,7 +73,12 @@ fn is_end_taken(links: &[TopoLink], edges: &[TopoEnd], end: Option<TopoEnd>) -> 
 }
 
 /// The first cause that stands at an entry of `edge`, which these links and edges stand before.
-pub fn edge_cause(routers: &[Name], links: &[TopoLink], edges: &[TopoEnd], entry: &Value) -> Option<u8>
+pub fn edge_cause(
+    routers: &[Name],
+    links: &[TopoLink],
+    edges: &[TopoEnd],
+    entry: &Value,
+) -> Option<u8>
     requires { length routers.now ≤ 1024 }
     ensures { result ≡ first_standing (edge_causes routers.now (length edges.now) (all_ends links.now ++ edges.now)) (view entry.now) }
 {

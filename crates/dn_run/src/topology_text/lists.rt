@@ -23,7 +23,11 @@ pub fn read_routers(alloc: Global, entries: &[Value]) -> Result<List<Name>, Topo
 }
 
 /// The links that the entries of `link` say, or their first fault.
-pub fn read_links(alloc: Global, routers: &[Name], entries: &[Value]) -> Result<List<TopoLink>, TopoRefused>
+pub fn read_links(
+    alloc: Global,
+    routers: &[Name],
+    entries: &[Value],
+) -> Result<List<TopoLink>, TopoRefused>
     requires { length routers.now ≤ 1024 }
     ensures ok { IfOk result (SayLinks routers.now (map view entries.now)) }
     ensures refused { IfErr result (IsFirstFault (faults_along TopoPart.Link (link_table routers.now) [] (map view entries.now))) }
@@ -36,7 +40,12 @@ pub fn read_links(alloc: Global, routers: &[Name], entries: &[Value]) -> Result<
 }
 
 /// The interfaces that the entries of `edge` say, or their first fault.
-pub fn read_edges(alloc: Global, routers: &[Name], links: &[TopoLink], entries: &[Value]) -> Result<List<TopoEnd>, TopoRefused>
+pub fn read_edges(
+    alloc: Global,
+    routers: &[Name],
+    links: &[TopoLink],
+    entries: &[Value],
+) -> Result<List<TopoEnd>, TopoRefused>
     requires { length routers.now ≤ 1024 }
     ensures ok { IfOk result (SayEdges routers.now links.now (map view entries.now)) }
     ensures refused { IfErr result (IsFirstFault (faults_along TopoPart.Edge (edge_table routers.now links.now) [] (map view entries.now))) }

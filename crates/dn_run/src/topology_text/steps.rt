@@ -81,7 +81,11 @@ fn make_link(
 }
 
 /// The link that a table says.
-fn make_link_of_table(alloc: Global, routers: &[Name], table: &Table) -> Result<Option<TopoLink>, OutOfMemory>
+fn make_link_of_table(
+    alloc: Global,
+    routers: &[Name],
+    table: &Table,
+) -> Result<Option<TopoLink>, OutOfMemory>
     requires few { length routers.now ≤ 1024 }
     requires named { passes (λ text. not (is_name_text text)) (name_in (table_view table.now)) ≡ false }
     ensures { IfOk result (λ l. l ≡ link_of_table routers.now (table_view table.now)) }
@@ -93,7 +97,11 @@ fn make_link_of_table(alloc: Global, routers: &[Name], table: &Table) -> Result<
 }
 
 /// The link that an entry says.
-fn make_link_of_entry(alloc: Global, routers: &[Name], entry: &Value) -> Result<Option<TopoLink>, OutOfMemory>
+fn make_link_of_entry(
+    alloc: Global,
+    routers: &[Name],
+    entry: &Value,
+) -> Result<Option<TopoLink>, OutOfMemory>
     requires few { length routers.now ≤ 1024 }
     requires named { passes (λ text. not (is_name_text text)) (name_of_entry (view entry.now)) ≡ false }
     ensures { IfOk result (λ l. l ≡ link_of_entry routers.now (view entry.now)) }
@@ -115,7 +123,12 @@ fn push_link(links: &mut List<TopoLink>, link: Option<TopoLink>) -> Result<(), O
 }
 
 /// Adds the link that an entry says.
-fn push_link_of_entry(alloc: Global, routers: &[Name], links: &mut List<TopoLink>, entry: &Value) -> Result<(), OutOfMemory>
+fn push_link_of_entry(
+    alloc: Global,
+    routers: &[Name],
+    links: &mut List<TopoLink>,
+    entry: &Value,
+) -> Result<(), OutOfMemory>
     requires few { length routers.now ≤ 1024 }
     requires named { passes (λ text. not (is_name_text text)) (name_of_entry (view entry.now)) ≡ false }
     ensures { OnOk result (links.new ≡ links.old ++ option_to_list (link_of_entry routers.now (view entry.now))) }
@@ -125,7 +138,12 @@ fn push_link_of_entry(alloc: Global, routers: &[Name], links: &mut List<TopoLink
 }
 
 /// Takes an entry of `link`, which these links stand before.
-pub fn add_link(alloc: Global, routers: &[Name], links: &mut List<TopoLink>, entry: &Value) -> Result<(), TopoRefused>
+pub fn add_link(
+    alloc: Global,
+    routers: &[Name],
+    links: &mut List<TopoLink>,
+    entry: &Value,
+) -> Result<(), TopoRefused>
     requires few { length routers.now ≤ 1024 }
     requires few_links { length links.old ≤ 4096 }
     ensures faultless { OnOk result (first_standing (link_causes routers.now (length links.old) (map (λ l. l.name) links.old) (all_ends links.old)) (view entry.now) ≡ None) }
@@ -152,7 +170,12 @@ fn push_edge(edges: &mut List<TopoEnd>, end: Option<TopoEnd>) -> Result<(), OutO
 }
 
 /// Takes an entry of `edge`, which these links and edges stand before.
-pub fn add_edge(routers: &[Name], links: &[TopoLink], edges: &mut List<TopoEnd>, entry: &Value) -> Result<(), TopoRefused>
+pub fn add_edge(
+    routers: &[Name],
+    links: &[TopoLink],
+    edges: &mut List<TopoEnd>,
+    entry: &Value,
+) -> Result<(), TopoRefused>
     requires few { length routers.now ≤ 1024 }
     requires few_edges { length edges.old ≤ 16384 }
     ensures faultless { OnOk result (first_standing (edge_causes routers.now (length edges.old) (all_ends links.now ++ edges.old)) (view entry.now) ≡ None) }

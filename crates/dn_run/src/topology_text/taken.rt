@@ -35,9 +35,7 @@ fn is_among_link_names(links: &[TopoLink], name: &[u8]) -> bool
 fn is_among_ends(links: &[TopoLink], end: TopoEnd) -> bool
     ensures { result ≡ list_any (λ l. same_end l.first end || same_end l.second end) links.now }
 {
-    links
-        .iter()
-        .any(|link| is_same_end(link.first, end) || is_same_end(link.second, end))
+    links.iter().any(|link| is_same_end(link.first, end) || is_same_end(link.second, end))
 }
 
 /// Whether one of the links has this end.

@@ -11,4 +11,4 @@ pub returns-in-Some-clause-refused : goal.returns-in-Some-clause-refused
 returns-in-Some-clause-refused c =
     let links = c.args.links.now in
     refusal_is Link (length links + 1) c.in-Some.cause (first_standing (link_causes c.args.routers.now (length links) (map (λ l. l.name) links) (all_ends links)) (view c.args.entry.now)) c.refusal.result (rw (← c.len.ensures) c.refusal.ensures)
-      (rw (← c.as_slice.ensures.value) (sym c.in-Some.ensures))
+    (rw (← c.as_slice.ensures.value) (sym c.in-Some.ensures))

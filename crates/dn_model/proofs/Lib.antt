@@ -1,11 +1,7 @@
 pub mod Best
 pub mod FramesLemmas
 pub mod Lookups
-pub mod Keys
-pub mod Loops
-pub mod Message
-pub mod RunsOnce
-pub mod Tables
+pub mod TopologyLinksSound
 pub mod TopologySound
 pub mod Walks
 pub mod Within

@@ -3,11 +3,6 @@
 
 mod answerer;
 mod decimal;
-mod feed_reader;
-mod feed_step;
-mod files;
-mod job;
-mod network;
 mod script_line;
 mod script_text;
 mod status;
@@ -15,4 +10,5 @@ mod tables;
 #[cfg(test)]
 mod tables_tests;
 mod text_cut;
+mod topology_text;
 mod words;

@@ -3,6 +3,9 @@
 
 mod decimal;
 mod files;
+mod report;
+mod report_jobs;
+mod report_writer;
 mod script_text;
 mod text_cut;
 mod words;

@@ -1,3 +1,6 @@
 pub mod FramesLemmas
 pub mod Lookups
+pub mod Message
+pub mod Tables
+pub mod TopologySound
 pub mod Walks

@@ -5,6 +5,8 @@ mod decimal;
 mod files;
 mod report;
 mod report_jobs;
+#[cfg(test)]
+mod report_tests;
 mod report_writer;
 mod script_line;
 mod script_text;

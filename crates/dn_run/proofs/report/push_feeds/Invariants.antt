@@ -1,6 +1,6 @@
-use Rattle.std.proofs.Common.{◌≡◌, ◌++◌, drop, codes, map}
+use Rattle.std.proofs.Common.{◌≡◌, ◌++◌, drop}
 use Rattle.std.specs.List.{flat_map}
-use Rattle.dn_model.specs.Report.{refused_line, feed_lines, job_lines, hop_text, told_lines, entry_lines}
+use Rattle.dn_model.specs.Report.{feed_lines}
 use Rattle.dn_run.proofs.report.push_feeds.Given as goal
 
 abbrev pub invariant-loop-feed : goal.invariant-loop-feed

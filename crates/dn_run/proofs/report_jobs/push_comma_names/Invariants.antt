@@ -1,6 +1,5 @@
-use Rattle.std.proofs.Common.{◌≡◌, ◌++◌, drop, codes, map}
+use Rattle.std.proofs.Common.{◌≡◌, ◌++◌, drop, codes}
 use Rattle.std.specs.List.{flat_map}
-use Rattle.dn_model.specs.Report.{refused_line, feed_lines, job_lines, hop_text, told_lines, entry_lines}
 use Rattle.dn_run.proofs.report_jobs.push_comma_names.Given as goal
 
 abbrev pub invariant-loop-name : goal.invariant-loop-name

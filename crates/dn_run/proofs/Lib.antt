@@ -1,6 +1,10 @@
-mod Cuts
-mod Digits
-mod Parts
-mod ScriptLines
-mod TopologyRuns
-mod TopologyValues
+mod TablesLemmas
+pub mod CallsLemmas
+pub mod Cuts
+pub mod Digits
+pub mod Parts
+pub mod ReadLemmas
+pub mod Fronts
+pub mod Names
+pub mod Refused
+pub mod ScriptLines

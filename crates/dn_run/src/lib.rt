@@ -3,6 +3,12 @@
 
 mod answerer;
 mod decimal;
+mod files;
+mod report;
+mod report_jobs;
+#[cfg(test)]
+mod report_tests;
+mod report_writer;
 mod script_line;
 mod script_text;
 mod status;

@@ -1,5 +1,5 @@
 -- Laws of frames: a stream has one reading, and how a reading grows.
-use Rattle.std.proofs.Common.{◌≡◌, ℕ, Bool, true, false, if◌then◌else◌, ◌+◌, ◌-◌, ◌*◌, ◌/◌, ◌%◌, ◌<◌, ◌≤◌, ◌^◌, ◌==◌, List, [], ◌∷◌, ◌++◌, length, take, drop, replicate, Some, None, refl, sym, ◌∙◌, ap, ap₂, append_assoc, arith}
+use Rattle.std.proofs.Common.{◌≡◌, ℕ, Bool, true, false, if◌then◌else◌, ◌+◌, ◌-◌, ◌*◌, ◌/◌, ◌%◌, ◌<◌, ◌≤◌, ◌^◌, ◌==◌, List, [], ◌∷◌, ◌++◌, length, get_or, take, drop, replicate, Some, None, refl, sym, ◌∙◌, ap, ap₂, append_assoc, arith}
 use Rattle.std.specs.List.{All}
 use Rattle.std.specs.Int.{w16, to_be_bytes, from_be_bytes}
 use Rattle.std.proofs.lemmas.Nat.{from_be_bytes-to_be_bytes_2}
@@ -199,16 +199,17 @@ cut_frame kind high low bytes kind_fits high_fits low_fits short =
       text_by_bytes kind high low (bytes ++ wanting) high_fits low_fits says,
     )
 
-pub cut_header-0 : IsFrameFront []
-cut_header-0 = (record { kind = 0; payload = [] }, 1 ∷ 0 ∷ 0 ∷ 4 ∷ [], record { kind_fits = omega arith; length_fits = omega arith }, omega arith, refl)
+-- where nothing is, a whole frame is wanting
+pub nothing-front : IsFrameFront []
+nothing-front = (record { kind = 0; payload = [] }, 1 ∷ 0 ∷ 0 ∷ 4 ∷ [], record { kind_fits = omega arith; length_fits = omega arith }, omega arith, refl)
 
-pub cut_header-1 : IsFrameFront (1 ∷ [])
+cut_header-1 : IsFrameFront (1 ∷ [])
 cut_header-1 = (record { kind = 0; payload = [] }, 0 ∷ 0 ∷ 4 ∷ [], record { kind_fits = omega arith; length_fits = omega arith }, omega arith, refl)
 
-pub cut_header-2 : (kind : ℕ) → kind < 256 → IsFrameFront (1 ∷ kind ∷ [])
+cut_header-2 : (kind : ℕ) → kind < 256 → IsFrameFront (1 ∷ kind ∷ [])
 cut_header-2 kind fits = (record { kind = kind; payload = [] }, 0 ∷ 4 ∷ [], record { kind_fits = fits; length_fits = omega arith }, omega arith, refl)
 
-pub cut_header-3 : (kind high : ℕ) → kind < 256 → high < 256 → IsFrameFront (1 ∷ kind ∷ high ∷ [])
+cut_header-3 : (kind high : ℕ) → kind < 256 → high < 256 → IsFrameFront (1 ∷ kind ∷ high ∷ [])
 cut_header-3 kind high kind_fits high_fits =
     let zeros : List ℕ = replicate (high * 256) 0 in
     let many : length zeros ≡ high * 256 = length-replicate (high * 256) 0 in
@@ -219,3 +220,10 @@ cut_header-3 kind high kind_fits high_fits =
       omega arith,
       text_by_bytes kind high 4 zeros high_fits (omega arith) says,
     )
+
+-- a version and fewer than three bytes after it are the front of a frame
+pub cut_header : (bytes : List ℕ) → ((place : ℕ) → get_or bytes place 0 < 256) → length bytes < 3 → IsFrameFront (1 ∷ bytes)
+cut_header [] fits short = cut_header-1
+cut_header (kind ∷ []) fits short = cut_header-2 kind (fits 0)
+cut_header (kind ∷ high ∷ []) fits short = cut_header-3 kind high (fits 0) (fits 1)
+cut_header (kind ∷ high ∷ low ∷ bytes) fits short = absurd (omega arith)

@@ -1,3 +1,4 @@
+pub mod FeedLemmas
 pub mod FramesLemmas
 pub mod Lookups
 pub mod Message

@@ -14,11 +14,12 @@ use Rattle.dn_model.specs.declared.told.FeedTold.{FeedTold}
 use Rattle.dn_run.specs.declared.feed_step.FeedStep.{FeedStep}
 use Rattle.dn_run.specs.declared.feed_step.FeedStep.TheVariants as answers
 
--- A reader: its source, how many of the feed's bytes it looks at, the bytes that it has read and not handed out, and
--- what it tells.
+-- A reader: its source, how many of the feed's bytes it looks at, how many bytes the frames took that it handed out,
+-- the bytes that it has read after them, and what it tells.
 pub record Reader (S : Type 0) : Type 0 where
   pub source : S
   pub limit : ℕ
+  pub passed : ℕ
   pub held : List ℕ
   pub told : FeedTold
 
@@ -33,13 +34,14 @@ abbrev pub told_at_end : ℕ → RouterId → List FrameStep → FeedEnd → Fee
 told_at_end feed_no router steps end = told_of (record { feed_no = feed_no; router = router; steps = steps; end = end })
 
 -- A reader in the midst of a feed of these bytes: it handed out these steps, those of the frames at the front. What it
--- holds comes next, and then what its source has left. It read at most one byte past its limit.
+-- holds comes next, and then what its source has left. It read no byte past its limit.
 pub record IsAt {S : Type 0} (t : Topology) (reader : Reader S) (left : Option (List ℕ)) (bytes : List ℕ) (steps : List FrameStep) : Type 0 where
   pub frames : List Frame
   pub each : All IsFrame frames
   pub come_to : AreSteps t reader.told.router 0 frames steps
+  pub passed : reader.passed ≡ length (frames_text frames)
   pub whole : Some bytes ≡ with_front (frames_text frames ++ reader.held) left
-  pub within : length (frames_text frames ++ reader.held) ≤ reader.limit
+  pub within : reader.passed + length reader.held ≤ reader.limit
   pub counted : reader.told ≡ told_so_far reader.told.feed_no reader.told.router steps
 
 -- a front of the bytes was read, at most one more than the limit, and the rest is left
@@ -114,3 +116,13 @@ told_after told answers.Faulted = record told { end = Some ends.Faulted }
 abbrev pub told_then : FeedTold → Result FeedStep OutOfMemory → FeedTold
 told_then told (Ok step) = told_after told step
 told_then told (Err e) = told
+
+-- an end that a reader answers: any but that of a full history
+abbrev pub IsReadersEnd : Option FeedEnd → Type 0
+IsReadersEnd None = Unit {0}
+IsReadersEnd (Some ends.End) = Unit {0}
+IsReadersEnd (Some (ends.CutShort offset)) = Unit {0}
+IsReadersEnd (Some (ends.Lost offset cause)) = Unit {0}
+IsReadersEnd (Some ends.TooLong) = Unit {0}
+IsReadersEnd (Some ends.Faulted) = Unit {0}
+IsReadersEnd (Some ends.Full) = ⊥

@@ -2,7 +2,12 @@
 #![tactic(auto)]
 
 mod decimal;
+mod feed_reader;
+mod feed_step;
 mod files;
+mod frame_step;
+mod intake;
+mod message;
 mod script_text;
 mod text_cut;
 mod words;

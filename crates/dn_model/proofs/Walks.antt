@@ -42,3 +42,21 @@ walked-to f n r s l before now all h e p w =
 
 pub walked-last : (f : RouterId → Target) (n : ℕ) (r : RouterId) (before now all : List RouterId) → 0 < n → ((s : RouterId) (l : LinkId) → f r ≡ To s l → ⊥) → now ≡ before ++ r ∷ [] → before ++ walk f n r ≡ all → now ≡ all
 walked-last f n r before now all h e p w = p ∙ ap (λ rs. before ++ rs) (sym (walk-last f n r h e)) ∙ w
+
+-- functions that agree at each router have the same walks
+pub on_far-same : {A : Type 0} (t : Target) (none : A) (some other : RouterId → A) → ((s : RouterId) → some s ≡ other s) → on_far t none some ≡ on_far t none other
+on_far-same NoRoute none some other h = refl
+on_far-same (Dropped kind) none some other h = refl
+on_far-same Local none some other h = refl
+on_far-same (Exit i) none some other h = refl
+on_far-same (OnLink i) none some other h = refl
+on_far-same (To s l) none some other h = h s
+on_far-same (LinkDown l) none some other h = refl
+
+pub walk-same : (f g : RouterId → Target) → ((r : RouterId) → f r ≡ g r) → (n : ℕ) (r : RouterId) → walk f n r ≡ walk g n r
+walk-same f g h zero r = refl
+walk-same f g h (suc n) r = ap (λ rs. r ∷ rs) (ap (λ t. on_far t [] (λ s. walk f n s)) (h r) ∙ on_far-same (g r) [] _ _ (λ s. walk-same f g h n s))
+
+pub walk_end-same : (f g : RouterId → Target) → ((r : RouterId) → f r ≡ g r) → (n : ℕ) (r : RouterId) → walk_end f n r ≡ walk_end g n r
+walk_end-same f g h zero r = refl
+walk_end-same f g h (suc n) r = ap (λ t. on_far t (At t) (λ s. walk_end f n s)) (h r) ∙ on_far-same (g r) (At (g r)) _ _ (λ s. walk_end-same f g h n s)

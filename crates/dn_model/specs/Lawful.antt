@@ -1,6 +1,6 @@
 -- When a history and the pins of queries are lawful: the history is a shuffle of what the feeds gave, and each query's
 -- pin holds exactly what its job's earlier lines took.
-use Rattle.std.specs.Prelude.{ℕ, Bool, true, false, List, [], ◌∷◌, ◌++◌, ◌≡◌, ◌≤◌, ◌==◌, suc, not, All, length, map, filter, take, drop, Option, None, Some, if◌then◌else◌, IsTrue}
+use Rattle.std.specs.Prelude.{ℕ, Bool, true, false, List, [], ◌∷◌, ◌++◌, ◌≡◌, ◌≤◌, ◌==◌, suc, not, All, length, map, filter, take, fold, ◌+◌, Option, None, Some, if◌then◌else◌, IsTrue}
 use Rattle.std.specs.List.{list_any}
 use Rattle.dn_model.specs.Answer.{unknown_of, IsAnswer}
 use Rattle.dn_model.specs.Steps.{FrameStep, updates, FeedRead, entries_of}
@@ -33,21 +33,29 @@ abbrev pub takes : RouterId → Line → Bool
 takes r (Take l q count) = q.0 == r.0
 takes r (Ask l query) = false
 
--- the frames of a feed that are left where a line took all, or some from the front
-abbrev pub taken_by_count : Option ℕ → List FrameStep → List FrameStep
-taken_by_count None steps = steps
-taken_by_count (Some n) steps = take n steps
+-- how many frames two lines ask for together, where None is all that are left
+abbrev pub both_counts : Option ℕ → Option ℕ → Option ℕ
+both_counts None n = None
+both_counts (Some m) None = None
+both_counts (Some m) (Some n) = Some (m + n)
 
-abbrev pub left_by_count : Option ℕ → List FrameStep → List FrameStep
-left_by_count None steps = []
-left_by_count (Some n) steps = drop n steps
+-- how many frames of a router's feed a line asks for
+abbrev pub asked_by : RouterId → Line → Option ℕ
+asked_by r (Take l q count) = if q.0 == r.0 then count else Some 0
+asked_by r (Ask l query) = Some 0
 
--- the frames of a router's feed that lines take of it, of these that are left
-abbrev pub taken : List Line → RouterId → List FrameStep → List FrameStep
-taken [] r steps = []
-taken (Ask l query ∷ lines) r steps = taken lines r steps
-taken (Take l q count ∷ lines) r steps =
-    if q.0 == r.0 then taken_by_count count steps ++ taken lines r (left_by_count count steps) else taken lines r steps
+-- how many frames of a router's feed lines ask for
+abbrev pub asked : RouterId → List Line → Option ℕ
+asked r lines = fold both_counts (Some 0) (map (asked_by r) lines)
+
+-- this many frames from the front, or all
+abbrev pub front_of : Option ℕ → List FrameStep → List FrameStep
+front_of None steps = steps
+front_of (Some n) steps = take n steps
+
+-- the frames of a feed that lines take
+abbrev pub taken : List Line → FeedRead → List FrameStep
+taken lines f = front_of (asked f.router lines) f.steps
 
 -- a job: the lines of its script, none where it has no script, and the feeds that it alone takes
 pub record Job : Type 0 where
@@ -66,7 +74,7 @@ jobs_of scripts feeds =
 
 -- the history as a query's pin shows it holds of each feed of the job exactly the updates that the lines before took
 abbrev pub HoldsWhatWasTaken : List FeedRead → List Line → List Entry → Type 0
-HoldsWhatWasTaken feeds before seen = All (λ f. filter (is_from f) seen ≡ entries_of f (updates (taken before f.router f.steps))) feeds
+HoldsWhatWasTaken feeds before seen = All (λ f. filter (is_from f) seen ≡ entries_of f (updates (taken before f))) feeds
 
 -- What is told of a query after some lines, where the last pin was `last`: its first unknown name, or the answer over
 -- the first entries of the history, up to its pin.

@@ -1,5 +1,5 @@
 -- The report, as a text made of what is told: feeds, history, jobs.
-use Rattle.std.specs.Prelude.{ℕ, zero, suc, Bool, true, false, List, [], ◌∷◌, ◌++◌, Option, None, Some, length, map, codes, decimal, slice_get, unwrap_or, if◌then◌else◌, ◌+◌, ◌-◌, ◌/◌, ◌%◌, ◌^◌, ◌==◌}
+use Rattle.std.specs.Prelude.{ℕ, List, [], ◌∷◌, ◌++◌, Option, None, Some, length, map, codes, decimal, slice_get, unwrap_or, if◌then◌else◌, ◌+◌, ◌-◌, ◌/◌, ◌%◌, ◌^◌, ◌==◌}
 use Rattle.std.specs.List.{flat_map}
 use Rattle.dn_model.specs.Cidr.{Cidr}
 use Rattle.dn_model.specs.Runs.{Interval}
@@ -30,6 +30,8 @@ use Rattle.dn_model.specs.declared.told.Outcome.{Outcome}
 use Rattle.dn_model.specs.declared.told.Outcome.TheVariants as outcomes
 use Rattle.dn_model.specs.declared.told.Told.{Told}
 use Rattle.dn_model.specs.declared.told.JobTold.{JobTold}
+use Rattle.dn_model.specs.declared.error_line.ErrorLine.{ErrorLine}
+use Rattle.dn_model.specs.declared.error_line.ErrorLine.TheVariants as errors
 
 -- a line: its text and a line feed
 abbrev pub line : List ℕ → List ℕ
@@ -163,3 +165,16 @@ job_lines t j = line (codes "job " ++ decimal j.number) ++ flat_map (told_lines 
 -- the whole report
 abbrev pub report : Topology → List FeedTold → List Entry → List JobTold → List ℕ
 report t feeds history jobs = flat_map (feed_lines t) feeds ++ history_lines t history ++ flat_map (job_lines t) jobs ++ line (codes "done")
+
+-- an error line's words: what was wrong, where, and the cause
+abbrev pub error_words : ErrorLine → List ℕ
+error_words errors.Words = codes "words"
+error_words (errors.UnknownRouter i) = codes "part " ++ decimal i ++ codes " UnknownRouter"
+error_words errors.Topology = codes "topology top 0 1 NotToml"
+error_words errors.Script = codes "script 2 line 0 1 BadLine"
+error_words errors.ReadTopology = codes "read topology"
+error_words (errors.ReadPart i) = codes "read part " ++ decimal i
+
+-- the one line that stands in place of a report
+abbrev pub error_text : ErrorLine → List ℕ
+error_text e = line (codes "error " ++ error_words e)

@@ -110,17 +110,24 @@ line_meaning routers feeds taken n text =
     else if nat_lt 1024 (length text) then Err 1
     else command_meaning routers feeds taken n (words_of text)
 
--- line n before the lines after it
-abbrev pub then_lines : ℕ → Result (Option Line) ℕ → Result (List Line) ScriptFault → Result (List Line) ScriptFault
-then_lines n (Err c) rest = Err (record { line = n; cause = c })
-then_lines n (Ok o) (Err f) = Err f
-then_lines n (Ok o) (Ok ls) = Ok (option_to_list o ++ ls)
+abbrev pub at_line : ℕ → Result (Option Line) ℕ → Result (Option Line) ScriptFault
+at_line n (Err c) = Err (record { line = n; cause = c })
+at_line n (Ok l) = Ok l
+
+-- what line n means within the whole: line 65,537 is refused whatever it says
+abbrev pub numbered : ℕ → Result (Option Line) ℕ → Result (Option Line) ScriptFault
+numbered n meaning = if nat_lt 65536 n then Err (record { line = n; cause = 4 }) else at_line n meaning
+
+-- a line before the lines after it; the first fault counts
+abbrev pub with_line : Result (Option Line) ScriptFault → Result (List Line) ScriptFault → Result (List Line) ScriptFault
+with_line (Err f) rest = Err f
+with_line (Ok l) (Err f) = Err f
+with_line (Ok l) (Ok ls) = Ok (option_to_list l ++ ls)
 
 -- what lines mean of which the first has number n
 abbrev pub lines_meaning : (ℕ → List ℕ → Result (Option Line) ℕ) → ℕ → List (List ℕ) → Result (List Line) ScriptFault
 lines_meaning meaning n [] = Ok []
-lines_meaning meaning n (l ∷ ls) =
-    if nat_lt 65536 n then Err (record { line = n; cause = 4 }) else then_lines n (meaning n l) (lines_meaning meaning (n + 1) ls)
+lines_meaning meaning n (l ∷ ls) = with_line (numbered n (meaning n l)) (lines_meaning meaning (n + 1) ls)
 
 -- what a script's bytes mean, given the routers' names, the routers that have a feed, and those that earlier scripts take
 abbrev pub script_of : List (List ℕ) → List RouterId → List RouterId → List ℕ → Result (List Line) ScriptFault

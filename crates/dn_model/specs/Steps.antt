@@ -1,5 +1,5 @@
 -- What each frame of a feed comes to, and what is told of a feed.
-use Rattle.std.specs.Prelude.{ℕ, List, [], ◌∷◌, ◌++◌, length, map, sum, Option, Some}
+use Rattle.std.specs.Prelude.{ℕ, List, [], ◌∷◌, length, map, sum, Some}
 use Rattle.std.specs.List.{flat_map}
 use Rattle.dn_model.specs.declared.ids.RouterId.{RouterId}
 use Rattle.dn_model.specs.declared.entry.Op.{Op}
@@ -47,6 +47,9 @@ told_of f = record {
     feed_no = f.feed_no; router = f.router; updates = length (updates f.steps); skipped = sum (map skipped_of f.steps);
     refused = refusals f.steps; end = Some f.end }
 
--- updates as entries of the history
+-- updates of a router's feed as entries of the history
+abbrev pub entries_by : ℕ → RouterId → List Op → List Entry
+entries_by feed_no router ops = map (λ op. record { router = router; feed_no = feed_no; op = op }) ops
+
 abbrev pub entries_of : FeedRead → List Op → List Entry
-entries_of f ops = map (λ op. record { router = f.router; feed_no = f.feed_no; op = op }) ops
+entries_of f ops = entries_by f.feed_no f.router ops

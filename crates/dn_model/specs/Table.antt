@@ -1,6 +1,6 @@
 -- Routing tables as route lists: what updates make of them (rtnetlink(7)), and the route of an address
 -- (longest prefix, then least metric: RFC 1812, and the priority of rules in Delta-net, NSDI 2017).
-use Rattle.std.specs.Prelude.{ℕ, Bool, List, [], ◌∷◌, ◌++◌, Option, None, Some, filter, fold, map, not, nat_lt, ◌&&◌, ◌||◌, ◌==◌, if◌then◌else◌}
+use Rattle.std.specs.Prelude.{ℕ, Bool, List, [], ◌∷◌, ◌++◌, Option, None, Some, filter, fold, map, not, nat_lt, slice_index_or, ◌≡◌, ◌&&◌, ◌||◌, ◌==◌, if◌then◌else◌}
 use Rattle.dn_model.specs.Cidr.{Cidr, covers}
 use Rattle.dn_model.specs.declared.ids.RouterId.{RouterId}
 use Rattle.dn_model.specs.declared.target.Target.{Target}
@@ -57,3 +57,8 @@ target_in routes a = target_or_none (best routes a)
 -- what a router does with an address after a history
 abbrev pub target : List Entry → RouterId → ℕ → Target
 target history r a = target_in (table history r) a
+
+-- lists by router, of which each is its router's table after a history; of a router that has no list the history has
+-- no route
+pub record TablesOf (tables : List (List Route)) (history : List Entry) : Type 0 where
+  pub each : (r : RouterId) → slice_index_or tables r.0 [] ≡ table history r

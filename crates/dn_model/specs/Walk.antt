@@ -1,5 +1,5 @@
 -- Following an address hop by hop, with links taken as down.
-use Rattle.std.specs.Prelude.{ℕ, zero, suc, Bool, List, [], ◌∷◌, ◌==◌, if◌then◌else◌}
+use Rattle.std.specs.Prelude.{ℕ, zero, suc, Bool, List, [], ◌∷◌, ◌==◌, if◌then◌else◌, slice_index_or}
 use Rattle.std.specs.List.{list_any}
 use Rattle.dn_model.specs.declared.ids.RouterId.{RouterId}
 use Rattle.dn_model.specs.declared.ids.LinkId.{LinkId}
@@ -7,8 +7,9 @@ use Rattle.dn_model.specs.declared.target.Target.{Target}
 use Rattle.dn_model.specs.declared.target.Target.TheVariants.{NoRoute, Dropped, Local, Exit, OnLink, To, LinkDown}
 use Rattle.dn_model.specs.declared.answer.PathEnd.{PathEnd}
 use Rattle.dn_model.specs.declared.answer.PathEnd.TheVariants.{At, Loop}
-use Rattle.dn_model.specs.Table.{target}
+use Rattle.dn_model.specs.Table.{target, target_in}
 use Rattle.dn_model.specs.declared.entry.Entry.{Entry}
+use Rattle.dn_model.specs.declared.entry.Route.{Route}
 
 -- whether a link is one of these
 abbrev pub is_down : List LinkId → LinkId → Bool
@@ -27,6 +28,10 @@ without down (LinkDown l) = LinkDown l
 -- what a router does with an address after a history, with these links down
 abbrev pub next : List Entry → List LinkId → ℕ → RouterId → Target
 next history down a r = without down (target history r a)
+
+-- what a router does with an address by the lists of all routers, with these links down
+abbrev pub next_in : List (List Route) → List LinkId → ℕ → RouterId → Target
+next_in tables down a r = without down (target_in (slice_index_or tables r.0 []) a)
 
 -- what is made of the router that a target goes on to, or of none
 abbrev pub on_far : {A : Type 0} → Target → A → (RouterId → A) → A

@@ -4,7 +4,9 @@
 #![tactic(auto)]
 
 mod answer;
+pub mod cause;
 mod entry;
+mod error_line;
 mod ids;
 mod list;
 mod lookup;
@@ -13,28 +15,36 @@ mod name;
 mod ports;
 mod plain;
 mod prefix;
+mod print;
 mod query;
+mod run;
 mod raw_route;
 mod script;
 mod target;
 mod text;
 mod told;
 mod topology;
+mod topology_fault;
+mod unknown;
 
 pub use answer::{Answer, PathEnd};
 pub use entry::{Entry, Op, Posted, Route};
+pub use error_line::ErrorLine;
 pub use ids::{LinkId, RouterId};
 pub use list::List;
 pub use lookup::{link, port, router};
 pub use memory::OutOfMemory;
 pub use name::{Name, is_name};
 pub use ports::Port;
-pub use plain::{plain_routes, plain_target, plain_walk};
+pub use plain::{plain_answer, plain_routes, plain_target, plain_walk};
 pub use prefix::Prefix;
+pub use print::{print_address, print_prefix, print_run, print_target, push_address, push_bytes, push_decimal, push_link, push_prefix, push_router, push_target};
 pub use query::{Ask, Query, Unknown};
+pub use run::Run;
 pub use raw_route::{RawRoute, RouteKind};
 pub use script::{Line, Script};
 pub use target::{DropKind, Target};
 pub use text::Text;
 pub use told::{FeedEnd, FeedTold, JobTold, Outcome, RefusedFrame, Told};
 pub use topology::{TopoEnd, TopoLink, Topology};
+pub use topology_fault::{TopoFault, TopoPart, TopoRefused};

@@ -1,17 +1,22 @@
 //! The plain evaluator: what the definitions of tables, targets and walks say, computed as they stand. It is slow
 //! and simple, and shares no code with the engines that are tested against it.
 
-ghost use Rattle.std.specs.Prelude.{◌≡◌, IfOk, OnOk, length, filter, not, None, Some, ◌++◌, ◌∷◌, []};
+ghost use Rattle.std.specs.Prelude.{◌≡◌, IfOk, OnOk, length, filter, not, None, Some, IsSome, IsSomeAnd, ◌++◌, ◌∷◌, []};
+ghost use Rattle.dn_model.specs.Answer.{unknown_of, links_of, path_answer, IsAnswer};
 ghost use Rattle.dn_model.specs.Cidr.{covers};
+ghost use Rattle.dn_model.specs.Lookup.{router_of, link_of};
 ghost use Rattle.dn_model.specs.Table.{is_of_prefix, has_key, after_op, table, goes_before, better, best, target_or_none, target_in};
 ghost use Rattle.dn_model.specs.Walk.{is_down, without, next, walk, walk_end};
 
-use crate::answer::PathEnd;
+use crate::answer::{Answer, PathEnd};
 use crate::entry::{Entry, Op, Route};
 use crate::ids::{LinkId, RouterId};
 use crate::list::List;
+use crate::lookup::{link, router};
 use crate::memory::OutOfMemory;
+use crate::name::Name;
 use crate::prefix::Prefix;
+use crate::query::{Ask, Query};
 use crate::target::Target;
 use crate::topology::Topology;
 use std::alloc::Global;
@@ -219,4 +224,40 @@ pub fn plain_walk(
     }
     routers.push(router)?;
     Ok((List::from_vec(routers), PathEnd::Loop))
+}
+
+/// The links with these names.
+fn links_named(alloc: Global, t: &Topology, names: &[Name]) -> Result<Vec<LinkId>, OutOfMemory>
+    ensures { IfOk result (λ links. links.items ≡ links_of t.now names.now) }
+{
+    let mut links = Vec::new(alloc);
+    for name in names {
+        if let Some(named) = link(t, name) {
+            links.push(named)?;
+        }
+    }
+    Ok(links)
+}
+
+/// The walk of an address from the router of this name after a history, where the links `down` are down.
+fn plain_path(alloc: Global, t: &Topology, entries: &[Entry], down: &[LinkId], name: &Name, a: u32) -> Result<Answer, OutOfMemory>
+    requires { IsSome (router_of t.now name.now) }
+    ensures { IfOk result (λ answer. IsSomeAnd (router_of t.now name.now) (λ r. answer ≡ path_answer t.now entries.now down.now r a)) }
+{
+    let Some(first) = router(t, name) else {
+        unreachable!()
+    };
+    let (hops, end) = plain_walk(alloc, t, entries, down, first, a)?;
+    Ok(Answer::Path { hops, end })
+}
+
+/// The answer to a query after a history. The topology has each name of the query.
+pub fn plain_answer(alloc: Global, t: &Topology, entries: &[Entry], query: &Query) -> Result<Answer, OutOfMemory>
+    requires { unknown_of t.now query.now ≡ None }
+    ensures { IfOk result (λ answer. IsAnswer t.now entries.now query.now answer) }
+{
+    let down = links_named(alloc, t, query.without.as_slice())?;
+    match &query.ask {
+        Ask::Path(name, a) => plain_path(alloc, t, entries, down.as_slice(), name, *a),
+    }
 }

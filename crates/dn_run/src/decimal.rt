@@ -1,6 +1,6 @@
 //! Numbers and addresses written in digits.
 
-ghost use Rattle.std.specs.Prelude.{◌≡◌, ℕ, ◌+◌, ◌*◌, nat_le, option_map, if◌then◌else◌, ◌∷◌, []};
+ghost use Rattle.std.specs.Prelude.{◌≡◌, ◌≤◌, IfSome, ℕ, ◌+◌, ◌*◌, nat_le, option_map, if◌then◌else◌, ◌∷◌, []};
 ghost use Rattle.std.specs.List.{list_all};
 ghost use Rattle.dn_model.specs.Decimal.{is_digit, is_decimal, decimal_value, number_within, octet_of, address_of_octets, address_of, address_of_parts};
 
@@ -33,7 +33,8 @@ fn is_number(text: &[u8]) -> bool
 
 /// The number that digits write, up to a limit.
 fn value_up_to(digits: &[u8], high: u32) -> Option<u32>
-    ensures { result ≡ (if nat_le (decimal_value digits.now) high then Some (decimal_value digits.now) else None) }
+    ensures within { IfSome result (λ n. n ≤ high) }
+    ensures value { result ≡ (if nat_le (decimal_value digits.now) high then Some (decimal_value digits.now) else None) }
 {
     let mut value: u64 = 0;
     for digit in digits {
@@ -47,7 +48,8 @@ fn value_up_to(digits: &[u8], high: u32) -> Option<u32>
 
 /// The number from `low` to `high` that a text writes in digits, without sign or leading zero.
 pub fn read_number(text: &[u8], low: u32, high: u32) -> Option<u32>
-    ensures { result ≡ number_within low high text.now }
+    ensures within { IfSome result (λ n. n ≤ high) }
+    ensures value { result ≡ number_within low high text.now }
 {
     if !is_number(text) {
         return None;
@@ -61,7 +63,8 @@ pub fn read_number(text: &[u8], low: u32, high: u32) -> Option<u32>
 
 /// An octet of an address: a number from 0 to 255.
 fn read_octet(text: &[u8]) -> Option<u32>
-    ensures { result ≡ octet_of text.now }
+    ensures within { IfSome result (λ n. n ≤ 255) }
+    ensures value { result ≡ octet_of text.now }
 {
     read_number(text, 0, 255)
 }
@@ -77,6 +80,7 @@ fn read_octets(first: &[u8], second: &[u8], third: &[u8], fourth: &[u8]) -> Opti
     Some(16_777_216 * a + 65_536 * b + 256 * c + d)
 }
 
+#[tactic(auto, using(crate::proofs::Digits::address_parts))]
 /// The address (0 to 2^32 - 1) that a dotted quad writes.
 pub fn read_address(text: &[u8]) -> Option<u32>
     ensures { result ≡ address_of text.now }
@@ -84,8 +88,8 @@ pub fn read_address(text: &[u8]) -> Option<u32>
     let (first, rest) = split_at_dot(text)?;
     let (second, rest) = split_at_dot(rest)?;
     let (third, rest) = split_at_dot(rest)?;
-    if split_at_dot(rest).is_some() {
-        return None;
+    match split_at_dot(rest) {
+        Some((_, _)) => None,
+        None => read_octets(first, second, third, rest),
     }
-    read_octets(first, second, third, rest)
 }

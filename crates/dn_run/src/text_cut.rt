@@ -1,6 +1,6 @@
 //! Texts cut into lines, words and parts.
 
-ghost use Rattle.std.specs.Prelude.{◌≡◌, ◌+◌, ◌≤◌, ◌<◌, ◌∷◌, [], ◌==◌, length, take, drop, position, nat_lt, MatchOption, None, Some, get_or};
+ghost use Rattle.std.specs.Prelude.{◌≡◌, ◌+◌, ◌≤◌, ◌<◌, ◌∷◌, [], ◌==◌, length, take, drop, position, nat_lt, MatchOption, None, Some, get_or, false};
 ghost use Rattle.std.specs.List.{position_or_len, slice_split, before_first, after_first};
 ghost use Rattle.std.specs.Str.{bytes_eq};
 ghost use Rattle.dn_model.specs.Decimal.{is_dot};
@@ -43,34 +43,52 @@ fn cut_at(text: &[u8], place: usize) -> (&[u8], &[u8])
     }
 }
 
+/// The place of the first line feed.
+fn first_line_feed(text: &[u8]) -> Option<usize>
+    ensures { result ≡ position is_line_feed text.now }
+{
+    text.iter().position(|byte| *byte == b'\n')
+}
+
 /// The place of the first line feed, or the length.
+#[tactic(auto, using(crate::proofs::Cuts::place_or_length))]
 fn line_end(text: &[u8]) -> usize
     ensures place { result ≡ position_or_len is_line_feed text.now }
     ensures within { result ≤ length text.now }
 {
-    text.iter()
-        .position(|byte| *byte == b'\n')
-        .unwrap_or(text.len())
+    first_line_feed(text).unwrap_or(text.len())
+}
+
+/// The place of the first byte that parts words.
+fn first_gap(text: &[u8]) -> Option<usize>
+    ensures { result ≡ position is_gap text.now }
+{
+    text.iter().position(|byte| parts_words(*byte))
 }
 
 /// The place of the first byte that parts words, or the length.
+#[tactic(auto, using(crate::proofs::Cuts::place_or_length))]
 fn word_end(text: &[u8]) -> usize
     ensures place { result ≡ position_or_len is_gap text.now }
     ensures within { result ≤ length text.now }
 {
-    text.iter()
-        .position(|byte| parts_words(*byte))
-        .unwrap_or(text.len())
+    first_gap(text).unwrap_or(text.len())
+}
+
+/// The place of the first dot.
+fn first_dot(text: &[u8]) -> Option<usize>
+    ensures { result ≡ position is_dot text.now }
+{
+    text.iter().position(|byte| *byte == b'.')
 }
 
 /// The place of the first dot, or the length.
+#[tactic(auto, using(crate::proofs::Cuts::place_or_length))]
 fn dot_place(text: &[u8]) -> usize
     ensures place { result ≡ position_or_len is_dot text.now }
     ensures within { result ≤ length text.now }
 {
-    text.iter()
-        .position(|byte| *byte == b'.')
-        .unwrap_or(text.len())
+    first_dot(text).unwrap_or(text.len())
 }
 
 /// The first line of a text, and the text after it.
@@ -116,10 +134,10 @@ pub fn two_words(text: &[u8]) -> Option<(&[u8], &[u8])>
 {
     let (first, rest) = next_word(text)?;
     let (second, rest) = next_word(rest)?;
-    if next_word(rest).is_some() {
-        return None;
+    match next_word(rest) {
+        Some((_, _)) => None,
+        None => Some((first, second)),
     }
-    Some((first, second))
 }
 
 /// What stands before the first dot and what stands after it, or nothing where there is no dot.

@@ -1,13 +1,10 @@
-// A library with one function.
+//! Frames of the forwarding plane manager, version 1, cut out of a stream that comes in pieces, and written.
+//!
+//! Source: FRR's `fpm/fpm.h`, the FPM message header: version, type and length in network byte order, then the payload.
 #![tactic(auto)]
 
-ghost use Rattle.std.specs.Prelude.{◌≡◌};
-ghost use Rattle.fpm_frame.specs.Echo.{echo_of};
+mod cutter;
+mod write;
 
-// The `ensures` clause is the contract: what `echo` returns is `echo_of` of its argument, a definition
-// in `specs/Echo.antt`, which a caller's clause can cite too.
-pub fn echo(x: usize) -> usize
-    ensures { result ≡ echo_of x }
-{
-    x
-}
+pub use cutter::{Cutter, Finish, Next};
+pub use write::write_frame;

@@ -1,0 +1,17 @@
+-- The start moves by the frame's length, so what is held begins after the frame.
+use Rattle.std.proofs.Common.{◌≡◌, ◌+◌, ℕ, ◌++◌, List, drop, length, ap, ap₂, sym, ◌∙◌, drop-drop, drop_at}
+use Rattle.dn_model.specs.Frames.{frame_text}
+use Rattle.fpm_frame.specs.Held.{Held}
+use Rattle.fpm_frame.proofs.cutter.Cutter.pass.Goals as goal
+
+pub returns : goal.returns
+returns c f more ok begins =
+    let items : List ℕ = c.self.inside.buffer.items in
+    let start : ℕ = c.self.inside.start in
+    let n : ℕ = c.frame_length-length.result in
+    let whole : n ≡ length (frame_text f) = c.frame_length-length.ensures f more ok (c.held.ensures ∙ begins) in
+    let from : c.self.inside.offset ≡ c.args.self.now.offset = ap (λ (h : Held). h.offset) c.self.view_is in
+    let held : drop start items ≡ c.args.self.now.held = ap (λ (h : Held). h.held) c.self.view_is in
+    let rest : drop (start + n) items ≡ more = sym (drop-drop n start items) ∙ ap (drop n) (held ∙ begins) ∙ drop_at (frame_text f) more n (sym whole) in
+    let make = λ (offset : ℕ) (bytes : List ℕ). let made : Held = record { offset = offset; held = bytes } in made in
+    ap₂ make (ap₂ (λ (a b : ℕ). a + b) from whole) rest

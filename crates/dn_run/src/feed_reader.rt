@@ -95,6 +95,8 @@ impl<S: Source> FeedReader<S> {
         ensures told { self.old.told.end ≡ None → self.new.told ≡ told_then self.old.told result }
         ensures faults { self.old.told.end ≡ None → FaultsAt result (S.faults self.old.source) (S.faults self.new.source) }
         ensures limit { self.new.limit ≡ self.old.limit }
+        ensures router { self.new.told.router ≡ self.old.told.router }
+        ensures feed_no { self.new.told.feed_no ≡ self.old.told.feed_no }
         ensures stays { S.place self.new.source ≡ S.place self.old.source }
     {
         if let Some(end) = self.told.end {

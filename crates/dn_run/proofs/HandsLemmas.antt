@@ -21,13 +21,14 @@ hands t old new told_old told_new step offset f (at, holds) comes few passes sou
     let after : held_of new ≡ record { offset = old.passed + length (frame_text f); held = holds.begins.0 } = passes f holds.begins.0 holds.fits holds.begins.1 in
     let rest : new.held ≡ holds.begins.0 = ap (λ h. h.held) after in
     record {
-        frame = f;
-        fits = holds.fits;
-        begins = holds.begins.1 ∙ ap (λ x. frame_text f ++ x) (sym rest);
-        comes_to = subst (λ (o : ℕ). ComesTo t told_old.router o f step) at comes;
-        passed = ap (λ h. h.offset) after;
-        source = source;
-        limit = limit;
-        pending = pending;
-        told = told;
-        of_frame = few }
+      frame = f;
+      fits = holds.fits;
+      begins = holds.begins.1 ∙ ap (λ x. frame_text f ++ x) (sym rest);
+      comes_to = subst (λ (o : ℕ). ComesTo t told_old.router o f step) at comes;
+      passed = ap (λ h. h.offset) after;
+      source = source;
+      limit = limit;
+      pending = pending;
+      told = told;
+      of_frame = few;
+    }

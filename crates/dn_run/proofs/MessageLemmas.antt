@@ -19,8 +19,8 @@ pub without_header : (r : Option (Bor (List ℕ))) (bytes head : List ℕ) (raw 
 without_header r bytes head raw len is e l h =
     let same : head ≡ header_text raw.del (28 + length (attributes_text raw)) = header_is head raw len e l in
     none_first r bytes (header_text raw.del (28 + length (attributes_text raw)) ++ route_part raw.prefix.len (kind_number raw.kind)) (attributes_text raw) is
-        (not_first bytes (header_text raw.del (28 + length (attributes_text raw))) (route_part raw.prefix.len (kind_number raw.kind))
-            (λ rest f. h rest (f ∙ ap (λ t. t ++ rest) (sym same))))
+    (not_first bytes (header_text raw.del (28 + length (attributes_text raw))) (route_part raw.prefix.len (kind_number raw.kind))
+    (λ rest f. h rest (f ∙ ap (λ t. t ++ rest) (sym same))))
 
 -- a header without the rest of the fields, no message
 pub without_route : (r : Option (Bor (List ℕ))) (bytes mid head fields : List ℕ) (raw : RawRoute) (len : ℕ) → r ≡ None →
@@ -29,8 +29,8 @@ pub without_route : (r : Option (Bor (List ℕ))) (bytes mid head fields : List 
 without_route r bytes mid head fields raw len is e l p b h =
     let same : head ≡ header_text raw.del (28 + length (attributes_text raw)) = header_is head raw len e l in
     none_first r bytes (header_text raw.del (28 + length (attributes_text raw)) ++ route_part raw.prefix.len (kind_number raw.kind)) (attributes_text raw) is
-        (not_second bytes mid (header_text raw.del (28 + length (attributes_text raw))) (route_part raw.prefix.len (kind_number raw.kind))
-            (b ∙ ap (λ t. t ++ mid) same) (λ rest f. h rest (f ∙ ap (λ t. t ++ rest) (sym p))))
+    (not_second bytes mid (header_text raw.del (28 + length (attributes_text raw))) (route_part raw.prefix.len (kind_number raw.kind))
+    (b ∙ ap (λ t. t ++ mid) same) (λ rest f. h rest (f ∙ ap (λ t. t ++ rest) (sym p))))
 
 -- where the message of what the fields say doesn't stand, no message does
 pub no_message : (payload : List ℕ) (raw : RawRoute) → raw ≡ guessed payload → ((rest : List ℕ) → payload ≡ message_text raw ++ rest → ⊥) →

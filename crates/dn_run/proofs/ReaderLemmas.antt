@@ -62,11 +62,12 @@ pub reading_whole : (t : Topology) (r : RouterId) (bytes held : List ℕ) (limit
 reading_whole t r bytes held limit frames steps end each come e short front is =
     let all : take limit bytes ≡ bytes = take_all limit bytes short in
     record {
-        frames = frames;
-        rest = held;
-        cut = record { whole = all ∙ e; each = each; left = front-not_frame held front };
-        come_to = come;
-        ends = is ∙ ap (ending (rest_kind held) (length (frames_text frames))) (sym (not_longer limit (length bytes) short)) }
+      frames = frames;
+      rest = held;
+      cut = record { whole = all ∙ e; each = each; left = front-not_frame held front };
+      come_to = come;
+      ends = is ∙ ap (ending (rest_kind held) (length (frames_text frames))) (sym (not_longer limit (length bytes) short));
+    }
 
 take_past : (xs ys : List ℕ) (limit : ℕ) → length xs ≤ limit → take limit (xs ++ ys) ≡ xs ++ take (limit - length xs) ys
 take_past xs ys limit h =
@@ -80,14 +81,15 @@ pub reading_lost : (t : Topology) (r : RouterId) (bytes held rest : List ℕ) (l
 reading_lost t r bytes held rest limit cause frames steps each come e within lost =
     let more : List ℕ = take (limit - length (frames_text frames ++ held)) rest in
     let front : take limit bytes ≡ frames_text frames ++ (held ++ more) =
-        ap (take limit) e ∙ take_past (frames_text frames ++ held) rest limit within ∙ append_assoc (frames_text frames) held more in
+    ap (take limit) e ∙ take_past (frames_text frames ++ held) rest limit within ∙ append_assoc (frames_text frames) held more in
     let still : lost_cause (rest_kind (held ++ more)) ≡ Some cause = ap lost_cause (lost-stays held more cause lost) ∙ lost in
     record {
-        frames = frames;
-        rest = held ++ more;
-        cut = record { whole = front; each = each; left = lost-not_frame (held ++ more) cause still };
-        come_to = come;
-        ends = lost_ending (rest_kind (held ++ more)) cause (length (frames_text frames)) (nat_lt limit (length bytes)) still }
+      frames = frames;
+      rest = held ++ more;
+      cut = record { whole = front; each = each; left = lost-not_frame (held ++ more) cause still };
+      come_to = come;
+      ends = lost_ending (rest_kind (held ++ more)) cause (length (frames_text frames)) (nat_lt limit (length bytes)) still;
+    }
 
 too_long : (k : FrameRest) (o : ℕ) → lost_cause k ≡ None → ends.TooLong ≡ ending k o true
 too_long NoRest o e = refl
@@ -100,13 +102,14 @@ pub reading_long : (t : Topology) (r : RouterId) (bytes held rest : List ℕ) (l
     0 < length rest → IsFrameFront held → IsReading t r bytes limit steps ends.TooLong
 reading_long t r bytes held rest limit frames steps each come e at some front =
     let whole : take limit bytes ≡ frames_text frames ++ held =
-        ap (take limit) e ∙ ap (λ n. take n (frames_text frames ++ held ++ rest)) (sym at) ∙ take-append_seam (frames_text frames ++ held) rest in
+    ap (take limit) e ∙ ap (λ n. take n (frames_text frames ++ held ++ rest)) (sym at) ∙ take-append_seam (frames_text frames ++ held) rest in
     let count : length bytes ≡ limit + length rest = ap length e ∙ length-append (frames_text frames ++ held) rest ∙ ap (λ n. n + length rest) at in
     let longer : nat_lt limit (length bytes) ≡ true = is_longer limit (length bytes) (omega arith) in
     record {
-        frames = frames;
-        rest = held;
-        cut = record { whole = whole; each = each; left = front-not_frame held front };
-        come_to = come;
-        ends = too_long (rest_kind held) (length (frames_text frames)) (front-not_lost held front)
-            ∙ ap (ending (rest_kind held) (length (frames_text frames))) (sym longer) }
+      frames = frames;
+      rest = held;
+      cut = record { whole = whole; each = each; left = front-not_frame held front };
+      come_to = come;
+      ends = too_long (rest_kind held) (length (frames_text frames)) (front-not_lost held front)
+          ∙ ap (ending (rest_kind held) (length (frames_text frames))) (sym longer);
+    }

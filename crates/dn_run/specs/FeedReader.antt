@@ -26,8 +26,13 @@ pub record Reader (S : Type 0) : Type 0 where
 -- what is told after these steps, before an end
 abbrev pub told_so_far : ℕ → RouterId → List FrameStep → FeedTold
 told_so_far feed_no router steps = record {
-    feed_no = feed_no; router = router; updates = length (updates steps); skipped = sum (map skipped_of steps);
-    refused = refusals steps; end = None }
+  feed_no = feed_no;
+  router = router;
+  updates = length (updates steps);
+  skipped = sum (map skipped_of steps);
+  refused = refusals steps;
+  end = None;
+}
 
 -- what is told after these steps and this end
 abbrev pub told_at_end : ℕ → RouterId → List FrameStep → FeedEnd → FeedTold

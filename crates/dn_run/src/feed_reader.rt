@@ -61,7 +61,13 @@ fn end_with(told: &mut FeedTold, end: FeedEnd) -> FeedStep
 impl<S: Source> FeedReader<S> {
     /// The reader of this router's feed, which has this number and of which `limit` bytes are looked at. It takes no
     /// memory, and reads nothing yet.
-    pub fn new(alloc: Global, source: S, router: RouterId, feed_no: u32, limit: u64) -> FeedReader<S>
+    pub fn new(
+        alloc: Global,
+        source: S,
+        router: RouterId,
+        feed_no: u32,
+        limit: u64,
+    ) -> FeedReader<S>
         requires some { 1 ≤ limit }
         requires most { limit ≤ 2 ^ 30 }
         requires fresh { S.faults source ≡ 0 }
@@ -87,7 +93,11 @@ impl<S: Source> FeedReader<S> {
     /// # Errors
     ///
     /// `OutOfMemory`; no byte is lost then, and the call can be made again.
-    pub fn next_frame(&mut self, alloc: Global, topology: &Topology) -> Result<FeedStep, OutOfMemory>
+    pub fn next_frame(
+        &mut self,
+        alloc: Global,
+        topology: &Topology,
+    ) -> Result<FeedStep, OutOfMemory>
         requires { self.old.told.router.0 < length topology.now.routers }
         ensures outcome { (bytes : List ℕ) (steps : List FrameStep) → IsAt topology.now self.old (S.left self.old.source) bytes steps →
             IsOutcome topology.now result self.new (S.left self.new.source) bytes steps }

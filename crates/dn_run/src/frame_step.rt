@@ -12,7 +12,9 @@ use crate::feed_step::FeedStep;
 use crate::intake::Intake;
 use crate::message::read_message;
 use dn_io::Source;
-use dn_model::{FeedTold, List, Op, OutOfMemory, Port, RawRoute, RefusedFrame, RouterId, Target, Topology, port};
+use dn_model::{
+    FeedTold, List, Op, OutOfMemory, Port, RawRoute, RefusedFrame, RouterId, Target, Topology, port,
+};
 use fpm_frame::Next;
 use std::alloc::Global;
 
@@ -24,7 +26,11 @@ fn target_at(port: Port, via: bool, index: u32) -> Target
     ensures { result ≡ target_at port via index }
 {
     match port {
-        Port::Link { far, link, unnumbered } => {
+        Port::Link {
+            far,
+            link,
+            unnumbered,
+        } => {
             if via || unnumbered {
                 Target::To(far, link)
             } else {
@@ -81,7 +87,14 @@ fn update_in(topology: &Topology, router: RouterId, kind: u8, payload: &[u8]) ->
 }
 
 /// What a frame at this offset comes to.
-fn step_of(alloc: Global, topology: &Topology, router: RouterId, offset: u64, kind: u8, payload: &[u8]) -> Result<FeedStep, OutOfMemory>
+fn step_of(
+    alloc: Global,
+    topology: &Topology,
+    router: RouterId,
+    offset: u64,
+    kind: u8,
+    payload: &[u8],
+) -> Result<FeedStep, OutOfMemory>
     ensures comes { IfOk result (ComesTo topology.now router offset (record { kind = kind; payload = payload.now })) }
     ensures few { IfOk result IsOfFrame }
 {
@@ -91,7 +104,11 @@ fn step_of(alloc: Global, topology: &Topology, router: RouterId, offset: u64, ki
             ops.push(op)?;
             Ok(FeedStep::Ops(ops, 0))
         }
-        None => Ok(FeedStep::Refused { offset, at: 0, cause: 0 }),
+        None => Ok(FeedStep::Refused {
+            offset,
+            at: 0,
+            cause: 0,
+        }),
     }
 }
 
@@ -131,7 +148,11 @@ pub fn hand_out<S: Source>(
     ensures { HandsTo topology.now result intake.old intake.new told.old told.new }
 {
     let step = match intake.next() {
-        Next::Frame { offset, kind, payload } => step_of(alloc, topology, told.router, offset, kind, payload)?,
+        Next::Frame {
+            offset,
+            kind,
+            payload,
+        } => step_of(alloc, topology, told.router, offset, kind, payload)?,
         _ => unreachable!(),
     };
     tell(told, &step)?;

@@ -78,7 +78,11 @@ fn room_of(limit: u64, read: u64) -> usize
 
 /// Reads the next bytes of a source, at most `room`, into an empty piece. After want of memory, and after a fault, the
 /// piece is empty again.
-fn read_piece<S: Source>(source: &mut S, piece: &mut Vec<u8>, room: usize) -> Result<Got, OutOfMemory>
+fn read_piece<S: Source>(
+    source: &mut S,
+    piece: &mut Vec<u8>,
+    room: usize,
+) -> Result<Got, OutOfMemory>
     requires empty { piece.old.items ≡ [] }
     requires some { 0 < room }
     ensures bytes { with_front piece.new.items (S.left source.new) ≡ S.left source.old }

@@ -4,6 +4,8 @@
 mod decimal;
 mod feed_reader;
 mod feed_step;
+#[cfg(test)]
+mod feed_tests;
 mod files;
 mod frame_step;
 mod intake;

@@ -141,7 +141,10 @@ fn after_destination(bytes: &[u8], prefix: Prefix) -> Option<&[u8]>
     if prefix.len() == 0 {
         Some(bytes)
     } else {
-        after(bytes, &attribute_bytes(DESTINATION, prefix.base().to_be_bytes()))
+        after(
+            bytes,
+            &attribute_bytes(DESTINATION, prefix.base().to_be_bytes()),
+        )
     }
 }
 
@@ -200,7 +203,12 @@ fn four_at(bytes: &[u8], at: usize) -> [u8; 4]
     requires { at < 100 }
     ensures { result ≡ four_at bytes.now at }
 {
-    [byte_at(bytes, at), byte_at(bytes, at + 1), byte_at(bytes, at + 2), byte_at(bytes, at + 3)]
+    [
+        byte_at(bytes, at),
+        byte_at(bytes, at + 1),
+        byte_at(bytes, at + 2),
+        byte_at(bytes, at + 3),
+    ]
 }
 
 /// The little-endian number at a place.

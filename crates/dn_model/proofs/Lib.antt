@@ -1,4 +1,4 @@
-pub mod Best
+pub mod FeedLemmas
 pub mod FramesLemmas
 pub mod Lookups
 pub mod TopologyLinksSound

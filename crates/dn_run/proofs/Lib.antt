@@ -1,10 +1,12 @@
 mod TablesLemmas
+pub mod AnswerLemmas
 pub mod CallsLemmas
 pub mod Cuts
 pub mod Digits
+pub mod HandsLemmas
+pub mod MessageLemmas
 pub mod Parts
 pub mod ReadLemmas
-pub mod Fronts
-pub mod Names
-pub mod Refused
+pub mod ReaderLemmas
 pub mod ScriptLines
+pub mod StripsLemmas

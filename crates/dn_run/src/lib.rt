@@ -3,18 +3,17 @@
 
 mod answerer;
 mod decimal;
-mod files;
-mod report;
-mod report_jobs;
+mod feed_reader;
+mod feed_step;
 #[cfg(test)]
-mod report_tests;
-mod report_writer;
+mod feed_tests;
+mod files;
+mod frame_step;
+mod intake;
+mod message;
 mod script_line;
 mod script_text;
 mod status;
 mod tables;
-#[cfg(test)]
-mod tables_tests;
 mod text_cut;
-mod topology_text;
 mod words;

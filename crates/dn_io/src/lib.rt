@@ -1,13 +1,33 @@
-// A library with one function.
+//! The outside of the program: where its bytes come from and where its report goes.
+//!
+//! Four traits say what the program needs: `Source`, `Sink`, `World` and `Gate`. Their ghost members are
+//! what contracts name, so code above is generic over them.
 #![tactic(auto)]
 
-ghost use Rattle.std.specs.Prelude.{◌≡◌};
-ghost use Rattle.dn_io.specs.Echo.{echo_of};
+mod call_book;
+mod files;
+mod mem_sink;
+mod mem_source;
+mod plan;
+mod refusals;
+mod remainder;
+mod sure;
+#[cfg(test)]
+mod tests;
+mod traits;
 
-// The `ensures` clause is the contract: what `echo` returns is `echo_of` of its argument, a definition
-// in `specs/Echo.antt`, which a caller's clause can cite too.
-pub fn echo(x: usize) -> usize
-    ensures { result ≡ echo_of x }
-{
-    x
-}
+pub use call_book::CallBook;
+pub use files::MemFile;
+pub use files::SureFile;
+pub use mem_sink::MemSink;
+pub use mem_source::MemSource;
+pub use refusals::Failed;
+pub use refusals::WorldRefused;
+pub use sure::NoGate;
+pub use sure::SureSink;
+pub use sure::SureSource;
+pub use traits::Gate;
+pub use traits::Point;
+pub use traits::Sink;
+pub use traits::Source;
+pub use traits::World;

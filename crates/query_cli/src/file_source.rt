@@ -1,0 +1,79 @@
+//! A real file as a source.
+
+use crate::fault_count::FaultCount;
+use dn_io::Failed;
+use dn_io::Source;
+use std::io::Read;
+use std::marker::Model;
+
+ghost use Rattle.std.specs.Prelude.{◌≡◌, ℕ, ◌<◌, ◌≤◌, ◌==◌, not, [], length, take, drop, Option, None, IfOk, OnOk, OnErr};
+ghost use Rattle.dn_io.specs.Faults.{Rose};
+ghost use Rattle.dn_io.specs.Told.{with_front, without_first, NothingLeft};
+ghost use Rattle.query_cli.specs.Views.{FileView};
+
+/// The most bytes that one read asks of the system.
+const WINDOW: usize = 4096;
+
+/// A file that is open for reading. It tells none of its bytes. The file is closed where the source is dropped.
+#[derive(Drop)]
+pub struct FileSource<F> {
+    file: F,
+    place: u32,
+    faults: FaultCount,
+}
+
+impl<F> Model for FileSource<F> {
+    ghost use Rattle.query_cli.specs.Views.{FileView};
+
+    ghost Value = { FileView };
+
+    ghost view = { λ s. record { place = s.place; faults = s.faults } };
+}
+
+impl<F> FileSource<F> {
+    /// This open file, at this place of its world's calls.
+    pub fn new(file: F, place: u32) -> Self
+        ensures { result ≡ record { place = place; faults = 0 } }
+    {
+        FileSource {
+            file,
+            place,
+            faults: FaultCount::new(),
+        }
+    }
+}
+
+impl<F: Drop> FileSource<F> {
+    /// Closes the file. Answers its place, and whether a read has failed.
+    pub fn close(self) -> (u32, bool)
+        ensures place { result.0 ≡ self.place }
+        ensures failed { result.1 ≡ not (self.faults == 0) }
+    {
+        (self.place, self.faults.is_some())
+    }
+}
+
+impl<F: Read + Send + Drop> Source for FileSource<F> {
+    ghost left = { λ s. None };
+
+    ghost place = { λ s. s.place };
+
+    ghost faults = { λ s. s.faults };
+
+    /// Reads at most 4,096 bytes. What std says of a read leaves the rest of its buffer open, so the bytes
+    /// come into an array of this function's own first.
+    fn read(&mut self, buf: &mut [u8]) -> Result<usize, Failed> {
+        let mut window = [0u8; WINDOW];
+        let most = buf.len().min(WINDOW);
+        match self.file.read(&mut window[..most]) {
+            Ok(count) => {
+                buf[..count].copy_from_slice(&window[..count]);
+                Ok(count)
+            }
+            Err(_) => {
+                self.faults.rise();
+                Err(Failed)
+            }
+        }
+    }
+}

@@ -1,1 +1,4 @@
 pub mod CallsLemmas
+pub mod FilesLemmas
+pub mod FaultsLemmas
+pub mod ToldLemmas

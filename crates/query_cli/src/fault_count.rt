@@ -1,9 +1,9 @@
 //! How many calls of an object have failed.
 
-use std::marker::Model;
-
 ghost use Rattle.std.specs.Prelude.{◌≡◌, ℕ, ◌≤◌, ◌==◌, not, min, suc};
 ghost use Rattle.dn_io.specs.Faults.{Rose};
+
+use std::marker::Model;
 
 /// How many calls of an object have failed; a count of 2^64 - 1 stays there.
 #[derive(Drop)]

@@ -1,15 +1,14 @@
 //! A real file as a source.
 
-use crate::fault_count::FaultCount;
-use dn_io::Failed;
-use dn_io::Source;
-use std::io::Read;
-use std::marker::Model;
-
 ghost use Rattle.std.specs.Prelude.{◌≡◌, ℕ, ◌<◌, ◌≤◌, ◌==◌, not, [], length, take, drop, Option, None, IfOk, OnOk, OnErr};
 ghost use Rattle.dn_io.specs.Faults.{Rose};
 ghost use Rattle.dn_io.specs.Told.{with_front, without_first, NothingLeft};
 ghost use Rattle.query_cli.specs.Views.{FileView};
+
+use crate::fault_count::FaultCount;
+use dn_io::{Failed, Source};
+use std::io::Read;
+use std::marker::Model;
 
 /// The most bytes that one read asks of the system.
 const WINDOW: usize = 4096;

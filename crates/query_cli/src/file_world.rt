@@ -1,18 +1,16 @@
 //! The files of the system as a world.
 
+ghost use Rattle.std.specs.Prelude.{◌≡◌, ℕ, ◌<◌, ◌≤◌, ◌^◌, [], length, Option, None, IfOk, IfErr, OnOk, OnErr, IfSome, IsSome};
+ghost use Rattle.dn_io.specs.Files.{Files, bytes_of};
+ghost use Rattle.dn_io.specs.Calls.{Call, with_out, with_refusal, with_state, back_with, IsOutAt};
+
 use crate::file_source::FileSource;
-use dn_io::CallBook;
-use dn_io::World;
-use dn_io::WorldRefused;
+use dn_io::{CallBook, World, WorldRefused};
 use std::alloc::Global;
 use std::fs;
 use std::fs::File;
 use std::marker::Model;
 use std::rt::Files;
-
-ghost use Rattle.std.specs.Prelude.{◌≡◌, ℕ, ◌<◌, ◌≤◌, ◌^◌, [], length, Option, None, IfOk, IfErr, OnOk, OnErr, IfSome, IsSome};
-ghost use Rattle.dn_io.specs.Files.{Files, bytes_of};
-ghost use Rattle.dn_io.specs.Calls.{Call, with_out, with_refusal, with_state, back_with, IsOutAt};
 
 /// The files of the system, by their paths. It tells none of their bytes, and keeps what it was asked for.
 #[derive(Drop)]
@@ -60,6 +58,7 @@ impl<R: Files<File = File>> World for FileWorld<R> {
 
     /// Opens the file at this path for reading. A directory opens too, and then fails to be read. The entry of
     /// the call is made before the file is opened, so that no open file lacks its entry.
+    #[tactic(auto, using(crate::proofs::Entries::entries))]
     fn source_of(&mut self, name: &str) -> Result<FileSource<File>, WorldRefused> {
         let place = self.calls.len();
         if self.calls.add_out(self.alloc, name).is_err() {
@@ -75,6 +74,7 @@ impl<R: Files<File = File>> World for FileWorld<R> {
     }
 
     /// Closes the file of a source that this world handed out.
+    #[tactic(auto, using(crate::proofs::Entries::entries))]
     fn give_back(&mut self, src: FileSource<File>) {
         let (place, failed) = src.close();
         self.calls.come_back_untold(place as usize, failed);

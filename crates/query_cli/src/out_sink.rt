@@ -1,14 +1,13 @@
 //! Standard output as a sink.
 
-use crate::fault_count::FaultCount;
-use dn_io::Failed;
-use dn_io::Sink;
-use std::io::Write;
-use std::marker::Model;
-
 ghost use Rattle.std.specs.Prelude.{◌≡◌, ℕ, ◌<◌, ◌≤◌, [], length, take, Option, None, IfOk, OnOk, OnErr};
 ghost use Rattle.dn_io.specs.Faults.{Rose};
 ghost use Rattle.dn_io.specs.Told.{with_end};
+
+use crate::fault_count::FaultCount;
+use dn_io::{Failed, Sink};
+use std::io::Write;
+use std::marker::Model;
 
 /// A writer as a sink: the program's is standard output. It tells none of the bytes written.
 #[derive(Drop)]

@@ -1,7 +1,7 @@
 -- Laws of lists of calls.
-use Rattle.std.proofs.Common.{◌≡◌, ◌≢◌, ℕ, zero, suc, ◌<◌, List, [], ◌∷◌, ◌++◌, length, get_or, set, refl, ap, sym, ◌∙◌, subst, arith, Option, Some, None, string_bytes, map, Bool, true, false, ◌||◌, Result, Ok, Err, OnOk, OnErr}
-use Rattle.std.proofs.lemmas.List.{length-map}
-use Rattle.dn_io.specs.Calls.{Call, CallState, Back, call_of, with_out, with_state, state_at, name_at, some_failed, state_failed, NoneFailed, IsOutAt, Out, names_of, some_out, state_is_out}
+use Rattle.std.proofs.Common.{◌≡◌, ◌≢◌, ℕ, zero, suc, ◌<◌, ◌+◌, List, [], ◌∷◌, ◌++◌, length, get_or, set, refl, ap, sym, ◌∙◌, subst, arith, Option, Some, None, string_bytes, map, Bool, true, false, ◌||◌, Result, Ok, Err, OnOk, OnErr}
+use Rattle.std.proofs.lemmas.List.{length-map, length-append}
+use Rattle.dn_io.specs.Calls.{Call, CallState, Back, call_of, with_out, with_state, state_at, name_at, some_failed, state_failed, NoneFailed, IsOutAt, Out, NoneOut, back_with, names_of, some_out, state_is_out}
 use Rattle.dn_io.specs.BookView.{shown_entry, shown_state}
 use Rattle.dn_io.specs.declared.call_book.Entry.{Entry}
 use Rattle.dn_io.specs.declared.call_book.NameState.{NameState}
@@ -135,3 +135,15 @@ some_out-append (x ∷ calls) more = ap (λ b. state_is_out x.state || b) (some_
 pub some_failed-append : (calls more : List Call) → some_failed (calls ++ more) ≡ (some_failed calls || some_failed more)
 some_failed-append [] more = refl
 some_failed-append (x ∷ calls) more = ap (λ b. state_failed x.state || b) (some_failed-append calls more) ∙ or_assoc (state_failed x.state) (some_failed calls) (some_failed more)
+
+-- a name that was handed out and given back leaves none Out
+pub NoneOut-given : (calls : List Call) (name : List ℕ) (faults : ℕ) (left : Option (List ℕ)) → NoneOut calls → NoneOut (with_state (with_out calls name) (length calls) (back_with faults left))
+NoneOut-given calls name faults left h =
+    ap some_out (with_state-out calls name (back_with faults left)) ∙ some_out-append calls (call_of name (back_with faults left) ∷ []) ∙ ap (λ b. b || false) h
+
+-- a name that was handed out and given back is one entry more
+pub length-given : (calls : List Call) (name : List ℕ) (i : ℕ) (s : CallState) → length (with_state (with_out calls name) i s) ≡ length calls + 1
+length-given calls name i s = length-with_state (with_out calls name) i s ∙ length-append calls (call_of name Out ∷ [])
+
+-- what reading a file of a world cites
+pub ruleset handed = (state_at-out, NoneOut-given, some_out-append, length-given)

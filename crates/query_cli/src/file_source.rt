@@ -3,7 +3,8 @@
 ghost use Rattle.std.specs.Prelude.{◌≡◌, ℕ, ◌<◌, ◌≤◌, ◌==◌, not, [], length, take, drop, Option, None, IfOk, OnOk, OnErr};
 ghost use Rattle.dn_io.specs.Faults.{Rose};
 ghost use Rattle.dn_io.specs.Told.{with_front, without_first, NothingLeft};
-ghost use Rattle.query_cli.specs.Views.{FileView};
+ghost use Rattle.query_cli.specs.Views.{SourceView};
+ghost use Rattle.std.specs.Io.KnownBytes.{Consumes, IsAtEnd, Keeps};
 
 use crate::fault_count::FaultCount;
 use dn_io::{Failed, Source};
@@ -16,26 +17,26 @@ const WINDOW: usize = 4096;
 /// A file that is open for reading. It tells none of its bytes. The file is closed where the source is dropped.
 #[derive(Drop)]
 pub struct FileSource<F> {
-    file: F,
+    reader: F,
     place: u32,
     faults: FaultCount,
 }
 
 impl<F> Model for FileSource<F> {
-    ghost use Rattle.query_cli.specs.Views.{FileView};
+    ghost use Rattle.query_cli.specs.Views.{SourceView};
 
-    ghost Value = { FileView };
+    ghost Value = { SourceView F };
 
-    ghost view = { λ s. record { place = s.place; faults = s.faults } };
+    ghost view = { λ s. record { reader = s.reader; place = s.place; faults = s.faults } };
 }
 
 impl<F> FileSource<F> {
     /// This open file, at this place of its world's calls.
-    pub fn new(file: F, place: u32) -> Self
-        ensures { result ≡ record { place = place; faults = 0 } }
+    pub fn new(reader: F, place: u32) -> Self
+        ensures { result ≡ record { reader = reader; place = place; faults = 0 } }
     {
         FileSource {
-            file,
+            reader,
             place,
             faults: FaultCount::new(),
         }
@@ -61,10 +62,21 @@ impl<F: Read + Send + Drop> Source for FileSource<F> {
 
     /// Reads at most 4,096 bytes. What std says of a read leaves the rest of its buffer open, so the bytes
     /// come into an array of this function's own first.
-    fn read(&mut self, buf: &mut [u8]) -> Result<usize, Failed> {
+    fn read(&mut self, buf: &mut [u8]) -> Result<usize, Failed>
+        ensures within { IfOk result (λ n. n ≤ length buf.old) }
+        ensures rest { IfOk result (λ n. drop n buf.new ≡ drop n buf.old) }
+        ensures same_count { OnOk result (self.new.faults ≡ self.old.faults) }
+        ensures rises { OnErr result (Rose self.old.faults self.new.faults) }
+        ensures never_falls { self.old.faults ≤ self.new.faults }
+        ensures stays { self.new.place ≡ self.old.place }
+        // beyond what each source says: what came is what the reader gave, where it tells that
+        ensures reads { IfOk result (λ n. Consumes (F.remaining self.old.reader) (F.remaining self.new.reader) (take n buf.new)) }
+        ensures at_end { IfOk result (λ n. n ≡ 0 → 0 < length buf.old → IsAtEnd (F.remaining self.new.reader)) }
+        ensures keeps { OnErr result (Keeps (F.remaining self.old.reader) (F.remaining self.new.reader)) }
+    {
         let mut window = [0u8; WINDOW];
         let most = buf.len().min(WINDOW);
-        match self.file.read(&mut window[..most]) {
+        match self.reader.read(&mut window[..most]) {
             Ok(count) => {
                 buf[..count].copy_from_slice(&window[..count]);
                 Ok(count)

@@ -3,6 +3,8 @@
 ghost use Rattle.std.specs.Prelude.{◌≡◌, ℕ, ◌<◌, ◌≤◌, [], length, take, Option, None, IfOk, OnOk, OnErr};
 ghost use Rattle.dn_io.specs.Faults.{Rose};
 ghost use Rattle.dn_io.specs.Told.{with_end};
+ghost use Rattle.query_cli.specs.Views.{SinkView};
+ghost use Rattle.std.specs.Io.KnownBytes.{Appends, Keeps};
 
 use crate::fault_count::FaultCount;
 use dn_io::{Failed, Sink};
@@ -17,17 +19,17 @@ pub struct OutSink<W> {
 }
 
 impl<W> Model for OutSink<W> {
-    ghost use Rattle.std.specs.Prelude.{ℕ};
+    ghost use Rattle.query_cli.specs.Views.{SinkView};
 
-    ghost Value = { ℕ };
+    ghost Value = { SinkView W };
 
-    ghost view = { λ s. s.faults };
+    ghost view = { λ s. record { writer = s.writer; faults = s.faults } };
 }
 
 impl<W> OutSink<W> {
     /// A sink onto this writer; no call has failed yet.
     pub fn new(writer: W) -> Self
-        ensures { result ≡ 0 }
+        ensures { result ≡ record { writer = writer; faults = 0 } }
     {
         OutSink {
             writer,
@@ -39,10 +41,20 @@ impl<W> OutSink<W> {
 impl<W: Write> Sink for OutSink<W> {
     ghost written = { λ s. None };
 
-    ghost faults = { λ s. s };
+    ghost faults = { λ s. s.faults };
 
     /// Writes what the system takes. A call that takes nothing of a piece that isn't empty has failed.
-    fn write(&mut self, piece: &[u8]) -> Result<usize, Failed> {
+    #[tactic(auto, using(crate::proofs::Written::nothing_written))]
+    fn write(&mut self, piece: &[u8]) -> Result<usize, Failed>
+        ensures within { IfOk result (λ n. n ≤ length piece.now) }
+        ensures takes_some { IfOk result (λ n. n ≡ 0 → piece.now ≡ []) }
+        ensures same_count { OnOk result (self.new.faults ≡ self.old.faults) }
+        ensures rises { OnErr result (Rose self.old.faults self.new.faults) }
+        ensures never_falls { self.old.faults ≤ self.new.faults }
+        // beyond what each sink says: what it took is at the writer's end, where the writer tells that
+        ensures writes { IfOk result (λ n. Appends (W.contents self.old.writer) (W.contents self.new.writer) (take n piece.now)) }
+        ensures keeps { OnErr result (Keeps (W.contents self.old.writer) (W.contents self.new.writer)) }
+    {
         match self.writer.write(piece) {
             Ok(count) if count > 0 || piece.is_empty() => Ok(count),
             _ => {

@@ -1,4 +1,4 @@
 pub mod CallsLemmas
-pub mod FilesLemmas
 pub mod FaultsLemmas
+pub mod FilesLemmas
 pub mod ToldLemmas

@@ -58,10 +58,13 @@ Tells-ask t h feeds before last (line.Take m s c ∷ lines) tolds l q told is-li
     Tells-ask t h feeds (before ++ line.Take m s c ∷ []) last lines tolds l q told is-line is-query
     (subst (λ b. IsOutcome t h feeds b (fold (λ p told. pin_after p told.outcome) last tolds) q told.outcome) (sym (append_assoc before (line.Take m s c ∷ []) lines)) good) rest
 Tells-ask t h feeds before last (line.Ask m p ∷ lines) [] l q told is-line is-query good rest = absurd rest
-Tells-ask t h feeds before last (line.Ask m p ∷ lines) (x ∷ xs) l q told is-line is-query good rest =
-    (rest.0, rest.1, rest.2,
-      Tells-ask t h feeds (before ++ line.Ask m p ∷ []) (pin_after last x.outcome) lines xs l q told is-line is-query
-      (subst (λ b. IsOutcome t h feeds b (fold (λ p told. pin_after p told.outcome) (pin_after last x.outcome) xs) q told.outcome) (sym (append_assoc before (line.Ask m p ∷ []) lines)) good) rest.3)
+Tells-ask t h feeds before last (line.Ask m p ∷ lines) (x ∷ xs) l q told is-line is-query good rest = (
+  rest.0,
+  rest.1,
+  rest.2,
+  Tells-ask t h feeds (before ++ line.Ask m p ∷ []) (pin_after last x.outcome) lines xs l q told is-line is-query
+      (subst (λ b. IsOutcome t h feeds b (fold (λ p told. pin_after p told.outcome) (pin_after last x.outcome) xs) q told.outcome) (sym (append_assoc before (line.Ask m p ∷ []) lines)) good) rest.3,
+)
 
 -- ---- lengths
 
@@ -117,8 +120,8 @@ tracks-other t reader left history bytes before tolds l r count other tracks = r
   counted = rw (asked-push, other) (count-zero (asked reader.told.router before) (length tracks.steps) reader.told.end tracks.counted);
   pinned = tracks.pinned;
   told = λ later end late.
-    Tells-take t (entries history ++ entries_by reader.told.feed_no reader.told.router (updates later)) (feed_with reader (tracks.steps ++ later) end ∷ []) [] 0 before tolds l r count
-    (tracks.told later end late);
+      Tells-take t (entries history ++ entries_by reader.told.feed_no reader.told.router (updates later)) (feed_with reader (tracks.steps ++ later) end ∷ []) [] 0 before tolds l r count
+      (tracks.told later end late);
 }
 
 -- ---- a line that takes frames
@@ -144,18 +147,18 @@ told-more : {S : Type 0} (t : Topology) (old new : Reader S) (history history' :
     TellsWhatever t old history steps before tolds → TellsWhatever t new history' (steps ++ more) before tolds
 told-more t old new history history' steps more before tolds same-no same-router going was is told later end late =
     let is' : entries history' ≡ entries_by old.told.feed_no old.told.router (updates (steps ++ more)) =
-      is ∙ ap (λ n. entries_by n new.told.router (updates (steps ++ more))) same-no ∙ ap (λ r. entries_by old.told.feed_no r (updates (steps ++ more))) same-router in
+    is ∙ ap (λ n. entries_by n new.told.router (updates (steps ++ more))) same-no ∙ ap (λ r. entries_by old.told.feed_no r (updates (steps ++ more))) same-router in
     let whole : entries history ++ entries_by old.told.feed_no old.told.router (updates (more ++ later)) ≡ entries history' ++ entries_by new.told.feed_no new.told.router (updates later) =
-      grown old.told.feed_no old.told.router (entries history) (entries history') steps more later was is'
-      ∙ ap (λ n. entries history' ++ entries_by n old.told.router (updates later)) (sym same-no)
-      ∙ ap (λ r. entries history' ++ entries_by new.told.feed_no r (updates later)) (sym same-router) in
+    grown old.told.feed_no old.told.router (entries history) (entries history') steps more later was is'
+    ∙ ap (λ n. entries history' ++ entries_by n old.told.router (updates later)) (sym same-no)
+    ∙ ap (λ r. entries history' ++ entries_by new.told.feed_no r (updates later)) (sym same-router) in
     let feed : feed_with old (steps ++ (more ++ later)) end ≡ feed_with new ((steps ++ more) ++ later) end =
-      ap (λ ss. feed_with old ss end) (sym (append_assoc steps more later))
-      ∙ ap (λ n. record { feed_no = n; router = old.told.router; steps = (steps ++ more) ++ later; end = end }) (sym same-no)
-      ∙ ap (λ r. record { feed_no = new.told.feed_no; router = r; steps = (steps ++ more) ++ later; end = end }) (sym same-router) in
+    ap (λ ss. feed_with old ss end) (sym (append_assoc steps more later))
+    ∙ ap (λ n. record { feed_no = n; router = old.told.router; steps = (steps ++ more) ++ later; end = end }) (sym same-no)
+    ∙ ap (λ r. record { feed_no = new.told.feed_no; router = r; steps = (steps ++ more) ++ later; end = end }) (sym same-router) in
     subst (λ (h : List Entry). Tells t h (feed_with new ((steps ++ more) ++ later) end ∷ []) [] 0 before tolds) whole
     (subst (λ (f : FeedRead). Tells t (entries history ++ entries_by old.told.feed_no old.told.router (updates (more ++ later))) (f ∷ []) [] 0 before tolds) feed
-      (told (more ++ later) end (subst (λ (e : Option FeedEnd). IsLater e (more ++ later)) (sym going) tt)))
+    (told (more ++ later) end (subst (λ (e : Option FeedEnd). IsLater e (more ++ later)) (sym going) tt)))
 
 pub tracks-take : {S : Type 0} (t : Topology) (old new : Reader S) (left left' : Option (List ℕ)) (history history' : List Posted) (bytes : List ℕ) (before : List Line) (tolds : List Told)
     (l : ℕ) (r : RouterId) (count : Option ℕ) → (r.0 == old.told.router.0) ≡ true →
@@ -163,24 +166,24 @@ pub tracks-take : {S : Type 0} (t : Topology) (old new : Reader S) (left left' :
     (tracks : Tracks t old left history bytes before tolds) → TakesSome count t new left' history' bytes tracks.steps →
     Tracks t new left' history' bytes (before ++ line.Take l r count ∷ []) tolds
 tracks-take t old new left left' history history' bytes before tolds l r count this same-no same-router going tracks took =
-  let told' : TellsWhatever t new history' (tracks.steps ++ took.more) before tolds =
+    let told' : TellsWhatever t new history' (tracks.steps ++ took.more) before tolds =
     told-more t old new history history' tracks.steps took.more before tolds same-no same-router going tracks.taken.posted took.taken.posted tracks.told in
-  let counted-before : IsCount (asked old.told.router before) (length tracks.steps) None =
+    let counted-before : IsCount (asked old.told.router before) (length tracks.steps) None =
     subst (λ (e : Option FeedEnd). IsCount (asked old.told.router before) (length tracks.steps) e) going tracks.counted in
-  let asked-now : asked new.told.router (before ++ line.Take l r count ∷ []) ≡ both_counts (asked old.told.router before) count =
+    let asked-now : asked new.told.router (before ++ line.Take l r count ∷ []) ≡ both_counts (asked old.told.router before) count =
     ap (λ q. asked q (before ++ line.Take l r count ∷ [])) same-router ∙ asked-push old.told.router before (line.Take l r count)
     ∙ ap (λ b. both_counts (asked old.told.router before) (if b then count else Some 0)) this in
-  record {
-    steps = tracks.steps ++ took.more;
-    taken = took.taken;
-    counted = subst (λ (c : Option ℕ). IsCount c (length (tracks.steps ++ took.more)) new.told.end) (sym asked-now)
-      (subst (λ (n : ℕ). IsCount (both_counts (asked old.told.router before) count) n new.told.end) (sym (length-append tracks.steps took.more))
-        (count-more (asked old.told.router before) count (length tracks.steps) (length took.more) new.told.end counted-before took.as_counted));
-    pinned = omega (arith, tracks.pinned, length-posted old.told.feed_no old.told.router history (updates tracks.steps) tracks.taken.posted, length-posted new.told.feed_no new.told.router history' (updates (tracks.steps ++ took.more)) took.taken.posted, ap length (updates-append tracks.steps took.more), length-append (updates tracks.steps) (updates took.more));
-    told = λ later end late.
-      Tells-take t (entries history' ++ entries_by new.told.feed_no new.told.router (updates later)) (feed_with new ((tracks.steps ++ took.more) ++ later) end ∷ []) [] 0 before tolds l r count
-      (told' later end late);
-  }
+    record {
+      steps = tracks.steps ++ took.more;
+      taken = took.taken;
+      counted = subst (λ (c : Option ℕ). IsCount c (length (tracks.steps ++ took.more)) new.told.end) (sym asked-now)
+          (subst (λ (n : ℕ). IsCount (both_counts (asked old.told.router before) count) n new.told.end) (sym (length-append tracks.steps took.more))
+          (count-more (asked old.told.router before) count (length tracks.steps) (length took.more) new.told.end counted-before took.as_counted));
+      pinned = omega (arith, tracks.pinned, length-posted old.told.feed_no old.told.router history (updates tracks.steps) tracks.taken.posted, length-posted new.told.feed_no new.told.router history' (updates (tracks.steps ++ took.more)) took.taken.posted, ap length (updates-append tracks.steps took.more), length-append (updates tracks.steps) (updates took.more));
+      told = λ later end late.
+          Tells-take t (entries history' ++ entries_by new.told.feed_no new.told.router (updates later)) (feed_with new ((tracks.steps ++ took.more) ++ later) end ∷ []) [] 0 before tolds l r count
+          (told' later end late);
+    }
 
 -- ---- a line that asks
 
@@ -198,36 +201,39 @@ outcome-whatever : (t : Topology) (tables : List (List Route)) (history more : L
     IsOutcome t (history ++ more) (f ∷ []) before last q o
 outcome-whatever t tables history more f before last q (Unknown u) is of below holds = is
 outcome-whatever t tables history more f before last q (Answered n answer) is of below holds =
-    let seen : take n (history ++ more) ≡ history = ap (λ m. take m (history ++ more)) is.1 ∙ take-append_seam history more in
-    (is.0, omega (arith, is.1, below), omega (arith, is.1, length-append history more),
+    let seen : take n (history ++ more) ≡ history = ap (λ m. take m (history ++ more)) is.1 ∙ take-append_seam history more in (
+      is.0,
+      omega (arith, is.1, below),
+      omega (arith, is.1, length-append history more),
       All-cons (λ f. filter (is_from f) (take n (history ++ more)) ≡ entries_of f (updates (taken before f))) f []
-        (ap (filter (is_from f)) seen ∙ holds) (All-nil (λ f. filter (is_from f) (take n (history ++ more)) ≡ entries_of f (updates (taken before f)))),
-      subst (λ (h : List Entry). IsAnswer t h q answer) (sym seen) (is.2 history of))
+          (ap (filter (is_from f)) seen ∙ holds) (All-nil (λ f. filter (is_from f) (take n (history ++ more)) ≡ entries_of f (updates (taken before f)))),
+      subst (λ (h : List Entry). IsAnswer t h q answer) (sym seen) (is.2 history of),
+    )
 
 pub tracks-ask : {S : Type 0} (t : Topology) (reader : Reader S) (left : Option (List ℕ)) (history : List Posted) (tables : List (List Route)) (bytes : List ℕ) (before : List Line) (tolds tolds' : List Told)
     (l : ℕ) (q : Query) → TablesOf tables (entries history) → Adds tolds tolds' l q (IsOutcomeNow t tables (length history) q) →
     Tracks t reader left history bytes before tolds → Tracks t reader left history bytes (before ++ line.Ask l q ∷ []) tolds'
 tracks-ask t reader left history tables bytes before tolds tolds' l q of adds tracks =
-  let now : IsOutcomeNow t tables (length (entries history)) q adds.told.outcome =
+    let now : IsOutcomeNow t tables (length (entries history)) q adds.told.outcome =
     subst (λ (n : ℕ). IsOutcomeNow t tables n q adds.told.outcome) (sym (length-entries history)) adds.good in
-  let pinned' : last_pin tolds ≤ length (entries history) = subst (λ (n : ℕ). last_pin tolds ≤ n) (sym (length-entries history)) tracks.pinned in
-  record {
-    steps = tracks.steps;
-    taken = tracks.taken;
-    counted = subst (λ (c : Option ℕ). IsCount c (length tracks.steps) reader.told.end) (sym (asked-push reader.told.router before (line.Ask l q)))
-      (count-zero (asked reader.told.router before) (length tracks.steps) reader.told.end tracks.counted);
-    pinned = subst (λ (xs : List Told). last_pin xs ≤ length history) (sym adds.added)
-      (subst (λ (n : ℕ). n ≤ length history) (sym (fold-append (λ p told. pin_after p told.outcome) 0 tolds (adds.told ∷ [])))
-        (pin-now t tables (length history) (last_pin tolds) q adds.told.outcome adds.good tracks.pinned));
-    told = λ later end late.
-      let f : FeedRead = feed_with reader (tracks.steps ++ later) end in
-      subst (λ (xs : List Told). Tells t (entries history ++ entries_by reader.told.feed_no reader.told.router (updates later)) (f ∷ []) [] 0 (before ++ line.Ask l q ∷ []) xs) (sym adds.added)
-      (Tells-ask t (entries history ++ entries_by reader.told.feed_no reader.told.router (updates later)) (f ∷ []) [] 0 before tolds l q adds.told adds.line_is adds.query_is
-        (outcome-whatever t tables (entries history) (entries_by reader.told.feed_no reader.told.router (updates later)) f before (last_pin tolds) q adds.told.outcome now of pinned'
+    let pinned' : last_pin tolds ≤ length (entries history) = subst (λ (n : ℕ). last_pin tolds ≤ n) (sym (length-entries history)) tracks.pinned in
+    record {
+      steps = tracks.steps;
+      taken = tracks.taken;
+      counted = subst (λ (c : Option ℕ). IsCount c (length tracks.steps) reader.told.end) (sym (asked-push reader.told.router before (line.Ask l q)))
+          (count-zero (asked reader.told.router before) (length tracks.steps) reader.told.end tracks.counted);
+      pinned = subst (λ (xs : List Told). last_pin xs ≤ length history) (sym adds.added)
+          (subst (λ (n : ℕ). n ≤ length history) (sym (fold-append (λ p told. pin_after p told.outcome) 0 tolds (adds.told ∷ [])))
+          (pin-now t tables (length history) (last_pin tolds) q adds.told.outcome adds.good tracks.pinned));
+      told = λ later end late.
+          let f : FeedRead = feed_with reader (tracks.steps ++ later) end in
+          subst (λ (xs : List Told). Tells t (entries history ++ entries_by reader.told.feed_no reader.told.router (updates later)) (f ∷ []) [] 0 (before ++ line.Ask l q ∷ []) xs) (sym adds.added)
+          (Tells-ask t (entries history ++ entries_by reader.told.feed_no reader.told.router (updates later)) (f ∷ []) [] 0 before tolds l q adds.told adds.line_is adds.query_is
+          (outcome-whatever t tables (entries history) (entries_by reader.told.feed_no reader.told.router (updates later)) f before (last_pin tolds) q adds.told.outcome now of pinned'
           (ap (filter (is_from f)) tracks.taken.posted ∙ filter-own f (updates tracks.steps)
-            ∙ ap (λ ss. entries_of f (updates ss)) (sym (front-taken (asked reader.told.router before) tracks.steps later reader.told.end tracks.counted late))))
-        (tracks.told later end late));
-  }
+          ∙ ap (λ ss. entries_of f (updates ss)) (sym (front-taken (asked reader.told.router before) tracks.steps later reader.told.end tracks.counted late))))
+          (tracks.told later end late));
+    }
 
 -- ---- the same of the result of a call
 
@@ -243,19 +249,19 @@ tracks-ended : {S : Type 0} (t : Topology) (reader : Reader S) (left : Option (L
     (l : ℕ) (r : RouterId) (count : Option ℕ) (end : FeedEnd) → reader.told.end ≡ Some end →
     Tracks t reader left history bytes before tolds → Tracks t reader left history bytes (before ++ line.Take l r count ∷ []) tolds
 tracks-ended t reader left history bytes before tolds l r count end ended tracks =
-  let c : Option ℕ = asked reader.told.router before in
-  let d : Option ℕ = asked_by reader.told.router (line.Take l r count) in
-  record {
-    steps = tracks.steps;
-    taken = tracks.taken;
-    counted = subst (λ (b : Option ℕ). IsCount b (length tracks.steps) reader.told.end) (sym (asked-push reader.told.router before (line.Take l r count)))
-      (subst (λ (e : Option FeedEnd). IsCount (both_counts c d) (length tracks.steps) e) (sym ended)
-        (count-ended c d (length tracks.steps) end (subst (λ (e : Option FeedEnd). IsCount c (length tracks.steps) e) ended tracks.counted)));
-    pinned = tracks.pinned;
-    told = λ later end' late.
-      Tells-take t (entries history ++ entries_by reader.told.feed_no reader.told.router (updates later)) (feed_with reader (tracks.steps ++ later) end' ∷ []) [] 0 before tolds l r count
-      (tracks.told later end' late);
-  }
+    let c : Option ℕ = asked reader.told.router before in
+    let d : Option ℕ = asked_by reader.told.router (line.Take l r count) in
+    record {
+      steps = tracks.steps;
+      taken = tracks.taken;
+      counted = subst (λ (b : Option ℕ). IsCount b (length tracks.steps) reader.told.end) (sym (asked-push reader.told.router before (line.Take l r count)))
+          (subst (λ (e : Option FeedEnd). IsCount (both_counts c d) (length tracks.steps) e) (sym ended)
+          (count-ended c d (length tracks.steps) end (subst (λ (e : Option FeedEnd). IsCount c (length tracks.steps) e) ended tracks.counted)));
+      pinned = tracks.pinned;
+      told = λ later end' late.
+          Tells-take t (entries history ++ entries_by reader.told.feed_no reader.told.router (updates later)) (feed_with reader (tracks.steps ++ later) end' ∷ []) [] 0 before tolds l r count
+          (tracks.told later end' late);
+    }
 
 tracks-took-by : {S : Type 0} (left : S → Option (List ℕ)) (place faults : S → ℕ) (t : Topology) (old new : Network S) (tolds : List Told)
     (l : ℕ) (r : RouterId) (count : Option ℕ) (end : Option FeedEnd) → old.reader.told.end ≡ end → (r.0 == old.reader.told.router.0) ≡ true →
@@ -275,7 +281,7 @@ pub tracks-took : {S A E : Type 0} (left : S → Option (List ℕ)) (place fault
     OnOk result ((bytes : List ℕ) (steps : List FrameStep) → HasTaken t old.reader (left old.reader.source) old.history bytes steps → TakesSome count t new.reader (left new.reader.source) new.history bytes steps) →
     OnOk result (Moves place faults old new) →
     OnOk result ((bytes : List ℕ) (before : List Line) → Tracks t old.reader (left old.reader.source) old.history bytes before tolds →
-      Tracks t new.reader (left new.reader.source) new.history bytes (before ++ a ∷ []) tolds)
+    Tracks t new.reader (left new.reader.source) new.history bytes (before ++ a ∷ []) tolds)
 tracks-took left place faults (Err e) t old new tolds a l r count is this takes moves = tt
 tracks-took left place faults (Ok x) t old new tolds a l r count is this takes moves = λ bytes before tracks.
     subst (λ (b : Line). Tracks t new.reader (left new.reader.source) new.history bytes (before ++ b ∷ []) tolds) (sym is)

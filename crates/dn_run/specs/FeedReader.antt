@@ -1,5 +1,5 @@
 -- What a reader of a feed means, and what its answers say of the feed's bytes.
-use Rattle.std.specs.Prelude.{◌≡◌, ℕ, ◌+◌, ◌≤◌, List, [], ◌∷◌, ◌++◌, length, All, map, sum, Option, None, Some, Result, Ok, Err}
+use Rattle.std.specs.Prelude.{◌≡◌, ℕ, ◌+◌, ◌<◌, ◌≤◌, List, [], ◌∷◌, ◌++◌, length, All, map, sum, Option, None, Some, Result, Ok, Err}
 use Rattle.dn_io.specs.Faults.{Rose}
 use Rattle.dn_io.specs.Told.{with_front, NothingLeft}
 use Rattle.dn_model.specs.Feed.{AreSteps, IsReading, IsFaultedReading}
@@ -131,3 +131,13 @@ IsReadersEnd (Some (ends.Lost offset cause)) = Unit {0}
 IsReadersEnd (Some ends.TooLong) = Unit {0}
 IsReadersEnd (Some ends.Faulted) = Unit {0}
 IsReadersEnd (Some ends.Full) = ⊥
+
+-- A frame that is handed out takes bytes within the limit, and has at most one update; an end takes none.
+abbrev pub Advances : {S : Type 0} → FeedStep → Reader S → Reader S → Type 0
+Advances (answers.Ops ops skipped) old new = (old.passed < new.passed) × (new.passed ≤ new.limit) × (length ops ≤ 1)
+Advances (answers.Refused offset at cause) old new = (old.passed < new.passed) × (new.passed ≤ new.limit)
+Advances answers.End old new = new.passed ≡ old.passed
+Advances (answers.CutShort offset) old new = new.passed ≡ old.passed
+Advances (answers.Lost offset cause) old new = new.passed ≡ old.passed
+Advances answers.TooLong old new = new.passed ≡ old.passed
+Advances answers.Faulted old new = new.passed ≡ old.passed

@@ -38,7 +38,7 @@ abbrev pub TellsWhatever : {S : Type 0} → Topology → Reader S → List Poste
 TellsWhatever t reader history steps before tolds =
     (later : List FrameStep) (end : FeedEnd) → IsLater reader.told.end later →
     Tells t (entries history ++ entries_by reader.told.feed_no reader.told.router (updates later))
-      (feed_with reader (steps ++ later) end ∷ []) [] 0 before tolds
+    (feed_with reader (steps ++ later) end ∷ []) [] 0 before tolds
 
 -- After these lines: the steps that were taken, as many as the lines ask for, and what was told, with no pin past the history.
 pub record Tracks {S : Type 0} (t : Topology) (reader : Reader S) (left : Option (List ℕ)) (history : List Posted) (bytes : List ℕ) (before : List Line) (tolds : List Told) : Type 0 where

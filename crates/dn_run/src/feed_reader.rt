@@ -4,7 +4,7 @@ ghost use Rattle.std.specs.Prelude.{◌≡◌, ℕ, ◌+◌, ◌<◌, ◌≤◌,
 ghost use Rattle.dn_io.specs.Told.{with_front};
 ghost use Rattle.dn_model.specs.Steps.{FrameStep};
 ghost use Rattle.dn_model.specs.declared.topology.Topology.{Topology};
-ghost use Rattle.dn_run.specs.FeedReader.{Reader, IsAt, IsOutcome, FaultsAt, told_then, told_so_far, end_of, IsReadersEnd};
+ghost use Rattle.dn_run.specs.FeedReader.{Reader, IsAt, IsOutcome, FaultsAt, told_then, told_so_far, end_of, IsReadersEnd, Advances};
 
 use crate::feed_step::FeedStep;
 use crate::frame_step::hand_out;
@@ -104,6 +104,7 @@ impl<S: Source> FeedReader<S> {
         ensures again { (end : FeedEnd) → self.old.told.end ≡ Some end → (self.new ≡ self.old) × IfOk result (λ step. end_of step ≡ Some end) }
         ensures told { self.old.told.end ≡ None → self.new.told ≡ told_then self.old.told result }
         ensures faults { self.old.told.end ≡ None → FaultsAt result (S.faults self.old.source) (S.faults self.new.source) }
+        ensures advances { IfOk result (λ step. Advances step self.old self.new) }
         ensures limit { self.new.limit ≡ self.old.limit }
         ensures router { self.new.told.router ≡ self.old.told.router }
         ensures feed_no { self.new.told.feed_no ≡ self.old.told.feed_no }

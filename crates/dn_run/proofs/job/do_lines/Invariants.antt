@@ -9,7 +9,7 @@ use Rattle.dn_run.proofs.job.do_lines.Given as goal
 abbrev pub invariant-loop-line : goal.invariant-loop-line
 invariant-loop-line g l = record {
   tracks : (bytes : List ℕ) →
-    Tracks l.topology l.fn.network.reader (g.S.Source.left l.fn.network.reader.source) l.fn.network.history bytes [] [] →
-    Tracks l.topology l.network.reader (g.S.Source.left l.network.reader.source) l.network.history bytes (take l.line-index l.lines) l.told;
+      Tracks l.topology l.fn.network.reader (g.S.Source.left l.fn.network.reader.source) l.fn.network.history bytes [] [] →
+      Tracks l.topology l.network.reader (g.S.Source.left l.network.reader.source) l.network.history bytes (take l.line-index l.lines) l.told;
   moves : Moves g.S.Source.place g.S.Source.faults l.fn.network l.network;
 }

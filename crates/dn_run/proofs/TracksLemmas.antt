@@ -191,7 +191,7 @@ pin-now : (t : Topology) (tables : List (List Route)) (number last : ℕ) (q : Q
 pin-now t tables number last q (Unknown u) is below = below
 pin-now t tables number last q (Answered n answer) is below = omega (arith, is.1)
 
-filter-own : (f : FeedRead) (ops : List Op) → filter (is_from f) (entries_of f ops) ≡ entries_of f ops
+pub filter-own : (f : FeedRead) (ops : List Op) → filter (is_from f) (entries_of f ops) ≡ entries_of f ops
 filter-own f [] = refl
 filter-own f (x ∷ xs) = rw (eq-eqb f.feed_no f.feed_no refl) (ap (λ es. record { router = f.router; feed_no = f.feed_no; op = x } ∷ es) (filter-own f xs))
 

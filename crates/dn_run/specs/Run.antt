@@ -1,5 +1,5 @@
 -- What a run comes to: its steps in order, of which the first that refuses ends it.
-use Rattle.std.specs.Prelude.{ℕ, Bool, true, false, List, [], ◌∷◌, ◌++◌, ◌≡◌, ◌⊎◌, ◌==◌, ◌&&◌, map, Option, None, Some, IfSome, IsSomeAnd, MatchOption, MatchResult, if◌then◌else◌}
+use Rattle.std.specs.Prelude.{ℕ, Bool, true, false, List, [], ◌∷◌, ◌++◌, ◌≡◌, ◌≤◌, ◌==◌, ◌&&◌, length, map, Option, None, Some, IfSome, IsSomeAnd, MatchOption, MatchResult, if◌then◌else◌}
 use Rattle.std.specs.List.{list_all}
 use Rattle.dn_io.specs.Told.{with_end}
 use Rattle.dn_io.specs.Files.{Files, bytes_of}
@@ -18,6 +18,7 @@ use Rattle.dn_model.specs.declared.entry.Entry.{Entry}
 use Rattle.dn_model.specs.declared.script.Line.{Line}
 use Rattle.dn_model.specs.declared.told.FeedEnd.{FeedEnd}
 use Rattle.dn_model.specs.declared.told.FeedEnd.TheVariants as ends
+use Rattle.dn_model.specs.declared.told.FeedTold.{FeedTold}
 use Rattle.dn_model.specs.declared.told.JobTold.{JobTold}
 use Rattle.dn_model.specs.declared.error_line.ErrorLine.{ErrorLine}
 use Rattle.dn_model.specs.declared.error_line.ErrorLine.TheVariants as errors
@@ -36,30 +37,29 @@ pub record IsErrorLine (verdict : Verdict) (text : List ℕ) (calls : List Call)
   pub text_is : text ≡ error_text error
   pub last : calls ≡ []
 
--- whether a feed ended well: to its end, with no refused frame
-abbrev pub ended_well : FeedEnd → Bool
-ended_well ends.End = true
-ended_well (ends.CutShort o) = false
-ended_well (ends.Lost o cause) = false
-ended_well ends.TooLong = false
-ended_well ends.Full = false
-ended_well ends.Faulted = false
+-- whether a feed ended well, at its own end
+abbrev pub ended_well : Option FeedEnd → Bool
+ended_well None = false
+ended_well (Some ends.End) = true
+ended_well (Some (ends.CutShort o)) = false
+ended_well (Some (ends.Lost o cause)) = false
+ended_well (Some ends.TooLong) = false
+ended_well (Some ends.Full) = false
+ended_well (Some ends.Faulted) = false
 
-abbrev pub is_faulted : FeedEnd → Bool
-is_faulted ends.End = false
-is_faulted (ends.CutShort o) = false
-is_faulted (ends.Lost o cause) = false
-is_faulted ends.TooLong = false
-is_faulted ends.Full = false
-is_faulted ends.Faulted = true
+-- whether reading a feed failed
+abbrev pub is_faulted : Option FeedEnd → Bool
+is_faulted None = false
+is_faulted (Some ends.End) = false
+is_faulted (Some (ends.CutShort o)) = false
+is_faulted (Some (ends.Lost o cause)) = false
+is_faulted (Some ends.TooLong) = false
+is_faulted (Some ends.Full) = false
+is_faulted (Some ends.Faulted) = true
 
-abbrev pub none_of : {A : Type 0} → List A → Bool
-none_of [] = true
-none_of (x ∷ xs) = false
-
--- what a run of these feeds comes to
-abbrev pub verdict_of : FeedRead → Verdict
-verdict_of f = if is_faulted f.end then ReadFault else (if ended_well f.end && none_of (refusals f.steps) then Done else Refusals)
+-- what a run comes to whose feed told this: a read fault, or done where the feed ended well with no frame refused
+abbrev pub verdict_of : FeedTold → Verdict
+verdict_of told = if is_faulted told.end then ReadFault else (if ended_well told.end && (length told.refused == 0) then Done else Refusals)
 
 -- The report of a run: one history that is a shuffle of what the feeds gave, and each query's answer over its pin.
 pub record IsReported (t : Topology) (scripts : List (List Line)) (feeds : List FeedRead) (text : List ℕ) : Type 0 where
@@ -76,7 +76,7 @@ IsReadOf t bytes Out f = ⊥
 IsReadOf t bytes Refused f = ⊥
 IsReadOf t bytes (Back false left) f = IsReading t f.router bytes feed_limit f.steps f.end
 IsReadOf t bytes (Back true None) f = ⊥
-IsReadOf t bytes (Back true (Some left)) f = (read : List ℕ) × (bytes ≡ read ++ left) × IsFaultedReading t f.router read f.steps × (f.end ≡ ends.Faulted)
+IsReadOf t bytes (Back true (Some left)) f = (read : List ℕ) × (bytes ≡ read ++ left) × (length read ≤ feed_limit) × IsFaultedReading t f.router read f.steps × (f.end ≡ ends.Faulted)
 
 -- the feed, whose file was handed out and given back, is read, and the report printed
 pub record IsRunOf (t : Topology) (lines : List Line) (r : RouterId) (bytes : List ℕ) (state : CallState) (verdict : Verdict) (text : List ℕ) : Type 0 where
@@ -84,7 +84,7 @@ pub record IsRunOf (t : Topology) (lines : List Line) (r : RouterId) (bytes : Li
   pub end : FeedEnd
   pub read : IsReadOf t bytes state (record { feed_no = 1; router = r; steps = steps; end = end })
   pub reported : IsReported t (lines ∷ []) (record { feed_no = 1; router = r; steps = steps; end = end } ∷ []) text
-  pub verdict_is : verdict ≡ verdict_of (record { feed_no = 1; router = r; steps = steps; end = end })
+  pub verdict_is : verdict ≡ verdict_of (told_of (record { feed_no = 1; router = r; steps = steps; end = end }))
 
 -- a name was asked for first, and its state and the further calls are these
 abbrev pub Asks : List Call → List ℕ → (CallState → List Call → Type 0) → Type 0
@@ -161,3 +161,26 @@ IsWritten due statuses.ReadFault old new = (text : List ℕ) × due ReadFault te
 IsWritten due statuses.WriteFault old new =
     (verdict : Verdict) × (front back : List ℕ) × due verdict (front ++ back) × (new ≡ with_end old front)
 IsWritten due statuses.OutOfMemory old new = new ≡ old
+
+-- the names that a command's files have, in the order in which they are opened
+abbrev pub names_due : RunWords → List (List ℕ)
+names_due command = command.topology ∷ command.script ∷ command.feed.file ∷ []
+
+abbrev pub names_of_command : Option RunWords → List (List ℕ)
+names_of_command None = []
+names_of_command (Some command) = names_due command
+
+-- those of a command line; none where the words are refused
+abbrev pub names_of_words : List (List ℕ) → List (List ℕ)
+names_of_words words = names_of_command (command_of words)
+
+-- the text of a verdict was written whole, and the status is the verdict's; or a front of it, where writing failed
+abbrev pub IsFinished : Verdict → List ℕ → Status → Option (List ℕ) → Option (List ℕ) → Type 0
+IsFinished verdict text statuses.WriteFault old new = (front back : List ℕ) × (text ≡ front ++ back) × (new ≡ with_end old front)
+IsFinished verdict text statuses.OutOfMemory old new = ⊥
+IsFinished verdict text statuses.Done old new = (verdict ≡ Done) × (new ≡ with_end old text)
+IsFinished verdict text statuses.Refusals old new = (verdict ≡ Refusals) × (new ≡ with_end old text)
+IsFinished verdict text statuses.BadWords old new = (verdict ≡ BadWords) × (new ≡ with_end old text)
+IsFinished verdict text statuses.BadTopology old new = (verdict ≡ BadTopology) × (new ≡ with_end old text)
+IsFinished verdict text statuses.BadScript old new = (verdict ≡ BadScript) × (new ≡ with_end old text)
+IsFinished verdict text statuses.ReadFault old new = (verdict ≡ ReadFault) × (new ≡ with_end old text)

@@ -1,7 +1,10 @@
 -- What a stage of a run leaves in the world's calls, and what it came to.
 use Rattle.std.specs.Prelude.{ℕ, Bool, true, false, List, [], ◌∷◌, ◌++◌, ◌≡◌, Option, IfSome}
+use Rattle.dn_io.specs.Faults.{Rose}
 use Rattle.dn_io.specs.Files.{Files}
 use Rattle.dn_io.specs.Calls.{Call, names_of, some_out, some_failed}
+use Rattle.dn_run.specs.declared.status.Status.{Status}
+use Rattle.dn_run.specs.declared.status.Status.TheVariants as statuses
 use Rattle.dn_run.specs.declared.status.Verdict.{Verdict}
 use Rattle.dn_run.specs.declared.status.Verdict.TheVariants.{Done, Refusals, BadWords, BadTopology, BadScript, ReadFault}
 
@@ -32,3 +35,26 @@ pub record Names (old new : List Call) (names : List (List ℕ)) : Type 0 where
   pub more : List (List ℕ)
   pub appended : names_of new ≡ names_of old ++ more
   pub front : IsFrontOf more names
+
+-- What each status says of the calls: every source was given back, and one failed exactly at a read fault. At a write
+-- fault of an error line or report one may have failed; where memory was wanted nothing is said.
+abbrev pub AnswersCalls : Status → List Call → Type 0
+AnswersCalls statuses.Done calls = (some_out calls ≡ false) × (some_failed calls ≡ false)
+AnswersCalls statuses.Refusals calls = (some_out calls ≡ false) × (some_failed calls ≡ false)
+AnswersCalls statuses.BadWords calls = (some_out calls ≡ false) × (some_failed calls ≡ false)
+AnswersCalls statuses.BadTopology calls = (some_out calls ≡ false) × (some_failed calls ≡ false)
+AnswersCalls statuses.BadScript calls = (some_out calls ≡ false) × (some_failed calls ≡ false)
+AnswersCalls statuses.ReadFault calls = (some_out calls ≡ false) × (some_failed calls ≡ true)
+AnswersCalls statuses.WriteFault calls = some_out calls ≡ false
+AnswersCalls statuses.OutOfMemory calls = Unit {0}
+
+-- the sink's count of faults: it rose at a write fault, and else is as before
+abbrev pub CountsWrites : Status → ℕ → ℕ → Type 0
+CountsWrites statuses.Done old new = new ≡ old
+CountsWrites statuses.Refusals old new = new ≡ old
+CountsWrites statuses.BadWords old new = new ≡ old
+CountsWrites statuses.BadTopology old new = new ≡ old
+CountsWrites statuses.BadScript old new = new ≡ old
+CountsWrites statuses.ReadFault old new = new ≡ old
+CountsWrites statuses.WriteFault old new = Rose old new
+CountsWrites statuses.OutOfMemory old new = new ≡ old

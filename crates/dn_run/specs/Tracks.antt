@@ -1,7 +1,7 @@
 -- What a job's lines so far have taken and told.
 use Rattle.std.specs.Prelude.{◌≡◌, ℕ, ◌≤◌, Bool, true, false, List, [], ◌∷◌, ◌++◌, length, fold, Option, None, Some}
 use Rattle.dn_model.specs.Answer.{unknown_of, IsAnswer}
-use Rattle.dn_model.specs.Lawful.{Tells, asked, pin_after}
+use Rattle.dn_model.specs.Lawful.{Tells, TellsAll, jobs_of, asked, pin_after}
 use Rattle.dn_model.specs.Steps.{FrameStep, FeedRead, updates, entries_by}
 use Rattle.dn_model.specs.Table.{TablesOf}
 use Rattle.dn_model.specs.declared.entry.Entry.{Entry}
@@ -71,3 +71,11 @@ pub record Adds (old new : List Told) (l : ℕ) (q : Query) (IsGood : Outcome �
 abbrev pub jobs_told : List Told → Bool → List JobTold
 jobs_told told true = record { number = 1; told = told } ∷ []
 jobs_told told false = record { number = 1; told = told } ∷ record { number = 2; told = [] } ∷ []
+
+-- The jobs were run to the feed's end: what it gave, and what was told of each job over the whole history.
+pub record HasRun {S : Type 0} (t : Topology) (reader : Reader S) (left : Option (List ℕ)) (history : List Posted) (bytes : List ℕ) (lines : List Line) (told : List JobTold) : Type 0 where
+  pub steps : List FrameStep
+  pub end : FeedEnd
+  pub end_is : reader.told.end ≡ Some end
+  pub taken : HasTaken t reader left history bytes steps
+  pub tells : TellsAll t (entries history) 1 (jobs_of (lines ∷ []) (feed_with reader steps end ∷ [])) told

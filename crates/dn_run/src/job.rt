@@ -1,11 +1,11 @@
 //! A job: the lines of a script, done in order.
 
-ghost use Rattle.std.specs.Prelude.{◌≡◌, ℕ, ◌<◌, ◌≤◌, ◌++◌, ◌∷◌, [], List, length, All, IfOk, OnOk, OnErr};
+ghost use Rattle.std.specs.Prelude.{◌≡◌, ℕ, ◌<◌, ◌≤◌, ◌++◌, ◌∷◌, [], List, length, All, IfOk, OnOk, OnErr, IsSome, None};
 ghost use Rattle.dn_model.specs.Table.{TablesOf};
-ghost use Rattle.dn_run.specs.Network.{entries, Fits};
+ghost use Rattle.dn_run.specs.Network.{entries, Fits, HasTaken};
 ghost use Rattle.dn_run.specs.Moves.{Moves};
 ghost use Rattle.dn_model.specs.declared.script.Line.{Line};
-ghost use Rattle.dn_run.specs.Tracks.{Tracks, IsOutcomeNow, IsShort, Adds, jobs_told};
+ghost use Rattle.dn_run.specs.Tracks.{Tracks, IsOutcomeNow, IsShort, Adds, jobs_told, HasRun};
 ghost use Rattle.std.specs.List.{list_any};
 ghost use Rattle.dn_model.specs.Lawful.{takes};
 
@@ -86,6 +86,7 @@ fn do_line<S: Source, G: Gate>(
         Tracks topology.now network.old.reader (S.left network.old.reader.source) network.old.history bytes before told.old →
         Tracks topology.now network.new.reader (S.left network.new.reader.source) network.new.history bytes (before ++ line.now ∷ []) told.new) }
     ensures moves { OnOk result (Moves S.place S.faults network.old network.new) }
+    ensures stays { S.place network.new.reader.source ≡ S.place network.old.reader.source }
 {
     match line {
         Line::Take { router, count, .. } => {
@@ -119,6 +120,7 @@ pub fn do_lines<S: Source, G: Gate>(
         Tracks topology.now network.old.reader (S.left network.old.reader.source) network.old.history bytes [] [] →
         Tracks topology.now network.new.reader (S.left network.new.reader.source) network.new.history bytes lines.now told) }
     ensures moves { OnOk result (Moves S.place S.faults network.old network.new) }
+    ensures stays { S.place network.new.reader.source ≡ S.place network.old.reader.source }
 {
     let mut told = List::new(alloc);
     for line in lines {
@@ -165,4 +167,33 @@ fn tell_jobs(alloc: Global, told: List<Told>, is_taken: bool) -> Result<Vec<JobT
         })?;
     }
     Ok(jobs)
+}
+
+/// Runs the jobs: the script's lines in order, and then the rest of the feed, as the script's job where it takes the
+/// feed and else as a job of its own.
+pub fn run_jobs<S: Source, G: Gate>(
+    alloc: Global,
+    topology: &Topology,
+    network: &mut Network<S>,
+    lines: &[Line],
+    gate: &G,
+) -> Result<Vec<JobTold>, OutOfMemory>
+    requires short { All IsShort lines.now }
+    requires router { network.old.reader.told.router.0 < length topology.now.routers }
+    requires tables { length network.old.tables ≡ length topology.now.routers }
+    requires fits { Fits network.old.reader network.old.history }
+    requires of_history { TablesOf network.old.tables (entries network.old.history) }
+    requires fresh { network.old.reader.told.end ≡ None }
+    ensures ran { IfOk result (λ jobs. (bytes : List ℕ) →
+        HasTaken topology.now network.old.reader (S.left network.old.reader.source) network.old.history bytes [] →
+        HasRun topology.now network.new.reader (S.left network.new.reader.source) network.new.history bytes lines.now jobs.items) }
+    ensures ended { OnOk result (IsSome network.new.reader.told.end) }
+    ensures moves { OnOk result (Moves S.place S.faults network.old network.new) }
+    ensures stays { S.place network.new.reader.source ≡ S.place network.old.reader.source }
+{
+    let told = do_lines(alloc, topology, network, lines, gate, 1)?;
+    let is_taken = takes_feed(lines, network.reader.told().router);
+    let job = if is_taken { 1 } else { 2 };
+    network.take(alloc, topology, None, gate, job)?;
+    tell_jobs(alloc, told, is_taken)
 }

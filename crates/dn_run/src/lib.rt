@@ -4,6 +4,7 @@
 mod answerer;
 mod decimal;
 mod feed_reader;
+mod feed_run;
 mod feed_step;
 #[cfg(test)]
 mod feed_tests;
@@ -11,13 +12,16 @@ mod files;
 mod frame_step;
 mod intake;
 mod job;
+mod load;
 mod message;
 mod network;
+mod program;
 mod report;
 mod report_jobs;
 #[cfg(test)]
 mod report_tests;
 mod report_writer;
+mod ruling;
 mod script_line;
 mod script_text;
 mod status;

@@ -87,6 +87,7 @@ impl<S: Source> Network<S> {
         ensures more { IfOk result (λ more. more ≡ is_none self.new.reader.told.end) }
         ensures grows { IfOk result (λ more. more ≡ true → self.old.reader.passed < self.new.reader.passed) }
         ensures moves { OnOk result (Moves S.place S.faults self.old self.new) }
+        ensures stays { S.place self.new.reader.source ≡ S.place self.old.reader.source }
     {
         let feed_no = self.reader.told().feed_no;
         let router = self.reader.told().router;
@@ -128,6 +129,7 @@ impl<S: Source> Network<S> {
             HasTaken topology.now self.old.reader (S.left self.old.reader.source) self.old.history bytes steps →
             TakesSome (Some count) topology.now self.new.reader (S.left self.new.reader.source) self.new.history bytes steps) }
         ensures moves { OnOk result (Moves S.place S.faults self.old self.new) }
+        ensures stays { S.place self.new.reader.source ≡ S.place self.old.reader.source }
     {
         for taken in 0..count {
             let _ = taken;
@@ -154,6 +156,7 @@ impl<S: Source> Network<S> {
             TakesSome None topology.now self.new.reader (S.left self.new.reader.source) self.new.history bytes steps) }
         ensures ended { OnOk result (IsSome self.new.reader.told.end) }
         ensures moves { OnOk result (Moves S.place S.faults self.old self.new) }
+        ensures stays { S.place self.new.reader.source ≡ S.place self.old.reader.source }
     {
         let mut more = true;
         while more {
@@ -179,6 +182,7 @@ impl<S: Source> Network<S> {
             TakesSome count topology.now self.new.reader (S.left self.new.reader.source) self.new.history bytes steps) }
         ensures ended { OnOk result (count ≡ None → IsSome self.new.reader.told.end) }
         ensures moves { OnOk result (Moves S.place S.faults self.old self.new) }
+        ensures stays { S.place self.new.reader.source ≡ S.place self.old.reader.source }
     {
         match count {
             Some(count) => self.take_some(alloc, topology, count, gate, job),

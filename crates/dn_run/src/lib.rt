@@ -31,3 +31,6 @@ mod tables_tests;
 mod text_cut;
 mod topology_text;
 mod words;
+
+pub use program::run;
+pub use status::Status;

@@ -22,6 +22,8 @@ mod report_jobs;
 mod report_tests;
 mod report_writer;
 mod ruling;
+#[cfg(test)]
+mod run_tests;
 mod script_line;
 mod script_text;
 mod status;

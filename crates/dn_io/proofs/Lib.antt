@@ -1,1 +1,4 @@
-pub mod ListLemmas
+pub mod CallsLemmas
+pub mod FaultsLemmas
+pub mod FilesLemmas
+pub mod ToldLemmas

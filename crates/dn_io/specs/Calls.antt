@@ -86,3 +86,15 @@ NoneFailed calls = some_failed calls ≡ false
 abbrev pub names_of : List Call → List (List ℕ)
 names_of [] = []
 names_of (call ∷ rest) = call.name ∷ names_of rest
+
+-- the bytes left in a source that came back, where they are told
+abbrev pub left_in : CallState → Option (List ℕ)
+left_in Out = None
+left_in Refused = None
+left_in (Back failed left) = left
+
+-- the name at this place
+abbrev pub name_at : List Call → ℕ → Option (List ℕ)
+name_at [] place = None
+name_at (call ∷ rest) zero = Some call.name
+name_at (call ∷ rest) (suc place) = name_at rest place

@@ -4,21 +4,26 @@
 //! what contracts name, so code above is generic over them.
 #![tactic(auto)]
 
+mod call_book;
+mod files;
 mod mem_sink;
 mod mem_source;
+mod mem_world;
 mod plan;
 mod refusals;
 mod remainder;
+mod sure;
+mod sure_world;
 #[cfg(test)]
 mod tests;
 mod traits;
 
+pub use call_book::CallBook;
+pub use files::{MemFile, SureFile};
 pub use mem_sink::MemSink;
 pub use mem_source::MemSource;
-pub use refusals::Failed;
-pub use refusals::WorldRefused;
-pub use traits::Gate;
-pub use traits::Point;
-pub use traits::Sink;
-pub use traits::Source;
-pub use traits::World;
+pub use mem_world::MemWorld;
+pub use refusals::{Failed, WorldRefused};
+pub use sure::{NoGate, SureSink, SureSource};
+pub use sure_world::SureWorld;
+pub use traits::{Gate, Point, Sink, Source, World};

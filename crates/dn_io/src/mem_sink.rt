@@ -1,15 +1,15 @@
 //! A sink in memory, whose failures a test chooses.
 
+ghost use Rattle.std.specs.Prelude.{◌≡◌, ℕ, ◌≤◌, [], ◌++◌, length, take, min, Option, Some, IfOk, OnOk, OnErr, IsTrue, is_err, true};
+ghost use Rattle.dn_io.specs.Faults.{Rose};
+ghost use Rattle.dn_io.specs.Told.{with_end};
+ghost use Rattle.dn_io.specs.Memory.{MemSinkView, counted, fails_next};
+
 use crate::plan::Plan;
 use crate::refusals::Failed;
 use crate::traits::Sink;
 use std::alloc::Global;
 use std::marker::Model;
-
-ghost use Rattle.std.specs.Prelude.{◌≡◌, ℕ, ◌≤◌, [], ◌++◌, length, take, min, Option, Some, IfOk, OnOk, OnErr, IsTrue, is_err, true};
-ghost use Rattle.dn_io.specs.Faults.{Rose};
-ghost use Rattle.dn_io.specs.Told.{with_end};
-ghost use Rattle.dn_io.specs.Memory.{MemSinkView, counted, fails_next};
 
 /// A sink in memory. It takes at most a stated number of bytes per write, and fails at stated calls. A write
 /// that finds no memory for what it keeps fails too.

@@ -1,15 +1,15 @@
 //! A source in memory, whose failures a test chooses.
 
+ghost use Rattle.std.specs.Prelude.{◌≡◌, ℕ, ◌<◌, ◌≤◌, [], length, take, drop, min, Option, Some, IfOk, OnOk, OnErr, is_err, not, ◌==◌};
+ghost use Rattle.dn_io.specs.Faults.{Rose};
+ghost use Rattle.dn_io.specs.Told.{with_front, without_first, NothingLeft};
+ghost use Rattle.dn_io.specs.Memory.{MemSourceView, counted, fails_next};
+
 use crate::plan::Plan;
 use crate::refusals::Failed;
 use crate::remainder::Remainder;
 use crate::traits::Source;
 use std::marker::Model;
-
-ghost use Rattle.std.specs.Prelude.{◌≡◌, ℕ, ◌<◌, ◌≤◌, [], length, take, drop, min, Option, Some, IfOk, OnOk, OnErr, is_err};
-ghost use Rattle.dn_io.specs.Faults.{Rose};
-ghost use Rattle.dn_io.specs.Told.{with_front, without_first, NothingLeft};
-ghost use Rattle.dn_io.specs.Memory.{MemSourceView, counted, fails_next};
 
 /// A source in memory. It gives at most a stated number of bytes per read, and fails at stated calls.
 #[derive(Drop)]
@@ -58,6 +58,22 @@ impl MemSource {
             place,
             plan: Plan::new(fails),
         }
+    }
+
+    /// The place, whether a call has failed, and what is left.
+    pub(crate) fn into_parts(self) -> (u32, bool, Remainder)
+        ensures place { result.0 ≡ self.place }
+        ensures failed { result.1 ≡ not (self.plan.faults == 0) }
+        ensures left { result.2 ≡ self.left }
+    {
+        let failed = self.plan.faults() != 0;
+        let MemSource {
+            left,
+            step: _,
+            place,
+            plan: _,
+        } = self;
+        (place, failed, left)
     }
 
     /// The bytes left.

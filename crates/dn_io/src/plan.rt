@@ -1,10 +1,10 @@
 //! Which calls of an object in memory fail.
 
-use std::marker::Model;
-
 ghost use Rattle.std.specs.Prelude.{◌≡◌, ◌≤◌, vec_len};
 ghost use Rattle.dn_io.specs.Memory.{PlanView, counted, fails_next};
 ghost use Rattle.dn_io.specs.Faults.{Rose};
+
+use std::marker::Model;
 
 /// The calls that fail, by their numbers from 1, and the counts of calls and of faults.
 /// A count that has come to 2^64 - 1 stays there.

@@ -1,8 +1,8 @@
 //! Bytes of which the first have been given away.
 
-use std::marker::Model;
-
 ghost use Rattle.std.specs.Prelude.{◌≡◌, ℕ, ◌≤◌, min, List, length, take, drop, vec_len};
+
+use std::marker::Model;
 
 /// The bytes that are left of a list of bytes.
 #[derive(Drop)]

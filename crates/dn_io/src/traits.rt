@@ -1,13 +1,12 @@
 //! What the program needs of the outside: sources of bytes, a sink, a world of names, and a gate for tests.
 
-use crate::refusals::Failed;
-use crate::refusals::WorldRefused;
-
 ghost use Rattle.std.specs.Prelude.{◌≡◌, ℕ, ◌<◌, ◌≤◌, ◌^◌, List, [], length, take, drop, Option, IfOk, IfErr, OnOk, OnErr, IfSome, IsSome};
 ghost use Rattle.dn_io.specs.Faults.{Rose};
 ghost use Rattle.dn_io.specs.Told.{with_front, with_end, without_first, NothingLeft};
 ghost use Rattle.dn_io.specs.Files.{Files, bytes_of};
 ghost use Rattle.dn_io.specs.Calls.{Call, with_out, with_refusal, with_state, back_with, IsOutAt};
+
+use crate::refusals::{Failed, WorldRefused};
 
 /// Bytes that come in pieces: a feed, a script or a topology.
 pub trait Source: Send + Drop {

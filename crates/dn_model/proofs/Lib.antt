@@ -1,6 +1,13 @@
+pub mod Best
+pub mod FeedLemmas
 pub mod FramesLemmas
+pub mod Keys
 pub mod Lookups
+pub mod Loops
 pub mod Message
+pub mod RunsOnce
 pub mod Tables
+pub mod TopologyLinksSound
 pub mod TopologySound
 pub mod Walks
+pub mod Within

@@ -41,8 +41,13 @@ deleted s = record { del = true; prefix = prefix_at s; metric = metric_from s (a
 
 abbrev pub set_at : List ℕ → ℕ → RawRoute
 set_at s at = record {
-    del = false; prefix = prefix_at s; metric = Some (number_at s (after_gateway s at + 12)); kind = Unicast;
-    via = via_at s at; oif = Some (number_at s (after_gateway s at + 4)) }
+  del = false;
+  prefix = prefix_at s;
+  metric = Some (number_at s (after_gateway s at + 12));
+  kind = Unicast;
+  via = via_at s at;
+  oif = Some (number_at s (after_gateway s at + 4));
+}
 
 abbrev pub guessed : List ℕ → RawRoute
 guessed s = if get_or s 4 0 == 25 then deleted s else set_at s (after_prefix s)

@@ -32,22 +32,22 @@ table-push_other history e r h =
 pub TablesOf-push : (tables : List (List Route)) (history : List Entry) (e : Entry) → e.router.0 < length tables → TablesOf tables history → TablesOf (set tables e.router.0 (after_op (get_or tables e.router.0 []) e.op)) (history ++ e ∷ [])
 TablesOf-push tables history e h t = record {
   each = λ r. ⊎_elim
-    (λ (same : e.router.0 ≡ r.0).
+      (λ (same : e.router.0 ≡ r.0).
       let at : get_or tables e.router.0 [] ≡ table history r = ap (λ k. get_or tables k []) same ∙ t.each r in
       let here : get_or (set tables e.router.0 (after_op (get_or tables e.router.0 []) e.op)) r.0 [] ≡ after_op (get_or tables e.router.0 []) e.op = subst (λ k. get_or (set tables e.router.0 (after_op (get_or tables e.router.0 []) e.op)) k [] ≡ after_op (get_or tables e.router.0 []) e.op) same (get_or-set_same tables e.router.0 _ [] h) in
       here ∙ ap (λ rs. after_op rs e.op) at ∙ sym (table-push_own history e r same))
-    (λ (other : e.router.0 ≢ r.0).
+      (λ (other : e.router.0 ≢ r.0).
       get_or-set_other tables e.router.0 r.0 _ [] (λ same. other (sym same)) ∙ t.each r ∙ sym (table-push_other history e r other))
-    (cases_eq e.router.0 r.0);
+      (cases_eq e.router.0 r.0);
 }
 
 -- empty lists, before any update
 pub TablesOf-empty : (n : ℕ) → TablesOf (replicate n []) []
 TablesOf-empty n = record {
   each = λ r. ⊎_elim
-    (λ (in' : r.0 < n). get_or-replicate n r.0 [] [] in')
-    (λ (out : n ≤ r.0). get_or_past (replicate n []) r.0 [] (rw length-replicate out))
-    (cases_lt r.0 n);
+      (λ (in' : r.0 < n). get_or-replicate n r.0 [] [] in')
+      (λ (out : n ≤ r.0). get_or_past (replicate n []) r.0 [] (rw length-replicate out))
+      (cases_lt r.0 n);
 }
 
 -- what a router does, and walks, by the lists of all routers and by the history

@@ -25,7 +25,7 @@ pub back_empty : {A : Type 0} (xs ys : List A) → xs ++ ys ≡ [] → ys ≡ []
 back_empty [] ys e = e
 back_empty (x ∷ xs) ys e = cc
 
-map_empty : {A B : Type 0} (f : A → B) (xs : List A) → map f xs ≡ [] → xs ≡ []
+pub map_empty : {A B : Type 0} (f : A → B) (xs : List A) → map f xs ≡ [] → xs ≡ []
 map_empty f [] e = refl
 map_empty f (x ∷ xs) e = cc
 
@@ -76,12 +76,14 @@ router_push es x (Some name) is sound few text named fresh =
       differ = rw said (all_differ-push same_text (routers_said es) name sound.differ fresh);
     }
 
+pub router_next : (es : List Data) (x : Data) → AreRouters es → NoneStands (router_table es) x → AreRouters (es ++ x ∷ [])
+router_next es x sound rows = router_push es x (as_str x) refl sound rows.0 rows.1.0 rows.1.1.0 rows.1.1.1.0
+
 pub routers_sound : (es more : List Data) → AreRouters es → faults_along Routers router_table es more ≡ [] → AreRouters (es ++ more)
 unfolding faults_along
 routers_sound es [] sound none = rw (append-nil es) sound
 routers_sound es (x ∷ more) sound none =
     let stand : standing (router_table es) x ≡ [] = map_empty (λ (cause : ℕ). record { part = Routers; entry = length es + 1; cause = cause }) _ (front_empty _ _ none) in
-    let rows : NoneStands (router_table es) x = none_stands (router_table es) x stand in
     let more_sound : AreRouters ((es ++ x ∷ []) ++ more) =
-      routers_sound (es ++ x ∷ []) more (router_push es x (as_str x) refl sound rows.0 rows.1.0 rows.1.1.0 rows.1.1.1.0) (back_empty _ _ none) in
+    routers_sound (es ++ x ∷ []) more (router_next es x sound (none_stands (router_table es) x stand)) (back_empty _ _ none) in
     rw append_assoc at more_sound

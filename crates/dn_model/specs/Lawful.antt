@@ -76,13 +76,13 @@ jobs_of scripts feeds =
 abbrev pub HoldsWhatWasTaken : List FeedRead → List Line → List Entry → Type 0
 HoldsWhatWasTaken feeds before seen = All (λ f. filter (is_from f) seen ≡ entries_of f (updates (taken before f))) feeds
 
--- What is told of a query after some lines, where the last pin was `last`: its first unknown name, or the answer over
+-- What is told of a query of a job with these feeds after some lines, where the last pin was `last`: its first unknown name, or the answer over
 -- the first entries of the history, up to its pin.
-abbrev pub IsOutcome : Topology → List Entry → Job → List Line → ℕ → Query → Outcome → Type 0
-IsOutcome t history job before last q (Unknown u) = unknown_of t q ≡ Some u
-IsOutcome t history job before last q (Answered n answer) =
+abbrev pub IsOutcome : Topology → List Entry → List FeedRead → List Line → ℕ → Query → Outcome → Type 0
+IsOutcome t history feeds before last q (Unknown u) = unknown_of t q ≡ Some u
+IsOutcome t history feeds before last q (Answered n answer) =
     (unknown_of t q ≡ None) × (last ≤ n) × (n ≤ length history)
-    × HoldsWhatWasTaken job.feeds before (take n history) × IsAnswer t (take n history) q answer
+    × HoldsWhatWasTaken feeds before (take n history) × IsAnswer t (take n history) q answer
 
 -- the last pin after this outcome
 abbrev pub pin_after : ℕ → Outcome → ℕ
@@ -90,14 +90,14 @@ pin_after last (Unknown u) = last
 pin_after last (Answered n answer) = n
 
 -- What is told of the lines that are left: one outcome for each query, in order, each with its line.
-abbrev pub Tells : Topology → List Entry → Job → List Line → ℕ → List Line → List Told → Type 0
-Tells t history job before last [] [] = Unit {0}
-Tells t history job before last [] (told ∷ rest) = ⊥
-Tells t history job before last (Take l q count ∷ lines) tolds = Tells t history job (before ++ Take l q count ∷ []) last lines tolds
-Tells t history job before last (Ask l query ∷ lines) [] = ⊥
-Tells t history job before last (Ask l query ∷ lines) (told ∷ rest) =
-    (told.line ≡ l) × (told.query ≡ query) × IsOutcome t history job before last query told.outcome
-    × Tells t history job (before ++ Ask l query ∷ []) (pin_after last told.outcome) lines rest
+abbrev pub Tells : Topology → List Entry → List FeedRead → List Line → ℕ → List Line → List Told → Type 0
+Tells t history feeds before last [] [] = Unit {0}
+Tells t history feeds before last [] (told ∷ rest) = ⊥
+Tells t history feeds before last (Take l q count ∷ lines) tolds = Tells t history feeds (before ++ Take l q count ∷ []) last lines tolds
+Tells t history feeds before last (Ask l query ∷ lines) [] = ⊥
+Tells t history feeds before last (Ask l query ∷ lines) (told ∷ rest) =
+    (told.line ≡ l) × (told.query ≡ query) × IsOutcome t history feeds before last query told.outcome
+    × Tells t history feeds (before ++ Ask l query ∷ []) (pin_after last told.outcome) lines rest
 
 -- what is told of each job, numbered from the first's number
 abbrev pub TellsAll : Topology → List Entry → ℕ → List Job → List JobTold → Type 0
@@ -105,4 +105,4 @@ TellsAll t history number [] [] = Unit {0}
 TellsAll t history number [] (told ∷ rest) = ⊥
 TellsAll t history number (job ∷ jobs) [] = ⊥
 TellsAll t history number (job ∷ jobs) (told ∷ rest) =
-    (told.number ≡ number) × Tells t history job [] 0 job.lines told.told × TellsAll t history (suc number) jobs rest
+    (told.number ≡ number) × Tells t history job.feeds [] 0 job.lines told.told × TellsAll t history (suc number) jobs rest

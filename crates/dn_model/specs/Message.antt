@@ -1,6 +1,6 @@
 -- Route messages of rtnetlink(7), in the layout in which FRR's forwarding plane manager module sends them. Numbers
 -- are little-endian, as the sender's are; an address is in network byte order.
-use Rattle.std.specs.Prelude.{◌≡◌, ℕ, ◌+◌, ◌<◌, ◌^◌, ◌==◌, Bool, true, false, if◌then◌else◌, List, [], ◌∷◌, ◌++◌, length, Option, None, Some, IfSome, IsSome}
+use Rattle.std.specs.Prelude.{◌≡◌, ℕ, ◌+◌, ◌<◌, ◌^◌, ◌==◌, Bool, true, false, if◌then◌else◌, List, [], ◌∷◌, ◌++◌, length, Option, None, Some, IfSome, IsSome, unwrap_or, ◌||◌}
 use Rattle.std.specs.Int.{w32, to_be_bytes, to_le_bytes}
 use Rattle.dn_model.specs.Cidr.{Cidr, IsCidr}
 use Rattle.dn_model.specs.Lookup.{port_of}
@@ -87,8 +87,7 @@ pub record IsPlainRoute (raw : RawRoute) : Type 0 where
 -- What a unicast route does at this interface. Over a link it leads to the far router where it names a gateway or the
 -- link is unnumbered; at an edge it leaves the network where it names a gateway. Else it is for the segment itself.
 abbrev pub target_at : Port → Bool → ℕ → Target
-target_at (Link far link true) via index = To far link
-target_at (Link far link false) via index = if via then To far link else OnLink index
+target_at (Link far link unnumbered) via index = if via || unnumbered then To far link else OnLink index
 target_at Edge via index = if via then Exit index else OnLink index
 
 -- a route set at this interface, where the router has it
@@ -99,8 +98,7 @@ set_op p metric via index (Some port) = Some (Set p metric (target_at port via i
 -- the same of what a message says; without a metric it is 0, without an interface it is nothing
 abbrev pub set_op_of : Topology → RouterId → Cidr → Option ℕ → Bool → Option ℕ → Option Op
 set_op_of t r p metric via None = None
-set_op_of t r p None via (Some index) = set_op p 0 via index (port_of t r index)
-set_op_of t r p (Some m) via (Some index) = set_op p m via index (port_of t r index)
+set_op_of t r p metric via (Some index) = set_op p (unwrap_or metric 0) via index (port_of t r index)
 
 -- the update that a unicast route's message is to this router; none where the interface isn't the router's
 abbrev pub op_of : Topology → RouterId → RawRoute → Option Op

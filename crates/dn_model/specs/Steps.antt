@@ -44,8 +44,13 @@ pub record FeedRead : Type 0 where
 -- what is told of a feed
 abbrev pub told_of : FeedRead → FeedTold
 told_of f = record {
-    feed_no = f.feed_no; router = f.router; updates = length (updates f.steps); skipped = sum (map skipped_of f.steps);
-    refused = refusals f.steps; end = Some f.end }
+  feed_no = f.feed_no;
+  router = f.router;
+  updates = length (updates f.steps);
+  skipped = sum (map skipped_of f.steps);
+  refused = refusals f.steps;
+  end = Some f.end;
+}
 
 -- updates of a router's feed as entries of the history
 abbrev pub entries_by : ℕ → RouterId → List Op → List Entry

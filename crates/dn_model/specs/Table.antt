@@ -1,7 +1,8 @@
 -- Routing tables as route lists: what updates make of them (rtnetlink(7)), and the route of an address
 -- (longest prefix, then least metric: RFC 1812, and the priority of rules in Delta-net, NSDI 2017).
-use Rattle.std.specs.Prelude.{ℕ, Bool, List, [], ◌∷◌, ◌++◌, Option, None, Some, filter, fold, map, not, nat_lt, slice_index_or, ◌≡◌, ◌&&◌, ◌||◌, ◌==◌, if◌then◌else◌}
+use Rattle.std.specs.Prelude.{ℕ, Bool, List, [], ◌∷◌, ◌++◌, Option, None, Some, filter, fold, map, not, nat_lt, slice_index_or, Contains, IsTrue, IsFalse, ◌≡◌, ◌&&◌, ◌||◌, ◌==◌, if◌then◌else◌}
 use Rattle.dn_model.specs.Cidr.{Cidr, covers}
+use Rattle.dn_model.specs.Topology.{all_differ}
 use Rattle.dn_model.specs.declared.ids.RouterId.{RouterId}
 use Rattle.dn_model.specs.declared.target.Target.{Target}
 use Rattle.dn_model.specs.declared.target.Target.TheVariants.{NoRoute}
@@ -57,6 +58,19 @@ target_in routes a = target_or_none (best routes a)
 -- what a router does with an address after a history
 abbrev pub target : List Entry → RouterId → ℕ → Target
 target history r a = target_in (table history r) a
+
+-- whether two routes have one key
+abbrev pub same_key : Route → Route → Bool
+same_key x y = has_key x.prefix x.metric y
+
+-- no two routes have one key
+abbrev pub HasKeysOnce : List Route → Type 0
+HasKeysOnce routes = IsTrue (all_differ same_key routes)
+
+-- the route of an address, where one covers it: one of those that do, before which none of them goes
+abbrev pub IsBest : List Route → ℕ → Option Route → Type 0
+IsBest routes a None = (r : Route) → Contains routes r → IsFalse (covers r.prefix a)
+IsBest routes a (Some b) = Contains routes b × IsTrue (covers b.prefix a) × ((r : Route) → Contains routes r → IsTrue (covers r.prefix a) → IsFalse (goes_before r b))
 
 -- lists by router, of which each is its router's table after a history; of a router that has no list the history has
 -- no route

@@ -13,6 +13,8 @@ use Rattle.dn_model.specs.declared.topology.Topology.{Topology}
 use Rattle.dn_model.specs.declared.topology_fault.TopoFault.{TopoFault}
 use Rattle.dn_model.specs.declared.topology_fault.TopoPart.{TopoPart}
 use Rattle.dn_model.specs.declared.topology_fault.TopoPart.TheVariants.{Top, Routers, Link, Edge}
+use Rattle.dn_model.specs.declared.topology_fault.TopoRefused.{TopoRefused}
+use Rattle.dn_model.specs.declared.topology_fault.TopoRefused.TheVariants.{Fault, OutOfMemory}
 use Rattle.dn_model.specs.Name.{is_name_text}
 use Rattle.dn_model.specs.Topology.{same_text, same_end, all_ends}
 use Rattle.dn_model.specs.EndText.{read_end}
@@ -97,21 +99,31 @@ unnumbered_in = flag_or_none_at (codes "unnumbered")
 abbrev pub at_in : Members → Option (List ℕ)
 at_in = text_at (codes "at")
 
+-- the two ends that two texts are
+abbrev pub both_ends : Option TopoEnd → Option TopoEnd → Option (TopoEnd × TopoEnd)
+both_ends (Some first) (Some second) = Some (first, second)
+both_ends (Some first) None = None
+both_ends None second = None
+
+abbrev pub ends_of_table : List (List ℕ) → Members → Option (TopoEnd × TopoEnd)
+ends_of_table routers ms = option_and_then (λ texts. both_ends (read_end routers texts.0) (read_end routers texts.1)) (ends_in ms)
+
 -- the link of a name, two ends and a mark
-abbrev pub link_from : Option (List ℕ) → Option TopoEnd → Option TopoEnd → Option Bool → Option TopoLink
-link_from (Some name) (Some first) (Some second) (Some unnumbered) =
-    Some (record { name = name; first = first; second = second; unnumbered = unnumbered })
-link_from _ _ _ _ = None
+abbrev pub link_from : Option (List ℕ) → Option (TopoEnd × TopoEnd) → Option Bool → Option TopoLink
+link_from (Some name) (Some ends) (Some unnumbered) = Some (record { name = name; first = ends.0; second = ends.1; unnumbered = unnumbered })
+link_from (Some name) (Some ends) None = None
+link_from (Some name) None mark = None
+link_from None ends mark = None
 
--- the link that a table says
 abbrev pub link_of_table : List (List ℕ) → Members → Option TopoLink
-link_of_table routers ms =
-    link_from (name_in ms) (option_and_then (λ ends. read_end routers ends.0) (ends_in ms))
-      (option_and_then (λ ends. read_end routers ends.1) (ends_in ms)) (unnumbered_in ms)
+link_of_table routers ms = link_from (name_in ms) (ends_of_table routers ms) (unnumbered_in ms)
 
--- the name and the link of an entry of `link`, and the end of an entry of `edge`
+-- the name, the ends and the link of an entry of `link`, and the end of an entry of `edge`
 abbrev pub name_of_entry : Data → Option (List ℕ)
 name_of_entry d = option_and_then name_in (as_table d)
+
+abbrev pub ends_of_entry : List (List ℕ) → Data → Option (TopoEnd × TopoEnd)
+ends_of_entry routers d = option_and_then (ends_of_table routers) (as_table d)
 
 abbrev pub link_of_entry : List (List ℕ) → Data → Option TopoLink
 link_of_entry routers d = option_and_then (link_of_table routers) (as_table d)
@@ -152,9 +164,9 @@ link_causes routers count names ends =
     ∷ (MISSING_KEY, λ entry. passes (λ ms. is_none (name_in ms) || is_none (ends_in ms) || is_none (unnumbered_in ms)) (as_table entry))
     ∷ (BAD_NAME, λ entry. passes (λ name. not (is_name_text name)) (name_of_entry entry))
     ∷ (TWICE_NAMED, λ entry. passes (has_text names) (name_of_entry entry))
-    ∷ (BAD_END, λ entry. is_none (link_of_entry routers entry))
-    ∷ (SELF_LINK, λ entry. passes (λ l. l.first.router.0 == l.second.router.0) (link_of_entry routers entry))
-    ∷ (END_TWICE, λ entry. passes (λ l. has_end ends l.first || has_end ends l.second) (link_of_entry routers entry))
+    ∷ (BAD_END, λ entry. is_none (ends_of_entry routers entry))
+    ∷ (SELF_LINK, λ entry. passes (λ both. both.0.router.0 == both.1.router.0) (ends_of_entry routers entry))
+    ∷ (END_TWICE, λ entry. passes (λ both. has_end ends both.0 || has_end ends both.1) (ends_of_entry routers entry))
     ∷ []
 
 -- at an entry of `edge`, which so many entries and these ends (those of the links too) stand before
@@ -201,22 +213,28 @@ link_table routers earlier = link_causes routers (length earlier) (filter_map na
 abbrev pub edge_table : List (List ℕ) → List TopoLink → List Data → List (ℕ × (Data → Bool))
 edge_table routers links earlier = edge_causes routers (length earlier) (all_ends links ++ edges_said routers earlier)
 
+-- what the entries of the three lists say, and their faults: those of the routers, then the links, then the edges
+abbrev pub parts_said : List Data → List Data → List Data → Parts
+parts_said routers links edges =
+    record { routers = routers_said routers; links = links_said (routers_said routers) links; edges = edges_said (routers_said routers) edges }
+
+abbrev pub list_faults : List Data → List Data → List Data → List TopoFault
+list_faults routers links edges =
+    faults_along Routers router_table [] routers ++ faults_along Link (link_table (routers_said routers)) [] links
+    ++ faults_along Edge (edge_table (routers_said routers) (links_said (routers_said routers) links)) [] edges
+
 -- what a document says
 abbrev pub parts_of : Members → Parts
-parts_of doc =
-    let routers = routers_said (entries_at (codes "routers") doc) in
-    record { routers = routers; links = links_said routers (entries_at (codes "link") doc); edges = edges_said routers (entries_at (codes "edge") doc) }
+parts_of doc = parts_said (entries_at (codes "routers") doc) (entries_at (codes "link") doc) (entries_at (codes "edge") doc)
 
 abbrev pub top_fault : ℕ → TopoFault
 top_fault cause = record { part = Top; entry = 0; cause = cause }
 
--- its faults: at the top, then in the routers, the links and the edges
+-- its faults: at the top, then in the lists
 abbrev pub faults_of : Members → List TopoFault
 faults_of doc =
     map top_fault (standing top_causes doc)
-    ++ faults_along Routers router_table [] (entries_at (codes "routers") doc)
-    ++ faults_along Link (link_table (parts_of doc).routers) [] (entries_at (codes "link") doc)
-    ++ faults_along Edge (edge_table (parts_of doc).routers (parts_of doc).links) [] (entries_at (codes "edge") doc)
+    ++ list_faults (entries_at (codes "routers") doc) (entries_at (codes "link") doc) (entries_at (codes "edge") doc)
 
 -- the first fault, or else what was said
 abbrev pub unless_faulty : {A : Type 0} → List TopoFault → A → Result A TopoFault
@@ -238,3 +256,8 @@ topology_of bytes = if nat_lt 16777216 (length bytes) then Err (top_fault TOO_LO
 -- a text of this topology
 abbrev pub IsTopologyText : List ℕ → Topology → Type 0
 IsTopologyText bytes t = topology_of bytes ≡ Ok (parts t)
+
+-- a refusal of bytes: their first fault, or want of memory
+abbrev pub IsTopologyRefused : List ℕ → TopoRefused → Type 0
+IsTopologyRefused bytes (Fault fault) = topology_of bytes ≡ Err fault
+IsTopologyRefused bytes OutOfMemory = Unit {0}

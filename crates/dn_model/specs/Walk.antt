@@ -1,5 +1,5 @@
 -- Following an address hop by hop, with links taken as down.
-use Rattle.std.specs.Prelude.{ℕ, zero, suc, Bool, List, [], ◌∷◌, ◌==◌, if◌then◌else◌, slice_index_or}
+use Rattle.std.specs.Prelude.{ℕ, zero, suc, Bool, List, [], ◌∷◌, ◌++◌, ◌≡◌, ◌<◌, ◌==◌, if◌then◌else◌, slice_index_or}
 use Rattle.std.specs.List.{list_any}
 use Rattle.dn_model.specs.declared.ids.RouterId.{RouterId}
 use Rattle.dn_model.specs.declared.ids.LinkId.{LinkId}
@@ -52,3 +52,15 @@ walk target_at (suc hops) r = r ∷ on_far (target_at r) [] (λ s. walk target_a
 abbrev pub walk_end : (RouterId → Target) → ℕ → RouterId → PathEnd
 walk_end target_at zero r = Loop
 walk_end target_at (suc hops) r = on_far (target_at r) (At (target_at r)) (λ s. walk_end target_at hops s)
+
+-- of so many routers each goes on to one of them, if to any
+abbrev pub LeadsWithin : ℕ → (RouterId → Target) → Type 0
+LeadsWithin n target_at = (r s : RouterId) (l : LinkId) → r.0 < n → target_at r ≡ To s l → s.0 < n
+
+-- the last of these routers does this with the address, and goes on to none
+pub record EndsWith (target_at : RouterId → Target) (routers : List RouterId) (last_target : Target) : Type 0 where
+  pub front : List RouterId
+  pub last : RouterId
+  pub split : routers ≡ front ++ last ∷ []
+  pub is : target_at last ≡ last_target
+  pub stays : (s : RouterId) (l : LinkId) → last_target ≡ To s l → ⊥

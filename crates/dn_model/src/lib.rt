@@ -8,17 +8,20 @@ pub mod cause;
 mod entry;
 mod error_line;
 mod ids;
+mod laws;
 mod list;
 mod lookup;
 mod memory;
 mod name;
-mod ports;
 mod plain;
+#[cfg(test)]
+mod plain_tests;
+mod ports;
 mod prefix;
 mod print;
 mod query;
-mod run;
 mod raw_route;
+mod run;
 mod script;
 mod target;
 mod text;
@@ -31,17 +34,24 @@ pub use answer::{Answer, PathEnd};
 pub use entry::{Entry, Op, Posted, Route};
 pub use error_line::ErrorLine;
 pub use ids::{LinkId, RouterId};
+pub use laws::{
+    best_goes_first, best_has_no_order, histories_lead_within, loops_are_true, runs_are_unique,
+    tables_have_keys_once, walks_end_at_the_last_router,
+};
 pub use list::List;
 pub use lookup::{link, port, router};
 pub use memory::OutOfMemory;
 pub use name::{Name, is_name};
-pub use ports::Port;
 pub use plain::{plain_answer, plain_routes, plain_target, plain_walk};
+pub use ports::Port;
 pub use prefix::Prefix;
-pub use print::{print_address, print_prefix, print_run, print_target, push_address, push_bytes, push_decimal, push_link, push_prefix, push_router, push_target};
+pub use print::{
+    print_address, print_prefix, print_run, print_target, push_address, push_bytes, push_decimal,
+    push_link, push_prefix, push_router, push_target,
+};
 pub use query::{Ask, Query, Unknown};
-pub use run::Run;
 pub use raw_route::{RawRoute, RouteKind};
+pub use run::Run;
 pub use script::{Line, Script};
 pub use target::{DropKind, Target};
 pub use text::Text;

@@ -240,7 +240,14 @@ fn links_named(alloc: Global, t: &Topology, names: &[Name]) -> Result<Vec<LinkId
 }
 
 /// The walk of an address from the router of this name after a history, where the links `down` are down.
-fn plain_path(alloc: Global, t: &Topology, entries: &[Entry], down: &[LinkId], name: &Name, a: u32) -> Result<Answer, OutOfMemory>
+fn plain_path(
+    alloc: Global,
+    t: &Topology,
+    entries: &[Entry],
+    down: &[LinkId],
+    name: &Name,
+    a: u32,
+) -> Result<Answer, OutOfMemory>
     requires { IsSome (router_of t.now name.now) }
     ensures { IfOk result (λ answer. IsSomeAnd (router_of t.now name.now) (λ r. answer ≡ path_answer t.now entries.now down.now r a)) }
 {
@@ -252,7 +259,12 @@ fn plain_path(alloc: Global, t: &Topology, entries: &[Entry], down: &[LinkId], n
 }
 
 /// The answer to a query after a history. The topology has each name of the query.
-pub fn plain_answer(alloc: Global, t: &Topology, entries: &[Entry], query: &Query) -> Result<Answer, OutOfMemory>
+pub fn plain_answer(
+    alloc: Global,
+    t: &Topology,
+    entries: &[Entry],
+    query: &Query,
+) -> Result<Answer, OutOfMemory>
     requires { unknown_of t.now query.now ≡ None }
     ensures { IfOk result (λ answer. IsAnswer t.now entries.now query.now answer) }
 {

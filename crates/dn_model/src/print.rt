@@ -94,7 +94,12 @@ fn push_word_and_number(out: &mut Vec<u8>, word: &[u8], number: u32) -> Result<(
 }
 
 /// Adds the router and the link that a target leads to.
-fn push_hop(out: &mut Vec<u8>, t: &Topology, router: RouterId, link: LinkId) -> Result<(), OutOfMemory>
+fn push_hop(
+    out: &mut Vec<u8>,
+    t: &Topology,
+    router: RouterId,
+    link: LinkId,
+) -> Result<(), OutOfMemory>
     ensures { OnOk result (out.new.items ≡ out.old.items ++ target_text t.now (Target.To router link)) }
 {
     push_bytes(out, b"to ")?;

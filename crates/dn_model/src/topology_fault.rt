@@ -1,5 +1,7 @@
 //! Why a text is no topology.
 
+use crate::memory::OutOfMemory;
+
 /// The part of a topology's text that a fault is in.
 #[derive(Clone, Copy, Debug, PartialEq, Eq)]
 pub enum TopoPart {
@@ -30,4 +32,15 @@ pub enum TopoRefused {
     Fault(TopoFault),
     /// Memory was wanted and there was none.
     OutOfMemory,
+}
+
+impl From<OutOfMemory> for TopoRefused {
+    ghost use Rattle.std.specs.Prelude.{◌≡◌};
+    ghost use Rattle.dn_model.specs.declared.topology_fault.TopoRefused.TheVariants as variant;
+
+    ghost from_gives = { λ _ e. e ≡ variant.OutOfMemory };
+
+    fn from(_error: OutOfMemory) -> Self {
+        TopoRefused::OutOfMemory
+    }
 }

@@ -1,6 +1,6 @@
 -- Texts cut at the first byte of a kind.
-use Rattle.std.proofs.Common.{◌≡◌, ◌<◌, ◌≤◌, ℕ, ◌+◌, Bool, true, false, List, [], ◌∷◌, length, take, drop, get_or, position, nat_lt, cond, filter, unwrap_or, Option, Some, None, refl, sym, ◌∙◌, ap, arith, inl, inr}
-use Rattle.std.specs.List.{position_or_len, slice_split, before_first, after_first, count_by}
+use Rattle.std.proofs.Common.{◌≡◌, ◌<◌, ◌≤◌, ℕ, ◌+◌, Bool, true, false, List, [], ◌∷◌, length, drop, get_or, position, nat_lt, cond, filter, unwrap_or, Some, None, refl, sym, ◌∙◌, ap, arith}
+use Rattle.std.specs.List.{position_or_len, slice_split, before_first, after_first}
 use Rattle.std.proofs.lemmas.Bool.{ltb-false, ltb-true}
 use Rattle.std.proofs.lemmas.List.{take_all, drop_all, nil_from_length, length-take}
 use Rattle.std.proofs.lemmas.List.Sums.{prefix_len-le-length, fails_before_first, passes_at_first}

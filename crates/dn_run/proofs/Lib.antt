@@ -1,8 +1,19 @@
-mod TablesLemmas
+pub mod AnswerLemmas
 pub mod CallsLemmas
 pub mod Cuts
 pub mod Digits
+pub mod Fronts
+pub mod HandsLemmas
+pub mod MessageLemmas
+pub mod Names
 pub mod NetworkLemmas
 pub mod Parts
 pub mod ReadLemmas
+pub mod ReaderLemmas
+pub mod Refused
 pub mod ScriptLines
+pub mod StripsLemmas
+pub mod TablesLemmas
+pub mod TopologyRuns
+pub mod TopologyValues
+pub mod TracksLemmas

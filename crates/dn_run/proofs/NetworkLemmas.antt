@@ -43,7 +43,7 @@ pub taken-ops : {S : Type 0} (t : Topology) (before after : Reader S) (left left
 taken-ops t before after left left' history history' bytes steps ops skipped is is' same-no same-router moves grown taken =
     record {
       stands = subst (λ (o : Option FeedEnd). StandsBy o t after left' bytes (steps ++ Accepted ops skipped ∷ [])) (sym is')
-        (moves (subst (λ (o : Option FeedEnd). StandsBy o t before left bytes steps) is taken.stands));
+          (moves (subst (λ (o : Option FeedEnd). StandsBy o t before left bytes steps) is taken.stands));
       posted = rw (same-no, same-router) (grown ∙ ap (λ es. es ++ entries_by before.told.feed_no before.told.router ops) taken.posted
-        ∙ sym (posted-ops before.told.feed_no before.told.router steps ops skipped));
+          ∙ sym (posted-ops before.told.feed_no before.told.router steps ops skipped));
     }

@@ -26,8 +26,13 @@ pub record Reader (S : Type 0) : Type 0 where
 -- what is told after these steps, before an end
 abbrev pub told_so_far : ℕ → RouterId → List FrameStep → FeedTold
 told_so_far feed_no router steps = record {
-    feed_no = feed_no; router = router; updates = length (updates steps); skipped = sum (map skipped_of steps);
-    refused = refusals steps; end = None }
+  feed_no = feed_no;
+  router = router;
+  updates = length (updates steps);
+  skipped = sum (map skipped_of steps);
+  refused = refusals steps;
+  end = None;
+}
 
 -- what is told after these steps and this end
 abbrev pub told_at_end : ℕ → RouterId → List FrameStep → FeedEnd → FeedTold
@@ -127,8 +132,7 @@ IsReadersEnd (Some ends.TooLong) = Unit {0}
 IsReadersEnd (Some ends.Faulted) = Unit {0}
 IsReadersEnd (Some ends.Full) = ⊥
 
--- A frame that is handed out takes four bytes or more of those within the limit, and has at most one update; an end
--- takes none.
+-- A frame that is handed out takes bytes within the limit, and has at most one update; an end takes none.
 abbrev pub Advances : {S : Type 0} → FeedStep → Reader S → Reader S → Type 0
 Advances (answers.Ops ops skipped) old new = (old.passed < new.passed) × (new.passed ≤ new.limit) × (length ops ≤ 1)
 Advances (answers.Refused offset at cause) old new = (old.passed < new.passed) × (new.passed ≤ new.limit)

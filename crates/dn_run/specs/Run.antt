@@ -113,33 +113,33 @@ FromFeed command files t r lines calls verdict text =
 abbrev pub FromScript : RunWords → Files → Topology → RouterId → List Call → Verdict → List ℕ → Type 0
 FromScript command files t r calls verdict text =
     Asks calls command.script (λ state more.
-      OnFile files command.script state (IsErrorLine verdict text more ReadFault (errors.ReadPart 2)) (λ bytes.
-        MatchResult (script_of t.routers (r ∷ []) [] bytes)
-          (λ lines. FromFeed command files t r lines more verdict text)
-          (λ fault. IsErrorLine verdict text more BadScript errors.Script)))
+    OnFile files command.script state (IsErrorLine verdict text more ReadFault (errors.ReadPart 2)) (λ bytes.
+    MatchResult (script_of t.routers (r ∷ []) [] bytes)
+    (λ lines. FromFeed command files t r lines more verdict text)
+    (λ fault. IsErrorLine verdict text more BadScript errors.Script)))
 
 -- the feed's router is looked up
 abbrev pub FromRouter : RunWords → Files → Topology → List Call → Verdict → List ℕ → Type 0
 FromRouter command files t calls verdict text =
     MatchOption (router_of t command.feed.router)
-      (IsErrorLine verdict text calls BadWords (errors.UnknownRouter 1))
-      (λ r. FromScript command files t r calls verdict text)
+    (IsErrorLine verdict text calls BadWords (errors.UnknownRouter 1))
+    (λ r. FromScript command files t r calls verdict text)
 
 -- the topology is read
 abbrev pub FromTopology : RunWords → Files → List Call → Verdict → List ℕ → Type 0
 FromTopology command files calls verdict text =
     Asks calls command.topology (λ state more.
-      OnFile files command.topology state (IsErrorLine verdict text more ReadFault errors.ReadTopology) (λ bytes.
-        MatchResult (topology_of bytes)
-          (λ said. (t : Topology) × (parts t ≡ said) × FromRouter command files t more verdict text)
-          (λ fault. IsErrorLine verdict text more BadTopology errors.Topology)))
+    OnFile files command.topology state (IsErrorLine verdict text more ReadFault errors.ReadTopology) (λ bytes.
+    MatchResult (topology_of bytes)
+    (λ said. (t : Topology) × (parts t ≡ said) × FromRouter command files t more verdict text)
+    (λ fault. IsErrorLine verdict text more BadTopology errors.Topology)))
 
 -- the words are read
 abbrev pub FromWords : List (List ℕ) → Files → List Call → Verdict → List ℕ → Type 0
 FromWords words files calls verdict text =
     MatchOption (command_of words)
-      (IsErrorLine verdict text calls BadWords errors.Words)
-      (λ command. FromTopology command files calls verdict text)
+    (IsErrorLine verdict text calls BadWords errors.Words)
+    (λ command. FromTopology command files calls verdict text)
 
 -- what a verdict is as a status
 abbrev pub status_of : Verdict → Status

@@ -1,5 +1,5 @@
 -- When the reader of scripts refuses.
-use Rattle.std.specs.Prelude.{◌≡◌, ℕ, List, Option, Some, Result, Ok, Err}
+use Rattle.std.specs.Prelude.{◌≡◌, ℕ, Option, Some, Result, Ok, Err}
 use Rattle.dn_model.specs.ScriptText.{ScriptFault}
 use Rattle.dn_model.specs.declared.script.Line.{Line}
 use Rattle.dn_run.specs.declared.script_text.ScriptRefused.{ScriptRefused}

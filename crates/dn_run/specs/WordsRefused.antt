@@ -1,5 +1,5 @@
 -- What the words that were read say, and when words are refused.
-use Rattle.std.specs.Prelude.{◌≡◌, List, ℕ, Option, None, Some}
+use Rattle.std.specs.Prelude.{◌≡◌, Option, None}
 use Rattle.std.specs.String.{string_bytes}
 use Rattle.dn_model.specs.Words.{FeedWords, RunWords}
 use Rattle.dn_run.specs.declared.words.Command.{Command}

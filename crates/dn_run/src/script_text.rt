@@ -119,3 +119,6 @@ pub fn read_script(
     let lines = read_lines(alloc, &feeds, bytes)?;
     Ok(Script { lines })
 }
+
+#[cfg(test)]
+mod tests;

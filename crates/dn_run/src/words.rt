@@ -124,3 +124,6 @@ pub fn read_words(alloc: Global, words: &[String]) -> Result<Command, WordsRefus
         _ => Err(WordsRefused::BadWords),
     }
 }
+
+#[cfg(test)]
+mod tests;

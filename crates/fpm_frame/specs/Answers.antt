@@ -18,6 +18,26 @@ AnswersNext c (next.Frame offset kind payload) = (offset ≡ c.offset) × HoldsF
 AnswersNext c next.More = IsFrameFront c.held
 AnswersNext c (next.Lost offset cause) = (offset ≡ c.offset) × (lost_cause (rest_kind c.held) ≡ Some cause)
 
+-- the header at the front loses the framing
+abbrev pub LosesFraming : List ℕ → Type 0
+LosesFraming held = (cause : ℕ) × (lost_cause (rest_kind held) ≡ Some cause)
+
+abbrev pub IsFrameThere : Next → Type 0
+IsFrameThere (next.Frame offset kind payload) = Unit {0}
+IsFrameThere next.More = ⊥
+IsFrameThere (next.Lost offset cause) = ⊥
+
+abbrev pub IsMoreWanted : Next → Type 0
+IsMoreWanted (next.Frame offset kind payload) = ⊥
+IsMoreWanted next.More = Unit {0}
+IsMoreWanted (next.Lost offset cause) = ⊥
+
+abbrev pub IsFramingLost : Next → Type 0
+IsFramingLost (next.Frame offset kind payload) = ⊥
+IsFramingLost next.More = ⊥
+IsFramingLost (next.Lost offset cause) = Unit {0}
+
+-- after a whole frame where nothing is left, else inside a frame
 abbrev pub AnswersFinish : Held → Finish → Type 0
 AnswersFinish c finish.End = rest_kind c.held ≡ NoRest
 AnswersFinish c (finish.CutShort offset) = (offset ≡ c.offset) × (rest_kind c.held ≡ CutFrame)

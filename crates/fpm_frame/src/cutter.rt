@@ -1,9 +1,9 @@
 //! A cutter of frames: pieces of a stream go in, frames come out.
 
-ghost use Rattle.std.specs.Prelude.{◌≡◌, ◌+◌, ◌^◌, ◌<◌, ℕ, List, [], ◌∷◌, ◌++◌, length, OnOk, OnErr};
-ghost use Rattle.dn_model.specs.Frames.{Frame, frame_text, IsFrame, BeginsFrame, IsFrameFront};
+ghost use Rattle.std.specs.Prelude.{◌≡◌, ◌+◌, ◌^◌, ◌<◌, ◌↔◌, ℕ, Some, List, [], ◌∷◌, ◌++◌, length, OnOk, OnErr};
+ghost use Rattle.dn_model.specs.Frames.{Frame, frame_text, IsFrame, BeginsFrame, IsFrameFront, rest_kind, lost_cause};
 ghost use Rattle.fpm_frame.specs.Held.{fed, PassesFrame};
-ghost use Rattle.fpm_frame.specs.Answers.{AnswersNext, AnswersFinish};
+ghost use Rattle.fpm_frame.specs.Answers.{AnswersNext, AnswersFinish, IsFrameThere, IsMoreWanted, IsFramingLost, LosesFraming};
 
 use dn_model::OutOfMemory;
 use std::alloc::Global;
@@ -21,7 +21,10 @@ pub enum Next<'a> {
     /// Nothing, or the front of a frame.
     More,
     /// No frame: the framing is lost here. The cause is 15 where the version isn't 1, and 16 where the length is below 4.
-    Lost { offset: u64, cause: u8 },
+    Lost {
+        offset: u64,
+        cause: u8,
+    },
 }
 
 /// How a stream ends that was not lost.
@@ -54,6 +57,7 @@ impl Model for Cutter {
 }
 
 const BAD_VERSION: u8 = 15;
+
 const BAD_FRAME_LENGTH: u8 = 16;
 
 impl Cutter {
@@ -77,6 +81,9 @@ impl Cutter {
         requires fits { self.old.offset + length self.old.held + length piece.now < 2 ^ 64 }
         ensures ok { OnOk result (self.new ≡ fed self.old piece.now) }
         ensures err { OnErr result (self.new ≡ self.old) }
+        // whatever comes after a lost header, it is lost by the same cause
+        ensures lost { (cause : ℕ) → lost_cause (rest_kind self.old.held) ≡ Some cause
+            → lost_cause (rest_kind self.new.held) ≡ Some cause }
     {
         self.let_go();
         self.buffer.extend_from_slice(piece)?;
@@ -105,7 +112,10 @@ impl Cutter {
 
     /// What stands at the front of the bytes held. It stays there until `pass`.
     pub fn next(&self) -> Next<'_>
-        ensures { AnswersNext self.now result }
+        ensures answer { AnswersNext self.now result }
+        ensures frame { IsFrameThere result ↔ BeginsFrame self.now.held }
+        ensures more { IsMoreWanted result ↔ IsFrameFront self.now.held }
+        ensures lost { IsFramingLost result ↔ LosesFraming self.now.held }
     {
         front(self.offset, self.held())
     }
@@ -113,7 +123,9 @@ impl Cutter {
     /// Passes the frame at the front of the bytes held.
     pub fn pass(&mut self)
         requires { BeginsFrame self.old.held }
-        ensures { PassesFrame self.old self.new }
+        ensures frame { PassesFrame self.old self.new }
+        // no byte is lost
+        ensures count { self.new.offset + length self.new.held ≡ self.old.offset + length self.old.held }
     {
         let length = frame_length(self.held());
         self.start += length as usize;

@@ -8,3 +8,6 @@ mod write;
 
 pub use cutter::{Cutter, Finish, Next};
 pub use write::write_frame;
+
+#[cfg(test)]
+mod tests;

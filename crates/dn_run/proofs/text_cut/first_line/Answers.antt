@@ -1,4 +1,3 @@
-use Rattle.std.proofs.Common.{arith}
 use Rattle.dn_run.proofs.Cuts.{lines_of-first}
 use Rattle.dn_run.proofs.text_cut.first_line.Goals as goal
 

@@ -1,5 +1,5 @@
 -- The lengths that the header says and that are there.
-use Rattle.std.proofs.Common.{◌≡◌, ◌≤◌, ◌<◌, ◌-◌, ◌+◌, ◌*◌, ℕ, List, [], ◌∷◌, ◌++◌, length, take, drop, refl, arith}
+use Rattle.std.proofs.Common.{◌≡◌, ◌-◌, ◌+◌, ◌*◌, ℕ, List, [], ◌∷◌, ◌++◌, take, drop, refl, arith}
 use Rattle.std.specs.Int.{w16, from_be_bytes}
 use Rattle.dn_model.specs.Frames.{Frame, frame_text, IsFrame}
 use Rattle.fpm_frame.specs.Answers.{HoldsFrame}
@@ -18,5 +18,8 @@ returns-then-bytes-length c = cut_frame c.args.kind c.args.high c.args.low c.arg
 pub returns-else-bytes-length : goal.returns-else-bytes-length
 returns-else-bytes-length c =
     let says : c.from_be_bytes-length.result ≡ c.args.high * 256 + c.args.low = c.from_be_bytes-length.ensures in
-    rw says (refl, holds_by c.args.kind c.args.high c.args.low c.args.bytes.now
-        (whole_frame c.args.kind c.args.high c.args.low c.args.bytes.now (omega arith) (omega arith) (omega arith) (omega arith) (omega arith)))
+    rw says (
+      refl,
+      holds_by c.args.kind c.args.high c.args.low c.args.bytes.now
+          (whole_frame c.args.kind c.args.high c.args.low c.args.bytes.now (omega arith) (omega arith) (omega arith) (omega arith) (omega arith)),
+    )

@@ -1,5 +1,5 @@
 -- Nothing is the front of a frame.
-use Rattle.std.proofs.Common.{length, arith}
+use Rattle.std.proofs.Common.{arith}
 use Rattle.std.proofs.lemmas.List.{nil_from_length}
 use Rattle.dn_model.proofs.FramesLemmas.{nothing-front}
 use Rattle.fpm_frame.proofs.cutter.front.Goals as goal

@@ -8,8 +8,8 @@ use Rattle.dn_run.proofs.network.Network.take_rest.Given as goal
 abbrev pub invariant-loop-more : goal.invariant-loop-more
 invariant-loop-more g l = record {
   taken : (bytes : List ℕ) (steps : List FrameStep) →
-    HasTaken l.topology l.fn.self.reader (g.S.Source.left l.fn.self.reader.source) l.fn.self.history bytes steps →
-    TakesAny l.topology l.self.reader (g.S.Source.left l.self.reader.source) l.self.history bytes steps;
+      HasTaken l.topology l.fn.self.reader (g.S.Source.left l.fn.self.reader.source) l.fn.self.history bytes steps →
+      TakesAny l.topology l.self.reader (g.S.Source.left l.self.reader.source) l.self.history bytes steps;
   going : EndsUnless l.more l.self.reader.told.end;
   moves : Moves g.S.Source.place g.S.Source.faults l.fn.self l.self;
 }

@@ -1,0 +1,33 @@
+//! The words of the command line.
+
+ghost use Rattle.std.specs.Prelude.{◌≡◌, ◌≢◌, [], IfErr, IsErr, IsOkAnd};
+ghost use Rattle.std.specs.IoError.{error_kind};
+
+use std::alloc::{AllocError, Global};
+use std::io::ErrorKind;
+use std::rt::Env;
+use std::{env, io};
+
+/// The words of the command line, the program's name first. Where one of them isn't UTF-8 there are none at
+/// all, which the program refuses as it refuses every other list of words that it can't read.
+///
+/// # Errors
+///
+/// Where memory is refused.
+pub fn words<R: Env + AllocGlobal>(rt: &R) -> Result<Vec<String>, AllocError> {
+    words_of(rt.alloc(), env::args(rt))
+}
+
+/// The words that were found, or none where one of them isn't text. Every other cause is want of memory.
+fn words_of(alloc: Global, found: io::Result<env::Args>) -> Result<Vec<String>, AllocError>
+    ensures not_text { IfErr found (λ error. error_kind error ≡ ErrorKind.InvalidData → IsOkAnd result (λ words. words.items ≡ [])) }
+    ensures refused { IfErr found (λ error. error_kind error ≢ ErrorKind.InvalidData → IsErr result) }
+{
+    match found {
+        Ok(all) => Ok(all.collect(alloc)?),
+        Err(error) => match error.kind() {
+            ErrorKind::InvalidData => Ok(Vec::new(alloc)),
+            _ => Err(AllocError),
+        },
+    }
+}

@@ -55,13 +55,15 @@ some-and P Q (Some a) f is = f a is
 read-topology : (command : RunWords) (fs : Files) (t : Topology) (left : Option (List ℕ)) (more : List Call) (verdict : Verdict) (text : List ℕ) →
     IsSomeAnd (bytes_of fs command.topology) (λ bytes. topology_of bytes ≡ Ok (parts t)) → FromRouter command fs t more verdict text →
     FromTopology command fs (call_of command.topology (Back false left) ∷ more) verdict text
-read-topology command fs t left more verdict text says after =
-  (refl, some-and (λ bytes. topology_of bytes ≡ Ok (parts t))
-    (λ bytes. MatchResult (topology_of bytes) (λ said. (t : Topology) × (parts t ≡ said) × FromRouter command fs t more verdict text) (λ fault. IsErrorLine verdict text more BadTopology errors.Topology))
-    (bytes_of fs command.topology)
-    (λ bytes e. subst (λ (r : Result Parts TopoFault). MatchResult r (λ said. (t : Topology) × (parts t ≡ said) × FromRouter command fs t more verdict text) (λ fault. IsErrorLine verdict text more BadTopology errors.Topology))
+read-topology command fs t left more verdict text says after = (
+  refl,
+  some-and (λ bytes. topology_of bytes ≡ Ok (parts t))
+      (λ bytes. MatchResult (topology_of bytes) (λ said. (t : Topology) × (parts t ≡ said) × FromRouter command fs t more verdict text) (λ fault. IsErrorLine verdict text more BadTopology errors.Topology))
+      (bytes_of fs command.topology)
+      (λ bytes e. subst (λ (r : Result Parts TopoFault). MatchResult r (λ said. (t : Topology) × (parts t ≡ said) × FromRouter command fs t more verdict text) (λ fault. IsErrorLine verdict text more BadTopology errors.Topology))
       (sym e) (t, refl, after))
-    says)
+      says,
+)
 
 read-topology-told : (command : RunWords) (files : Option Files) (t : Topology) (left : Option (List ℕ)) (more : List Call) (verdict : Verdict) (text : List ℕ) →
     IfSome files (λ fs. IsSomeAnd (bytes_of fs command.topology) (λ bytes. topology_of bytes ≡ Ok (parts t))) → IfSome files (λ fs. FromRouter command fs t more verdict text) →

@@ -70,7 +70,7 @@ only-own f (x ∷ xs) =
 shuffle-one : (f : FeedRead) (history : List Entry) → history ≡ entries_of f (updates f.steps) → IsShuffle (f ∷ []) history
 shuffle-one f history is = record {
   each = All-cons (λ f. filter (is_from f) history ≡ entries_of f (updates f.steps)) f [] (ap (filter (is_from f)) is ∙ filter-own f (updates f.steps))
-    (All-nil (λ f. filter (is_from f) history ≡ entries_of f (updates f.steps)));
+      (All-nil (λ f. filter (is_from f) history ≡ entries_of f (updates f.steps)));
   only = subst (λ (h : List Entry). All (λ e. IsTrue (is_from_some (f ∷ []) e)) h) (sym is) (only-own f (updates f.steps));
 }
 
@@ -80,26 +80,26 @@ pub run-of : {S : Type 0} (t : Topology) (lines : List Line) (r : RouterId) (byt
     HasRun t reader left history bytes lines js → reader.told.feed_no ≡ 1 → reader.told.router ≡ r → reader.limit ≡ feed_limit → CountsFaults reader faults →
     verdict ≡ verdict_of reader.told → text ≡ report t (reader.told ∷ []) (entries history) js → IsRunOf t lines r bytes (back_with faults left) verdict text
 run-of t lines r bytes reader left faults history js verdict text run first router limit counts verdict-is text-is =
-  let f : FeedRead = feed_with reader run.steps run.end in
-  let g : FeedRead = record { feed_no = 1; router = r; steps = run.steps; end = run.end } in
-  let same : f ≡ g = ap (λ n. record { feed_no = n; router = reader.told.router; steps = run.steps; end = run.end }) first ∙ ap (λ q. record { feed_no = 1; router = q; steps = run.steps; end = run.end }) router in
-  let to : ReadTo t reader left faults bytes run.steps run.end =
+    let f : FeedRead = feed_with reader run.steps run.end in
+    let g : FeedRead = record { feed_no = 1; router = r; steps = run.steps; end = run.end } in
+    let same : f ≡ g = ap (λ n. record { feed_no = n; router = reader.told.router; steps = run.steps; end = run.end }) first ∙ ap (λ q. record { feed_no = 1; router = q; steps = run.steps; end = run.end }) router in
+    let to : ReadTo t reader left faults bytes run.steps run.end =
     read-to t reader left faults bytes run.steps run.end limit
     (subst (λ (e : Option FeedEnd). StandsBy e t reader left bytes run.steps) run.end_is run.taken.stands)
     (subst (λ (e : Option FeedEnd). CountsBy e faults) run.end_is counts) in
-  record {
-    steps = run.steps;
-    end = run.end;
-    read = subst (λ (h : FeedRead). IsReadOf t bytes (back_with faults left) h) same to.read;
-    reported = record {
-      history = entries history;
-      told = js;
-      shuffle = subst (λ (h : FeedRead). IsShuffle (h ∷ []) (entries history)) same (shuffle-one f (entries history) run.taken.posted);
-      tells = subst (λ (h : FeedRead). TellsAll t (entries history) 1 (jobs_of (lines ∷ []) (h ∷ [])) js) same run.tells;
-      text_is = text-is ∙ ap (λ d. report t (d ∷ []) (entries history) js) (to.told ∙ ap told_of same);
-    };
-    verdict_is = verdict-is ∙ ap verdict_of (to.told ∙ ap told_of same);
-  }
+    record {
+      steps = run.steps;
+      end = run.end;
+      read = subst (λ (h : FeedRead). IsReadOf t bytes (back_with faults left) h) same to.read;
+      reported = record {
+        history = entries history;
+        told = js;
+        shuffle = subst (λ (h : FeedRead). IsShuffle (h ∷ []) (entries history)) same (shuffle-one f (entries history) run.taken.posted);
+        tells = subst (λ (h : FeedRead). TellsAll t (entries history) 1 (jobs_of (lines ∷ []) (h ∷ [])) js) same run.tells;
+        text_is = text-is ∙ ap (λ d. report t (d ∷ []) (entries history) js) (to.told ∙ ap told_of same);
+      };
+      verdict_is = verdict-is ∙ ap verdict_of (to.told ∙ ap told_of same);
+    }
 
 -- ---- the result of a run over a fresh source
 
@@ -120,13 +120,13 @@ run-fresh {S = S} items verdict text left place faults (Ok js) (Ok y) t lines r 
       posted = ap entries empty;
     } in
     let counts0 : CountsFaults first.reader (faults first.reader.source) =
-      subst (λ (e : Option FeedEnd). CountsBy e (faults first.reader.source)) (sym going) (ap (λ (reader : Reader S). faults reader.source) start ∙ fresh) in
+    subst (λ (e : Option FeedEnd). CountsBy e (faults first.reader.source)) (sym going) (ap (λ (reader : Reader S). faults reader.source) start ∙ fresh) in
     subst (λ (s : S). IsRunOf t lines r bytes (back_with (faults s) (left s)) (verdict y) (text y)) (sym is-source)
     (run-of t lines r bytes last.reader (left last.reader.source) (faults last.reader.source) last.history (items js) (verdict y) (text y)
-      (ran bytes taken)
-      (moves.feed.feed_no ∙ ap (λ (reader : Reader S). reader.told.feed_no) start)
-      (moves.feed.router ∙ ap (λ (reader : Reader S). reader.told.router) start)
-      (moves.feed.limit ∙ ap (λ (reader : Reader S). reader.limit) start)
-      (moves.counts counts0)
-      (v ∙ ap verdict_of is-told)
-      (x ∙ ap (λ d. report t (d ∷ []) (entries last.history) (items js)) is-told))
+    (ran bytes taken)
+    (moves.feed.feed_no ∙ ap (λ (reader : Reader S). reader.told.feed_no) start)
+    (moves.feed.router ∙ ap (λ (reader : Reader S). reader.told.router) start)
+    (moves.feed.limit ∙ ap (λ (reader : Reader S). reader.limit) start)
+    (moves.counts counts0)
+    (v ∙ ap verdict_of is-told)
+    (x ∙ ap (λ d. report t (d ∷ []) (entries last.history) (items js)) is-told))

@@ -63,18 +63,18 @@ ran-ended : {S : Type 0} (t : Topology) (reader : Reader S) (left : Option (List
     reader.told.end ≡ Some end → Tracks t reader left history bytes lines told →
     HasRun t reader left history bytes lines (jobs_told told (list_any (takes reader.told.router) lines))
 ran-ended t reader left history bytes lines told end is-end tracks =
-  let f : FeedRead = feed_with reader tracks.steps end in
-  let tells : Tells t (entries history) (f ∷ []) [] 0 lines told =
+    let f : FeedRead = feed_with reader tracks.steps end in
+    let tells : Tells t (entries history) (f ∷ []) [] 0 lines told =
     subst (λ (h : List Entry). Tells t h (f ∷ []) [] 0 lines told) (append-nil (entries history))
     (subst (λ (ss : List FrameStep). Tells t (entries history ++ []) (feed_with reader ss end ∷ []) [] 0 lines told) (append-nil tracks.steps)
-      (tracks.told [] end (subst (λ (e : Option FeedEnd). IsLater e []) (sym is-end) refl))) in
-  record {
-    steps = tracks.steps;
-    end = end;
-    end_is = is-end;
-    taken = tracks.taken;
-    tells = tells-jobs t (entries history) lines f told (list_any (takes reader.told.router) lines) refl tells;
-  }
+    (tracks.told [] end (subst (λ (e : Option FeedEnd). IsLater e []) (sym is-end) refl))) in
+    record {
+      steps = tracks.steps;
+      end = end;
+      end_is = is-end;
+      taken = tracks.taken;
+      tells = tells-jobs t (entries history) lines f told (list_any (takes reader.told.router) lines) refl tells;
+    }
 
 -- where the rest was taken
 ran-rest : {S : Type 0} (t : Topology) (old new : Reader S) (left left' : Option (List ℕ)) (history history' : List Posted) (bytes : List ℕ) (lines : List Line) (told : List Told) (end : FeedEnd) →
@@ -82,26 +82,26 @@ ran-rest : {S : Type 0} (t : Topology) (old new : Reader S) (left left' : Option
     (tracks : Tracks t old left history bytes lines told) → TakesSome None t new left' history' bytes tracks.steps →
     HasRun t new left' history' bytes lines (jobs_told told (list_any (takes old.told.router) lines))
 ran-rest t old new left left' history history' bytes lines told end same-no same-router going is-end tracks took =
-  let steps : List FrameStep = tracks.steps ++ took.more in
-  let posted : entries history' ≡ entries_by old.told.feed_no old.told.router (updates steps) =
+    let steps : List FrameStep = tracks.steps ++ took.more in
+    let posted : entries history' ≡ entries_by old.told.feed_no old.told.router (updates steps) =
     took.taken.posted ∙ ap (λ n. entries_by n new.told.router (updates steps)) same-no ∙ ap (λ r. entries_by old.told.feed_no r (updates steps)) same-router in
-  let whole : entries history ++ entries_by old.told.feed_no old.told.router (updates took.more) ≡ entries history' =
+    let whole : entries history ++ entries_by old.told.feed_no old.told.router (updates took.more) ≡ entries history' =
     ap (λ h. h ++ entries_by old.told.feed_no old.told.router (updates took.more)) tracks.taken.posted
     ∙ sym (split old.told.feed_no old.told.router tracks.steps took.more) ∙ sym posted in
-  let feed : feed_with old steps end ≡ feed_with new steps end =
+    let feed : feed_with old steps end ≡ feed_with new steps end =
     ap (λ n. record { feed_no = n; router = old.told.router; steps = steps; end = end }) (sym same-no)
     ∙ ap (λ r. record { feed_no = new.told.feed_no; router = r; steps = steps; end = end }) (sym same-router) in
-  let tells : Tells t (entries history') (feed_with new steps end ∷ []) [] 0 lines told =
+    let tells : Tells t (entries history') (feed_with new steps end ∷ []) [] 0 lines told =
     subst (λ (f : FeedRead). Tells t (entries history') (f ∷ []) [] 0 lines told) feed
     (subst (λ (h : List Entry). Tells t h (feed_with old steps end ∷ []) [] 0 lines told) whole
-      (tracks.told took.more end (subst (λ (e : Option FeedEnd). IsLater e took.more) (sym going) tt))) in
-  record {
-    steps = steps;
-    end = end;
-    end_is = is-end;
-    taken = took.taken;
-    tells = tells-jobs t (entries history') lines (feed_with new steps end) told (list_any (takes old.told.router) lines) (ap (λ r. list_any (takes r) lines) same-router) tells;
-  }
+    (tracks.told took.more end (subst (λ (e : Option FeedEnd). IsLater e took.more) (sym going) tt))) in
+    record {
+      steps = steps;
+      end = end;
+      end_is = is-end;
+      taken = took.taken;
+      tells = tells-jobs t (entries history') lines (feed_with new steps end) told (list_any (takes old.told.router) lines) (ap (λ r. list_any (takes r) lines) same-router) tells;
+    }
 
 ran-on : {S : Type 0} (left : S → Option (List ℕ)) (place faults : S → ℕ) (t : Topology) (old new : Network S) (bytes : List ℕ) (lines : List Line) (told : List Told) (before end : Option FeedEnd) →
     old.reader.told.end ≡ before → new.reader.told.end ≡ end → IsSome end →
@@ -140,4 +140,4 @@ ran items left place faults (Err e) t first old new lines told fresh tracks ende
 ran items left place faults (Ok js) t first old new lines told fresh tracks ended takes-rest moves jobs = λ bytes taken.
     subst (λ (xs : List JobTold). HasRun t new.reader (left new.reader.source) new.history bytes lines xs) (sym jobs)
     (ran-on left place faults t old new bytes lines told old.reader.told.end new.reader.told.end refl refl ended takes-rest moves
-      (tracks bytes (tracks-none t first.reader (left first.reader.source) first.history bytes taken fresh)))
+    (tracks bytes (tracks-none t first.reader (left first.reader.source) first.history bytes taken fresh)))

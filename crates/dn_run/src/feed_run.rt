@@ -44,13 +44,7 @@ pub fn run_feed<S: Source, G: Gate>(
         tables,
         history: List::new(alloc),
     };
-    let jobs = run_jobs(
-        alloc,
-        topology,
-        &mut network,
-        script.lines.as_slice(),
-        gate,
-    );
+    let jobs = run_jobs(alloc, topology, &mut network, script.lines.as_slice(), gate);
     let Network {
         reader,
         tables: _tables,

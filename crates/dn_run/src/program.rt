@@ -69,11 +69,7 @@ fn from_script<W: World, G: Gate>(
     match load_script(alloc, command.script.as_str(), topology, router, world)? {
         Loaded::Read(script) => from_feed(alloc, command, topology, router, &script, world, gate),
         Loaded::Refused => refusal(alloc, Verdict::BadScript, ErrorLine::Script),
-        Loaded::Failed => refusal(
-            alloc,
-            Verdict::ReadFault,
-            ErrorLine::ReadPart { part: 2 },
-        ),
+        Loaded::Failed => refusal(alloc, Verdict::ReadFault, ErrorLine::ReadPart { part: 2 }),
     }
 }
 

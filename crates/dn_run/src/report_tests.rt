@@ -13,11 +13,11 @@ use dn_model::{
 };
 use std::alloc::Global;
 
-const R1: RouterId = RouterId(0);
+const FIRST: RouterId = RouterId(0);
 
-const R2: RouterId = RouterId(1);
+const SECOND: RouterId = RouterId(1);
 
-const R3: RouterId = RouterId(2);
+const THIRD: RouterId = RouterId(2);
 
 /// The names of three routers.
 fn routers(alloc: Global) -> Result<List<Name>, OutOfMemory>
@@ -64,9 +64,9 @@ fn links(alloc: Global) -> Result<List<TopoLink>, OutOfMemory>
         ∷ record { name = codes "c"; first = record { router = record { 0 = 2 }; index = 3 }; second = record { router = record { 0 = 0 }; index = 3 }; unnumbered = false } ∷ []) }
 {
     let mut links = List::new(alloc);
-    links.push(link(alloc, b"a", end(R1, 2), end(R2, 2))?)?;
-    links.push(link(alloc, b"b", end(R2, 3), end(R3, 2))?)?;
-    links.push(link(alloc, b"c", end(R3, 3), end(R1, 3))?)?;
+    links.push(link(alloc, b"a", end(FIRST, 2), end(SECOND, 2))?)?;
+    links.push(link(alloc, b"b", end(SECOND, 3), end(THIRD, 2))?)?;
+    links.push(link(alloc, b"c", end(THIRD, 3), end(FIRST, 3))?)?;
     Ok(links)
 }
 
@@ -76,9 +76,9 @@ fn edges(alloc: Global) -> Result<List<TopoEnd>, OutOfMemory>
         ≡ record { router = record { 0 = 0 }; index = 1 } ∷ record { router = record { 0 = 1 }; index = 1 } ∷ record { router = record { 0 = 2 }; index = 1 } ∷ []) }
 {
     let mut edges = List::new(alloc);
-    edges.push(end(R1, 1))?;
-    edges.push(end(R2, 1))?;
-    edges.push(end(R3, 1))?;
+    edges.push(end(FIRST, 1))?;
+    edges.push(end(SECOND, 1))?;
+    edges.push(end(THIRD, 1))?;
     Ok(edges)
 }
 
@@ -98,7 +98,7 @@ fn triangle(alloc: Global) -> Result<Topology, OutOfMemory> {
 fn ended_feed(alloc: Global) -> FeedTold {
     FeedTold {
         feed_no: 1,
-        router: R1,
+        router: FIRST,
         updates: 1,
         skipped: 0,
         refused: List::new(alloc),
@@ -122,7 +122,7 @@ fn history(alloc: Global, ops: &[Op]) -> Result<List<Posted>, OutOfMemory> {
         history.push(Posted {
             seat: 0,
             entry: Entry {
-                router: R1,
+                router: FIRST,
                 feed_no: 1,
                 op: *op,
             },
@@ -158,9 +158,9 @@ fn told(alloc: Global, line: u32, hops: &[RouterId], end: PathEnd) -> Result<Tol
 fn one_path(alloc: Global) -> Result<Vec<u8>, OutOfMemory> {
     let topology = triangle(alloc)?;
     let feeds = [ended_feed(alloc)];
-    let history = history(alloc, &[set_ten(Target::To(R2, LinkId(0)))])?;
+    let history = history(alloc, &[set_ten(Target::To(SECOND, LinkId(0)))])?;
     let mut all_told = List::new(alloc);
-    all_told.push(told(alloc, 2, &[R1, R2], PathEnd::At(Target::NoRoute))?)?;
+    all_told.push(told(alloc, 2, &[FIRST, SECOND], PathEnd::At(Target::NoRoute))?)?;
     let jobs = [JobTold {
         number: 1,
         told: all_told,
@@ -222,7 +222,7 @@ fn all_ops(alloc: Global) -> Result<List<Posted>, OutOfMemory> {
             set_ten(Target::Local),
             set_ten(Target::Exit(1)),
             set_ten(Target::OnLink(u32::MAX)),
-            set_ten(Target::To(R3, LinkId(1))),
+            set_ten(Target::To(THIRD, LinkId(1))),
             set_ten(Target::LinkDown(LinkId(2))),
             clear_ten(None),
             clear_ten(Some(20)),
@@ -254,8 +254,8 @@ fn four_told(alloc: Global) -> Result<List<Told>, OutOfMemory> {
         outcome: Outcome::Unknown(Unknown::Router(1)),
     })?;
     all.push(unknown_link(alloc)?)?;
-    all.push(told(alloc, 3, &[R1, R2, R3, R1], PathEnd::Loop)?)?;
-    all.push(told(alloc, 4, &[R1], PathEnd::At(Target::Exit(1)))?)?;
+    all.push(told(alloc, 3, &[FIRST, SECOND, THIRD, FIRST], PathEnd::Loop)?)?;
+    all.push(told(alloc, 4, &[FIRST], PathEnd::At(Target::Exit(1)))?)?;
     Ok(all)
 }
 
@@ -267,11 +267,11 @@ fn three_feeds(alloc: Global) -> Result<Vec<FeedTold>, OutOfMemory> {
         cause: 0,
     };
     let mut feeds = Vec::new(alloc);
-    feeds.push(feed(alloc, 1, R1, &[refused], FeedEnd::CutShort { offset: 0 })?)?;
+    feeds.push(feed(alloc, 1, FIRST, &[refused], FeedEnd::CutShort { offset: 0 })?)?;
     feeds.push(feed(
         alloc,
         2,
-        R2,
+        SECOND,
         &[],
         FeedEnd::Lost {
             offset: 0,
@@ -281,7 +281,7 @@ fn three_feeds(alloc: Global) -> Result<Vec<FeedTold>, OutOfMemory> {
     feeds.push(feed(
         alloc,
         3,
-        R3,
+        THIRD,
         &[],
         FeedEnd::Lost {
             offset: 52,

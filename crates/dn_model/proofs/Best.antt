@@ -25,7 +25,7 @@ contains-cases x r xs h = contains-at x r xs h.0 h.1 h.2
 pub contains-none : {X : Type 0} (r : X) → Contains [] r → ⊥
 contains-none r h = let l : h.0 < 0 = h.1 in omega arith
 
-contains-filter : {X : Type 0} (p : X → Bool) (r : X) (xs : List X) → Contains xs r → p r ≡ true → Contains (filter p xs) r
+pub contains-filter : {X : Type 0} (p : X → Bool) (r : X) (xs : List X) → Contains xs r → p r ≡ true → Contains (filter p xs) r
 contains-filter {X} p r [] h e = absurd (contains-none r h)
 contains-filter {X} p r (x ∷ xs) h e = ⊎_elim
     (λ (same : x ≡ r).

@@ -1,16 +1,17 @@
 -- What frames come to, one after another: the steps of one more frame, and that the steps are determined.
-use Rattle.std.proofs.Common.{◌≡◌, ℕ, ◌+◌, ◌<◌, Bool, true, false, List, [], ◌∷◌, ◌++◌, length, take, Option, None, Some, refl, ap, sym, ◌∙◌, subst, arith, length-append, add-zero}
-use Rattle.dn_model.specs.Feed.{AreSteps, IsStep, IsUpdate, IsReading, IsFaultedReading, IsKept, ending}
-use Rattle.dn_model.specs.Frames.{Frame, FrameRest, NoRest, CutFrame, BadVersion, BadFrameLength, Frames, frame_text, frames_text, rest_kind, lost_cause}
-use Rattle.dn_model.specs.Message.{op_of, message_text}
-use Rattle.dn_model.specs.Steps.{FrameStep, Accepted, Refused}
+use Rattle.std.proofs.Common.{◌≡◌, ℕ, zero, suc, ◌+◌, ◌-◌, ◌≤◌, Bool, true, false, nat_lt, Option, List, [], ◌∷◌, ◌++◌, length, take, None, Some, refl, ap, sym, ◌∙◌, subst, arith, length-append, add-zero, inl, inr}
+use Rattle.dn_model.specs.Feed.{AreSteps, IsStep, step_of, IsReading, IsFaultedReading, IsKept, ending}
+use Rattle.dn_model.specs.Frames.{Frame, FrameRest, NoRest, CutFrame, BadVersion, BadFrameLength, frame_text, frames_text, lost_cause}
+use Rattle.std.specs.Prelude.{if◌then◌else◌}
+use Rattle.dn_model.specs.Attributes.{padded}
+use Rattle.dn_model.specs.Payload.{IsPayload, Ruling, Refuses, Skips, said, said_after, ruling_of, nothing_more, message_length}
+use Rattle.dn_model.specs.Steps.{FrameStep}
 use Rattle.dn_model.specs.declared.ids.RouterId.{RouterId}
-use Rattle.dn_model.specs.declared.entry.Op.{Op}
+use Rattle.dn_model.specs.declared.payload.Payload.{Payload}
 use Rattle.dn_model.specs.declared.topology.Topology.{Topology}
 use Rattle.dn_model.specs.declared.told.FeedEnd.{FeedEnd}
 use Rattle.dn_model.specs.declared.told.FeedEnd.TheVariants.{Lost}
 use Rattle.dn_model.proofs.FramesLemmas.{Frames-same}
-use Rattle.dn_model.proofs.Message.{message_once}
 
 next_offset : (o : ℕ) (f : Frame) (fs : List Frame) → o + length (frames_text (f ∷ fs)) ≡ o + length (frame_text f) + length (frames_text fs)
 next_offset o f fs = omega (arith, length-append (frame_text f) (frames_text fs))
@@ -24,21 +25,13 @@ steps_push t r o (g ∷ fs) [] f s all one = absurd all
 steps_push t r o (g ∷ fs) (x ∷ ss) f s all one =
     (all.0, steps_push t r (o + length (frame_text g)) fs ss f s all.1 (subst (λ (n : ℕ). IsStep t r n f s) (next_offset o g fs) one))
 
--- a frame is one update at most
-update_once : (t : Topology) (r : RouterId) (f : Frame) (x y : Op) → IsUpdate t r f x → IsUpdate t r f y → x ≡ y
-update_once t r f x y a b =
-    let same : a.raw ≡ b.raw = message_once a.raw b.raw a.plain b.plain (sym a.text ∙ b.text) in
-    let both : Some x ≡ Some y = sym a.op_is ∙ ap (op_of t r) same ∙ b.op_is in
-    cc
-
 -- a frame comes to one thing
 step_once : (t : Topology) (r : RouterId) (o : ℕ) (f : Frame) (x y : FrameStep) → IsStep t r o f x → IsStep t r o f y → x ≡ y
-step_once t r o f (Accepted ops n) (Accepted others m) (op, a, is, z) (other, b, are, w) =
-    let same : op ≡ other = update_once t r f op other a b in
-    cc
-step_once t r o f (Accepted ops n) (Refused x) (op, a, is, z) (is_x, none) = absurd (none op a)
-step_once t r o f (Refused x) (Accepted ops n) (is_x, none) (op, a, is, z) = absurd (none op a)
-step_once t r o f (Refused x) (Refused y) (is_x, none) (is_y, never) = cc
+step_once t r o f x y (inl a) (inl b) =
+    a.comes_to ∙ ap (step_of t r o) (a.says ∙ sym b.says) ∙ sym b.comes_to
+step_once t r o f x y (inl a) (inr b) = absurd (b.other a.netlink)
+step_once t r o f x y (inr a) (inl b) = absurd (a.other b.netlink)
+step_once t r o f x y (inr a) (inr b) = a.refused ∙ sym b.refused
 
 -- frames come to one list of steps
 pub steps_once : (t : Topology) (r : RouterId) (o : ℕ) (fs : List Frame) (xs ys : List FrameStep) → AreSteps t r o fs xs → AreSteps t r o fs ys → xs ≡ ys
@@ -79,3 +72,29 @@ is_kept NoRest e = tt
 is_kept CutFrame e = tt
 is_kept BadVersion e = cc
 is_kept BadFrameLength e = cc
+
+-- a message has more bytes than none, so a payload says no more messages than it has bytes
+said-few : (at : ℕ) (bytes : List ℕ) (o : Option Ruling) (more : Payload) → length (said at bytes o more).items ≤ 1 + length more.items
+said-few at bytes None more = omega arith
+said-few at bytes (Some (Refuses cause)) more = omega arith
+said-few at bytes (Some (Skips skip)) more = omega arith
+
+few_either : (b : Bool) (x y : Payload) (n : ℕ) → length x.items ≤ n → length y.items ≤ n → length (if b then x else y).items ≤ n
+few_either true x y n h k = h
+few_either false x y n h k = k
+
+said_after-few : (at left : ℕ) (bytes : List ℕ) → length (said_after at left bytes).items ≤ length bytes
+unfolding said_after
+said_after-few at left [] = omega arith
+said_after-few at (suc left) (byte ∷ bytes) = let rest : length (said_after (at + 1) left bytes).items ≤ length bytes = said_after-few (at + 1) left bytes in omega arith
+said_after-few at zero (byte ∷ bytes) =
+    let skip : ℕ = padded (message_length (byte ∷ bytes)) - 1 in
+    let rest : length (said_after (at + 1) skip bytes).items ≤ length bytes = said_after-few (at + 1) skip bytes in
+    let here : length (said at (byte ∷ bytes) (ruling_of (byte ∷ bytes)) (said_after (at + 1) skip bytes)).items ≤ 1 + length (said_after (at + 1) skip bytes).items =
+    said-few at (byte ∷ bytes) (ruling_of (byte ∷ bytes)) (said_after (at + 1) skip bytes) in
+    few_either (nat_lt (length (byte ∷ bytes)) 4) nothing_more (said at (byte ∷ bytes) (ruling_of (byte ∷ bytes)) (said_after (at + 1) skip bytes)) (length (byte ∷ bytes))
+    (omega arith) (omega arith)
+
+-- a payload says no more messages than it has bytes
+pub messages-few : (bytes : List ℕ) (p : Payload) → IsPayload bytes p → length p.items ≤ length bytes
+messages-few bytes p e = subst (λ (x : Payload). length x.items ≤ length bytes) (sym e) (said_after-few 0 0 bytes)

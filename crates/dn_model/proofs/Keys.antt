@@ -94,7 +94,7 @@ any-contains {X} q x (y ∷ ys) h e = ⊎_elim
     (λ (rest : Contains ys x). or_right (q y) (list_any q ys) (any-contains q x ys rest e))
     (contains-cases y x ys h)
 
-key-once : (xs : List Route) (x y : Route) → all_differ same_key xs ≡ true → Contains xs x → Contains xs y → same_key x y ≡ true → x ≡ y
+pub key-once : (xs : List Route) (x y : Route) → all_differ same_key xs ≡ true → Contains xs x → Contains xs y → same_key x y ≡ true → x ≡ y
 key-once [] x y h i j e = absurd (contains-none x i)
 key-once (z ∷ zs) x y h i j e =
     let parts : (not (list_any (same_key z) zs) ≡ true) × (all_differ same_key zs ≡ true) = and_parts (not (list_any (same_key z) zs)) (all_differ same_key zs) h in
@@ -135,7 +135,7 @@ block-once b c s a bz cz bl bh cl ch = ⊎_elim
     o)
     (cases_order b c)
 
-base-once : (p q : Cidr) (a : ℕ) → IsCidr p → IsCidr q → p.len ≡ q.len → covers p a ≡ true → covers q a ≡ true → p.base ≡ q.base
+pub base-once : (p q : Cidr) (a : ℕ) → IsCidr p → IsCidr q → p.len ≡ q.len → covers p a ≡ true → covers q a ≡ true → p.base ≡ q.base
 base-once p q a sound_p sound_q e in_p in_q =
     let parts_p : (leb p.base a ≡ true) × (ltb a (p.base + size p) ≡ true) = and_parts (leb p.base a) (ltb a (p.base + size p)) in_p in
     let parts_q : (leb q.base a ≡ true) × (ltb a (q.base + size q) ≡ true) = and_parts (leb q.base a) (ltb a (q.base + size q)) in_q in
@@ -152,7 +152,7 @@ neither-len l m k n h g = grind (arith, nat_tests)
 neither-metric : (l m k n : ℕ) → (ltb k l || (eqb l k && ltb m n)) ≡ false → (ltb l k || (eqb k l && ltb n m)) ≡ false → m ≡ n
 neither-metric l m k n h g = grind (arith, nat_tests)
 
-best-once : (xs ys : List Route) (a : ℕ) → ((r : Route) → Contains xs r → Contains ys r) → ((r : Route) → Contains ys r → Contains xs r) → ((r : Route) → Contains xs r → IsCidr r.prefix) → all_differ same_key xs ≡ true → (o p : Option Route) → IsBest xs a o → IsBest ys a p → o ≡ p
+pub best-once : (xs ys : List Route) (a : ℕ) → ((r : Route) → Contains xs r → Contains ys r) → ((r : Route) → Contains ys r → Contains xs r) → ((r : Route) → Contains xs r → IsCidr r.prefix) → all_differ same_key xs ≡ true → (o p : Option Route) → IsBest xs a o → IsBest ys a p → o ≡ p
 best-once xs ys a to back sound once None None h k = refl
 best-once xs ys a to back sound once None (Some y) h k = absurd (both_ways (covers y.prefix a) (h y (back y k.0)) k.1)
 best-once xs ys a to back sound once (Some x) None h k = absurd (both_ways (covers x.prefix a) (k x (to x h.0)) h.1)

@@ -1,11 +1,17 @@
 pub mod Best
+pub mod DeltaOnce
+pub mod Digits
 pub mod FeedLemmas
 pub mod FramesLemmas
+pub mod KeyOrder
+pub mod Keyed
 pub mod Keys
 pub mod Lookups
 pub mod Loops
 pub mod Message
+pub mod RoomLemmas
 pub mod RunsOnce
+pub mod SameRoutes
 pub mod Tables
 pub mod TopologyLinksSound
 pub mod TopologySound

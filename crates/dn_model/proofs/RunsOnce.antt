@@ -5,13 +5,13 @@ use Rattle.std.proofs.lemmas.Bool.{cases_order, cases_lt, le-leb, lt-leb, and_fr
 use Rattle.dn_model.specs.Runs.{Interval, holds, AreApart, AreRuns}
 
 -- what an interval holds
-holds-in : (a : ℕ) (i : Interval) → i.lo ≤ a → a ≤ i.hi → holds a i ≡ true
+pub holds-in : (a : ℕ) (i : Interval) → i.lo ≤ a → a ≤ i.hi → holds a i ≡ true
 holds-in a i l h = and_from (leb i.lo a) (leb a i.hi) (le-leb i.lo a l) (le-leb a i.hi h)
 
-holds-below : (a : ℕ) (i : Interval) → a < i.lo → holds a i ≡ false
+pub holds-below : (a : ℕ) (i : Interval) → a < i.lo → holds a i ≡ false
 holds-below a i h = and_left (leb i.lo a) (leb a i.hi) (lt-leb i.lo a h)
 
-holds-above : (a : ℕ) (i : Interval) → i.hi < a → holds a i ≡ false
+pub holds-above : (a : ℕ) (i : Interval) → i.hi < a → holds a i ≡ false
 holds-above a i h = and_right (leb i.lo a) (leb a i.hi) (lt-leb a i.hi h)
 
 -- the parts of intervals that are apart

@@ -1,8 +1,9 @@
--- Which updates can come of a network: those whose routers and links it has.
-use Rattle.std.specs.Prelude.{◌<◌, length}
+-- Entries of a history, and which can come of a network: those whose routers and links it has.
+use Rattle.std.specs.Prelude.{◌<◌, List, length, map}
 use Rattle.dn_model.specs.declared.target.Target.{Target}
 use Rattle.dn_model.specs.declared.target.Target.TheVariants.{NoRoute, Dropped, Local, Exit, OnLink, To, LinkDown}
 use Rattle.dn_model.specs.declared.entry.Entry.{Entry}
+use Rattle.dn_model.specs.declared.entry.Posted.{Posted}
 use Rattle.dn_model.specs.declared.entry.Op.{Op}
 use Rattle.dn_model.specs.declared.entry.Op.TheVariants.{Set, Clear}
 use Rattle.dn_model.specs.declared.topology.Topology.{Topology}
@@ -25,3 +26,7 @@ IsOpOf t (Clear p m) = Unit {0}
 pub record IsEntryOf (t : Topology) (e : Entry) : Type 0 where
   pub router : e.router.0 < length t.routers
   pub op : IsOpOf t e.op
+
+-- the entries of a history, without their seats
+abbrev pub entries : List Posted → List Entry
+entries history = map (λ posted. posted.entry) history

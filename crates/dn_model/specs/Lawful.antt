@@ -1,7 +1,7 @@
 -- When a history and the pins of queries are lawful: the history is a shuffle of what the feeds gave, and each query's
 -- pin holds exactly what its job's earlier lines took.
-use Rattle.std.specs.Prelude.{ℕ, Bool, true, false, List, [], ◌∷◌, ◌++◌, ◌≡◌, ◌≤◌, ◌==◌, suc, not, All, length, map, filter, take, fold, ◌+◌, Option, None, Some, if◌then◌else◌, IsTrue}
-use Rattle.std.specs.List.{list_any}
+use Rattle.std.specs.Prelude.{ℕ, Bool, true, false, List, [], ◌∷◌, ◌++◌, ◌≡◌, ◌≤◌, ◌==◌, suc, not, All, length, map, filter, take, drop, fold, ◌+◌, ◌&&◌, Option, None, Some, if◌then◌else◌, IsTrue}
+use Rattle.std.specs.List.{list_any, flat_map}
 use Rattle.dn_model.specs.Answer.{unknown_of, IsAnswer}
 use Rattle.dn_model.specs.Steps.{FrameStep, updates, FeedRead, entries_of}
 use Rattle.dn_model.specs.declared.ids.RouterId.{RouterId}
@@ -88,6 +88,40 @@ IsOutcome t history feeds before last q (Answered n answer) =
 abbrev pub pin_after : ℕ → Outcome → ℕ
 pin_after last (Unknown u) = last
 pin_after last (Answered n answer) = n
+
+-- ---- the order of what a job takes
+
+-- what a line takes of a feed beyond what the lines before it took, as entries
+abbrev pub taken_by : List Line → Line → FeedRead → List Entry
+taken_by before l f = entries_of f (updates (drop (length (taken before f)) (taken (before ++ l ∷ []) f)))
+
+-- what lines take of these feeds, line by line
+abbrev pub taken_along : List FeedRead → List Line → List Line → List Entry
+taken_along feeds before [] = []
+taken_along feeds before (l ∷ lines) = flat_map (taken_by before l) feeds ++ taken_along feeds (before ++ l ∷ []) lines
+
+-- the feeds in the order in which lines first take them
+abbrev pub first_taken : List FeedRead → List Line → List Line → List FeedRead
+first_taken feeds before [] = []
+first_taken feeds before (l ∷ lines) =
+    filter (λ f. takes f.router l && not (takes_feed before f)) feeds ++ first_taken feeds (before ++ l ∷ []) lines
+
+-- what lines leave of a feed, as entries
+abbrev pub left_by : List Line → FeedRead → List Entry
+left_by lines f = entries_of f (updates (drop (length (taken lines f)) f.steps))
+
+-- A job's own entries in order: what its lines take, line by line; then what they leave of its feeds, in the order in
+-- which they first take them. The feed of a job without a script is taken by no line.
+abbrev pub entries_of_job : Job → List Entry
+entries_of_job job =
+    taken_along job.feeds [] job.lines
+    ++ flat_map (left_by job.lines) (first_taken job.feeds [] job.lines ++ filter (λ f. not (takes_feed job.lines f)) job.feeds)
+
+-- in the history a job's own entries stand in this order
+abbrev pub KeepsOrder : List Entry → Job → Type 0
+KeepsOrder history job = filter (is_from_some job.feeds) history ≡ entries_of_job job
+
+-- ---- what is told
 
 -- What is told of the lines that are left: one outcome for each query, in order, each with its line.
 abbrev pub Tells : Topology → List Entry → List FeedRead → List Line → ℕ → List Line → List Told → Type 0

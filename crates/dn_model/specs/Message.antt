@@ -9,7 +9,9 @@ use Rattle.dn_model.specs.declared.ports.Port.{Port}
 use Rattle.dn_model.specs.declared.ports.Port.TheVariants.{Link, Edge}
 use Rattle.dn_model.specs.declared.topology.Topology.{Topology}
 use Rattle.dn_model.specs.declared.target.Target.{Target}
+use Rattle.dn_model.specs.declared.target.Target.TheVariants as target
 use Rattle.dn_model.specs.declared.target.Target.TheVariants.{Exit, OnLink, To}
+use Rattle.dn_model.specs.declared.target.DropKind.TheVariants as drop
 use Rattle.dn_model.specs.declared.entry.Op.{Op}
 use Rattle.dn_model.specs.declared.entry.Op.TheVariants.{Set, Clear}
 use Rattle.dn_model.specs.declared.raw_route.RouteKind.{RouteKind}
@@ -100,7 +102,17 @@ abbrev pub set_op_of : Topology → RouterId → Cidr → Option ℕ → Bool �
 set_op_of t r p metric via None = None
 set_op_of t r p metric via (Some index) = set_op p (unwrap_or metric 0) via index (port_of t r index)
 
--- the update that a unicast route's message is to this router; none where the interface isn't the router's
+-- A route set, by its type. Only a unicast route looks for its interface: one to the router's own addresses, and one
+-- that drops, is the same whatever interface or gateway it names.
+abbrev pub set_op_by : Topology → RouterId → RouteKind → Cidr → Option ℕ → Bool → Option ℕ → Option Op
+set_op_by t r Unicast p metric via oif = set_op_of t r p metric via oif
+set_op_by t r Local p metric via oif = Some (Set p (unwrap_or metric 0) target.Local)
+set_op_by t r Blackhole p metric via oif = Some (Set p (unwrap_or metric 0) (target.Dropped drop.Blackhole))
+set_op_by t r Unreachable p metric via oif = Some (Set p (unwrap_or metric 0) (target.Dropped drop.Unreachable))
+set_op_by t r Prohibit p metric via oif = Some (Set p (unwrap_or metric 0) (target.Dropped drop.Prohibit))
+
+-- the update that a route's message is to this router; none where it needs an interface that isn't the router's
 abbrev pub op_of : Topology → RouterId → RawRoute → Option Op
 op_of t r raw =
-    if raw.del then Some (Clear raw.prefix raw.metric) else set_op_of t r raw.prefix raw.metric raw.via raw.oif
+    if raw.del then Some (Clear raw.prefix raw.metric)
+    else set_op_by t r raw.kind raw.prefix raw.metric raw.via raw.oif

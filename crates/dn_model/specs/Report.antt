@@ -30,6 +30,9 @@ use Rattle.dn_model.specs.declared.told.Outcome.{Outcome}
 use Rattle.dn_model.specs.declared.told.Outcome.TheVariants as outcomes
 use Rattle.dn_model.specs.declared.told.Told.{Told}
 use Rattle.dn_model.specs.declared.told.JobTold.{JobTold}
+use Rattle.dn_model.specs.declared.topology_fault.TopoFault.{TopoFault}
+use Rattle.dn_model.specs.declared.topology_fault.TopoPart.{TopoPart}
+use Rattle.dn_model.specs.declared.topology_fault.TopoPart.TheVariants as parts
 use Rattle.dn_model.specs.declared.error_line.ErrorLine.{ErrorLine}
 use Rattle.dn_model.specs.declared.error_line.ErrorLine.TheVariants as errors
 
@@ -73,9 +76,27 @@ op_text t (Set p m target) = codes "set " ++ prefix_text p ++ codes " metric " +
 op_text t (Clear p (Some m)) = codes "clear " ++ prefix_text p ++ codes " metric " ++ decimal m
 op_text t (Clear p None) = codes "clear " ++ prefix_text p
 
--- causes of refused frames and lost feeds
+-- the name of a cause, by its number from 1; `Unread` for a number that is none of the causes, so that it never shows
+abbrev pub name_of_cause : List (List ℕ) → ℕ → List ℕ
+name_of_cause names cause = unwrap_or (slice_get (codes "Unread" ∷ names) cause) (codes "Unread")
+
+-- causes of refused frames, and, the last two, of lost feeds
+abbrev pub frame_causes : List (List ℕ)
+frame_causes = codes "BadLength" ∷ codes "Short" ∷ codes "BadAttr" ∷ codes "BadPrefixLength" ∷ codes "SourceOrTos" ∷ codes "NoDestination"
+    ∷ codes "HostBits" ∷ codes "RouteType" ∷ codes "Multipath" ∷ codes "Encap" ∷ codes "NextHopId" ∷ codes "NoInterface"
+    ∷ codes "UnknownInterface" ∷ codes "FrameType" ∷ codes "BadVersion" ∷ codes "BadFrameLength" ∷ []
+
+-- causes for which a text is no topology
+abbrev pub topology_causes : List (List ℕ)
+topology_causes = codes "NotToml" ∷ codes "UnknownKey" ∷ codes "MissingKey" ∷ codes "BadName" ∷ codes "TwiceNamed" ∷ codes "BadEnd"
+    ∷ codes "EndTwice" ∷ codes "SelfLink" ∷ codes "TooMany" ∷ codes "TooLong" ∷ []
+
+-- causes for which a text is no script
+abbrev pub script_causes : List (List ℕ)
+script_causes = codes "BadLine" ∷ codes "TakeUnknown" ∷ codes "TakenTwice" ∷ codes "TooManyLines" ∷ codes "TooLong" ∷ []
+
 abbrev pub cause_text : ℕ → List ℕ
-cause_text cause = if cause == 15 then codes "BadVersion" else (if cause == 16 then codes "BadFrameLength" else codes "Unread")
+cause_text = name_of_cause frame_causes
 
 abbrev pub end_text : Option FeedEnd → List ℕ
 end_text None = []
@@ -166,12 +187,37 @@ job_lines t j = line (codes "job " ++ decimal j.number) ++ flat_map (told_lines 
 abbrev pub report : Topology → List FeedTold → List Entry → List JobTold → List ℕ
 report t feeds history jobs = flat_map (feed_lines t) feeds ++ history_lines t history ++ flat_map (job_lines t) jobs ++ line (codes "done")
 
+abbrev pub topology_part_text : TopoPart → List ℕ
+topology_part_text parts.Top = codes "top"
+topology_part_text parts.Routers = codes "routers"
+topology_part_text parts.Link = codes "link"
+topology_part_text parts.Edge = codes "edge"
+
+-- a number and its cause's name
+abbrev pub cause_words : List (List ℕ) → ℕ → List ℕ
+cause_words names cause = decimal cause ++ codes " " ++ name_of_cause names cause
+
+-- where a topology is refused, and why
+abbrev pub topology_fault_words : TopoFault → List ℕ
+topology_fault_words f = codes "topology " ++ topology_part_text f.part ++ codes " " ++ decimal f.entry ++ codes " " ++ cause_words topology_causes f.cause
+
+-- where a script is refused, and why
+abbrev pub script_fault_words : ℕ → ℕ → ℕ → List ℕ
+script_fault_words i l cause = codes "script " ++ decimal i ++ codes " line " ++ decimal l ++ codes " " ++ cause_words script_causes cause
+
+abbrev pub part_words : ℕ → List ℕ → List ℕ
+part_words i why = codes "part " ++ decimal i ++ codes " " ++ why
+
 -- an error line's words: what was wrong, where, and the cause
 abbrev pub error_words : ErrorLine → List ℕ
 error_words errors.Words = codes "words"
-error_words (errors.UnknownRouter i) = codes "part " ++ decimal i ++ codes " UnknownRouter"
-error_words errors.Topology = codes "topology top 0 1 NotToml"
-error_words errors.Script = codes "script 2 line 0 1 BadLine"
+error_words (errors.BadPart i) = part_words i (codes "BadPart")
+error_words (errors.TooManyParts i) = part_words i (codes "TooMany")
+error_words (errors.UnknownRouter i) = part_words i (codes "UnknownRouter")
+error_words (errors.RouterTwice i) = part_words i (codes "RouterTwice")
+error_words errors.TooManyJobs = codes "jobs TooMany"
+error_words (errors.Topology fault) = topology_fault_words fault
+error_words (errors.Script i l cause) = script_fault_words i l cause
 error_words errors.ReadTopology = codes "read topology"
 error_words (errors.ReadPart i) = codes "read part " ++ decimal i
 

@@ -1,5 +1,5 @@
 -- What the text of a script means: its lines that do something, or its first fault.
-use Rattle.std.specs.Prelude.{ℕ, ◌+◌, Bool, true, false, List, [], ◌∷◌, ◌++◌, length, nat_lt, ◌||◌, ◌==◌, if◌then◌else◌, filter, find, slice_get, codes, Option, None, Some, Result, Ok, Err}
+use Rattle.std.specs.Prelude.{ℕ, ◌+◌, ◌≤◌, Bool, true, false, List, [], ◌∷◌, ◌++◌, length, nat_lt, ◌||◌, ◌==◌, if◌then◌else◌, filter, find, slice_get, codes, Option, None, Some, Result, Ok, Err}
 use Rattle.std.specs.List.{list_any, slice_split}
 use Rattle.std.specs.Option.{option_map, option_to_list}
 use Rattle.std.specs.Str.{bytes_eq}
@@ -134,3 +134,8 @@ abbrev pub script_of : List (List ℕ) → List RouterId → List RouterId → L
 script_of routers feeds taken bytes =
     if nat_lt 16777216 (length bytes) then Err (record { line = 0; cause = 5 })
     else lines_meaning (line_meaning routers feeds taken) 1 (lines_of bytes)
+
+-- A line whose query names few links. A line of a script that was read is so short that it always does.
+abbrev pub IsShort : Line → Type 0
+IsShort (line.Take l r count) = Unit {0}
+IsShort (line.Ask l q) = length q.without ≤ 4096

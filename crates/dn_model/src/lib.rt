@@ -5,6 +5,8 @@
 
 mod answer;
 pub mod cause;
+mod change;
+mod decimal;
 mod entry;
 mod error_line;
 mod ids;
@@ -13,14 +15,18 @@ mod list;
 mod lookup;
 mod memory;
 mod name;
+mod payload;
 mod plain;
 #[cfg(test)]
 mod plain_tests;
 mod ports;
 mod prefix;
 mod print;
+#[cfg(test)]
+mod print_tests;
 mod query;
 mod raw_route;
+pub mod refusal;
 mod run;
 mod script;
 mod target;
@@ -31,23 +37,27 @@ mod topology_fault;
 mod unknown;
 
 pub use answer::{Answer, PathEnd};
+pub use change::Change;
+pub use decimal::read_number;
 pub use entry::{Entry, Op, Posted, Route};
 pub use error_line::ErrorLine;
 pub use ids::{LinkId, RouterId};
 pub use laws::{
-    best_goes_first, best_has_no_order, histories_lead_within, loops_are_true, runs_are_unique,
+    best_goes_first, best_has_no_order, failed_feeds_have_one_reading, feeds_have_one_reading,
+    histories_lead_within, loops_are_true, payloads_are_unique, runs_are_unique,
     tables_have_keys_once, walks_end_at_the_last_router,
 };
 pub use list::List;
 pub use lookup::{link, port, router};
 pub use memory::OutOfMemory;
 pub use name::{Name, is_name};
+pub use payload::{Item, ItemKind, Payload, Refused, Skip};
 pub use plain::{plain_answer, plain_routes, plain_target, plain_walk};
 pub use ports::Port;
 pub use prefix::Prefix;
 pub use print::{
     print_address, print_prefix, print_run, print_target, push_address, push_bytes, push_decimal,
-    push_link, push_prefix, push_router, push_target,
+    push_labelled, push_link, push_prefix, push_router, push_target,
 };
 pub use query::{Ask, Query, Unknown};
 pub use raw_route::{RawRoute, RouteKind};

@@ -85,12 +85,12 @@ fn push_drop_kind(out: &mut Vec<u8>, kind: DropKind) -> Result<(), OutOfMemory>
     }
 }
 
-/// Adds a word and a number after it.
-fn push_word_and_number(out: &mut Vec<u8>, word: &[u8], number: u32) -> Result<(), OutOfMemory>
-    ensures { OnOk result (out.new.items ≡ out.old.items ++ (word.now ++ decimal number)) }
+/// Adds a label and a number after it.
+pub fn push_labelled(out: &mut Vec<u8>, label: &[u8], number: u64) -> Result<(), OutOfMemory>
+    ensures { OnOk result (out.new.items ≡ out.old.items ++ (label.now ++ decimal number)) }
 {
-    push_bytes(out, word)?;
-    push_decimal(out, u64::from(number))
+    push_bytes(out, label)?;
+    push_decimal(out, number)
 }
 
 /// Adds the router and the link that a target leads to.
@@ -132,8 +132,8 @@ pub fn push_target(out: &mut Vec<u8>, t: &Topology, target: Target) -> Result<()
         Target::NoRoute => push_bytes(out, b"noroute"),
         Target::Dropped(kind) => push_dropped(out, kind),
         Target::Local => push_bytes(out, b"local"),
-        Target::Exit(interface) => push_word_and_number(out, b"exit ", interface),
-        Target::OnLink(interface) => push_word_and_number(out, b"onlink ", interface),
+        Target::Exit(interface) => push_labelled(out, b"exit ", u64::from(interface)),
+        Target::OnLink(interface) => push_labelled(out, b"onlink ", u64::from(interface)),
         Target::To(router, link) => push_hop(out, t, router, link),
         Target::LinkDown(link) => push_link_down(out, t, link),
     }

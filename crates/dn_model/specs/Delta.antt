@@ -1,0 +1,85 @@
+-- Where an update changes what the routers do: per router, the runs of addresses whose target is another one after it
+-- than before it (the delta-graph of Delta-net, NSDI 2017).
+use Rattle.std.specs.Prelude.{ℕ, Bool, List, [], ◌∷◌, Option, None, Some, length, take, map, ◌≡◌, ◌+◌, ◌-◌, ◌<◌, ◌≤◌, ◌^◌, ◌&&◌, ◌==◌, ◌⊎◌, if◌then◌else◌}
+use Rattle.dn_model.specs.Runs.{Interval, holds}
+use Rattle.dn_model.specs.Table.{target}
+use Rattle.dn_model.specs.declared.change.Change.{Change}
+use Rattle.dn_model.specs.declared.entry.Entry.{Entry}
+use Rattle.dn_model.specs.declared.ids.RouterId.{RouterId}
+use Rattle.dn_model.specs.declared.run.Run.{Run}
+use Rattle.dn_model.specs.declared.target.Target.{Target}
+
+abbrev pub interval_of : Run → Interval
+interval_of run = record { lo = run.lo; hi = run.hi }
+
+-- whether a change is one of this router at this address
+abbrev pub is_change_at : RouterId → ℕ → Change → Bool
+is_change_at r a c = (c.router.0 == r.0) && holds a (interval_of c.run)
+
+-- the two targets of a change
+abbrev pub targets_of : Change → Target × Target
+targets_of c = (c.before, c.after)
+
+-- the targets before and after of a router at an address, where the changes have it
+abbrev pub change_at : List Change → RouterId → ℕ → Option (Target × Target)
+change_at [] r a = None
+change_at (c ∷ cs) r a = if is_change_at r a c then Some (targets_of c) else change_at cs r a
+
+-- a change's run is one of addresses, and its targets differ
+pub record IsChange (c : Change) : Type 0 where
+  pub ends : c.run.lo ≤ c.run.hi
+  pub below : c.run.hi < 2 ^ 32
+  pub differ : c.before ≡ c.after → ⊥
+
+-- by router, then address
+abbrev pub GoesBefore : Change → Change → Type 0
+GoesBefore c d = (c.router.0 < d.router.0) ⊎ ((c.router.0 ≡ d.router.0) × (c.run.hi < d.run.lo))
+
+-- the second is the first going on: it begins where the first ends, with the same targets
+pub record GoesOn (c d : Change) : Type 0 where
+  pub router : c.router.0 ≡ d.router.0
+  pub touch : c.run.hi + 1 ≡ d.run.lo
+  pub before : c.before ≡ d.before
+  pub after : c.after ≡ d.after
+
+-- what stands beside each other is in order, and not one run
+pub record IsApart (c d : Change) : Type 0 where
+  pub order : GoesBefore c d
+  pub two : GoesOn c d → ⊥
+
+abbrev pub IsApartFromFirst : Change → List Change → Type 0
+IsApartFromFirst c [] = Unit {0}
+IsApartFromFirst c (d ∷ ds) = IsApart c d
+
+-- changes in order, of which touching ones of a router with the same two targets are one
+abbrev pub AreChanges : List Change → Type 0
+AreChanges [] = Unit {0}
+AreChanges (c ∷ cs) = IsChange c × IsApartFromFirst c cs × AreChanges cs
+
+-- what is told of a router at an address whose targets are these: the two where they differ, else nothing
+abbrev pub TellsChange : Target → Target → Option (Target × Target) → Type 0
+TellsChange before after None = before ≡ after
+TellsChange before after (Some p) = (p ≡ (before, after)) × (before ≡ after → ⊥)
+
+-- a history without its last entry
+abbrev pub less_last : List Entry → List Entry
+less_last history = take (length history - 1) history
+
+-- the changes that the last entry of a history makes, which are none for the empty history
+pub record IsDelta (history : List Entry) (changes : List Change) : Type 0 where
+  pub form : AreChanges changes
+  pub exact : (r : RouterId) (a : ℕ) → a < 2 ^ 32 → TellsChange (target (less_last history) r a) (target history r a) (change_at changes r a)
+
+-- what a change says, as it is printed
+pub record Told : Type 0 where
+  pub router : ℕ
+  pub lo : ℕ
+  pub hi : ℕ
+  pub before : Target
+  pub after : Target
+
+abbrev pub told_of : Change → Told
+told_of c = record { router = c.router.0; lo = c.run.lo; hi = c.run.hi; before = c.before; after = c.after }
+
+abbrev pub told : List Change → List Told
+told changes = map told_of changes

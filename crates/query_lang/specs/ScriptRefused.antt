@@ -1,0 +1,27 @@
+-- When the reader of scripts refuses.
+use Rattle.std.specs.Prelude.{◌≡◌, ℕ, Option, Some, Result, Ok, Err}
+use Rattle.dn_model.specs.ScriptText.{ScriptFault}
+use Rattle.dn_model.specs.declared.script.Line.{Line}
+use Rattle.query_lang.specs.declared.script_text.ScriptRefused.{ScriptRefused}
+use Rattle.query_lang.specs.declared.script_text.ScriptRefused.TheVariants as script
+use Rattle.query_lang.specs.declared.script_line.LineRefused.{LineRefused}
+use Rattle.query_lang.specs.declared.script_line.LineRefused.TheVariants as line
+
+-- a fault is the first one of the text; want of memory says nothing of it
+abbrev pub IsRefused : {A : Type 0} → ScriptRefused → Result A ScriptFault → Type 0
+IsRefused (script.Fault l c) meaning = meaning ≡ Err (record { line = l; cause = c })
+IsRefused script.OutOfMemory meaning = Unit {0}
+
+-- the same of one line
+abbrev pub IsRefusedLine : LineRefused → Result (Option Line) ℕ → Type 0
+IsRefusedLine (line.Cause c) meaning = meaning ≡ Err c
+IsRefusedLine line.OutOfMemory meaning = Unit {0}
+
+-- a line that was read, or refused, is what its text means
+abbrev pub Reads : Result (Option Line) LineRefused → Result (Option Line) ℕ → Type 0
+Reads (Ok l) meaning = meaning ≡ Ok l
+Reads (Err e) meaning = IsRefusedLine e meaning
+
+abbrev pub ReadsCommand : Result Line LineRefused → Result (Option Line) ℕ → Type 0
+ReadsCommand (Ok l) meaning = meaning ≡ Ok (Some l)
+ReadsCommand (Err e) meaning = IsRefusedLine e meaning

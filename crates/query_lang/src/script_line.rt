@@ -1,0 +1,199 @@
+//! One line of a script.
+
+ghost use Rattle.std.specs.Prelude.{◌≡◌, ℕ, IsTrue, IfOk, find, ◌∷◌};
+ghost use Rattle.std.specs.List.{list_any};
+ghost use Rattle.dn_model.specs.ScriptText.{line_meaning, words_of, count_of, is_named, same_router, take_from, take_meaning, two_of, command_meaning, ask_of, ask_meaning, path_of};
+ghost use Rattle.query_lang.specs.ScriptRefused.{Reads, ReadsCommand};
+
+use crate::address::read_address;
+use crate::text_cut::{has_first, is_same, next_word, two_words};
+use dn_model::{
+    Ask, Line, List, Name, OutOfMemory, Query, RouterId, Topology, is_name, read_number,
+};
+use std::alloc::Global;
+
+/// The line is no line of a script, or is too long.
+const BAD_LINE: u8 = 1;
+/// The line takes from a router that has no feed.
+const TAKE_UNKNOWN: u8 = 2;
+/// The line takes from a feed that an earlier script takes.
+const TAKEN_TWICE: u8 = 3;
+/// The most bytes of a line that does something.
+const LINE_BYTES: usize = 1024;
+
+/// Why a line isn't read.
+#[derive(Clone, Copy, Debug, PartialEq, Eq)]
+pub enum LineRefused {
+    /// The number of the line's fault.
+    Cause(u8),
+    /// Memory ran out.
+    OutOfMemory,
+}
+
+impl From<OutOfMemory> for LineRefused {
+    ghost use Rattle.std.specs.Prelude.{◌≡◌};
+    ghost use Rattle.query_lang.specs.declared.script_line.LineRefused.TheVariants as variant;
+
+    ghost from_gives = { λ _ e. e ≡ variant.OutOfMemory };
+
+    fn from(_error: OutOfMemory) -> Self {
+        LineRefused::OutOfMemory
+    }
+}
+
+/// What a script is read against.
+#[derive(Drop)]
+pub struct Feeds<'a> {
+    /// The network, whose routers are named.
+    pub topology: &'a Topology,
+    /// The routers that have a feed in this run.
+    pub fed: &'a [RouterId],
+    /// The routers from which earlier scripts take.
+    pub taken: &'a [RouterId],
+}
+
+/// How many frames a word says: a number from 1 to 4,294,967,295, or all (no number).
+fn read_count(word: &[u8]) -> Option<Option<u32>>
+    ensures { result ≡ count_of word.now }
+{
+    if is_same(word, b"all") {
+        return Some(None);
+    }
+    let count = read_number(word, 1, 4_294_967_295)?;
+    Some(Some(count))
+}
+
+/// Whether a router of the topology has this name.
+fn has_name(topology: &Topology, name: &[u8], router: RouterId) -> bool
+    ensures { result ≡ is_named topology.now.routers name.now router }
+{
+    match topology.routers.as_slice().get(usize::from(router.0)) {
+        Some(other) => is_same(other.as_bytes(), name),
+        None => false,
+    }
+}
+
+/// The first of these routers that has this name.
+fn router_named(topology: &Topology, fed: &[RouterId], name: &[u8]) -> Option<RouterId>
+    ensures { result ≡ find (is_named topology.now.routers name.now) fed.now }
+{
+    fed.iter()
+        .copied()
+        .find(|router| has_name(topology, name, *router))
+}
+
+/// Whether a router is among these.
+fn is_among(routers: &[RouterId], router: RouterId) -> bool
+    ensures { result ≡ list_any (same_router router) routers.now }
+{
+    routers.iter().any(|other| other.0 == router.0)
+}
+
+/// The line that takes so many frames from the router of this name.
+fn take_of(
+    feeds: &Feeds<'_>,
+    line: u32,
+    name: &[u8],
+    count: Option<u32>,
+) -> Result<Line, LineRefused>
+    ensures { ReadsCommand result (take_from line feeds.now.taken.now count (find (is_named feeds.now.topology.now.routers name.now) feeds.now.fed.now)) }
+{
+    let Some(router) = router_named(feeds.topology, feeds.fed, name) else {
+        return Err(LineRefused::Cause(TAKE_UNKNOWN));
+    };
+    if is_among(feeds.taken, router) {
+        return Err(LineRefused::Cause(TAKEN_TWICE));
+    }
+    Ok(Line::Take {
+        line,
+        router,
+        count,
+    })
+}
+
+/// A `take` line, by the words after its verb: a router, and a number of frames or `all`.
+fn read_take(feeds: &Feeds<'_>, line: u32, operands: &[u8]) -> Result<Line, LineRefused>
+    ensures { ReadsCommand result (take_meaning feeds.now.topology.now.routers feeds.now.fed.now feeds.now.taken.now line (two_of (words_of operands.now))) }
+{
+    let Some((name, count)) = two_words(operands) else {
+        return Err(LineRefused::Cause(BAD_LINE));
+    };
+    let Some(count) = read_count(count) else {
+        return Err(LineRefused::Cause(BAD_LINE));
+    };
+    if !is_name(name) {
+        return Err(LineRefused::Cause(BAD_LINE));
+    }
+    take_of(feeds, line, name, count)
+}
+
+/// What a `path` line asks, by the words after its verb: a router and an address.
+fn read_path(alloc: Global, line: u32, operands: &[u8]) -> Result<Line, LineRefused>
+    ensures { ReadsCommand result (ask_meaning line (path_of (two_of (words_of operands.now)))) }
+{
+    let Some((name, address)) = two_words(operands) else {
+        return Err(LineRefused::Cause(BAD_LINE));
+    };
+    if !is_name(name) {
+        return Err(LineRefused::Cause(BAD_LINE));
+    }
+    let Some(address) = read_address(address) else {
+        return Err(LineRefused::Cause(BAD_LINE));
+    };
+    let name = Name::from_text(alloc, name)?;
+    Ok(Line::Ask {
+        line,
+        query: Query {
+            without: List::new(alloc),
+            ask: Ask::Path(name, address),
+        },
+    })
+}
+
+/// A line that asks a query, by its verb and the words after it.
+fn read_ask(alloc: Global, line: u32, verb: &[u8], operands: &[u8]) -> Result<Line, LineRefused>
+    ensures { ReadsCommand result (ask_meaning line (ask_of verb.now (words_of operands.now))) }
+{
+    if is_same(verb, b"path") {
+        return read_path(alloc, line, operands);
+    }
+    Err(LineRefused::Cause(BAD_LINE))
+}
+
+/// A line that does something, by its verb and the words after it.
+fn read_command(
+    alloc: Global,
+    feeds: &Feeds<'_>,
+    line: u32,
+    verb: &[u8],
+    operands: &[u8],
+) -> Result<Line, LineRefused>
+    ensures { ReadsCommand result (command_meaning feeds.now.topology.now.routers feeds.now.fed.now feeds.now.taken.now line (verb.now ∷ words_of operands.now)) }
+{
+    if is_same(verb, b"take") {
+        return read_take(feeds, line, operands);
+    }
+    read_ask(alloc, line, verb, operands)
+}
+
+/// The line of this number, or nothing where it passes: where it is blank or its first word begins with `#`.
+pub fn read_line(
+    alloc: Global,
+    feeds: &Feeds<'_>,
+    line: u32,
+    text: &[u8],
+) -> Result<Option<Line>, LineRefused>
+    ensures { Reads result (line_meaning feeds.now.topology.now.routers feeds.now.fed.now feeds.now.taken.now line text.now) }
+{
+    let Some((verb, operands)) = next_word(text) else {
+        return Ok(None);
+    };
+    if has_first(verb, b'#') {
+        return Ok(None);
+    }
+    if text.len() > LINE_BYTES {
+        return Err(LineRefused::Cause(BAD_LINE));
+    }
+    let found = read_command(alloc, feeds, line, verb, operands)?;
+    Ok(Some(found))
+}

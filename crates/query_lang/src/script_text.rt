@@ -1,0 +1,122 @@
+//! Scripts, read from their text.
+
+ghost use Rattle.std.specs.Prelude.{◌≡◌, ◌++◌, ◌≤◌, ◌<◌, IfOk, IfErr, OnOk, Ok, All};
+ghost use Rattle.std.specs.Option.{option_to_list};
+ghost use Rattle.dn_model.specs.ScriptText.{script_of, lines_meaning, line_meaning, lines_of, numbered, IsShort};
+ghost use Rattle.query_lang.specs.ScriptRefused.{IsRefused};
+
+use crate::script_line::{Feeds, LineRefused, read_line};
+use crate::text_cut::first_line;
+use dn_model::{Line, List, OutOfMemory, RouterId, Script, Topology};
+use std::alloc::Global;
+
+/// There are too many lines.
+const TOO_MANY_LINES: u8 = 4;
+/// The text is too long.
+const TOO_LONG: u8 = 5;
+/// The most lines of a script.
+const LINES: u32 = 65_536;
+/// The most bytes of a script.
+const BYTES: usize = 16_777_216;
+
+/// Why a script isn't read.
+#[derive(Clone, Copy, Debug, PartialEq, Eq)]
+pub enum ScriptRefused {
+    /// The first fault of the text: its line (from 1, or 0 for the whole) and the number of its cause, which is
+    /// 1 for a line that is no line of a script, 2 for a `take` of a router that has no feed, 3 for a `take` of a
+    /// feed that an earlier script takes, 4 for more than 65,536 lines, 5 for more than 16,777,216 bytes.
+    Fault { line: u32, cause: u8 },
+    /// Memory ran out.
+    OutOfMemory,
+}
+
+impl From<OutOfMemory> for ScriptRefused {
+    ghost use Rattle.std.specs.Prelude.{◌≡◌};
+    ghost use Rattle.query_lang.specs.declared.script_text.ScriptRefused.TheVariants as variant;
+
+    ghost from_gives = { λ _ e. e ≡ variant.OutOfMemory };
+
+    fn from(_error: OutOfMemory) -> Self {
+        ScriptRefused::OutOfMemory
+    }
+}
+
+/// Adds a line, if there is one, to the lines before it.
+fn add_line(lines: &mut List<Line>, line: Option<Line>) -> Result<(), OutOfMemory>
+    ensures { OnOk result (lines.new ≡ lines.old ++ option_to_list line) }
+{
+    match line {
+        Some(line) => lines.push(line),
+        None => Ok(()),
+    }
+}
+
+/// The line of this number within a script.
+fn read_numbered(
+    alloc: Global,
+    feeds: &Feeds<'_>,
+    line: u32,
+    text: &[u8],
+) -> Result<Option<Line>, ScriptRefused>
+    ensures ok { IfOk result (λ l. numbered line (line_meaning feeds.now.topology.now.routers feeds.now.fed.now feeds.now.taken.now line text.now) ≡ Ok l) }
+    ensures within { OnOk result (line ≤ 65536) }
+    ensures refused { IfErr result (λ e. IsRefused e (numbered line (line_meaning feeds.now.topology.now.routers feeds.now.fed.now feeds.now.taken.now line text.now))) }
+{
+    if line > LINES {
+        return Err(ScriptRefused::Fault {
+            line,
+            cause: TOO_MANY_LINES,
+        });
+    }
+    match read_line(alloc, feeds, line, text) {
+        Ok(found) => Ok(found),
+        Err(LineRefused::Cause(cause)) => Err(ScriptRefused::Fault { line, cause }),
+        Err(LineRefused::OutOfMemory) => Err(ScriptRefused::OutOfMemory),
+    }
+}
+
+/// The lines of a text that do something, in order.
+fn read_lines(alloc: Global, feeds: &Feeds<'_>, text: &[u8]) -> Result<List<Line>, ScriptRefused>
+    ensures ok { IfOk result (λ lines. lines_meaning (line_meaning feeds.now.topology.now.routers feeds.now.fed.now feeds.now.taken.now) 1 (lines_of text.now) ≡ Ok lines) }
+    ensures refused { IfErr result (λ e. IsRefused e (lines_meaning (line_meaning feeds.now.topology.now.routers feeds.now.fed.now feeds.now.taken.now) 1 (lines_of text.now))) }
+{
+    let mut lines = List::new(alloc);
+    let mut number: u32 = 1;
+    let mut rest = text;
+    while !rest.is_empty() {
+        let (line, after) = first_line(rest);
+        let found = read_numbered(alloc, feeds, number, line)?;
+        add_line(&mut lines, found)?;
+        number += 1;
+        rest = after;
+    }
+    Ok(lines)
+}
+
+/// The script that a text is: its lines that do something, in order. `feeds` are the routers that have a feed in this
+/// run, and `taken` those from which earlier scripts take.
+pub fn read_script(
+    alloc: Global,
+    bytes: &[u8],
+    topology: &Topology,
+    feeds: &[RouterId],
+    taken: &[RouterId],
+) -> Result<Script, ScriptRefused>
+    ensures ok { IfOk result (λ script. script_of topology.now.routers feeds.now taken.now bytes.now ≡ Ok script.lines) }
+    ensures short { IfOk result (λ script. All IsShort script.lines) }
+    ensures refused { IfErr result (λ e. IsRefused e (script_of topology.now.routers feeds.now taken.now bytes.now)) }
+{
+    if bytes.len() > BYTES {
+        return Err(ScriptRefused::Fault {
+            line: 0,
+            cause: TOO_LONG,
+        });
+    }
+    let feeds = Feeds {
+        topology,
+        fed: feeds,
+        taken,
+    };
+    let lines = read_lines(alloc, &feeds, bytes)?;
+    Ok(Script { lines })
+}

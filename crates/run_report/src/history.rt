@@ -1,0 +1,105 @@
+//! What the report prints of the history.
+//!
+//! A writer `push_..` adds its text at the end of `out`. After `OutOfMemory`, for which alone it fails, a part of the
+//! text may have been added.
+
+ghost use Rattle.std.specs.Prelude.{◌≡◌, ◌++◌, ◌∷◌, [], ◌≤◌, OnOk, codes, decimal, map};
+ghost use Rattle.dn_model.specs.Entry.{entries};
+ghost use Rattle.dn_model.specs.Report.{line, op_text, entry_line, entry_lines, history_lines};
+ghost use Rattle.dn_model.specs.declared.entry.Op.TheVariants.{Set, Clear};
+
+use dn_model::{
+    Entry, List, Op, OutOfMemory, Posted, Prefix, Target, Topology, push_bytes, push_decimal,
+    push_labelled, push_prefix, push_router, push_target,
+};
+
+/// Adds a route that is set.
+fn push_set(
+    out: &mut Vec<u8>,
+    t: &Topology,
+    prefix: Prefix,
+    metric: u32,
+    target: Target,
+) -> Result<(), OutOfMemory>
+    ensures { OnOk result (out.new.items ≡ out.old.items ++ op_text t.now (Set prefix metric target)) }
+{
+    push_bytes(out, b"set ")?;
+    push_prefix(out, prefix)?;
+    push_labelled(out, b" metric ", u64::from(metric))?;
+    push_bytes(out, b" ")?;
+    push_target(out, t, target)
+}
+
+/// Adds what is cleared: the route of a metric, or all routes of the prefix.
+fn push_clear(
+    out: &mut Vec<u8>,
+    t: &Topology,
+    prefix: Prefix,
+    metric: Option<u32>,
+) -> Result<(), OutOfMemory>
+    ensures { OnOk result (out.new.items ≡ out.old.items ++ op_text t.now (Clear prefix metric)) }
+{
+    push_bytes(out, b"clear ")?;
+    push_prefix(out, prefix)?;
+    match metric {
+        Some(metric) => push_labelled(out, b" metric ", u64::from(metric)),
+        None => Ok(()),
+    }
+}
+
+/// Adds an update.
+fn push_op(out: &mut Vec<u8>, t: &Topology, op: Op) -> Result<(), OutOfMemory>
+    ensures { OnOk result (out.new.items ≡ out.old.items ++ op_text t.now op) }
+{
+    match op {
+        Op::Set {
+            prefix,
+            metric,
+            target,
+        } => push_set(out, t, prefix, metric, target),
+        Op::Clear { prefix, metric } => push_clear(out, t, prefix, metric),
+    }
+}
+
+/// Adds the line of the entry at a position of the history, from 1.
+fn push_entry_line(
+    out: &mut Vec<u8>,
+    t: &Topology,
+    position: u64,
+    entry: &Entry,
+) -> Result<(), OutOfMemory>
+    ensures { OnOk result (out.new.items ≡ out.old.items ++ entry_line t.now position entry.now) }
+{
+    push_decimal(out, position)?;
+    push_labelled(out, b" feed ", u64::from(entry.feed_no))?;
+    push_bytes(out, b" ")?;
+    push_router(out, t, entry.router)?;
+    push_bytes(out, b" ")?;
+    push_op(out, t, entry.op)?;
+    push_bytes(out, b"\n")
+}
+
+/// Adds the lines of all entries.
+fn push_entry_lines(out: &mut Vec<u8>, t: &Topology, history: &[Posted]) -> Result<(), OutOfMemory>
+    ensures { OnOk result (out.new.items ≡ out.old.items ++ entry_lines t.now 1 (entries history.now)) }
+{
+    let mut position = 0;
+    for posted in history {
+        position += 1;
+        push_entry_line(out, t, position, &posted.entry)?;
+    }
+    Ok(())
+}
+
+/// Adds the history: how many entries it has, and their lines.
+pub fn push_history(
+    out: &mut Vec<u8>,
+    t: &Topology,
+    history: &List<Posted>,
+) -> Result<(), OutOfMemory>
+    ensures { OnOk result (out.new.items ≡ out.old.items ++ history_lines t.now (entries history.now)) }
+{
+    push_labelled(out, b"history ", history.len() as u64)?;
+    push_bytes(out, b"\n")?;
+    push_entry_lines(out, t, history.as_slice())
+}

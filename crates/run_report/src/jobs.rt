@@ -1,0 +1,40 @@
+//! What the report prints of jobs.
+//!
+//! A writer `push_..` adds its text at the end of `out`. After `OutOfMemory`, for which alone it fails, a part of the
+//! text may have been added.
+
+ghost use Rattle.std.specs.Prelude.{◌≡◌, ◌++◌, ◌∷◌, [], OnOk, codes, decimal};
+ghost use Rattle.std.specs.List.{flat_map};
+ghost use Rattle.dn_model.specs.Report.{line, told_lines, job_lines};
+
+use dn_model::{JobTold, OutOfMemory, Told, Topology, push_bytes, push_labelled};
+use query_lang::push_told;
+
+/// Adds what is told of all queries of a job.
+fn push_all_told(out: &mut Vec<u8>, t: &Topology, told: &[Told]) -> Result<(), OutOfMemory>
+    ensures { OnOk result (out.new.items ≡ out.old.items ++ flat_map (told_lines t.now) told.now) }
+{
+    for one in told {
+        push_told(out, t, one)?;
+    }
+    Ok(())
+}
+
+/// Adds a job's line, and what is told of its queries.
+fn push_job(out: &mut Vec<u8>, t: &Topology, job: &JobTold) -> Result<(), OutOfMemory>
+    ensures { OnOk result (out.new.items ≡ out.old.items ++ job_lines t.now job.now) }
+{
+    push_labelled(out, b"job ", u64::from(job.number))?;
+    push_bytes(out, b"\n")?;
+    push_all_told(out, t, job.told.as_slice())
+}
+
+/// Adds the lines of all jobs.
+pub fn push_jobs(out: &mut Vec<u8>, t: &Topology, jobs: &[JobTold]) -> Result<(), OutOfMemory>
+    ensures { OnOk result (out.new.items ≡ out.old.items ++ flat_map (job_lines t.now) jobs.now) }
+{
+    for job in jobs {
+        push_job(out, t, job)?;
+    }
+    Ok(())
+}

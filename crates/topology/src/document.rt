@@ -1,0 +1,147 @@
+//! The document that a topology's text is, and what it says.
+
+ghost use Rattle.std.specs.Prelude.{◌≡◌, ◌||◌, [], IfOk, IfErr, Ok, map, is_none, option_map, codes};
+ghost use Rattle.toml.specs.Parse.{parse_document};
+ghost use Rattle.toml.specs.View.{view, table_view};
+ghost use Rattle.dn_model.specs.TopologyText.{list_at, list_or_none_at, said_by, top_causes, top_fault, entries_at, list_faults, parts_said, faults_of, parts_of, unless_faulty, document_of, parts, IsTopologyText, IsTopologyRefused};
+ghost use Rattle.topology.specs.Reading.{first_standing, IsFirstFault, IsSaidRefusal};
+
+use crate::lists::{read_edges, read_links, read_routers};
+use crate::value::{has_unknown_top_key, list_at, list_or_none_at};
+use dn_model::cause::{MISSING_KEY, NOT_TOML, TOO_LONG, UNKNOWN_KEY};
+use dn_model::{OutOfMemory, TopoFault, TopoPart, TopoRefused, Topology};
+use std::alloc::Global;
+use toml::{Table, Value};
+
+/// The most bytes of a topology's text.
+const BYTES: usize = 16_777_216;
+
+/// Whether a list at the top is absent or none.
+fn lacks_list(table: &Table) -> bool
+    ensures { result ≡ (is_none (list_at (codes "routers") (table_view table.now)) || is_none (list_or_none_at (codes "link") (table_view table.now)) || is_none (list_or_none_at (codes "edge") (table_view table.now))) }
+{
+    list_at(table, "routers").is_none()
+        || list_or_none_at(table, "link").is_none()
+        || list_or_none_at(table, "edge").is_none()
+}
+
+/// The first cause that stands at the top of a document.
+fn top_cause(table: &Table) -> Option<u8>
+    ensures { result ≡ first_standing top_causes (table_view table.now) }
+{
+    if has_unknown_top_key(table) {
+        Some(UNKNOWN_KEY)
+    } else if lacks_list(table) {
+        Some(MISSING_KEY)
+    } else {
+        None
+    }
+}
+
+/// The refusal for a cause at the top.
+fn top_refusal(cause: u8) -> TopoRefused
+    ensures { result ≡ TopoRefused.Fault (top_fault cause) }
+{
+    TopoRefused::Fault(TopoFault {
+        part: TopoPart::Top,
+        entry: 0,
+        cause,
+    })
+}
+
+/// The entries of a list at a key.
+fn entries_at<'a>(table: &'a Table, key: &str) -> &'a [Value]
+    ensures { map view result.now ≡ entries_at key.now (table_view table.now) }
+{
+    match list_at(table, key) {
+        Some(entries) => entries,
+        None => &[],
+    }
+}
+
+/// What three lists of entries say, or their first fault.
+fn read_lists(
+    alloc: Global,
+    routers: &[Value],
+    links: &[Value],
+    edges: &[Value],
+) -> Result<Topology, TopoRefused>
+    ensures faultless { IfOk result (λ t. list_faults (map view routers.now) (map view links.now) (map view edges.now) ≡ []) }
+    ensures said { IfOk result (λ t. parts t ≡ parts_said (map view routers.now) (map view links.now) (map view edges.now)) }
+    ensures refused { IfErr result (IsFirstFault (list_faults (map view routers.now) (map view links.now) (map view edges.now))) }
+{
+    let names = read_routers(alloc, routers)?;
+    let links = read_links(alloc, names.as_slice(), links)?;
+    let edges = read_edges(alloc, names.as_slice(), links.as_slice(), edges)?;
+    Ok(Topology {
+        routers: names,
+        links,
+        edges,
+    })
+}
+
+/// What a document says, or its first fault.
+fn read_document(alloc: Global, table: &Table) -> Result<Topology, TopoRefused>
+    ensures ok { IfOk result (λ t. unless_faulty (faults_of (table_view table.now)) (parts_of (table_view table.now)) ≡ Ok (parts t)) }
+    ensures refused { IfErr result (IsFirstFault (faults_of (table_view table.now))) }
+{
+    match top_cause(table) {
+        Some(cause) => Err(top_refusal(cause)),
+        None => {
+            let routers = entries_at(table, "routers");
+            let links = entries_at(table, "link");
+            let edges = entries_at(table, "edge");
+            read_lists(alloc, routers, links, edges)
+        }
+    }
+}
+
+/// The document that a text is, if it is one.
+fn document_of_text(alloc: Global, text: &str) -> Result<Option<Table>, OutOfMemory>
+    ensures { IfOk result (λ d. option_map table_view d ≡ parse_document text.now) }
+{
+    match toml::table_from_str(alloc, text) {
+        Ok(table) => Ok(Some(table)),
+        Err(error) => {
+            if error.is_memory() {
+                Err(OutOfMemory)
+            } else {
+                Ok(None)
+            }
+        }
+    }
+}
+
+/// The document that bytes are, if they are one.
+fn document_of(alloc: Global, bytes: &[u8]) -> Result<Option<Table>, OutOfMemory>
+    ensures { IfOk result (λ d. option_map table_view d ≡ document_of bytes.now) }
+{
+    match std::str::from_utf8(bytes) {
+        Ok(text) => document_of_text(alloc, text),
+        Err(_) => Ok(None),
+    }
+}
+
+/// What the document of some bytes says, or the first fault, by the document.
+fn read_said(alloc: Global, document: Option<Table>) -> Result<Topology, TopoRefused>
+    ensures ok { IfOk result (λ t. said_by (option_map table_view document) ≡ Ok (parts t)) }
+    ensures refused { IfErr result (IsSaidRefusal (option_map table_view document)) }
+{
+    match document {
+        Some(table) => read_document(alloc, &table),
+        None => Err(top_refusal(NOT_TOML)),
+    }
+}
+
+/// The topology that bytes say, or their first fault. The fault has the part, the entry and the number of the cause
+/// (module `cause` of `dn_model`).
+pub fn read_topology(alloc: Global, bytes: &[u8]) -> Result<Topology, TopoRefused>
+    ensures ok { IfOk result (IsTopologyText bytes.now) }
+    ensures refused { IfErr result (IsTopologyRefused bytes.now) }
+{
+    if bytes.len() > BYTES {
+        return Err(top_refusal(TOO_LONG));
+    }
+    let document = document_of(alloc, bytes)?;
+    read_said(alloc, document)
+}

@@ -1,0 +1,4 @@
+pub mod AnswerLemmas
+pub mod GatheredLemmas
+pub mod HandsLemmas
+pub mod ReaderLemmas

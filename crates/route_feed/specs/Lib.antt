@@ -1,0 +1,4 @@
+pub mod FeedReader
+pub mod FrameStep
+pub mod Gathered
+pub mod Intake

@@ -1,0 +1,177 @@
+//! What one frame of a feed comes to.
+
+ghost use Rattle.std.specs.Prelude.{◌≡◌, ◌+◌, ◌<◌, ◌≤◌, ◌^◌, ◌++◌, All, Some, IfOk, OnOk, OnErr, length, if◌then◌else◌};
+ghost use Rattle.std.specs.Option.{option_to_list};
+ghost use Rattle.dn_model.specs.Entry.{IsOpOf};
+ghost use Rattle.dn_model.specs.Feed.{item_op, item_refusal, item_is_skipped, step_of};
+ghost use Rattle.dn_model.specs.Frames.{BeginsFrame};
+ghost use Rattle.route_feed.specs.FeedReader.{told_after, AreOpsOf};
+ghost use Rattle.route_feed.specs.FrameStep.{ComesTo, frame_step, IsOfFrame, HandsTo};
+
+use crate::feed_step::FeedStep;
+use crate::intake::Intake;
+use crate::route_op::op_of;
+use dn_io::Source;
+use dn_model::refusal::{FRAME_TYPE, UNKNOWN_INTERFACE};
+use dn_model::{
+    FeedTold, Item, ItemKind, List, Op, OutOfMemory, Payload, Refused, RefusedFrame, RouterId,
+    Topology,
+};
+use fpm_frame::Next;
+use rt_netlink::read_payload;
+use std::alloc::Global;
+
+/// The kind of a frame whose payload is netlink messages (FPM_MSG_TYPE_NETLINK of FRR's fpm.h).
+const NETLINK: u8 = 1;
+
+/// What the messages of a frame come to that were looked at: their updates, in order, and how many were passed over.
+#[derive(Drop)]
+struct Gathered {
+    ops: List<Op>,
+    skipped: u32,
+}
+
+impl Gathered {
+    /// Takes in the next message, unless it is refused.
+    fn take_in(
+        &mut self,
+        topology: &Topology,
+        router: RouterId,
+        item: &Item,
+    ) -> Result<Option<Refused>, OutOfMemory>
+        requires fits { self.old.skipped + 1 < 2 ^ 32 }
+        ensures refusal { IfOk result (λ refused. refused ≡ item_refusal topology.now router item.now) }
+        ensures ops { OnOk result (self.new.ops ≡ self.old.ops ++ option_to_list (item_op topology.now router item.now)) }
+        ensures skipped { OnOk result (self.new.skipped ≡ self.old.skipped + (if item_is_skipped item.now then 1 else 0)) }
+        ensures few { OnOk result (length self.new.ops + self.new.skipped ≤ length self.old.ops + self.old.skipped + 1) }
+        ensures within { All (IsOpOf topology.now) self.old.ops → All (IsOpOf topology.now) self.new.ops }
+    {
+        match item.what {
+            ItemKind::Route(raw) => match op_of(topology, router, &raw) {
+                Some(op) => self.ops.push(op)?,
+                None => {
+                    return Ok(Some(Refused {
+                        at: item.at,
+                        cause: UNKNOWN_INTERFACE,
+                    }));
+                }
+            },
+            ItemKind::Skipped(_) => self.skipped += 1,
+        }
+        Ok(None)
+    }
+}
+
+/// The answer that refuses the frame at this offset.
+fn refusal(offset: u64, refused: Refused) -> FeedStep
+    ensures { result ≡ FeedStep.Refused offset refused.at refused.cause }
+{
+    FeedStep::Refused {
+        offset,
+        at: refused.at,
+        cause: refused.cause,
+    }
+}
+
+/// What a netlink frame at this offset comes to, whose payload says this: refused by the first refusal of its
+/// messages, else accepted with all its updates.
+fn step_said(
+    alloc: Global,
+    topology: &Topology,
+    router: RouterId,
+    offset: u64,
+    said: &Payload,
+) -> Result<FeedStep, OutOfMemory>
+    requires few { length said.now.items ≤ 65531 }
+    ensures step { IfOk result (λ step. frame_step step ≡ Some (step_of topology.now router offset said.now)) }
+    ensures few { IfOk result (IsOfFrame (length said.now.items)) }
+    ensures within { IfOk result (AreOpsOf topology.now) }
+{
+    let mut gathered = Gathered {
+        ops: List::new(alloc),
+        skipped: 0,
+    };
+    for item in said.items.as_slice() {
+        if let Some(refused) = gathered.take_in(topology, router, item)? {
+            return Ok(refusal(offset, refused));
+        }
+    }
+    match said.refused {
+        Some(refused) => Ok(refusal(offset, refused)),
+        None => Ok(FeedStep::Ops(gathered.ops, gathered.skipped)),
+    }
+}
+
+/// What a frame at this offset comes to.
+fn step_of(
+    alloc: Global,
+    topology: &Topology,
+    router: RouterId,
+    offset: u64,
+    kind: u8,
+    payload: &[u8],
+) -> Result<FeedStep, OutOfMemory>
+    requires fits { length payload.now ≤ 65531 }
+    ensures comes { IfOk result (ComesTo topology.now router offset (record { kind = kind; payload = payload.now })) }
+    ensures few { IfOk result (IsOfFrame (length payload.now)) }
+    ensures within { IfOk result (AreOpsOf topology.now) }
+{
+    if kind != NETLINK {
+        return Ok(FeedStep::Refused {
+            offset,
+            at: 0,
+            cause: FRAME_TYPE,
+        });
+    }
+    let said = read_payload(alloc, payload)?;
+    step_said(alloc, topology, router, offset, &said)
+}
+
+/// Counts what a frame came to. Want of memory changes nothing.
+fn tell(told: &mut FeedTold, step: &FeedStep) -> Result<(), OutOfMemory>
+    requires frame { IsOfFrame 65531 step.now }
+    requires updates { told.old.updates < 2 ^ 32 }
+    requires skipped { told.old.skipped < 2 ^ 32 }
+    ensures ok { OnOk result (told.new ≡ told_after told.old step.now) }
+    ensures err { OnErr result (told.new ≡ told.old) }
+{
+    match step {
+        FeedStep::Ops(ops, skipped) => {
+            told.updates += ops.len() as u64;
+            told.skipped += *skipped as u64;
+            Ok(())
+        }
+        FeedStep::Refused { offset, at, cause } => told.refused.push(RefusedFrame {
+            offset: *offset,
+            at: *at,
+            cause: *cause,
+        }),
+        _ => Ok(()),
+    }
+}
+
+/// Hands out the frame that is held. Want of memory changes nothing.
+pub fn hand_out<S: Source>(
+    alloc: Global,
+    intake: &mut Intake<S>,
+    told: &mut FeedTold,
+    topology: &Topology,
+) -> Result<FeedStep, OutOfMemory>
+    requires whole { BeginsFrame intake.old.held }
+    requires updates { told.old.updates < 2 ^ 32 }
+    requires skipped { told.old.skipped < 2 ^ 32 }
+    ensures hands { HandsTo topology.now result intake.old intake.new told.old told.new }
+    ensures within { IfOk result (AreOpsOf topology.now) }
+{
+    let step = match intake.next() {
+        Next::Frame {
+            offset,
+            kind,
+            payload,
+        } => step_of(alloc, topology, told.router, offset, kind, payload)?,
+        _ => unreachable!(),
+    };
+    tell(told, &step)?;
+    intake.pass();
+    Ok(step)
+}

@@ -1,0 +1,22 @@
+//! The feed of a router, frame by frame: what FRR sends to its forwarding plane manager, as updates of the router's
+//! table.
+//!
+//! A feed is a stream of frames (`fpm_frame`), each with messages of rtnetlink(7) (`rt_netlink`). A frame is applied
+//! whole or not at all: where one of its messages is refused, none of its updates is handed out, and the frames after
+//! it are read on.
+#![tactic(auto)]
+
+#[cfg(test)]
+mod edit_tests;
+mod feed_reader;
+mod feed_step;
+mod frame_step;
+mod intake;
+mod route_op;
+#[cfg(test)]
+mod test_network;
+#[cfg(test)]
+mod tests;
+
+pub use feed_reader::FeedReader;
+pub use feed_step::FeedStep;

@@ -1,0 +1,108 @@
+-- What a payload says from a place on.
+use Rattle.std.proofs.Common.{◌≡◌, ℕ, zero, suc, ◌+◌, ◌-◌, ◌<◌, ◌≤◌, Bool, true, false, List, [], ◌∷◌, ◌++◌, length, drop, refl, ap, sym, ◌∙◌, arith, Option, None, Some, inl, inr}
+use Rattle.std.specs.Prelude.{◌||◌, nat_lt, if◌then◌else◌, Ok, Err}
+use Rattle.std.proofs.lemmas.Bool.{cases_lt}
+use Rattle.std.proofs.lemmas.Bool.Decides.{nat_tests}
+use Rattle.std.proofs.lemmas.List.{length-drop, drop_all, append-nil, append_assoc}
+use Rattle.dn_model.specs.Attributes.{padded}
+use Rattle.dn_model.specs.Payload.{Ruling, Refuses, Skips, ruling_of, message_length, said, said_after, nothing_more}
+use Rattle.dn_model.specs.declared.payload.Item.{Item}
+use Rattle.dn_model.specs.declared.payload.ItemKind.{ItemKind}
+use Rattle.dn_model.specs.declared.payload.ItemKind.TheVariants.{Route, Skipped}
+use Rattle.dn_model.specs.declared.payload.Payload.{Payload}
+use Rattle.rt_netlink.specs.Read.{Says, with_items, said_from}
+
+-- a message that isn't refused is all there
+abbrev is_cut : List ℕ → Bool
+is_cut m = nat_lt (length m) 16 || nat_lt (message_length m) 16 || nat_lt (length m) (message_length m)
+
+unless_cut : (m : List ℕ) (b : Bool) (r rest : Option Ruling) → (if b then Some (Refuses 1) else rest) ≡ r → ((cause : ℕ) → r ≡ Some (Refuses cause) → ⊥) → b ≡ false
+unless_cut m true r rest e h = absurd (h 1 (sym e))
+unless_cut m false r rest e h = refl
+
+not_cut : (m : List ℕ) (r : Option Ruling) → ruling_of m ≡ r → ((cause : ℕ) → r ≡ Some (Refuses cause) → ⊥) → is_cut m ≡ false
+unfolding ruling_of
+not_cut m r e h = unless_cut m (is_cut m) r _ e h
+
+pub record IsThere (m : List ℕ) : Type 0 where
+  pub long : 16 ≤ message_length m
+  pub there : message_length m ≤ length m
+
+is_there : (m : List ℕ) → is_cut m ≡ false → IsThere m
+is_there m e = record { long = grind (arith, nat_tests); there = grind (arith, nat_tests) }
+
+pub said_there : (m : List ℕ) → ruling_of m ≡ None → IsThere m
+said_there m e = is_there m (not_cut m None e (λ cause f. cc))
+
+pub skipped_there : (m : List ℕ) (skip : _) → ruling_of m ≡ Some (Skips skip) → IsThere m
+skipped_there m skip e = is_there m (not_cut m (Some (Skips skip)) e (λ cause f. cc))
+
+-- what is left of the message before is passed over
+said-left : (at left : ℕ) (s : List ℕ) → said_after at left s ≡ said_after (at + left) 0 (drop left s)
+unfolding said_after
+said-left at zero s = let e : at + 0 ≡ at = omega arith in rw e refl
+said-left at (suc left) [] = refl
+said-left at (suc left) (b ∷ s) = let e : at + 1 + left ≡ at + suc left = omega arith in said-left (at + 1) left s ∙ ap (λ n. said_after n 0 (drop left s)) e
+
+-- the message at the front, and what is said after it
+pub said-step : (at : ℕ) (s : List ℕ) → 4 ≤ length s → 16 ≤ message_length s →
+    said_after at 0 s ≡ said at s (ruling_of s) (said_after (at + padded (message_length s)) 0 (drop (padded (message_length s)) s))
+unfolding said_after
+said-step at [] h l = absurd (omega arith)
+said-step at (b ∷ s) h l =
+    let enough : nat_lt (length (b ∷ s)) 4 ≡ false = grind (arith, nat_tests) in
+    let whole : padded (message_length (b ∷ s)) ≡ suc (padded (message_length (b ∷ s)) - 1) = omega arith in
+    let place : at + 1 + (padded (message_length (b ∷ s)) - 1) ≡ at + padded (message_length (b ∷ s)) = omega arith in
+    let more : said_after (at + 1) (padded (message_length (b ∷ s)) - 1) s ≡ said_after (at + padded (message_length (b ∷ s))) 0 (drop (padded (message_length (b ∷ s))) (b ∷ s)) =
+    said-left (at + 1) (padded (message_length (b ∷ s)) - 1) s ∙ ap (λ n. said_after n 0 (drop (padded (message_length (b ∷ s)) - 1) s)) place
+    ∙ ap (λ t. said_after (at + padded (message_length (b ∷ s))) 0 t) (sym (ap {B = List ℕ} (λ m. drop m (b ∷ s)) whole)) in
+    rw enough (ap (λ p. said at (b ∷ s) (ruling_of (b ∷ s)) p) more)
+
+said-refused : (at : ℕ) (s : List ℕ) (cause : ℕ) → 4 ≤ length s → ruling_of s ≡ Some (Refuses cause) →
+    said_after at 0 s ≡ record { items = []; refused = Some (record { at = at; cause = cause }) }
+unfolding said_after
+said-refused at [] cause h e = absurd (omega arith)
+said-refused at (b ∷ s) cause h e = let enough : nat_lt (length (b ∷ s)) 4 ≡ false = grind (arith, nat_tests) in rw (enough, e) refl
+
+pub said-end : (at : ℕ) (s : List ℕ) → length s < 4 → said_after at 0 s ≡ nothing_more
+unfolding said_after
+said-end at [] h = refl
+said-end at (b ∷ s) h = let few : nat_lt (length (b ∷ s)) 4 ≡ true = grind (arith, nat_tests) in rw few refl
+
+-- the place after a message is told by how many bytes are left, where any are
+after_place : (all n : ℕ) (s : List ℕ) → length s ≤ all → said_after (all - length s + n) 0 (drop n s) ≡ said_from all (drop n s)
+after_place all n s h = elim (cases_lt (length s) n) [
+  | inl past ↦
+      let none : drop n s ≡ [] = drop_all n s (omega arith) in
+      rw none (said-end (all - length s + n) [] (omega arith) ∙ sym (said-end (all - 0) [] (omega arith)))
+  | inr within ↦
+      let e : all - length s + n ≡ all - length (drop n s) = omega (arith, length-drop n s) in
+      ap (λ m. said_after m 0 (drop n s)) e
+]
+
+-- one item more is told
+item_said : (at : ℕ) (s : List ℕ) (what : ItemKind) (more : Payload) → Says s (Ok what) →
+    said at s (ruling_of s) more ≡ record { items = record { at = at; what = what } ∷ more.items; refused = more.refused }
+item_said at s (Route raw) more h = rw (h.0, h.1) refl
+item_said at s (Skipped skip) more h = rw h refl
+
+pub item_told : (all : ℕ) (items : List Item) (s rest : List ℕ) (what : ItemKind) → 4 ≤ length s → length s ≤ all → 16 ≤ message_length s →
+    rest ≡ drop (padded (message_length s)) s → Says s (Ok what) →
+    with_items (items ++ record { at = all - length s; what = what } ∷ []) (said_from all rest) ≡ with_items items (said_from all s)
+item_told all items s rest what h within l r says =
+    let item : Item = record { at = all - length s; what = what } in
+    let more : Payload = said_from all rest in
+    let step : said_from all s ≡ record { items = item ∷ more.items; refused = more.refused } =
+    said-step (all - length s) s h l ∙ ap (λ p. said (all - length s) s (ruling_of s) p) (after_place all (padded (message_length s)) s within ∙ ap (said_from all) (sym r))
+    ∙ item_said (all - length s) s what more says in
+    ap (λ is. let p : Payload = record { items = is; refused = more.refused } in p) (append_assoc items (item ∷ []) more.items) ∙ sym (ap (with_items items) step)
+
+-- the refusal is told
+pub refusal_told : (all : ℕ) (items : List Item) (s : List ℕ) (cause : ℕ) → 4 ≤ length s → Says s (Err cause) →
+    record { items = items; refused = Some (record { at = all - length s; cause = cause }) } ≡ with_items items (said_from all s)
+refusal_told all items s cause h e =
+    rw (said-refused (all - length s) s cause h e, append-nil) refl
+
+-- nothing more is told
+pub end_told : (all : ℕ) (items : List Item) (s : List ℕ) → length s < 4 → record { items = items; refused = None } ≡ with_items items (said_from all s)
+end_told all items s h = rw (said-end (all - length s) s h, append-nil) refl

@@ -1,0 +1,15 @@
+use Rattle.std.proofs.Common.{All, ◌≡◌, ◌≤◌, length}
+use Rattle.dn_model.specs.Payload.{payload_of, IsSayable}
+use Rattle.rt_netlink.specs.Read.{with_items, said_from}
+use Rattle.rt_netlink.proofs.read.read_payload.Given as goal
+
+-- the items so far, and then what is said from here on, are what the payload says
+abbrev pub invariant-loop-rest : goal.invariant-loop-rest
+invariant-loop-rest l = record {
+  within : length l.rest ≤ length l.fn.bytes;
+  told : with_items l.items (said_from (length l.fn.bytes) l.rest) ≡ payload_of l.fn.bytes;
+  sayable : All (λ item. IsSayable item.what) l.items;
+}
+
+abbrev pub decreases-loop-rest : goal.decreases-loop-rest
+decreases-loop-rest l = length l.rest

@@ -1,0 +1,19 @@
+//! Netlink's messages of routes: what the payload of a frame says, and the message of a route.
+//!
+//! Source: rtnetlink(7), netlink(7), RFC 3549, linux/rtnetlink.h. What is refused and what is skipped is the
+//! project's own profile.
+#![tactic(auto)]
+
+mod attributes;
+mod message;
+mod numbers;
+mod read;
+mod ruling;
+mod write;
+
+pub use dn_model::{Item, ItemKind, Payload, RawRoute, Refused, RouteKind, Skip};
+pub use read::read_payload;
+pub use write::write_route;
+
+#[cfg(test)]
+mod tests;

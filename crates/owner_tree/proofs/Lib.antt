@@ -1,0 +1,5 @@
+pub mod Best
+pub mod Order
+pub mod Rules
+pub mod Top
+pub mod Updates

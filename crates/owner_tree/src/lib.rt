@@ -1,0 +1,11 @@
+//! The rules of one router at one atom, of which the one in force goes before all others: the longest prefix, then the
+//! least metric (the owners of Delta-net, NSDI 2017).
+#![tactic(auto)]
+
+mod owners;
+mod rule;
+#[cfg(test)]
+mod tests;
+
+pub use owners::Owners;
+pub use rule::Rule;

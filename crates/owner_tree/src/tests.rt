@@ -1,0 +1,47 @@
+//! A small set, whose answers were worked out by hand.
+
+use super::{Owners, Rule};
+use dn_model::{OutOfMemory, Target};
+use std::alloc::Global;
+use std::test::Fail;
+
+/// A set crosses to another thread.
+fn crosses<T: Send + Sync>(_value: &T) {}
+
+fn rule(len: u8, metric: u32) -> Rule {
+    Rule {
+        len,
+        metric,
+        target: Target::Exit(metric),
+    }
+}
+
+fn three_rules(alloc: Global) -> Result<Owners, OutOfMemory> {
+    let mut owners = Owners::new(alloc);
+    owners.insert(rule(8, 20))?;
+    owners.insert(rule(16, 30))?;
+    owners.insert(rule(16, 7))?;
+    crosses(&owners);
+    Ok(owners)
+}
+
+#[test]
+fn the_least_metric_of_the_longest_prefix_is_in_force(rt: HostRuntime) -> Result<(), Fail> {
+    let mut owners = three_rules(rt.alloc())?;
+    let before = owners.copy()?;
+    assert_eq!(rt; owners.top(), Some(rule(16, 7)));
+    assert!(rt; owners.remove(16, 7));
+    assert_eq!(rt; owners.top(), Some(rule(16, 30)));
+    assert!(rt; !owners.remove(16, 7));
+    assert_eq!(rt; before.top(), Some(rule(16, 7)));
+    Ok(())
+}
+
+#[test]
+fn the_newest_of_equal_lengths_is_not_in_force(rt: HostRuntime) -> Result<(), Fail> {
+    let mut owners = Owners::new(rt.alloc());
+    owners.insert(rule(24, 5))?;
+    owners.insert(rule(24, 20))?;
+    assert_eq!(rt; owners.top(), Some(rule(24, 5)));
+    Ok(())
+}

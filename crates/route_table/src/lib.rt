@@ -1,0 +1,10 @@
+//! One router's routing table: routes by prefix and metric (rtnetlink(7)), and the route of an address (longest
+//! prefix, then least metric: RFC 1812).
+#![tactic(auto)]
+
+mod key;
+mod table;
+#[cfg(test)]
+mod tests;
+
+pub use table::RouteTable;

@@ -8,13 +8,11 @@ Usage: bench/frames.py [N] [RUNS]      N frames (250,000) and runs of each feed 
 """
 
 import os
-import subprocess
 import sys
 import tempfile
-import time
 
-TOP = os.path.dirname(os.path.dirname(os.path.abspath(__file__)))
-PROGRAM = os.path.join(TOP, "crates", "query_cli", "out", "query_cli")
+from program import TOP, build, run
+
 EXAMPLE = os.path.join(TOP, "examples", "first-path")
 ENTRY = b"feed 1 r1 set 10.0.0.0/8 metric 20 to r2 by a\n"
 
@@ -26,33 +24,6 @@ def expected(count):
     return head, end
 
 
-def check(report, status, count):
-    """Stops where the report of `count` frames isn't the one that is due."""
-    head, end = expected(count)
-    size = os.path.getsize(report)
-    with open(report, "rb") as it:
-        first = it.read(len(head))
-        it.seek(max(0, size - len(end)))
-        last = it.read()
-    if status != 0 or first != head or last != end:
-        sys.exit(f"frames.py: a wrong report of {count} frames, status {status}")
-
-
-def run(folder, count):
-    """Runs the program on `count` frames; answers seconds on the clock, of the processor, and peak memory in bytes."""
-    words = [PROGRAM, "run", os.path.join(EXAMPLE, "topology.toml"), f"r1={folder}/{count}.fpm"]
-    words.append("@" + os.path.join(EXAMPLE, "script"))
-    report = os.path.join(folder, "report")
-    with open(report, "wb") as out:
-        start = time.monotonic()
-        child = subprocess.Popen(words, stdin=subprocess.DEVNULL, stdout=out)
-        _, status, used = os.wait4(child.pid, 0)
-        clock = time.monotonic() - start
-    child.returncode = os.waitstatus_to_exitcode(status)
-    check(report, child.returncode, count)
-    return clock, used.ru_utime + used.ru_stime, used.ru_maxrss * 1024
-
-
 def write_feed(folder, frame, count):
     with open(os.path.join(folder, f"{count}.fpm"), "wb") as out:
         for done in range(0, count, 10000):
@@ -61,7 +32,8 @@ def write_feed(folder, frame, count):
 
 def measure(folder, frame, count, runs):
     write_feed(folder, frame, count)
-    best = min(run(folder, count) for _ in range(runs))
+    words = [os.path.join(EXAMPLE, "topology.toml"), f"r1={folder}/{count}.fpm", "@" + os.path.join(EXAMPLE, "script")]
+    best = min(run(folder, words, *expected(count)) for _ in range(runs))
     os.remove(os.path.join(folder, f"{count}.fpm"))
     return best
 
@@ -69,23 +41,20 @@ def measure(folder, frame, count, runs):
 def main():
     n = int(sys.argv[1]) if len(sys.argv) > 1 else 250000
     runs = int(sys.argv[2]) if len(sys.argv) > 2 else 3
-    # Called without words the program refuses at once: this builds it where need be.
-    subprocess.run([os.path.join(TOP, "deltanet")], stdin=subprocess.DEVNULL, stdout=subprocess.DEVNULL)
-    if not os.access(PROGRAM, os.X_OK):
-        sys.exit("frames.py: the program isn't built")
+    build()
     with open(os.path.join(EXAMPLE, "r1.fpm"), "rb") as it:
         frame = it.read()
     rows = []
     with tempfile.TemporaryDirectory() as folder:
         for count in (n, 2 * n, 4 * n):
             clock, processor, peak = measure(folder, frame, count, runs)
-            rows.append((count, clock, processor, peak))
+            rows.append((clock, peak))
             print(
                 f"{count} frames: {clock:.3f} s, {processor:.3f} s of the processor, "
                 f"{clock / count * 1e6:.3f} us a frame, peak {peak / 2**20:.1f} MiB, {peak / count:.0f} bytes a frame",
                 flush=True,
             )
-    (_, first, _, low), (_, _, _, _), (_, last, _, high) = rows
+    (first, low), (last, high) = rows[0], rows[-1]
     print(f"time of a frame at {4 * n} over that at {n}: {last / 4 / first:.2f}")
     print(f"peak memory at {4 * n} over that at {n}: {high / low:.2f}")
 

@@ -1,288 +1,230 @@
--- How what was taken and told goes on by a line.
-use Rattle.std.proofs.Common.{◌≡◌, ℕ, suc, ◌+◌, ◌<◌, ◌≤◌, Bool, true, false, ◌==◌, Result, Ok, Err, OnOk, List, [], ◌∷◌, ◌++◌, length, map, filter, fold, take, All, Option, None, Some, refl, ap, sym, ◌∙◌, arith, subst, append_assoc, eq-eqb, if◌then◌else◌}
-use Rattle.std.proofs.lemmas.Grind.{common_steps}
-use Rattle.std.proofs.lemmas.List.{append-nil, take_all}
-use Rattle.std.proofs.Math.Seq.{take-append_seam}
-use Rattle.std.proofs.lemmas.List.{map-append, length-append}
+-- How what a script's job has taken and told goes on by a line.
+use Rattle.std.proofs.Common.{◌≡◌, ℕ, suc, ◌+◌, ◌<◌, ◌≤◌, Bool, true, false, ◌==◌, nat_lt, cond, if◌then◌else◌, Result, Ok, Err, OnOk, List, [], ◌∷◌, ◌++◌, length, get_or, map, filter, fold, take, All, Option, None, Some, refl, ap, sym, ◌∙◌, arith, subst, append_assoc}
+use Rattle.std.specs.List.{AllZip, flat_map, position, position_or_len}
+use Rattle.std.proofs.lemmas.List.{append-nil, length-append, length-map, map-append}
+use Rattle.std.proofs.Math.Seq.{get_or-append_seam}
+use Rattle.std.proofs.lemmas.List.Elements.{All-nil, All-cons, All-same}
 use Rattle.std.proofs.lemmas.List.Sums.{fold-append}
-use Rattle.std.proofs.lemmas.List.Elements.{All-cons, All-nil}
-use Rattle.std.proofs.lemmas.List.{length-map}
-use Rattle.dn_model.specs.Answer.{unknown_of, IsAnswer}
-use Rattle.dn_model.specs.Lawful.{Tells, IsOutcome, HoldsWhatWasTaken, asked, asked_by, both_counts, front_of, taken, pin_after, is_from}
+use Rattle.std.proofs.lemmas.List.Quantifiers.{position-Some}
+use Rattle.std.proofs.lemmas.Bool.{eqb-true, ltb-false}
+use Rattle.dn_model.specs.Lawful.{Tells, asked, asked_by, both_counts, taken_by, taken_along, takes, pin_after}
 use Rattle.dn_model.specs.Steps.{FrameStep, FeedRead, updates, entries_by, entries_of}
 use Rattle.dn_model.specs.Table.{TablesOf}
-use Rattle.dn_model.specs.declared.ids.RouterId.{RouterId}
 use Rattle.dn_model.specs.declared.entry.Entry.{Entry}
-use Rattle.dn_model.specs.declared.entry.Op.{Op}
 use Rattle.dn_model.specs.declared.entry.Posted.{Posted}
 use Rattle.dn_model.specs.declared.entry.Route.{Route}
+use Rattle.dn_model.specs.declared.ids.RouterId.{RouterId}
 use Rattle.dn_model.specs.declared.query.Query.{Query}
 use Rattle.dn_model.specs.declared.script.Line.{Line}
 use Rattle.dn_model.specs.declared.script.Line.TheVariants as line
 use Rattle.dn_model.specs.declared.topology.Topology.{Topology}
 use Rattle.dn_model.specs.declared.told.FeedEnd.{FeedEnd}
-use Rattle.dn_model.specs.declared.told.Outcome.{Outcome}
-use Rattle.dn_model.specs.declared.told.Outcome.TheVariants.{Answered, Unknown}
 use Rattle.dn_model.specs.declared.told.Told.{Told}
-use Rattle.dn_run.specs.FeedReader.{Reader}
-use Rattle.dn_run.specs.Network.{entries, HasTaken, IsCount, TakesSome}
-use Rattle.dn_run.specs.Moves.{Moves}
-use Rattle.dn_run.specs.declared.network.Network.{Network}
-use Rattle.dn_run.specs.Tracks.{IsLater, last_pin, feed_with, TellsWhatever, Tracks, IsOutcomeNow, Adds}
-use Rattle.dn_run.proofs.NetworkLemmas.{updates-append, entries_by-append}
+use Rattle.route_feed.specs.FeedReader.{Reader}
+use Rattle.dn_run.specs.Network.{entries, IsCount}
+use Rattle.dn_run.specs.Tracks.{Strand, GoesOn, Stands, AreApart, Woven, Tracks, Whatever, TakesFeed, TakesFrom, TakesAt, TakesOf, reads, last_pin, IsOutcomeNow, Adds}
+use Rattle.dn_run.proofs.StrandLemmas.{All-unmap, eqb-back, Parts, all-parts, all-joined, all-through, ZipParts, zip-parts, nows, grown, Others, apart-others, woven-took, goes-back, go-back, Grows, grows}
+use Rattle.dn_run.proofs.TellLemmas.{Tells-take, Tells-ask, asked-push, count-zero, count-more, taken-is, length-entries, pin-now, outcome-whatever}
+use Rattle.dn_run.proofs.OrderLemmas.{taken_along-push, none-taken, one-alone, taken_by-own}
 
--- ---- what is told goes on by a line
+-- as many steps were taken as these lines ask for
+abbrev pub Counted : {S : Type 0} → List Line → Strand S → Type 0
+Counted before s = IsCount (asked s.now.told.router before) (length s.steps) s.now.told.end
 
-pub Tells-take : (t : Topology) (h : List Entry) (feeds : List FeedRead) (before : List Line) (last : ℕ) (lines : List Line) (tolds : List Told)
-    (l : ℕ) (r : RouterId) (count : Option ℕ) →
-    Tells t h feeds before last lines tolds → Tells t h feeds before last (lines ++ line.Take l r count ∷ []) tolds
-Tells-take t h feeds before last [] [] l r count told = tt
-Tells-take t h feeds before last [] (x ∷ xs) l r count told = told
-Tells-take t h feeds before last (line.Take m s c ∷ lines) tolds l r count told = Tells-take t h feeds (before ++ line.Take m s c ∷ []) last lines tolds l r count told
-Tells-take t h feeds before last (line.Ask m q ∷ lines) [] l r count told = told
-Tells-take t h feeds before last (line.Ask m q ∷ lines) (x ∷ xs) l r count told =
-    (told.0, told.1, told.2, Tells-take t h feeds (before ++ line.Ask m q ∷ []) (pin_after last x.outcome) lines xs l r count told.3)
+-- a line that names another router asks for none
+pub counted-other : {S : Type 0} (before : List Line) (l : Line) (s : Strand S) → asked_by s.now.told.router l ≡ Some 0 → Counted before s → Counted (before ++ l ∷ []) s
+counted-other before l s none is =
+    subst (λ (c : Option ℕ). IsCount c (length s.steps) s.now.told.end) (sym (asked-push s.now.told.router before l ∙ ap (both_counts (asked s.now.told.router before)) none))
+    (count-zero (asked s.now.told.router before) (length s.steps) s.now.told.end is)
 
--- the last pin, from one on
-pin_along : ℕ → List Told → ℕ
-pin_along last tolds = fold (λ p told. pin_after p told.outcome) last tolds
+-- a feed's router isn't the one that a line names
+pub other-takes : {S : Type 0} (mid s : Strand S) (f : FeedRead) (l : ℕ) (r : RouterId) (count : Option ℕ) → (mid.now.told.router.0 == r.0) ≡ true → AreApart mid s → GoesOn s f →
+    takes f.router (line.Take l r count) ≡ false
+other-takes mid s f l r count this apart g =
+    ap (λ q. r.0 == q.0) g.router ∙ ap (λ n. n == s.now.told.router.0) (sym (eqb-true mid.now.told.router.0 r.0 this)) ∙ apart.router
 
-pub Tells-ask : (t : Topology) (h : List Entry) (feeds : List FeedRead) (before : List Line) (last : ℕ) (lines : List Line) (tolds : List Told)
-    (l : ℕ) (q : Query) (told : Told) → told.line ≡ l → told.query ≡ q →
-    IsOutcome t h feeds (before ++ lines) (fold (λ p told. pin_after p told.outcome) last tolds) q told.outcome →
-    Tells t h feeds before last lines tolds → Tells t h feeds before last (lines ++ line.Ask l q ∷ []) (tolds ++ told ∷ [])
-Tells-ask t h feeds before last [] [] l q told is-line is-query good rest =
-    (is-line, is-query, subst (λ b. IsOutcome t h feeds b last q told.outcome) (append-nil before) good, tt)
-Tells-ask t h feeds before last [] (x ∷ xs) l q told is-line is-query good rest = absurd rest
-Tells-ask t h feeds before last (line.Take m s c ∷ lines) tolds l q told is-line is-query good rest =
-    Tells-ask t h feeds (before ++ line.Take m s c ∷ []) last lines tolds l q told is-line is-query
-    (subst (λ b. IsOutcome t h feeds b (fold (λ p told. pin_after p told.outcome) last tolds) q told.outcome) (sym (append_assoc before (line.Take m s c ∷ []) lines)) good) rest
-Tells-ask t h feeds before last (line.Ask m p ∷ lines) [] l q told is-line is-query good rest = absurd rest
-Tells-ask t h feeds before last (line.Ask m p ∷ lines) (x ∷ xs) l q told is-line is-query good rest = (
-  rest.0,
-  rest.1,
-  rest.2,
-  Tells-ask t h feeds (before ++ line.Ask m p ∷ []) (pin_after last x.outcome) lines xs l q told is-line is-query
-      (subst (λ b. IsOutcome t h feeds b (fold (λ p told. pin_after p told.outcome) (pin_after last x.outcome) xs) q told.outcome) (sym (append_assoc before (line.Ask m p ∷ []) lines)) good) rest.3,
-)
+other-asked : {S : Type 0} (mid s : Strand S) (l : ℕ) (r : RouterId) (count : Option ℕ) → (mid.now.told.router.0 == r.0) ≡ true → AreApart mid s →
+    asked_by s.now.told.router (line.Take l r count) ≡ Some 0
+other-asked mid s l r count this apart =
+    let other : (r.0 == s.now.told.router.0) ≡ false = ap (λ n. n == s.now.told.router.0) (sym (eqb-true mid.now.told.router.0 r.0 this)) ∙ apart.router in
+    rw other refl
 
--- ---- lengths
+-- what the line took of the feed that it names
+counted-own : {S : Type 0} (t : Topology) (left : S → Option (List ℕ)) (faults : S → ℕ) (h h' : List Entry) (before : List Line) (mid : Strand S) (new : Reader S) (l : ℕ) (r : RouterId) (count : Option ℕ) →
+    (mid.now.told.router.0 == r.0) ≡ true → (x : TakesFeed count t left faults mid.now new h h') → Counted before mid → Counted (before ++ line.Take l r count ∷ []) (grown mid new x.took.more)
+counted-own t left faults h h' before mid new l r count this x is =
+    let own : (r.0 == mid.now.told.router.0) ≡ true = ap (λ n. n == mid.now.told.router.0) (sym (eqb-true mid.now.told.router.0 r.0 this)) ∙ ap (λ n. mid.now.told.router.0 == n) (eqb-true mid.now.told.router.0 r.0 this) ∙ this in
+    let by : asked_by mid.now.told.router (line.Take l r count) ≡ count = rw own refl in
+    let asked-now : asked new.told.router (before ++ line.Take l r count ∷ []) ≡ both_counts (asked mid.now.told.router before) count =
+    ap (λ q. asked q (before ++ line.Take l r count ∷ [])) x.router ∙ asked-push mid.now.told.router before (line.Take l r count) ∙ ap (both_counts (asked mid.now.told.router before)) by in
+    subst (λ (c : Option ℕ). IsCount c (length (mid.steps ++ x.took.more)) new.told.end) (sym asked-now)
+    (count-more (asked mid.now.told.router before) count mid.steps x.took.more mid.now.told.end new.told.end is x.took.as_counted x.took.adds.later x.ended)
 
-length-entries : (history : List Posted) → length (entries history) ≡ length history
-length-entries [] = refl
-length-entries (p ∷ ps) = ap suc (length-entries ps)
+-- ---- a line that takes frames of a feed
 
-length-entries_by : (n : ℕ) (r : RouterId) (ops : List Op) → length (entries_by n r ops) ≡ length ops
-length-entries_by n r [] = refl
-length-entries_by n r (x ∷ xs) = ap suc (length-entries_by n r xs)
+took-order : {S : Type 0} (t : Topology) (left : S → Option (List ℕ)) (faults : S → ℕ) (h h' : List Entry) (before : List Line)
+    (front : List (Strand S)) (mid : Strand S) (back : List (Strand S)) (new : Reader S) (l : ℕ) (r : RouterId) (count : Option ℕ) (fs : List FeedRead) →
+    (mid.now.told.router.0 == r.0) ≡ true → (x : TakesFeed count t left faults mid.now new h h') → Counted before mid → Others front mid back →
+    AllZip GoesOn (front ++ grown mid new x.took.more ∷ back) fs → h ≡ taken_along fs [] before → h' ≡ taken_along fs [] (before ++ line.Take l r count ∷ [])
+took-order t left faults h h' before front mid back new l r count fs this x counted others zip order =
+    let a : Line = line.Take l r count in
+    let more : List FrameStep = x.took.more in
+    let es : List Entry = entries_by mid.now.told.feed_no mid.now.told.router (updates more) in
+    let z : ZipParts GoesOn front (grown mid new more) back fs = zip-parts GoesOn front (grown mid new more) back fs zip in
+    let g : GoesOn mid z.y = goes-back mid new more z.y x.feed_no x.router x.took.adds.later x.ended z.mid_zip in
+    let own : taken_by before a z.y ≡ es =
+    taken_by-own before a z.y mid.steps more (taken-is mid z.y before g counted)
+    (taken-is (grown mid new more) z.y (before ++ a ∷ []) z.mid_zip (counted-own t left faults h h' before mid new l r count this x counted))
+    ∙ ap (λ n. entries_by n z.y.router (updates more)) g.feed_no ∙ ap (λ q. entries_by mid.now.told.feed_no q (updates more)) g.router in
+    let alone : flat_map (taken_by before a) (z.front_ys ++ z.y ∷ z.back_ys) ≡ es =
+    one-alone (taken_by before a) z.front_ys z.y z.back_ys es
+    (none-taken before a z.front_ys (all-through GoesOn (AreApart mid) (λ f. takes f.router a ≡ false) front z.front_ys (λ s f g p. other-takes mid s f l r count this p g) z.front_zip others.in_front))
+    own
+    (none-taken before a z.back_ys (all-through GoesOn (AreApart mid) (λ f. takes f.router a ≡ false) back z.back_ys (λ s f g p. other-takes mid s f l r count this p g) z.back_zip others.in_back)) in
+    x.took.adds.grows ∙ ap (λ y. y ++ es) order
+    ∙ ap (λ y. taken_along fs [] before ++ y) (sym (ap (flat_map (taken_by before a)) z.whole ∙ alone))
+    ∙ sym (taken_along-push fs [] before a)
 
-pub length-posted : (n : ℕ) (r : RouterId) (history : List Posted) (ops : List Op) → entries history ≡ entries_by n r ops → length history ≡ length ops
-length-posted n r history ops posted = sym (length-entries history) ∙ ap length posted ∙ length-entries_by n r ops
-
--- ---- counts
-
-pub asked-push : (r : RouterId) (before : List Line) (l : Line) → asked r (before ++ l ∷ []) ≡ both_counts (asked r before) (asked_by r l)
-asked-push r before l = simp (map-append, fold-append)
-
-count-zero : (c : Option ℕ) (len : ℕ) (end : Option FeedEnd) → IsCount c len end → IsCount (both_counts c (Some 0)) len end
-count-zero None len None is = is
-count-zero None len (Some e) is = tt
-count-zero (Some n) len None is = omega (arith, is)
-count-zero (Some n) len (Some e) is = omega (arith, is)
-
-count-ended : (c d : Option ℕ) (len : ℕ) (end : FeedEnd) → IsCount c len (Some end) → IsCount (both_counts c d) len (Some end)
-count-ended None d len end is = tt
-count-ended (Some n) None len end is = tt
-count-ended (Some n) (Some m) len end is = omega (arith, is)
-
-count-more : (c d : Option ℕ) (len more : ℕ) (end : Option FeedEnd) → IsCount c len None → IsCount d more end → IsCount (both_counts c d) (len + more) end
-count-more None d len more end is also = absurd is
-count-more (Some n) None len more None is also = also
-count-more (Some n) None len more (Some e) is also = tt
-count-more (Some n) (Some m) len more None is also = omega (arith, is, also)
-count-more (Some n) (Some m) len more (Some e) is also = omega (arith, is, also)
-
--- the frames that are asked for are those that were taken, whatever comes later
-pub front-taken : (c : Option ℕ) (steps later : List FrameStep) (end : Option FeedEnd) → IsCount c (length steps) end → IsLater end later → front_of c (steps ++ later) ≡ steps
-front-taken None steps later None is late = absurd is
-front-taken None steps later (Some e) is late = rw late (append-nil steps)
-front-taken (Some n) steps later None is late = subst (λ m. take m (steps ++ later) ≡ steps) is (take-append_seam steps later)
-front-taken (Some n) steps later (Some e) is late = rw (late, append-nil) (take_all n steps is)
-
--- ---- a line that takes none of this feed
-
-pub tracks-other : {S : Type 0} (t : Topology) (reader : Reader S) (left : Option (List ℕ)) (history : List Posted) (bytes : List ℕ) (before : List Line) (tolds : List Told)
-    (l : ℕ) (r : RouterId) (count : Option ℕ) → (r.0 == reader.told.router.0) ≡ false →
-    Tracks t reader left history bytes before tolds → Tracks t reader left history bytes (before ++ line.Take l r count ∷ []) tolds
-tracks-other t reader left history bytes before tolds l r count other tracks = record {
-  steps = tracks.steps;
-  taken = tracks.taken;
-  counted = rw (asked-push, other) (count-zero (asked reader.told.router before) (length tracks.steps) reader.told.end tracks.counted);
-  pinned = tracks.pinned;
-  told = λ later end late.
-      Tells-take t (entries history ++ entries_by reader.told.feed_no reader.told.router (updates later)) (feed_with reader (tracks.steps ++ later) end ∷ []) [] 0 before tolds l r count
-      (tracks.told later end late);
-}
-
--- ---- a line that takes frames
-
--- the entries of some steps, and of more
-pub split : (n : ℕ) (r : RouterId) (xs ys : List FrameStep) → entries_by n r (updates (xs ++ ys)) ≡ entries_by n r (updates xs) ++ entries_by n r (updates ys)
-split n r xs ys = ap (entries_by n r) (updates-append xs ys) ∙ entries_by-append n r (updates xs) (updates ys)
-
--- the history with more steps, and with what comes later
-grown : (n : ℕ) (r : RouterId) (history history' : List Entry) (steps more later : List FrameStep) →
-    history ≡ entries_by n r (updates steps) → history' ≡ entries_by n r (updates (steps ++ more)) →
-    history ++ entries_by n r (updates (more ++ later)) ≡ history' ++ entries_by n r (updates later)
-grown n r history history' steps more later is is' =
-    ap (λ x. history ++ x) (split n r more later)
-    ∙ sym (append_assoc history (entries_by n r (updates more)) (entries_by n r (updates later)))
-    ∙ ap (λ h. h ++ entries_by n r (updates later)) (ap (λ x. x ++ entries_by n r (updates more)) is ∙ sym (split n r steps more) ∙ sym is')
-
--- what was told holds still of the history with more steps
-told-more : {S : Type 0} (t : Topology) (old new : Reader S) (history history' : List Posted) (steps more : List FrameStep) (before : List Line) (tolds : List Told) →
-    new.told.feed_no ≡ old.told.feed_no → new.told.router ≡ old.told.router → old.told.end ≡ None →
-    entries history ≡ entries_by old.told.feed_no old.told.router (updates steps) →
-    entries history' ≡ entries_by new.told.feed_no new.told.router (updates (steps ++ more)) →
-    TellsWhatever t old history steps before tolds → TellsWhatever t new history' (steps ++ more) before tolds
-told-more t old new history history' steps more before tolds same-no same-router going was is told later end late =
-    let is' : entries history' ≡ entries_by old.told.feed_no old.told.router (updates (steps ++ more)) =
-    is ∙ ap (λ n. entries_by n new.told.router (updates (steps ++ more))) same-no ∙ ap (λ r. entries_by old.told.feed_no r (updates (steps ++ more))) same-router in
-    let whole : entries history ++ entries_by old.told.feed_no old.told.router (updates (more ++ later)) ≡ entries history' ++ entries_by new.told.feed_no new.told.router (updates later) =
-    grown old.told.feed_no old.told.router (entries history) (entries history') steps more later was is'
-    ∙ ap (λ n. entries history' ++ entries_by n old.told.router (updates later)) (sym same-no)
-    ∙ ap (λ r. entries history' ++ entries_by new.told.feed_no r (updates later)) (sym same-router) in
-    let feed : feed_with old (steps ++ (more ++ later)) end ≡ feed_with new ((steps ++ more) ++ later) end =
-    ap (λ ss. feed_with old ss end) (sym (append_assoc steps more later))
-    ∙ ap (λ n. record { feed_no = n; router = old.told.router; steps = (steps ++ more) ++ later; end = end }) (sym same-no)
-    ∙ ap (λ r. record { feed_no = new.told.feed_no; router = r; steps = (steps ++ more) ++ later; end = end }) (sym same-router) in
-    subst (λ (h : List Entry). Tells t h (feed_with new ((steps ++ more) ++ later) end ∷ []) [] 0 before tolds) whole
-    (subst (λ (f : FeedRead). Tells t (entries history ++ entries_by old.told.feed_no old.told.router (updates (more ++ later))) (f ∷ []) [] 0 before tolds) feed
-    (told (more ++ later) end (subst (λ (e : Option FeedEnd). IsLater e (more ++ later)) (sym going) tt)))
-
-pub tracks-take : {S : Type 0} (t : Topology) (old new : Reader S) (left left' : Option (List ℕ)) (history history' : List Posted) (bytes : List ℕ) (before : List Line) (tolds : List Told)
-    (l : ℕ) (r : RouterId) (count : Option ℕ) → (r.0 == old.told.router.0) ≡ true →
-    new.told.feed_no ≡ old.told.feed_no → new.told.router ≡ old.told.router → old.told.end ≡ None →
-    (tracks : Tracks t old left history bytes before tolds) → TakesSome count t new left' history' bytes tracks.steps →
-    Tracks t new left' history' bytes (before ++ line.Take l r count ∷ []) tolds
-tracks-take t old new left left' history history' bytes before tolds l r count this same-no same-router going tracks took =
-    let told' : TellsWhatever t new history' (tracks.steps ++ took.more) before tolds =
-    told-more t old new history history' tracks.steps took.more before tolds same-no same-router going tracks.taken.posted took.taken.posted tracks.told in
-    let counted-before : IsCount (asked old.told.router before) (length tracks.steps) None =
-    subst (λ (e : Option FeedEnd). IsCount (asked old.told.router before) (length tracks.steps) e) going tracks.counted in
-    let asked-now : asked new.told.router (before ++ line.Take l r count ∷ []) ≡ both_counts (asked old.told.router before) count =
-    ap (λ q. asked q (before ++ line.Take l r count ∷ [])) same-router ∙ asked-push old.told.router before (line.Take l r count)
-    ∙ ap (λ b. both_counts (asked old.told.router before) (if b then count else Some 0)) this in
+tracks-grown : {S : Type 0} (t : Topology) (left : S → Option (List ℕ)) (faults : S → ℕ) (olds news news' : List (Reader S)) (h h' : List Entry) (before : List Line) (tolds : List Told)
+    (front : List (Strand S)) (mid : Strand S) (back : List (Strand S)) (new : Reader S) (l : ℕ) (r : RouterId) (count : Option ℕ) →
+    (mid.now.told.router.0 == r.0) ≡ true → news' ≡ nows front ++ new ∷ nows back → TakesFeed count t left faults mid.now new h h' →
+    Woven t left faults olds news h (front ++ mid ∷ back) → All (Counted before) (front ++ mid ∷ back) → last_pin tolds ≤ length h →
+    ((feeds : List FeedRead) → AllZip GoesOn (front ++ mid ∷ back) feeds → Whatever t h before tolds feeds) →
+    Tracks t left faults olds news' h' (before ++ line.Take l r count ∷ []) tolds
+tracks-grown {S = S} t left faults olds news news' h h' before tolds front mid back new l r count this news-are x w counted pinned whatever =
+    let a : Line = line.Take l r count in
+    let more : List FrameStep = x.took.more in
+    let es : List Entry = entries_by mid.now.told.feed_no mid.now.told.router (updates more) in
+    let others : Others front mid back = apart-others front mid back w.apart in
+    let parts : Parts (Counted before) front mid back = all-parts (Counted before) front mid back counted in
     record {
-      steps = tracks.steps ++ took.more;
-      taken = took.taken;
-      counted = subst (λ (c : Option ℕ). IsCount c (length (tracks.steps ++ took.more)) new.told.end) (sym asked-now)
-          (subst (λ (n : ℕ). IsCount (both_counts (asked old.told.router before) count) n new.told.end) (sym (length-append tracks.steps took.more))
-          (count-more (asked old.told.router before) count (length tracks.steps) (length took.more) new.told.end counted-before took.as_counted));
-      pinned = omega (arith, tracks.pinned, length-posted old.told.feed_no old.told.router history (updates tracks.steps) tracks.taken.posted, length-posted new.told.feed_no new.told.router history' (updates (tracks.steps ++ took.more)) took.taken.posted, ap length (updates-append tracks.steps took.more), length-append (updates tracks.steps) (updates took.more));
-      told = λ later end late.
-          Tells-take t (entries history' ++ entries_by new.told.feed_no new.told.router (updates later)) (feed_with new ((tracks.steps ++ took.more) ++ later) end ∷ []) [] 0 before tolds l r count
-          (told' later end late);
+      strands = front ++ grown mid new more ∷ back;
+      woven = woven-took t left faults olds news news' h h' front mid back new more news-are x.feed_no x.router x.took.adds x.counts w;
+      counted = all-joined (Counted (before ++ a ∷ [])) front (grown mid new more) back
+          (λ k d i. counted-other before a (get_or front k d) (other-asked mid (get_or front k d) l r count this (others.in_front k d i)) (parts.front_all k d i))
+          (counted-own t left faults h h' before mid new l r count this x parts.mid_is)
+          (λ k d i. counted-other before a (get_or back k d) (other-asked mid (get_or back k d) l r count this (others.in_back k d i)) (parts.back_all k d i));
+      pinned = (let p : length h' ≡ length h + length es = ap length x.took.adds.grows ∙ length-append h es in omega arith);
+      whatever = λ fs zip.
+          let back-zip : AllZip GoesOn (front ++ mid ∷ back) fs = go-back front mid back new more fs x.feed_no x.router x.took.adds.later x.ended zip in
+          record {
+            order = took-order t left faults h h' before front mid back new l r count fs this x parts.mid_is others zip (whatever fs back-zip).order;
+            tells = λ later.
+                Tells-take t (h' ++ later) fs [] 0 before tolds l r count
+                (subst (λ (y : List Entry). Tells t y fs [] 0 before tolds) (sym (append_assoc h es later) ∙ ap (λ y. y ++ later) (sym x.took.adds.grows)) ((whatever fs back-zip).tells (es ++ later)));
+          };
     }
+
+-- the reader at the place that was found is of this router
+pub found-reads : {S : Type 0} (r : RouterId) (front : List (Strand S)) (mid : Strand S) (back : List (Strand S)) (news : List (Reader S)) (at : ℕ) →
+    nows (front ++ mid ∷ back) ≡ news → length front ≡ at → position (reads r) news ≡ Some at → (mid.now.told.router.0 == r.0) ≡ true
+found-reads {S = S} r front mid back news at is place found =
+    let there : get_or news at mid.now ≡ mid.now =
+    ap (λ n. get_or news n mid.now) (sym place) ∙ ap (λ (rs : List (Reader S)). get_or rs (length front) mid.now) (sym is ∙ map-append (λ s. s.now) front (mid ∷ back))
+    ∙ ap (λ n. get_or (nows front ++ mid.now ∷ nows back) n mid.now) (sym (length-map front (λ s. s.now))) ∙ get_or-append_seam (nows front) mid.now (nows back) mid.now in
+    ap (λ (q : Reader S). q.told.router.0 == r.0) (sym there) ∙ (position-Some (reads r) news at mid.now found).1
+
+-- no reader is of this router where no place was found
+cond-none : (b : Bool) (i : ℕ) → cond b (Some i) None ≡ None → b ≡ false
+cond-none true i e = cc
+cond-none false i e = refl
+
+all-past-by : {X : Type 0} (p : X → Bool) (x : X) (xs : List X) (b : Bool) → p x ≡ b → (length xs ≤ position_or_len p xs → All (λ x. p x ≡ false) xs) →
+    length (x ∷ xs) ≤ position_or_len p (x ∷ xs) → All (λ x. p x ≡ false) (x ∷ xs)
+all-past-by p x xs true e rest le = let bad : suc (length xs) ≤ 0 = rw e at le in grind (arith, bad)
+all-past-by p x xs false e rest le = let less : suc (length xs) ≤ 1 + position_or_len p xs = rw e at le in All-cons (λ x. p x ≡ false) x xs e (rest (omega (arith, less)))
+
+all-past : {X : Type 0} (p : X → Bool) (xs : List X) → length xs ≤ position_or_len p xs → All (λ x. p x ≡ false) xs
+all-past p [] le = All-nil (λ x. p x ≡ false)
+all-past p (x ∷ xs) le = all-past-by p x xs (p x) refl (all-past p xs) le
+
+pub none-reads : {X : Type 0} (p : X → Bool) (xs : List X) → position p xs ≡ None → All (λ x. p x ≡ false) xs
+none-reads p xs none = all-past p xs (ltb-false (position_or_len p xs) (length xs) (cond-none (nat_lt (position_or_len p xs) (length xs)) (position_or_len p xs) none))
+
+-- a line that takes frames of a router without a feed does nothing
+pub none-takes : {S : Type 0} (s : Strand S) (f : FeedRead) (l : ℕ) (r : RouterId) (count : Option ℕ) → (s.now.told.router.0 == r.0) ≡ false → GoesOn s f → takes f.router (line.Take l r count) ≡ false
+none-takes s f l r count other g = ap (λ q. r.0 == q.0) g.router ∙ eqb-back s.now.told.router.0 r.0 other
+
+tracks-same : {S : Type 0} (t : Topology) (left : S → Option (List ℕ)) (faults : S → ℕ) (olds news : List (Reader S)) (h : List Entry) (before : List Line) (tolds : List Told)
+    (l : ℕ) (r : RouterId) (count : Option ℕ) → All (λ x. reads r x ≡ false) news →
+    Tracks t left faults olds news h before tolds → Tracks t left faults olds news h (before ++ line.Take l r count ∷ []) tolds
+tracks-same {S = S} t left faults olds news h before tolds l r count others tracks =
+    let a : Line = line.Take l r count in
+    let apart : All (λ s. reads r s.now ≡ false) tracks.strands =
+    All-unmap (λ x. reads r x ≡ false) (λ s. s.now) tracks.strands (All-same (λ x. reads r x ≡ false) (nows tracks.strands) news tracks.woven.nows others) in
+    record {
+      strands = tracks.strands;
+      woven = tracks.woven;
+      counted = λ k d i. counted-other before a (get_or tracks.strands k d) (ap (λ b. if b then count else Some 0) (eqb-back (get_or tracks.strands k d).now.told.router.0 r.0 (apart k d i))) (tracks.counted k d i);
+      pinned = tracks.pinned;
+      whatever = λ fs zip.
+          let w : Whatever t h before tolds fs = tracks.whatever fs zip in
+          record {
+            order = w.order ∙ sym (append-nil (taken_along fs [] before))
+                ∙ ap (λ y. taken_along fs [] before ++ y) (sym (none-taken before a fs (all-through GoesOn (λ s. reads r s.now ≡ false) (λ f. takes f.router a ≡ false) tracks.strands fs (λ s f g p. none-takes s f l r count p g) zip apart)))
+                ∙ sym (taken_along-push fs [] before a);
+            tells = λ later. Tells-take t (h ++ later) fs [] 0 before tolds l r count (w.tells later);
+          };
+    }
+
+tracks-at : {S : Type 0} (t : Topology) (left : S → Option (List ℕ)) (faults : S → ℕ) (olds news news' : List (Reader S)) (h h' : List Entry) (before : List Line) (tolds : List Told)
+    (l : ℕ) (r : RouterId) (count : Option ℕ) (at : Option ℕ) → position (reads r) news ≡ at → TakesAt at count t left faults news news' h h' →
+    Tracks t left faults olds news h before tolds → Tracks t left faults olds news' h' (before ++ line.Take l r count ∷ []) tolds
+tracks-at {S = S} t left faults olds news news' h h' before tolds l r count None found x tracks =
+    subst (λ (rs : List (Reader S)). Tracks t left faults olds rs h' (before ++ line.Take l r count ∷ []) tolds) (sym x.0)
+    (subst (λ (es : List Entry). Tracks t left faults olds news es (before ++ line.Take l r count ∷ []) tolds) (sym x.1)
+    (tracks-same t left faults olds news h before tolds l r count (none-reads (reads r) news found) tracks))
+tracks-at {S = S} t left faults olds news news' h h' before tolds l r count (Some at) found x tracks =
+    let g : Grows at count t left faults tracks.strands news' h h' = grows at count t left faults tracks.strands news news' h h' tracks.woven.nows x in
+    let w : Woven t left faults olds news h (g.front ++ g.mid ∷ g.back) = subst (λ (ss : List (Strand S)). Woven t left faults olds news h ss) g.whole tracks.woven in
+    tracks-grown t left faults olds news news' h h' before tolds g.front g.mid g.back g.new l r count
+    (found-reads r g.front g.mid g.back news at w.nows g.place found) g.news_are g.step w
+    (subst (λ (ss : List (Strand S)). All (Counted before) ss) g.whole tracks.counted) tracks.pinned
+    (subst (λ (ss : List (Strand S)). (feeds : List FeedRead) → AllZip GoesOn ss feeds → Whatever t h before tolds feeds) g.whole tracks.whatever)
 
 -- ---- a line that asks
 
-pin-now : (t : Topology) (tables : List (List Route)) (number last : ℕ) (q : Query) (o : Outcome) → IsOutcomeNow t tables number q o → last ≤ number → pin_after last o ≤ number
-pin-now t tables number last q (Unknown u) is below = below
-pin-now t tables number last q (Answered n answer) is below = omega (arith, is.1)
-
-pub filter-own : (f : FeedRead) (ops : List Op) → filter (is_from f) (entries_of f ops) ≡ entries_of f ops
-filter-own f [] = refl
-filter-own f (x ∷ xs) = rw (eq-eqb f.feed_no f.feed_no refl) (ap (λ es. record { router = f.router; feed_no = f.feed_no; op = x } ∷ es) (filter-own f xs))
-
-outcome-whatever : (t : Topology) (tables : List (List Route)) (history more : List Entry) (f : FeedRead) (before : List Line) (last : ℕ) (q : Query) (o : Outcome) →
-    IsOutcomeNow t tables (length history) q o → TablesOf tables history → last ≤ length history →
-    filter (is_from f) history ≡ entries_of f (updates (taken before f)) →
-    IsOutcome t (history ++ more) (f ∷ []) before last q o
-outcome-whatever t tables history more f before last q (Unknown u) is of below holds = is
-outcome-whatever t tables history more f before last q (Answered n answer) is of below holds =
-    let seen : take n (history ++ more) ≡ history = ap (λ m. take m (history ++ more)) is.1 ∙ take-append_seam history more in (
-      is.0,
-      omega (arith, is.1, below),
-      omega (arith, is.1, length-append history more),
-      All-cons (λ f. filter (is_from f) (take n (history ++ more)) ≡ entries_of f (updates (taken before f))) f []
-          (ap (filter (is_from f)) seen ∙ holds) (All-nil (λ f. filter (is_from f) (take n (history ++ more)) ≡ entries_of f (updates (taken before f)))),
-      subst (λ (h : List Entry). IsAnswer t h q answer) (sym seen) (is.2 history of),
-    )
-
-pub tracks-ask : {S : Type 0} (t : Topology) (reader : Reader S) (left : Option (List ℕ)) (history : List Posted) (tables : List (List Route)) (bytes : List ℕ) (before : List Line) (tolds tolds' : List Told)
+tracks-ask : {S : Type 0} (t : Topology) (left : S → Option (List ℕ)) (faults : S → ℕ) (olds news : List (Reader S)) (history : List Posted) (tables : List (List Route)) (before : List Line) (tolds tolds' : List Told)
     (l : ℕ) (q : Query) → TablesOf tables (entries history) → Adds tolds tolds' l q (IsOutcomeNow t tables (length history) q) →
-    Tracks t reader left history bytes before tolds → Tracks t reader left history bytes (before ++ line.Ask l q ∷ []) tolds'
-tracks-ask t reader left history tables bytes before tolds tolds' l q of adds tracks =
-    let now : IsOutcomeNow t tables (length (entries history)) q adds.told.outcome =
-    subst (λ (n : ℕ). IsOutcomeNow t tables n q adds.told.outcome) (sym (length-entries history)) adds.good in
-    let pinned' : last_pin tolds ≤ length (entries history) = subst (λ (n : ℕ). last_pin tolds ≤ n) (sym (length-entries history)) tracks.pinned in
+    Tracks t left faults olds news (entries history) before tolds → Tracks t left faults olds news (entries history) (before ++ line.Ask l q ∷ []) tolds'
+tracks-ask {S = S} t left faults olds news history tables before tolds tolds' l q of adds tracks =
+    let h : List Entry = entries history in
+    let a : Line = line.Ask l q in
+    let now : IsOutcomeNow t tables (length h) q adds.told.outcome = subst (λ (n : ℕ). IsOutcomeNow t tables n q adds.told.outcome) (sym (length-entries history)) adds.good in
     record {
-      steps = tracks.steps;
-      taken = tracks.taken;
-      counted = subst (λ (c : Option ℕ). IsCount c (length tracks.steps) reader.told.end) (sym (asked-push reader.told.router before (line.Ask l q)))
-          (count-zero (asked reader.told.router before) (length tracks.steps) reader.told.end tracks.counted);
-      pinned = subst (λ (xs : List Told). last_pin xs ≤ length history) (sym adds.added)
-          (subst (λ (n : ℕ). n ≤ length history) (sym (fold-append (λ p told. pin_after p told.outcome) 0 tolds (adds.told ∷ [])))
-          (pin-now t tables (length history) (last_pin tolds) q adds.told.outcome adds.good tracks.pinned));
-      told = λ later end late.
-          let f : FeedRead = feed_with reader (tracks.steps ++ later) end in
-          subst (λ (xs : List Told). Tells t (entries history ++ entries_by reader.told.feed_no reader.told.router (updates later)) (f ∷ []) [] 0 (before ++ line.Ask l q ∷ []) xs) (sym adds.added)
-          (Tells-ask t (entries history ++ entries_by reader.told.feed_no reader.told.router (updates later)) (f ∷ []) [] 0 before tolds l q adds.told adds.line_is adds.query_is
-          (outcome-whatever t tables (entries history) (entries_by reader.told.feed_no reader.told.router (updates later)) f before (last_pin tolds) q adds.told.outcome now of pinned'
-          (ap (filter (is_from f)) tracks.taken.posted ∙ filter-own f (updates tracks.steps)
-          ∙ ap (λ ss. entries_of f (updates ss)) (sym (front-taken (asked reader.told.router before) tracks.steps later reader.told.end tracks.counted late))))
-          (tracks.told later end late));
+      strands = tracks.strands;
+      woven = tracks.woven;
+      counted = λ k d i. counted-other before a (get_or tracks.strands k d) refl (tracks.counted k d i);
+      pinned = subst (λ (xs : List Told). last_pin xs ≤ length h) (sym adds.added)
+          (subst (λ (n : ℕ). n ≤ length h) (sym (fold-append (λ p told. pin_after p told.outcome) 0 tolds (adds.told ∷ [])))
+          (pin-now t tables (length h) (last_pin tolds) q adds.told.outcome now tracks.pinned));
+      whatever = λ fs zip.
+          let w : Whatever t h before tolds fs = tracks.whatever fs zip in
+          record {
+            order = w.order ∙ sym (append-nil (taken_along fs [] before))
+                ∙ ap (λ y. taken_along fs [] before ++ y) (sym (none-taken before a fs (λ k d i. refl)))
+                ∙ sym (taken_along-push fs [] before a);
+            tells = λ later.
+                subst (λ (xs : List Told). Tells t (h ++ later) fs [] 0 (before ++ a ∷ []) xs) (sym adds.added)
+                (Tells-ask t (h ++ later) fs [] 0 before tolds l q adds.told adds.line_is adds.query_is
+                (outcome-whatever t left faults tables h later tracks.strands fs before (last_pin tolds) q adds.told.outcome now of tracks.pinned zip tracks.woven.each tracks.counted)
+                (w.tells later));
+          };
     }
 
 -- ---- the same of the result of a call
 
-pub tracks-asked : {S A E : Type 0} (result : Result A E) (t : Topology) (reader : Reader S) (left : Option (List ℕ)) (history : List Posted) (tables : List (List Route)) (tolds tolds' : List Told)
+pub tracks-took : {S A E : Type 0} (result : Result A E) (t : Topology) (left : S → Option (List ℕ)) (faults : S → ℕ) (news news' : List (Reader S)) (h h' : List Entry) (tolds : List Told)
+    (a : Line) (l : ℕ) (r : RouterId) (count : Option ℕ) → a ≡ line.Take l r count → OnOk result (TakesOf r count t left faults news news' h h') →
+    OnOk result ((olds : List (Reader S)) (before : List Line) → Tracks t left faults olds news h before tolds → Tracks t left faults olds news' h' (before ++ a ∷ []) tolds)
+tracks-took (Err e) t left faults news news' h h' tolds a l r count is x = tt
+tracks-took (Ok o) t left faults news news' h h' tolds a l r count is x = λ olds before tracks.
+    subst (λ (b : Line). Tracks t left faults olds news' h' (before ++ b ∷ []) tolds) (sym is)
+    (tracks-at t left faults olds news news' h h' before tolds l r count (position (reads r) news) refl x tracks)
+
+pub tracks-asked : {S A E : Type 0} (result : Result A E) (t : Topology) (left : S → Option (List ℕ)) (faults : S → ℕ) (news : List (Reader S)) (history : List Posted) (tables : List (List Route)) (tolds tolds' : List Told)
     (a : Line) (l : ℕ) (q : Query) → a ≡ line.Ask l q → TablesOf tables (entries history) → OnOk result (Adds tolds tolds' l q (IsOutcomeNow t tables (length history) q)) →
-    OnOk result ((bytes : List ℕ) (before : List Line) → Tracks t reader left history bytes before tolds → Tracks t reader left history bytes (before ++ a ∷ []) tolds')
-tracks-asked (Err e) t reader left history tables tolds tolds' a l q is of adds = tt
-tracks-asked (Ok x) t reader left history tables tolds tolds' a l q is of adds = λ bytes before tracks.
-    subst (λ (b : Line). Tracks t reader left history bytes (before ++ b ∷ []) tolds') (sym is) (tracks-ask t reader left history tables bytes before tolds tolds' l q of adds tracks)
-
--- past a feed's end a line takes nothing
-tracks-ended : {S : Type 0} (t : Topology) (reader : Reader S) (left : Option (List ℕ)) (history : List Posted) (bytes : List ℕ) (before : List Line) (tolds : List Told)
-    (l : ℕ) (r : RouterId) (count : Option ℕ) (end : FeedEnd) → reader.told.end ≡ Some end →
-    Tracks t reader left history bytes before tolds → Tracks t reader left history bytes (before ++ line.Take l r count ∷ []) tolds
-tracks-ended t reader left history bytes before tolds l r count end ended tracks =
-    let c : Option ℕ = asked reader.told.router before in
-    let d : Option ℕ = asked_by reader.told.router (line.Take l r count) in
-    record {
-      steps = tracks.steps;
-      taken = tracks.taken;
-      counted = subst (λ (b : Option ℕ). IsCount b (length tracks.steps) reader.told.end) (sym (asked-push reader.told.router before (line.Take l r count)))
-          (subst (λ (e : Option FeedEnd). IsCount (both_counts c d) (length tracks.steps) e) (sym ended)
-          (count-ended c d (length tracks.steps) end (subst (λ (e : Option FeedEnd). IsCount c (length tracks.steps) e) ended tracks.counted)));
-      pinned = tracks.pinned;
-      told = λ later end' late.
-          Tells-take t (entries history ++ entries_by reader.told.feed_no reader.told.router (updates later)) (feed_with reader (tracks.steps ++ later) end' ∷ []) [] 0 before tolds l r count
-          (tracks.told later end' late);
-    }
-
-tracks-took-by : {S : Type 0} (left : S → Option (List ℕ)) (place faults : S → ℕ) (t : Topology) (old new : Network S) (tolds : List Told)
-    (l : ℕ) (r : RouterId) (count : Option ℕ) (end : Option FeedEnd) → old.reader.told.end ≡ end → (r.0 == old.reader.told.router.0) ≡ true →
-    ((bytes : List ℕ) (steps : List FrameStep) → HasTaken t old.reader (left old.reader.source) old.history bytes steps → TakesSome count t new.reader (left new.reader.source) new.history bytes steps) →
-    Moves place faults old new →
-    (bytes : List ℕ) (before : List Line) → Tracks t old.reader (left old.reader.source) old.history bytes before tolds →
-    Tracks t new.reader (left new.reader.source) new.history bytes (before ++ line.Take l r count ∷ []) tolds
-tracks-took-by left place faults t old new tolds l r count None going this takes moves bytes before tracks =
-    tracks-take t old.reader new.reader (left old.reader.source) (left new.reader.source) old.history new.history bytes before tolds l r count this moves.feed.feed_no moves.feed.router going
-    tracks (takes bytes tracks.steps tracks.taken)
-tracks-took-by {S = S} left place faults t old new tolds l r count (Some e) ended this takes moves bytes before tracks =
-    subst (λ (n : Network S). Tracks t n.reader (left n.reader.source) n.history bytes (before ++ line.Take l r count ∷ []) tolds) (sym (moves.ended e ended))
-    (tracks-ended t old.reader (left old.reader.source) old.history bytes before tolds l r count e ended tracks)
-
-pub tracks-took : {S A E : Type 0} (left : S → Option (List ℕ)) (place faults : S → ℕ) (result : Result A E) (t : Topology) (old new : Network S) (tolds : List Told)
-    (a : Line) (l : ℕ) (r : RouterId) (count : Option ℕ) → a ≡ line.Take l r count → (r.0 == old.reader.told.router.0) ≡ true →
-    OnOk result ((bytes : List ℕ) (steps : List FrameStep) → HasTaken t old.reader (left old.reader.source) old.history bytes steps → TakesSome count t new.reader (left new.reader.source) new.history bytes steps) →
-    OnOk result (Moves place faults old new) →
-    OnOk result ((bytes : List ℕ) (before : List Line) → Tracks t old.reader (left old.reader.source) old.history bytes before tolds →
-    Tracks t new.reader (left new.reader.source) new.history bytes (before ++ a ∷ []) tolds)
-tracks-took left place faults (Err e) t old new tolds a l r count is this takes moves = tt
-tracks-took left place faults (Ok x) t old new tolds a l r count is this takes moves = λ bytes before tracks.
-    subst (λ (b : Line). Tracks t new.reader (left new.reader.source) new.history bytes (before ++ b ∷ []) tolds) (sym is)
-    (tracks-took-by left place faults t old new tolds l r count old.reader.told.end refl this takes moves bytes before tracks)
+    OnOk result ((olds : List (Reader S)) (before : List Line) → Tracks t left faults olds news (entries history) before tolds → Tracks t left faults olds news (entries history) (before ++ a ∷ []) tolds')
+tracks-asked (Err e) t left faults news history tables tolds tolds' a l q is of adds = tt
+tracks-asked (Ok o) t left faults news history tables tolds tolds' a l q is of adds = λ olds before tracks.
+    subst (λ (b : Line). Tracks t left faults olds news (entries history) (before ++ b ∷ []) tolds') (sym is) (tracks-ask t left faults olds news history tables before tolds tolds' l q of adds tracks)

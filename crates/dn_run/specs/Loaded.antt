@@ -1,42 +1,52 @@
 -- What became of a topology or a script that was to be read from a file.
-use Rattle.std.specs.Prelude.{◌≡◌, ℕ, List, [], ◌∷◌, Option, IfSome, IsSomeAnd, Result, Ok, IsErr, All}
-use Rattle.dn_run.specs.Tracks.{IsShort}
-use Rattle.dn_io.specs.Calls.{Call}
+use Rattle.std.specs.Prelude.{◌≡◌, ◌+◌, ℕ, List, [], ◌∷◌, ◌++◌, Option, IfSome, IsSomeAnd, Result, Ok, Err, All, false}
+use Rattle.dn_io.specs.Calls.{Call, Back, call_of}
 use Rattle.dn_io.specs.Files.{Files, bytes_of}
 use Rattle.dn_model.specs.TopologyText.{topology_of, parts}
-use Rattle.dn_model.specs.ScriptText.{script_of}
+use Rattle.dn_model.specs.ScriptText.{ScriptFault, script_of, IsShort}
 use Rattle.dn_model.specs.declared.ids.RouterId.{RouterId}
 use Rattle.dn_model.specs.declared.script.Script.{Script}
+use Rattle.dn_model.specs.declared.error_line.ErrorLine.{ErrorLine}
+use Rattle.dn_model.specs.declared.error_line.ErrorLine.TheVariants as errors
 use Rattle.dn_model.specs.declared.topology.Topology.{Topology}
-use Rattle.dn_run.specs.Opened.{WasRead, WasFault}
+use Rattle.dn_model.specs.declared.topology_fault.TopoFault.{TopoFault}
+use Rattle.dn_run.specs.Opened.{text_limit, IsReadFront, WasFault}
 use Rattle.dn_run.specs.declared.load.Loaded.{Loaded}
 use Rattle.dn_run.specs.declared.load.Loaded.TheVariants.{Read, Refused, Failed}
 
--- what a text says of a topology; a text is read or refused
+-- what a text says of a topology; a text is read, or refused for its first fault
 abbrev pub SaysTopology : List ℕ → Loaded Topology → Type 0
 SaysTopology bytes (Read t) = topology_of bytes ≡ Ok (parts t)
-SaysTopology bytes Refused = IsErr (topology_of bytes)
+SaysTopology bytes (Refused line) = (fault : TopoFault) × (topology_of bytes ≡ Err fault) × (line ≡ errors.Topology fault)
 SaysTopology bytes Failed = ⊥
 
-abbrev pub SaysScript : Topology → RouterId → List ℕ → Loaded Script → Type 0
-SaysScript t feed bytes (Read script) = script_of t.routers (feed ∷ []) [] bytes ≡ Ok script.lines
-SaysScript t feed bytes Refused = IsErr (script_of t.routers (feed ∷ []) [] bytes)
-SaysScript t feed bytes Failed = ⊥
+-- the same of a script, which this part names, where these routers have feeds and earlier scripts take those
+abbrev pub SaysScript : Topology → List RouterId → List RouterId → ℕ → List ℕ → Loaded Script → Type 0
+SaysScript t routers taken part bytes (Read script) = script_of t.routers routers taken bytes ≡ Ok script.lines
+SaysScript t routers taken part bytes (Refused line) =
+    (fault : ScriptFault) × (script_of t.routers routers taken bytes ≡ Err fault) × (line ≡ errors.Script part fault.line fault.cause)
+SaysScript t routers taken part bytes Failed = ⊥
 
--- what a file came to: it was read whole, and its text says so; or it failed
+-- the file of this name was read and given back, and where the world tells it, this is said of its bytes
+abbrev pub LoadsBytes : Option Files → List Call → List ℕ → List Call → (List ℕ → Type 0) → Type 0
+LoadsBytes files old name new good =
+    (left : Option (List ℕ)) × (new ≡ old ++ call_of name (Back false left) ∷ [])
+    × IfSome files (λ fs. IsSomeAnd (bytes_of fs name) (λ bytes. IsReadFront bytes (text_limit + 1) left × good bytes))
+
+-- what a file came to: its text says so, or it failed
 abbrev pub Loads : {T : Type 0} → (List ℕ → Loaded T → Type 0) → Option Files → List Call → List ℕ → List Call → Loaded T → Type 0
-Loads says files old name new (Read x) = WasRead old name new × IfSome files (λ fs. IsSomeAnd (bytes_of fs name) (λ bytes. says bytes (Read x)))
-Loads says files old name new Refused = WasRead old name new × IfSome files (λ fs. IsSomeAnd (bytes_of fs name) (λ bytes. says bytes Refused))
-Loads says files old name new Failed = WasFault old name new
+Loads says files old name new (Read x) = LoadsBytes files old name new (λ bytes. says bytes (Read x))
+Loads says files old name new (Refused line) = LoadsBytes files old name new (λ bytes. says bytes (Refused line))
+Loads says files old name new Failed = WasFault files text_limit old name new
 
 abbrev pub LoadsTopology : Option Files → List Call → List ℕ → List Call → Loaded Topology → Type 0
 LoadsTopology = Loads SaysTopology
 
-abbrev pub LoadsScript : Topology → RouterId → Option Files → List Call → List ℕ → List Call → Loaded Script → Type 0
-LoadsScript t feed = Loads (SaysScript t feed)
+abbrev pub LoadsScript : Topology → List RouterId → List RouterId → ℕ → Option Files → List Call → List ℕ → List Call → Loaded Script → Type 0
+LoadsScript t routers taken part = Loads (SaysScript t routers taken part)
 
 -- the queries of a script that was read name few links
 abbrev pub IsShortScript : Loaded Script → Type 0
 IsShortScript (Read script) = All IsShort script.lines
-IsShortScript Refused = Unit {0}
+IsShortScript (Refused line) = Unit {0}
 IsShortScript Failed = Unit {0}

@@ -1,19 +1,14 @@
 -- What the words that were read say, and when words are refused.
-use Rattle.std.specs.Prelude.{◌≡◌, Option, None}
+use Rattle.std.specs.Prelude.{◌≡◌, Option, None, map}
 use Rattle.std.specs.String.{string_bytes}
-use Rattle.dn_model.specs.Words.{FeedWords, RunWords}
+use Rattle.dn_run.specs.CommandLine.{RunWords}
 use Rattle.dn_run.specs.declared.words.Command.{Command}
-use Rattle.dn_run.specs.declared.words.FeedPart.{FeedPart}
 use Rattle.dn_run.specs.declared.words.WordsRefused.{WordsRefused}
 use Rattle.dn_run.specs.declared.words.WordsRefused.TheVariants as refused
 
--- the texts of a feed
-abbrev pub feed_texts : FeedPart → FeedWords
-feed_texts f = record { router = f.router; file = string_bytes f.file }
-
 -- the texts of a command
 abbrev pub command_texts : Command → RunWords
-command_texts c = record { topology = string_bytes c.topology; feed = feed_texts c.feed; script = string_bytes c.script }
+command_texts c = record { topology = string_bytes c.topology; parts = map string_bytes c.parts.items }
 
 -- bad words mean nothing; want of memory says nothing of them
 abbrev pub AreRefused : {A : Type 0} → WordsRefused → Option A → Type 0

@@ -1,11 +1,9 @@
 //! Reading whole files of the outside.
 
-ghost use Rattle.std.specs.Prelude.{◌≡◌, ℕ, ◌+◌, ◌<◌, ◌≤◌, ◌^◌, ◌++◌, ◌∷◌, [], take, length, IfOk, OnOk, OnErr, IfSome, IsSomeAnd, vec_len};
+ghost use Rattle.std.specs.Prelude.{◌≡◌, ℕ, ◌+◌, ◌<◌, ◌≤◌, ◌^◌, ◌++◌, ◌∷◌, [], take, length, IfOk, OnOk, vec_len};
 ghost use Rattle.dn_io.specs.Told.{with_front, NothingLeft};
-ghost use Rattle.dn_io.specs.Files.{bytes_of};
-ghost use Rattle.dn_io.specs.Calls.{names_of};
 ghost use Rattle.dn_io.specs.Faults.{Rose};
-ghost use Rattle.dn_run.specs.Opened.{WasRead, IsReadTo, WasFault, MayNameOne};
+ghost use Rattle.dn_run.specs.Opened.{WasRead, IsReadTo, WasFault, MayNameOne, LeavesFront};
 ghost use Rattle.dn_run.specs.Refusals.{as_file_refused};
 ghost use Rattle.dn_run.specs.declared.files.FileRefused.TheVariants.{Failed as file_failed, OutOfMemory as file_memory};
 
@@ -49,6 +47,7 @@ fn append_piece<S: Source>(
     ensures end { IfOk result (λ n. n ≡ 0 → 0 < length piece.old → NothingLeft (S.left source.new)) }
     ensures count { OnOk result (S.faults source.new ≡ S.faults source.old) }
     ensures failed { result ≡ Err FileRefused.Failed → Rose (S.faults source.old) (S.faults source.new) }
+    ensures unread { result ≡ Err FileRefused.Failed → S.left source.new ≡ S.left source.old }
     ensures stays { S.place source.new ≡ S.place source.old }
 {
     let n = source.read(piece)?;
@@ -79,6 +78,7 @@ fn read_to_end<S: Source>(
     ensures within { IfOk result (λ bytes. length bytes.items ≤ limit + 1) }
     ensures count { OnOk result (S.faults source.new ≡ S.faults source.old) }
     ensures failed { result ≡ Err FileRefused.Failed → Rose (S.faults source.old) (S.faults source.new) }
+    ensures front { result ≡ Err FileRefused.Failed → LeavesFront limit (S.left source.old) (S.left source.new) }
     ensures stays { S.place source.new ≡ S.place source.old }
 {
     let mut bytes = Vec::new(alloc);
@@ -117,10 +117,8 @@ pub fn read_file<W: World>(
 ) -> Result<Vec<u8>, FileRefused>
     requires room { length (W.calls world.old) < 2 ^ 32 }
     requires small { limit < 2 ^ 32 }
-    ensures read { OnOk result (WasRead (W.calls world.old) name.now (W.calls world.new)) }
-    ensures bytes { IfOk result (λ bytes. IfSome (W.files world.old) (λ files.
-        IsSomeAnd (bytes_of files name.now) (λ all. bytes.items ≡ take (limit + 1) all))) }
-    ensures failed { result ≡ Err FileRefused.Failed → WasFault (W.calls world.old) name.now (W.calls world.new) }
+    ensures read { IfOk result (λ bytes. WasRead (W.files world.old) limit (W.calls world.old) name.now (W.calls world.new) bytes.items) }
+    ensures failed { result ≡ Err FileRefused.Failed → WasFault (W.files world.old) limit (W.calls world.old) name.now (W.calls world.new) }
     ensures memory { result ≡ Err FileRefused.OutOfMemory → MayNameOne (W.calls world.old) name.now (W.calls world.new) }
     ensures same_files { W.files world.new ≡ W.files world.old }
 {

@@ -1,199 +1,191 @@
-//! A job: the lines of a script, done in order.
+//! A script's job: its lines in order, and then the rest of the feeds that they name.
 
-ghost use Rattle.std.specs.Prelude.{◌≡◌, ℕ, ◌<◌, ◌≤◌, ◌++◌, ◌∷◌, [], List, length, All, IfOk, OnOk, OnErr, IsSome, None};
-ghost use Rattle.dn_model.specs.Table.{TablesOf};
-ghost use Rattle.dn_run.specs.Network.{entries, Fits, HasTaken};
-ghost use Rattle.dn_run.specs.Moves.{Moves};
+ghost use Rattle.std.specs.Prelude.{◌≡◌, ◌<◌, ◌==◌, [], ◌++◌, ◌∷◌, List, length, All, IfOk, OnOk, vec_len};
+ghost use Rattle.std.specs.List.{position};
 ghost use Rattle.dn_model.specs.declared.script.Line.{Line};
-ghost use Rattle.dn_run.specs.Tracks.{Tracks, IsOutcomeNow, IsShort, Adds, jobs_told, HasRun};
-ghost use Rattle.std.specs.List.{list_any};
-ghost use Rattle.dn_model.specs.Lawful.{takes};
+ghost use Rattle.dn_model.specs.declared.told.Told.{Told};
+ghost use Rattle.route_feed.specs.FeedReader.{Reader};
+ghost use Rattle.dn_run.specs.Network.{entries};
+ghost use Rattle.dn_run.specs.Tracks.{Ready, tags_of, reads, TakesFrom, TakesOf, Tracks, Rests, IsShort};
 
-use crate::answerer::answer;
-use crate::network::Network;
-use dn_io::{Gate, Point, Source};
-use dn_model::{
-    FeedTold, JobTold, Line, List, OutOfMemory, Outcome, Posted, Query, RouterId, Told, Topology,
-};
+use crate::ask::ask;
+use crate::take::{Book, take};
+use dn_io::{Gate, Source};
+use dn_model::{Line, List, OutOfMemory, RouterId, Told, Topology};
+use route_feed::FeedReader;
 use std::alloc::Global;
 
-/// The answer to a query over the history so far, whose length is its pin; or the query's first unknown name, without
-/// a pin.
-fn outcome<S: Source, G: Gate>(
-    alloc: Global,
-    topology: &Topology,
-    network: &Network<S>,
-    query: &Query,
-    gate: &G,
-    job: u32,
-) -> Result<Outcome, OutOfMemory>
-    requires few { length query.now.without ≤ 4096 }
-    requires tables { length network.now.tables ≡ length topology.now.routers }
-    requires fits { Fits network.now.reader network.now.history }
-    ensures { IfOk result (IsOutcomeNow topology.now network.now.tables (length network.now.history) query.now) }
+/// The place of the reader of this router's feed.
+fn place_of<S: Source>(readers: &[FeedReader<S>], router: RouterId) -> Option<usize>
+    ensures { result ≡ position (reads router) readers.now }
 {
-    if let Some(unknown) = query.unknown(topology) {
-        return Ok(Outcome::Unknown(unknown));
-    }
-    let number = network.history.len() as u32;
-    gate.at(job, Point::AfterPin);
-    let answer = answer(alloc, topology, &network.tables, query)?;
-    gate.at(job, Point::AfterAnswer);
-    Ok(Outcome::Answered { number, answer })
+    readers
+        .iter()
+        .position(|reader| reader.told().router == router)
 }
 
-/// Asks a query, and adds what is told of it.
-fn ask<S: Source, G: Gate>(
+/// Takes this many frames of the feed at a place, or without a count the rest of it.
+pub fn take_at<S: Source, G: Gate>(
     alloc: Global,
     topology: &Topology,
-    network: &Network<S>,
-    line: u32,
-    query: &Query,
-    told: &mut List<Told>,
+    readers: &mut Vec<FeedReader<S>>,
+    book: &mut Book,
+    at: usize,
+    count: Option<u32>,
     gate: &G,
     job: u32,
 ) -> Result<(), OutOfMemory>
-    requires few { length query.now.without ≤ 4096 }
-    requires tables { length network.now.tables ≡ length topology.now.routers }
-    requires fits { Fits network.now.reader network.now.history }
-    ensures { OnOk result (Adds told.old told.new line query.now (IsOutcomeNow topology.now network.now.tables (length network.now.history) query.now)) }
+    requires ready { Ready topology.now readers.old.items book.old }
+    requires place { at < length readers.old.items }
+    ensures ready { OnOk result (Ready topology.now readers.new.items book.new) }
+    ensures took { OnOk result (TakesFrom at count topology.now S.left S.faults readers.old.items readers.new.items (entries book.old.history) (entries book.new.history)) }
+    ensures same { tags_of S.place readers.new.items ≡ tags_of S.place readers.old.items }
 {
-    let outcome = outcome(alloc, topology, network, query, gate, job)?;
-    let query = query.copy(alloc)?;
-    told.push(Told {
-        line,
-        query,
-        outcome,
-    })
+    take(alloc, topology, &mut readers[at], book, count, gate, job)
 }
 
-/// Does a line: takes its frames, where it takes some of this feed, or asks its query.
+/// Takes frames of this router's feed, where one of the readers reads it.
+fn take_of<S: Source, G: Gate>(
+    alloc: Global,
+    topology: &Topology,
+    readers: &mut Vec<FeedReader<S>>,
+    book: &mut Book,
+    router: RouterId,
+    count: Option<u32>,
+    gate: &G,
+    job: u32,
+) -> Result<(), OutOfMemory>
+    requires ready { Ready topology.now readers.old.items book.old }
+    ensures ready { OnOk result (Ready topology.now readers.new.items book.new) }
+    ensures took { OnOk result (TakesOf router count topology.now S.left S.faults readers.old.items readers.new.items (entries book.old.history) (entries book.new.history)) }
+    ensures same { tags_of S.place readers.new.items ≡ tags_of S.place readers.old.items }
+{
+    match place_of(readers.as_slice(), router) {
+        Some(at) => take_at(alloc, topology, readers, book, at, count, gate, job),
+        None => Ok(()),
+    }
+}
+
+/// Does a line: takes its frames, or asks its query.
 fn do_line<S: Source, G: Gate>(
     alloc: Global,
     topology: &Topology,
-    network: &mut Network<S>,
+    readers: &mut Vec<FeedReader<S>>,
+    book: &mut Book,
     line: &Line,
     told: &mut List<Told>,
     gate: &G,
     job: u32,
 ) -> Result<(), OutOfMemory>
     requires short { IsShort line.now }
-    requires router { network.old.reader.told.router.0 < length topology.now.routers }
-    requires tables { length network.old.tables ≡ length topology.now.routers }
-    requires fits { Fits network.old.reader network.old.history }
-    requires of_history { TablesOf network.old.tables (entries network.old.history) }
-    ensures tracks { OnOk result ((bytes : List ℕ) (before : List Line) →
-        Tracks topology.now network.old.reader (S.left network.old.reader.source) network.old.history bytes before told.old →
-        Tracks topology.now network.new.reader (S.left network.new.reader.source) network.new.history bytes (before ++ line.now ∷ []) told.new) }
-    ensures moves { OnOk result (Moves S.place S.faults network.old network.new) }
-    ensures stays { S.place network.new.reader.source ≡ S.place network.old.reader.source }
+    requires ready { Ready topology.now readers.old.items book.old }
+    ensures ready { OnOk result (Ready topology.now readers.new.items book.new) }
+    ensures tracks { OnOk result ((olds : List (Reader S)) (before : List Line) →
+        Tracks topology.now S.left S.faults olds readers.old.items (entries book.old.history) before told.old →
+        Tracks topology.now S.left S.faults olds readers.new.items (entries book.new.history) (before ++ line.now ∷ []) told.new) }
+    ensures same { tags_of S.place readers.new.items ≡ tags_of S.place readers.old.items }
 {
     match line {
         Line::Take { router, count, .. } => {
-            if *router == network.reader.told().router {
-                network.take(alloc, topology, *count, gate, job)
-            } else {
-                Ok(())
-            }
+            take_of(alloc, topology, readers, book, *router, *count, gate, job)
         }
-        Line::Ask { line, query } => {
-            ask(alloc, topology, network, *line, query, told, gate, job)
-        }
+        Line::Ask { line, query } => ask(alloc, topology, book, *line, query, told, gate, job),
     }
 }
 
 /// Does the lines of a script, in order, and tells of each query.
-pub fn do_lines<S: Source, G: Gate>(
+fn do_lines<S: Source, G: Gate>(
     alloc: Global,
     topology: &Topology,
-    network: &mut Network<S>,
+    readers: &mut Vec<FeedReader<S>>,
+    book: &mut Book,
     lines: &[Line],
     gate: &G,
     job: u32,
 ) -> Result<List<Told>, OutOfMemory>
     requires short { All IsShort lines.now }
-    requires router { network.old.reader.told.router.0 < length topology.now.routers }
-    requires tables { length network.old.tables ≡ length topology.now.routers }
-    requires fits { Fits network.old.reader network.old.history }
-    requires of_history { TablesOf network.old.tables (entries network.old.history) }
-    ensures tracks { IfOk result (λ told. (bytes : List ℕ) →
-        Tracks topology.now network.old.reader (S.left network.old.reader.source) network.old.history bytes [] [] →
-        Tracks topology.now network.new.reader (S.left network.new.reader.source) network.new.history bytes lines.now told) }
-    ensures moves { OnOk result (Moves S.place S.faults network.old network.new) }
-    ensures stays { S.place network.new.reader.source ≡ S.place network.old.reader.source }
+    requires ready { Ready topology.now readers.old.items book.old }
+    ensures ready { OnOk result (Ready topology.now readers.new.items book.new) }
+    ensures tracks { IfOk result (λ told. (olds : List (Reader S)) →
+        Tracks topology.now S.left S.faults olds readers.old.items (entries book.old.history) [] [] →
+        Tracks topology.now S.left S.faults olds readers.new.items (entries book.new.history) lines.now told) }
+    ensures same { tags_of S.place readers.new.items ≡ tags_of S.place readers.old.items }
 {
     let mut told = List::new(alloc);
     for line in lines {
-        do_line(alloc, topology, network, line, &mut told, gate, job)?;
+        do_line(alloc, topology, readers, book, line, &mut told, gate, job)?;
     }
     Ok(told)
 }
 
-/// What a run told: the feed, the history, and its jobs.
-#[derive(Drop)]
-pub struct Done {
-    pub feed: FeedTold,
-    pub history: List<Posted>,
-    pub jobs: Vec<JobTold>,
-}
-
-/// Whether some line of a script takes frames of this router's feed.
-fn takes_feed(lines: &[Line], router: RouterId) -> bool
-    ensures { result ≡ list_any (takes router) lines.now }
-{
-    lines.iter().any(|line| is_take_of(line, router))
-}
-
-/// Whether a line takes frames of this router's feed.
-fn is_take_of(line: &Line, router: RouterId) -> bool
-    ensures { result ≡ takes router line.now }
-{
-    match line {
-        Line::Take { router: taken, .. } => *taken == router,
-        Line::Ask { .. } => false,
-    }
-}
-
-/// What is told of the jobs: of the script's, and of the feed's own where the script doesn't take it.
-fn tell_jobs(alloc: Global, told: List<Told>, is_taken: bool) -> Result<Vec<JobTold>, OutOfMemory>
-    ensures { IfOk result (λ jobs. jobs.items ≡ jobs_told told is_taken) }
-{
-    let mut jobs = Vec::new(alloc);
-    jobs.push(JobTold { number: 1, told })?;
-    if !is_taken {
-        jobs.push(JobTold {
-            number: 2,
-            told: List::new(alloc),
-        })?;
-    }
-    Ok(jobs)
-}
-
-/// Runs the jobs: the script's lines in order, and then the rest of the feed, as the script's job where it takes the
-/// feed and else as a job of its own.
-pub fn run_jobs<S: Source, G: Gate>(
+/// Takes the rest of the feed that a line names, if it names one.
+fn take_rest_of<S: Source, G: Gate>(
     alloc: Global,
     topology: &Topology,
-    network: &mut Network<S>,
+    readers: &mut Vec<FeedReader<S>>,
+    book: &mut Book,
+    line: &Line,
+    gate: &G,
+    job: u32,
+) -> Result<(), OutOfMemory>
+    requires ready { Ready topology.now readers.old.items book.old }
+    ensures ready { OnOk result (Ready topology.now readers.new.items book.new) }
+    ensures rests { OnOk result ((olds : List (Reader S)) (lines done : List Line) (told : List Told) →
+        Rests topology.now S.left S.faults olds readers.old.items (entries book.old.history) lines done told →
+        Rests topology.now S.left S.faults olds readers.new.items (entries book.new.history) lines (done ++ line.now ∷ []) told) }
+    ensures same { tags_of S.place readers.new.items ≡ tags_of S.place readers.old.items }
+{
+    match line {
+        Line::Take { router, .. } => {
+            take_of(alloc, topology, readers, book, *router, None, gate, job)
+        }
+        Line::Ask { .. } => Ok(()),
+    }
+}
+
+/// Takes the rest of the feeds that lines name, in the order in which they first name them.
+fn take_rests<S: Source, G: Gate>(
+    alloc: Global,
+    topology: &Topology,
+    readers: &mut Vec<FeedReader<S>>,
+    book: &mut Book,
     lines: &[Line],
     gate: &G,
-) -> Result<Vec<JobTold>, OutOfMemory>
-    requires short { All IsShort lines.now }
-    requires router { network.old.reader.told.router.0 < length topology.now.routers }
-    requires tables { length network.old.tables ≡ length topology.now.routers }
-    requires fits { Fits network.old.reader network.old.history }
-    requires of_history { TablesOf network.old.tables (entries network.old.history) }
-    requires fresh { network.old.reader.told.end ≡ None }
-    ensures ran { IfOk result (λ jobs. (bytes : List ℕ) →
-        HasTaken topology.now network.old.reader (S.left network.old.reader.source) network.old.history bytes [] →
-        HasRun topology.now network.new.reader (S.left network.new.reader.source) network.new.history bytes lines.now jobs.items) }
-    ensures ended { OnOk result (IsSome network.new.reader.told.end) }
-    ensures moves { OnOk result (Moves S.place S.faults network.old network.new) }
-    ensures stays { S.place network.new.reader.source ≡ S.place network.old.reader.source }
+    job: u32,
+) -> Result<(), OutOfMemory>
+    requires ready { Ready topology.now readers.old.items book.old }
+    ensures ready { OnOk result (Ready topology.now readers.new.items book.new) }
+    ensures rests { OnOk result ((olds : List (Reader S)) (all : List Line) (told : List Told) →
+        Rests topology.now S.left S.faults olds readers.old.items (entries book.old.history) all [] told →
+        Rests topology.now S.left S.faults olds readers.new.items (entries book.new.history) all lines.now told) }
+    ensures same { tags_of S.place readers.new.items ≡ tags_of S.place readers.old.items }
 {
-    let told = do_lines(alloc, topology, network, lines, gate, 1)?;
-    let is_taken = takes_feed(lines, network.reader.told().router);
-    let job = if is_taken { 1 } else { 2 };
-    network.take(alloc, topology, None, gate, job)?;
-    tell_jobs(alloc, told, is_taken)
+    for line in lines {
+        take_rest_of(alloc, topology, readers, book, line, gate, job)?;
+    }
+    Ok(())
+}
+
+/// Does a script's job: its lines in order, and then the rest of each feed that they name, in the order in which they
+/// first take it. Tells of each query.
+pub fn do_script<S: Source, G: Gate>(
+    alloc: Global,
+    topology: &Topology,
+    readers: &mut Vec<FeedReader<S>>,
+    book: &mut Book,
+    lines: &[Line],
+    gate: &G,
+    job: u32,
+) -> Result<List<Told>, OutOfMemory>
+    requires short { All IsShort lines.now }
+    requires ready { Ready topology.now readers.old.items book.old }
+    ensures ready { OnOk result (Ready topology.now readers.new.items book.new) }
+    ensures rests { IfOk result (λ told. (olds : List (Reader S)) →
+        Tracks topology.now S.left S.faults olds readers.old.items (entries book.old.history) [] [] →
+        Rests topology.now S.left S.faults olds readers.new.items (entries book.new.history) lines.now lines.now told) }
+    ensures same { tags_of S.place readers.new.items ≡ tags_of S.place readers.old.items }
+{
+    let told = do_lines(alloc, topology, readers, book, lines, gate, job)?;
+    take_rests(alloc, topology, readers, book, lines, gate, job)?;
+    Ok(told)
 }

@@ -1,37 +1,27 @@
-//! The whole run of the program: words, topology, script, feed, jobs, report.
+//! The whole run of the program: words, topology, scripts, feeds, jobs, report.
 #![tactic(auto)]
 
 mod answerer;
-mod decimal;
-mod feed_reader;
-mod feed_run;
-mod feed_step;
-#[cfg(test)]
-mod feed_tests;
+mod ask;
+mod feeds;
 mod files;
-mod frame_step;
-mod intake;
 mod job;
-mod load;
-mod message;
-mod network;
-mod program;
-mod report;
-mod report_jobs;
+mod jobs;
 #[cfg(test)]
-mod report_tests;
-mod report_writer;
+mod jobs_tests;
+mod load;
+mod parts;
+mod program;
+mod routers;
 mod ruling;
 #[cfg(test)]
 mod run_tests;
-mod script_line;
-mod script_text;
 mod status;
 mod tables;
 #[cfg(test)]
 mod tables_tests;
-mod text_cut;
-mod topology_text;
+mod take;
+mod untaken;
 mod words;
 
 pub use program::run;

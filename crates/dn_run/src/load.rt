@@ -1,15 +1,15 @@
-//! The topology and the script, read from their files.
+//! The topology and the scripts, read from their files.
 
 ghost use Rattle.std.specs.Prelude.{◌≡◌, ◌<◌, ◌^◌, length, IfOk, OnErr};
 ghost use Rattle.dn_run.specs.Opened.{MayNameOne};
 ghost use Rattle.dn_run.specs.Loaded.{LoadsTopology, SaysTopology, LoadsScript, SaysScript, IsShortScript};
 
 use crate::files::{FileRefused, read_file};
-use crate::script_text::{ScriptRefused, read_script};
-use crate::topology_text::read_topology;
 use dn_io::World;
-use dn_model::{OutOfMemory, RouterId, Script, TopoRefused, Topology};
+use dn_model::{ErrorLine, OutOfMemory, RouterId, Script, TopoRefused, Topology};
+use query_lang::{ScriptRefused, read_script};
 use std::alloc::Global;
+use topology::read_topology;
 
 /// At most this many bytes of a topology or a script are accepted; one more is read.
 const TEXT_LIMIT: usize = 16777216;
@@ -19,8 +19,8 @@ const TEXT_LIMIT: usize = 16777216;
 pub enum Loaded<T> {
     /// It says this.
     Read(T),
-    /// Its text is refused.
-    Refused,
+    /// Its text is refused, and this line tells its first fault.
+    Refused(ErrorLine),
     /// It could not be opened, or failed while it was read.
     Failed,
 }
@@ -31,7 +31,7 @@ fn topology_in(alloc: Global, bytes: &[u8]) -> Result<Loaded<Topology>, OutOfMem
 {
     match read_topology(alloc, bytes) {
         Ok(topology) => Ok(Loaded::Read(topology)),
-        Err(TopoRefused::Fault(_)) => Ok(Loaded::Refused),
+        Err(TopoRefused::Fault(fault)) => Ok(Loaded::Refused(ErrorLine::Topology(fault))),
         Err(TopoRefused::OutOfMemory) => Err(OutOfMemory),
     }
 }
@@ -54,39 +54,47 @@ pub fn load_topology<W: World>(
     }
 }
 
-/// The script that a text says, in a run with this one feed.
+/// The script that a text says, which this part names, in a run with feeds of these routers, some of which earlier
+/// scripts take.
 fn script_in(
     alloc: Global,
     bytes: &[u8],
     topology: &Topology,
-    feed: RouterId,
+    routers: &[RouterId],
+    taken: &[RouterId],
+    part: u32,
 ) -> Result<Loaded<Script>, OutOfMemory>
-    ensures says { IfOk result (SaysScript topology.now feed bytes.now) }
+    ensures says { IfOk result (SaysScript topology.now routers.now taken.now part bytes.now) }
     ensures short { IfOk result IsShortScript }
 {
-    match read_script(alloc, bytes, topology, &[feed], &[]) {
+    match read_script(alloc, bytes, topology, routers, taken) {
         Ok(script) => Ok(Loaded::Read(script)),
-        Err(ScriptRefused::Fault { .. }) => Ok(Loaded::Refused),
+        Err(ScriptRefused::Fault { line, cause }) => {
+            Ok(Loaded::Refused(ErrorLine::Script { part, line, cause }))
+        }
         Err(ScriptRefused::OutOfMemory) => Err(OutOfMemory),
     }
 }
 
-/// The script that a file says, in a run with this one feed.
+/// The script that a file says, which this part names, in a run with feeds of these routers, some of which earlier
+/// scripts take.
 pub fn load_script<W: World>(
     alloc: Global,
     name: &str,
+    part: u32,
     topology: &Topology,
-    feed: RouterId,
+    routers: &[RouterId],
+    taken: &[RouterId],
     world: &mut W,
 ) -> Result<Loaded<Script>, OutOfMemory>
     requires { length (W.calls world.old) < 2 ^ 32 }
     ensures short { IfOk result IsShortScript }
-    ensures loads { IfOk result (LoadsScript topology.now feed (W.files world.old) (W.calls world.old) name.now (W.calls world.new)) }
+    ensures loads { IfOk result (LoadsScript topology.now routers.now taken.now part (W.files world.old) (W.calls world.old) name.now (W.calls world.new)) }
     ensures memory { OnErr result (MayNameOne (W.calls world.old) name.now (W.calls world.new)) }
     ensures same_files { W.files world.new ≡ W.files world.old }
 {
     match read_file(alloc, world, name, TEXT_LIMIT) {
-        Ok(bytes) => script_in(alloc, bytes.as_slice(), topology, feed),
+        Ok(bytes) => script_in(alloc, bytes.as_slice(), topology, routers, taken, part),
         Err(FileRefused::Failed) => Ok(Loaded::Failed),
         Err(FileRefused::OutOfMemory) => Err(OutOfMemory),
     }

@@ -1,117 +1,201 @@
 //! The program: from the words of the command line to what was written.
 
-ghost use Rattle.std.specs.Prelude.{◌≡◌, ◌<◌, ◌+◌, ◌^◌, ◌++◌, ◌∷◌, [], ℕ, List, length, map, All, IfOk, OnErr, IfSome};
+ghost use Rattle.std.specs.Prelude.{◌≡◌, ◌<◌, ◌≤◌, ◌+◌, ◌^◌, ◌++◌, ◌∷◌, [], ℕ, List, length, map, All, IfOk, OnErr, IfSome, IsTrue};
+ghost use Rattle.std.specs.Option.{option_copied};
 ghost use Rattle.std.specs.String.{string_bytes};
 ghost use Rattle.dn_io.specs.Calls.{names_of};
 ghost use Rattle.dn_io.specs.Files.{Files};
-ghost use Rattle.dn_run.specs.Run.{FromWords, FromTopology, FromRouter, FromScript, FromFeed, IsWritten, IsFinished, status_of, names_due, names_of_words};
-ghost use Rattle.dn_run.specs.Tracks.{IsShort};
+ghost use Rattle.dn_model.specs.ScriptText.{IsShort};
+ghost use Rattle.dn_model.specs.Topology.{all_differ};
+ghost use Rattle.dn_run.specs.Jobs.{scripts_of, same_router};
+ghost use Rattle.dn_run.specs.PartsRead.{feed_texts, script_texts, parts_texts};
+ghost use Rattle.dn_run.specs.Run.{FromWords, FromParts, FromTopology, FromRouters, FromScripts, FromJobs, IsWritten, IsFinished, status_of, names_due, names_of_parts, names_of_words, names_of_command, feed_files, script_files, most_jobs, untaken, takes_router};
 ghost use Rattle.dn_run.specs.Stage.{Stage, Names, IsFrontOf, AnswersCalls, CountsWrites};
 ghost use Rattle.dn_run.specs.WordsRefused.{command_texts};
+ghost use Rattle.dn_model.specs.Words.{parts_of};
 
-use crate::feed_run::run_feed;
+use crate::feeds::from_feeds;
 use crate::load::{Loaded, load_script, load_topology};
-use crate::report_writer::write_report;
+use crate::parts::{FeedPart, PartsRefused, RunParts, ScriptPart, read_parts};
+use crate::routers::{RoutersRefused, find_routers};
 use crate::ruling::{Ruling, refusal};
 use crate::status::{Status, Verdict};
+use crate::untaken::has_too_many_jobs;
 use crate::words::{Command, WordsRefused, read_words};
-use dn_io::{Gate, Sink, World, WorldRefused};
-use dn_model::{ErrorLine, OutOfMemory, RouterId, Script, Topology, router};
+use dn_io::{Gate, Sink, World};
+use dn_model::{ErrorLine, OutOfMemory, RouterId, Script, Topology};
+use run_report::write_report;
 use std::alloc::Global;
 
-/// Opens the feed, runs the script over it, and gives it back.
-fn from_feed<W: World, G: Gate>(
+/// Counts the jobs, opens the feeds, of these routers, and runs the jobs over them.
+fn from_jobs<W: World, G: Gate>(
     alloc: Global,
-    command: &Command,
     topology: &Topology,
-    router: RouterId,
-    script: &Script,
+    routers: &[RouterId],
+    script: Option<&Script>,
+    feeds: &[FeedPart],
     world: &mut W,
     gate: &G,
 ) -> Result<Ruling, OutOfMemory>
-    requires room { length (W.calls world.old) < 2 ^ 32 }
-    requires router { router.0 < length topology.now.routers }
-    requires short { All IsShort script.now.lines }
-    ensures stage { IfOk result (λ ruling. Stage (W.calls world.old) (W.calls world.new) (string_bytes command.now.feed.file ∷ []) ruling.verdict (W.files world.old)
-        (λ files calls. FromFeed (command_texts command.now) files topology.now router script.now.lines calls ruling.verdict ruling.text.items)) }
-    ensures memory { OnErr result (Names (W.calls world.old) (W.calls world.new) (string_bytes command.now.feed.file ∷ [])) }
+    requires room { length (W.calls world.old) + length feeds.now ≤ 2 ^ 32 }
+    requires as_many { length routers.now ≡ length feeds.now }
+    requires few { length feeds.now ≤ 64 }
+    requires known { All (λ r. r.0 < length topology.now.routers) routers.now }
+    requires apart { IsTrue (all_differ same_router routers.now) }
+    requires short { All (All IsShort) (scripts_of (option_copied script)) }
+    ensures stage { IfOk result (λ ruling. Stage (W.calls world.old) (W.calls world.new) (feed_files (map feed_texts feeds.now)) ruling.verdict (W.files world.old)
+        (λ files calls. FromJobs files topology.now routers.now (scripts_of (option_copied script.entry)) (map feed_texts feeds.now) calls ruling.verdict ruling.text.items)) }
+    ensures memory { OnErr result (Names (W.calls world.old) (W.calls world.new) (feed_files (map feed_texts feeds.now))) }
 {
-    match world.source_of(command.feed.file.as_str()) {
-        Ok(source) => {
-            let (source, ruling) = run_feed(alloc, topology, router, script, source, gate);
-            world.give_back(source);
-            ruling
-        }
-        Err(WorldRefused::Failed) => refusal(
-            alloc,
-            Verdict::ReadFault,
-            ErrorLine::ReadPart { part: 1 },
-        ),
-        Err(WorldRefused::OutOfMemory) => Err(OutOfMemory),
+    if has_too_many_jobs(routers, script) {
+        return refusal(alloc, Verdict::BadWords, ErrorLine::TooManyJobs);
     }
+    let mut readers = Vec::new(alloc);
+    from_feeds(
+        alloc,
+        topology,
+        routers,
+        script,
+        feeds,
+        &mut readers,
+        world,
+        gate,
+    )
 }
 
-/// Reads the script, and goes on with it.
+/// Reads a script, and goes on with it.
 fn from_script<W: World, G: Gate>(
     alloc: Global,
-    command: &Command,
     topology: &Topology,
-    router: RouterId,
+    routers: &[RouterId],
+    part: &ScriptPart,
+    feeds: &[FeedPart],
     world: &mut W,
     gate: &G,
 ) -> Result<Ruling, OutOfMemory>
-    requires room { length (W.calls world.old) + 1 < 2 ^ 32 }
-    requires router { router.0 < length topology.now.routers }
-    ensures stage { IfOk result (λ ruling. Stage (W.calls world.old) (W.calls world.new) (string_bytes command.now.script ∷ string_bytes command.now.feed.file ∷ []) ruling.verdict (W.files world.old)
-        (λ files calls. FromScript (command_texts command.now) files topology.now router calls ruling.verdict ruling.text.items)) }
-    ensures memory { OnErr result (Names (W.calls world.old) (W.calls world.new) (string_bytes command.now.script ∷ string_bytes command.now.feed.file ∷ [])) }
+    requires room { length (W.calls world.old) + 1 + length feeds.now ≤ 2 ^ 32 }
+    requires as_many { length routers.now ≡ length feeds.now }
+    requires few { length feeds.now ≤ 64 }
+    requires known { All (λ r. r.0 < length topology.now.routers) routers.now }
+    requires apart { IsTrue (all_differ same_router routers.now) }
+    ensures stage { IfOk result (λ ruling. Stage (W.calls world.old) (W.calls world.new) (string_bytes part.now.file ∷ feed_files (map feed_texts feeds.now)) ruling.verdict (W.files world.old)
+        (λ files calls. FromScripts files topology.now routers.now [] (script_texts part.now ∷ []) (map feed_texts feeds.now) calls ruling.verdict ruling.text.items)) }
+    ensures memory { OnErr result (Names (W.calls world.old) (W.calls world.new) (string_bytes part.now.file ∷ feed_files (map feed_texts feeds.now))) }
 {
-    match load_script(alloc, command.script.as_str(), topology, router, world)? {
-        Loaded::Read(script) => from_feed(alloc, command, topology, router, &script, world, gate),
-        Loaded::Refused => refusal(alloc, Verdict::BadScript, ErrorLine::Script),
-        Loaded::Failed => refusal(alloc, Verdict::ReadFault, ErrorLine::ReadPart { part: 2 }),
+    match load_script(
+        alloc,
+        part.file.as_str(),
+        part.part,
+        topology,
+        routers,
+        &[],
+        world,
+    )? {
+        Loaded::Read(script) => from_jobs(
+            alloc,
+            topology,
+            routers,
+            Some(&script),
+            feeds,
+            world,
+            gate,
+        ),
+        Loaded::Refused(line) => refusal(alloc, Verdict::BadScript, line),
+        Loaded::Failed => refusal(
+            alloc,
+            Verdict::ReadFault,
+            ErrorLine::ReadPart { part: part.part },
+        ),
     }
 }
 
-/// Looks up the feed's router, and goes on with it.
-fn from_router<W: World, G: Gate>(
+/// Reads the script, where there is one, and goes on.
+fn from_scripts<W: World, G: Gate>(
     alloc: Global,
-    command: &Command,
     topology: &Topology,
+    routers: &[RouterId],
+    parts: &RunParts,
     world: &mut W,
     gate: &G,
 ) -> Result<Ruling, OutOfMemory>
-    requires room { length (W.calls world.old) + 1 < 2 ^ 32 }
-    ensures stage { IfOk result (λ ruling. Stage (W.calls world.old) (W.calls world.new) (string_bytes command.now.script ∷ string_bytes command.now.feed.file ∷ []) ruling.verdict (W.files world.old)
-        (λ files calls. FromRouter (command_texts command.now) files topology.now calls ruling.verdict ruling.text.items)) }
-    ensures memory { OnErr result (Names (W.calls world.old) (W.calls world.new) (string_bytes command.now.script ∷ string_bytes command.now.feed.file ∷ [])) }
+    requires room { length (W.calls world.old) + 1 + length parts.now.feeds.items ≤ 2 ^ 32 }
+    requires as_many { length routers.now ≡ length parts.now.feeds.items }
+    requires few { length parts.now.feeds.items ≤ 64 }
+    requires one { length parts.now.scripts.items ≤ 1 }
+    requires known { All (λ r. r.0 < length topology.now.routers) routers.now }
+    requires apart { IsTrue (all_differ same_router routers.now) }
+    ensures stage { IfOk result (λ ruling. Stage (W.calls world.old) (W.calls world.new) (script_files (parts_texts parts.now).scripts ++ feed_files (parts_texts parts.now).feeds) ruling.verdict (W.files world.old)
+        (λ files calls. FromScripts files topology.now routers.now [] (parts_texts parts.now).scripts (parts_texts parts.now).feeds calls ruling.verdict ruling.text.items)) }
+    ensures memory { OnErr result (Names (W.calls world.old) (W.calls world.new) (script_files (parts_texts parts.now).scripts ++ feed_files (parts_texts parts.now).feeds)) }
 {
-    match router(topology, &command.feed.router) {
-        Some(router) => from_script(alloc, command, topology, router, world, gate),
-        None => refusal(
-            alloc,
-            Verdict::BadWords,
-            ErrorLine::UnknownRouter { part: 1 },
-        ),
+    let feeds = parts.feeds.as_slice();
+    match parts.scripts.as_slice() {
+        [] => from_jobs(alloc, topology, routers, None, feeds, world, gate),
+        [script] => from_script(alloc, topology, routers, script, feeds, world, gate),
+        _ => unreachable!(),
+    }
+}
+
+/// Looks up the feeds' routers, and goes on with them.
+fn from_routers<W: World, G: Gate>(
+    alloc: Global,
+    topology: &Topology,
+    parts: &RunParts,
+    world: &mut W,
+    gate: &G,
+) -> Result<Ruling, OutOfMemory>
+    requires room { length (W.calls world.old) + 1 + length parts.now.feeds.items ≤ 2 ^ 32 }
+    requires few { length parts.now.feeds.items ≤ 64 }
+    requires one { length parts.now.scripts.items ≤ 1 }
+    ensures stage { IfOk result (λ ruling. Stage (W.calls world.old) (W.calls world.new) (script_files (parts_texts parts.now).scripts ++ feed_files (parts_texts parts.now).feeds) ruling.verdict (W.files world.old)
+        (λ files calls. FromRouters (parts_texts parts.now) files topology.now calls ruling.verdict ruling.text.items)) }
+    ensures memory { OnErr result (Names (W.calls world.old) (W.calls world.new) (script_files (parts_texts parts.now).scripts ++ feed_files (parts_texts parts.now).feeds)) }
+{
+    match find_routers(alloc, topology, parts.feeds.as_slice()) {
+        Ok(routers) => from_scripts(alloc, topology, routers.as_slice(), parts, world, gate),
+        Err(RoutersRefused::Line(line)) => refusal(alloc, Verdict::BadWords, line),
+        Err(RoutersRefused::OutOfMemory) => Err(OutOfMemory),
     }
 }
 
 /// Reads the topology, and goes on with it.
 fn from_topology<W: World, G: Gate>(
     alloc: Global,
+    topology: &str,
+    parts: &RunParts,
+    world: &mut W,
+    gate: &G,
+) -> Result<Ruling, OutOfMemory>
+    requires room { length (W.calls world.old) + 2 + length parts.now.feeds.items ≤ 2 ^ 32 }
+    requires few { length parts.now.feeds.items ≤ 64 }
+    requires one { length parts.now.scripts.items ≤ 1 }
+    ensures stage { IfOk result (λ ruling. Stage (W.calls world.old) (W.calls world.new) (names_due topology.now (parts_texts parts.now)) ruling.verdict (W.files world.old)
+        (λ files calls. FromTopology topology.now (parts_texts parts.now) files calls ruling.verdict ruling.text.items)) }
+    ensures memory { OnErr result (Names (W.calls world.old) (W.calls world.new) (names_due topology.now (parts_texts parts.now))) }
+{
+    match load_topology(alloc, topology, world)? {
+        Loaded::Read(topology) => from_routers(alloc, &topology, parts, world, gate),
+        Loaded::Refused(line) => refusal(alloc, Verdict::BadTopology, line),
+        Loaded::Failed => refusal(alloc, Verdict::ReadFault, ErrorLine::ReadTopology),
+    }
+}
+
+/// Reads the parts, and goes on with them.
+fn from_parts<W: World, G: Gate>(
+    alloc: Global,
     command: &Command,
     world: &mut W,
     gate: &G,
 ) -> Result<Ruling, OutOfMemory>
-    requires room { length (W.calls world.old) + 2 < 2 ^ 32 }
-    ensures stage { IfOk result (λ ruling. Stage (W.calls world.old) (W.calls world.new) (names_due (command_texts command.now)) ruling.verdict (W.files world.old)
-        (λ files calls. FromTopology (command_texts command.now) files calls ruling.verdict ruling.text.items)) }
-    ensures memory { OnErr result (Names (W.calls world.old) (W.calls world.new) (names_due (command_texts command.now))) }
+    requires fresh { W.calls world.old ≡ [] }
+    ensures stage { IfOk result (λ ruling. Stage [] (W.calls world.new) (names_of_parts (command_texts command.now).topology (parts_of (command_texts command.now).parts)) ruling.verdict (W.files world.old)
+        (λ files calls. FromParts (command_texts command.now) files calls ruling.verdict ruling.text.items)) }
+    ensures memory { OnErr result (Names [] (W.calls world.new) (names_of_parts (command_texts command.now).topology (parts_of (command_texts command.now).parts))) }
 {
-    match load_topology(alloc, command.topology.as_str(), world)? {
-        Loaded::Read(topology) => from_router(alloc, command, &topology, world, gate),
-        Loaded::Refused => refusal(alloc, Verdict::BadTopology, ErrorLine::Topology),
-        Loaded::Failed => refusal(alloc, Verdict::ReadFault, ErrorLine::ReadTopology),
+    match read_parts(alloc, command.parts.as_slice()) {
+        Ok(parts) => from_topology(alloc, command.topology.as_str(), &parts, world, gate),
+        Err(PartsRefused::Line(line)) => refusal(alloc, Verdict::BadWords, line),
+        Err(PartsRefused::OutOfMemory) => Err(OutOfMemory),
     }
 }
 
@@ -128,7 +212,7 @@ fn from_words<W: World, G: Gate>(
     ensures memory { OnErr result (Names [] (W.calls world.new) (names_of_words (map string_bytes words.now))) }
 {
     match read_words(alloc, words) {
-        Ok(command) => from_topology(alloc, &command, world, gate),
+        Ok(command) => from_parts(alloc, &command, world, gate),
         Err(WordsRefused::BadWords) => refusal(alloc, Verdict::BadWords, ErrorLine::Words),
         Err(WordsRefused::OutOfMemory) => Err(OutOfMemory),
     }
@@ -160,7 +244,7 @@ fn status_of(verdict: Verdict) -> Status
     }
 }
 
-/// Runs the program over the words of the command line, the program's name first: `run TOPOLOGY ROUTER=FEED @SCRIPT`.
+/// Runs the program over the words of the command line, the program's name first: `run TOPOLOGY [ROUTER=FEED | @SCRIPT]..`.
 /// Reads the files from the world, and writes one report, or one error line, to the sink.
 ///
 /// The world was asked for no name yet, and no write of the sink has failed yet.

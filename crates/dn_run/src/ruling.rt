@@ -1,13 +1,13 @@
 //! What a run comes to, with the text that it prints.
 
-ghost use Rattle.std.specs.Prelude.{◌≡◌, ◌∷◌, [], IfOk, Ok, IsOkAnd};
+ghost use Rattle.std.specs.Prelude.{◌≡◌, ◌&&◌, ◌==◌, length, IfOk};
 ghost use Rattle.dn_model.specs.Report.{error_text, report};
-ghost use Rattle.dn_run.specs.Network.{entries};
-ghost use Rattle.dn_run.specs.Run.{verdict_of, ended_well, is_faulted};
+ghost use Rattle.dn_model.specs.Entry.{entries};
+ghost use Rattle.dn_run.specs.Run.{verdict_of, ended_well, is_faulted, some_faulted, all_well};
 
-use crate::report::{error_line, report_text};
 use crate::status::Verdict;
 use dn_model::{ErrorLine, FeedEnd, FeedTold, JobTold, List, OutOfMemory, Posted, Topology};
+use run_report::{error_line, report_text};
 use std::alloc::Global;
 
 /// What a run comes to, and the text that is printed.
@@ -56,14 +56,35 @@ fn has_faulted(end: Option<FeedEnd>) -> bool
     }
 }
 
-/// What a run comes to whose feed told this.
-fn verdict(told: &FeedTold) -> Verdict
-    ensures { result ≡ verdict_of told.now }
+/// Whether reading some feed failed.
+fn has_fault(tolds: &[FeedTold]) -> bool
+    ensures { result ≡ some_faulted tolds.now }
 {
-    if has_faulted(told.end) {
+    tolds.iter().any(|told| has_faulted(told.end))
+}
+
+/// Whether a feed ended well, with no frame refused.
+fn is_well(told: &FeedTold) -> bool
+    ensures { result ≡ (ended_well told.now.end && (length told.now.refused == 0)) }
+{
+    has_ended_well(told.end) && told.refused.is_empty()
+}
+
+/// Whether every feed ended well, with no frame refused.
+fn are_well(tolds: &[FeedTold]) -> bool
+    ensures { result ≡ all_well tolds.now }
+{
+    tolds.iter().all(|told| is_well(told))
+}
+
+/// What a run comes to whose feeds told this.
+fn verdict(tolds: &[FeedTold]) -> Verdict
+    ensures { result ≡ verdict_of tolds.now }
+{
+    if has_fault(tolds) {
         return Verdict::ReadFault;
     }
-    if has_ended_well(told.end) && told.refused.is_empty() {
+    if are_well(tolds) {
         Verdict::Done
     } else {
         Verdict::Refusals
@@ -74,17 +95,16 @@ fn verdict(told: &FeedTold) -> Verdict
 pub fn reported(
     alloc: Global,
     topology: &Topology,
-    told: FeedTold,
+    feeds: &[FeedTold],
     history: &List<Posted>,
-    jobs: Result<Vec<JobTold>, OutOfMemory>,
+    jobs: &[JobTold],
 ) -> Result<Ruling, OutOfMemory>
-    ensures verdict { IfOk result (λ ruling. ruling.verdict ≡ verdict_of told) }
-    ensures text { IfOk result (λ ruling. IsOkAnd jobs (λ js. ruling.text.items ≡ report topology.now (told ∷ []) (entries history.now) js.items)) }
+    ensures verdict { IfOk result (λ ruling. ruling.verdict ≡ verdict_of feeds.now) }
+    ensures text { IfOk result (λ ruling. ruling.text.items ≡ report topology.now feeds.now (entries history.now) jobs.now) }
 {
-    let jobs = jobs?;
-    let verdict = verdict(&told);
-    let mut feeds = Vec::new(alloc);
-    feeds.push(told)?;
-    let text = report_text(alloc, topology, feeds.as_slice(), history, jobs.as_slice())?;
-    Ok(Ruling { verdict, text })
+    let text = report_text(alloc, topology, feeds, history, jobs)?;
+    Ok(Ruling {
+        verdict: verdict(feeds),
+        text,
+    })
 }

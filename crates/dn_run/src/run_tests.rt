@@ -1,6 +1,6 @@
 //! Whole runs over files in memory, against reports worked out by hand.
 
-ghost use Rattle.std.specs.Prelude.{◌≡◌, ◌≤◌, All, IfOk};
+ghost use Rattle.std.specs.Prelude.{◌≡◌, ◌≤◌, IfOk};
 
 use crate::program::run;
 use crate::status::Status;
@@ -8,10 +8,21 @@ use dn_io::{MemFile, MemSink, MemWorld, NoGate};
 use std::alloc::{AllocError, Global};
 use std::test::Fail;
 
-const TOPOLOGY: &str =
+/// Three routers in a ring: each has an edge at its interface 1, and links at 2 and 3.
+const RING: &str =
     "routers = [\"r1\", \"r2\", \"r3\"]\n[[link]]\nname = \"a\"\nends = [\"r1:2\", \"r2:2\"]\n[[link]]\nname = \"b\"\nends = [\"r2:3\", \"r3:2\"]\n[[link]]\nname = \"c\"\nends = [\"r3:3\", \"r1:3\"]\n[[edge]]\nat = \"r1:1\"\n[[edge]]\nat = \"r2:1\"\n[[edge]]\nat = \"r3:1\"\n";
 
-const SCRIPT: &str = "take r1 all\npath r1 10.1.2.3\n";
+/// The ring, but link `b` uses the end of link `a` at `r1` again.
+const END_TWICE: &str =
+    "routers = [\"r1\", \"r2\", \"r3\"]\n[[link]]\nname = \"a\"\nends = [\"r1:2\", \"r2:2\"]\n[[link]]\nname = \"b\"\nends = [\"r1:2\", \"r3:2\"]\n";
+
+const TAKE_ALL: &str = "take r1 all\npath r1 10.1.2.3\n";
+
+/// The words of a run with a feed of `r1` and a script.
+const USUAL: [&str; 5] = ["deltanet", "run", "topology", "r1=f1", "@script"];
+
+/// The words of a run with a feed of `r1` alone.
+const FEED_ALONE: [&str; 4] = ["deltanet", "run", "topology", "r1=f1"];
 
 /// A frame that sets 10.`second`.0.0 of this length over interface `oif`, with metric 20 and the gateway 192.0.2.1.
 fn set_frame(second: u8, len: u8, oif: u8) -> [u8; 64] {
@@ -21,6 +32,41 @@ fn set_frame(second: u8, len: u8, oif: u8) -> [u8; 64] {
         0, 8, 0, 6, 0, 20, 0, 0, 0,
     ]
 }
+
+/// A frame of two messages: one clears 10.0.0.0/8 with metric 20, and one sets it over interface 3.
+const MOVE_TO_3: [u8; 108] = [
+    1, 1, 0, 108, 44, 0, 0, 0, 25, 0, 1, 0, 0, 0, 0, 0, 0, 0, 0, 0, 2, 8, 0, 0, 254, 11, 0, 1, 0,
+    0, 0, 0, 8, 0, 1, 0, 10, 0, 0, 0, 8, 0, 6, 0, 20, 0, 0, 0, 60, 0, 0, 0, 24, 0, 1, 5, 0, 0, 0,
+    0, 0, 0, 0, 0, 2, 8, 0, 0, 254, 11, 0, 1, 0, 0, 0, 0, 8, 0, 1, 0, 10, 0, 0, 0, 8, 0, 5, 0, 192,
+    0, 2, 1, 8, 0, 4, 0, 3, 0, 0, 0, 8, 0, 6, 0, 20, 0, 0, 0,
+];
+
+/// A frame whose first message sets 10.0.0.0/8, and whose second says that it is 15 bytes long.
+const BAD_LENGTH: [u8; 80] = [
+    1, 1, 0, 80, 60, 0, 0, 0, 24, 0, 1, 5, 0, 0, 0, 0, 0, 0, 0, 0, 2, 8, 0, 0, 254, 11, 0, 1, 0, 0,
+    0, 0, 8, 0, 1, 0, 10, 0, 0, 0, 8, 0, 5, 0, 192, 0, 2, 1, 8, 0, 4, 0, 2, 0, 0, 0, 8, 0, 6, 0,
+    20, 0, 0, 0, 15, 0, 0, 0, 24, 0, 0, 0, 0, 0, 0, 0, 0, 0, 0, 0,
+];
+
+/// A frame that sets a multipath route, and then one with a message of IPv6.
+const MULTIPATH_AND_IPV6: [u8; 84] = [
+    1, 1, 0, 52, 48, 0, 0, 0, 24, 0, 1, 5, 0, 0, 0, 0, 0, 0, 0, 0, 2, 8, 0, 0, 254, 11, 0, 1, 0, 0,
+    0, 0, 8, 0, 1, 0, 10, 0, 0, 0, 12, 0, 9, 0, 8, 0, 0, 0, 2, 0, 0, 0, 1, 1, 0, 32, 28, 0, 0, 0,
+    24, 0, 1, 5, 0, 0, 0, 0, 0, 0, 0, 0, 10, 0, 0, 0, 254, 11, 0, 1, 0, 0, 0, 0,
+];
+
+/// A frame that sets 10.0.0.1 of length 8, so that a bit past the prefix is set.
+const HOST_BITS: [u8; 64] = [
+    1, 1, 0, 64, 60, 0, 0, 0, 24, 0, 1, 5, 0, 0, 0, 0, 0, 0, 0, 0, 2, 8, 0, 0, 254, 11, 0, 1, 0, 0,
+    0, 0, 8, 0, 1, 0, 10, 0, 0, 1, 8, 0, 5, 0, 192, 0, 2, 1, 8, 0, 4, 0, 2, 0, 0, 0, 8, 0, 6, 0,
+    20, 0, 0, 0,
+];
+
+/// A frame that clears 10.0.0.0/8 of any metric.
+const CLEAR: [u8; 40] = [
+    1, 1, 0, 40, 36, 0, 0, 0, 25, 0, 1, 0, 0, 0, 0, 0, 0, 0, 0, 0, 2, 8, 0, 0, 254, 11, 0, 1, 0, 0,
+    0, 0, 8, 0, 1, 0, 10, 0, 0, 0,
+];
 
 /// A file that gives `step` bytes at a time, of which these reads fail.
 fn file(
@@ -48,65 +94,122 @@ struct Came {
     written: Vec<u8>,
 }
 
-/// A run of these words over a topology, a feed and a script.
+/// What a run of these words comes to, over a topology, a script and the feeds `f1`, `f2` and `f3`.
 fn come(
     alloc: Global,
     words: &[&str],
     topology: MemFile,
-    feed: MemFile,
     script: MemFile,
+    feed: MemFile,
     mut sink: MemSink,
 ) -> Result<Came, AllocError>
     requires topology { 1 ≤ topology.step }
-    requires feed { 1 ≤ feed.step }
     requires script { 1 ≤ script.step }
+    requires feed { 1 ≤ feed.step }
     requires sink { sink.plan.faults ≡ 0 }
 {
     let mut texts = Vec::new(alloc);
     for word in words {
         texts.push(String::from_str(alloc, word)?)?;
     }
-    let files = Vec::from_array(alloc, [topology, feed, script])?;
+    let second = file(alloc, "f2", &set_frame(0, 8, 3), 4096, &[])?;
+    let third = file(alloc, "f3", &set_frame(0, 8, 1), 4096, &[])?;
+    let files = Vec::from_array(alloc, [topology, script, feed, second, third])?;
     let mut world = MemWorld::new(alloc, files, Vec::new(alloc));
     let status = run(alloc, texts.as_slice(), &mut world, &mut sink, &NoGate);
     let written = Vec::from_slice(alloc, sink.written())?;
     Ok(Came { status, written })
 }
 
-const WORDS: [&str; 5] = ["deltanet", "run", "topology", "r1=feed", "@script"];
+/// What a run of these words comes to, over these texts and this feed of `r1`.
+fn come_to(
+    alloc: Global,
+    words: &[&str],
+    topology: &str,
+    script: &str,
+    feed: &[u8],
+) -> Result<Came, AllocError> {
+    let topology = file(alloc, "topology", topology.as_bytes(), 4096, &[])?;
+    let script = file(alloc, "script", script.as_bytes(), 4096, &[])?;
+    let feed = file(alloc, "f1", feed, 4096, &[])?;
+    let sink = MemSink::new(alloc, 4096, Vec::new(alloc));
+    come(alloc, words, topology, script, feed, sink)
+}
 
-/// A run of the usual words over the usual topology, with this feed and script.
-fn come_with(alloc: Global, feed: MemFile, script: &str, sink: MemSink) -> Result<Came, AllocError>
+/// What a run of the usual words comes to, over the ring and this feed of `r1`, into this sink.
+fn come_into(alloc: Global, feed: MemFile, sink: MemSink) -> Result<Came, AllocError>
     requires feed { 1 ≤ feed.step }
     requires sink { sink.plan.faults ≡ 0 }
 {
-    let topology = file(alloc, "topology", TOPOLOGY.as_bytes(), 4096, &[])?;
-    let script = file(alloc, "script", script.as_bytes(), 4096, &[])?;
-    come(alloc, &WORDS, topology, feed, script, sink)
+    let topology = file(alloc, "topology", RING.as_bytes(), 4096, &[])?;
+    let script = file(alloc, "script", TAKE_ALL.as_bytes(), 4096, &[])?;
+    come(alloc, &USUAL, topology, script, feed, sink)
 }
 
-const FIRST_REPORT: &str =
+/// Whether a run came to this status and wrote this text.
+fn is_come(came: &Came, status: Status, text: &str) -> bool {
+    came.status == status && came.written.as_slice() == text.as_bytes()
+}
+
+const FIRST_PATH: &str =
     "feed 1 r1 updates 1 skipped 0 refused 0 end\nhistory 1\n1 feed 1 r1 set 10.0.0.0/8 metric 20 to r2 by a\njob 1\nline 2 at 1 path r1 10.1.2.3\nhops r1 r2\nend noroute\ndone\n";
 
 #[test]
-fn first_path(rt: HostRuntime) -> Result<(), Fail> {
+fn tells_of_a_path(rt: HostRuntime) -> Result<(), Fail> {
     let alloc = rt.alloc();
-    let feed = file(alloc, "feed", &set_frame(0, 8, 2), 4096, &[])?;
-    let sink = MemSink::new(alloc, 4096, Vec::new(alloc));
-    let came = come_with(alloc, feed, SCRIPT, sink)?;
+    let came = come_to(alloc, &USUAL, RING, TAKE_ALL, &set_frame(0, 8, 2))?;
     assert_eq!(rt; came.status, Status::Done);
-    assert_eq!(rt; came.written.as_slice(), FIRST_REPORT.as_bytes());
+    assert_eq!(rt; came.written.as_slice(), FIRST_PATH.as_bytes());
     Ok(())
 }
 
 #[test]
-fn byte_by_byte(rt: HostRuntime) -> Result<(), Fail> {
+fn tells_the_same_byte_by_byte(rt: HostRuntime) -> Result<(), Fail> {
     let alloc = rt.alloc();
-    let feed = file(alloc, "feed", &set_frame(0, 8, 2), 1, &[])?;
-    let sink = MemSink::new(alloc, 1, Vec::new(alloc));
-    let came = come_with(alloc, feed, SCRIPT, sink)?;
+    let feed = file(alloc, "f1", &set_frame(0, 8, 2), 1, &[])?;
+    let came = come_into(alloc, feed, MemSink::new(alloc, 1, Vec::new(alloc)))?;
     assert_eq!(rt; came.status, Status::Done);
-    assert_eq!(rt; came.written.as_slice(), FIRST_REPORT.as_bytes());
+    assert_eq!(rt; came.written.as_slice(), FIRST_PATH.as_bytes());
+    Ok(())
+}
+
+#[test]
+fn stops_where_the_sink_fails(rt: HostRuntime) -> Result<(), Fail> {
+    let alloc = rt.alloc();
+    let feed = file(alloc, "f1", &set_frame(0, 8, 2), 4096, &[])?;
+    let sink = MemSink::new(alloc, 16, Vec::from_slice(alloc, &[2])?);
+    let came = come_into(alloc, feed, sink)?;
+    assert_eq!(rt; came.status, Status::WriteFault);
+    assert_eq!(rt; came.written.as_slice(), b"feed 1 r1 update".as_slice());
+    Ok(())
+}
+
+#[test]
+fn a_feed_that_fails_ends_alone(rt: HostRuntime) -> Result<(), Fail> {
+    let alloc = rt.alloc();
+    let feed = file(alloc, "f1", &set_frame(0, 8, 2), 64, &[2])?;
+    let came = come_into(alloc, feed, MemSink::new(alloc, 4096, Vec::new(alloc)))?;
+    assert_eq!(rt; came.status, Status::ReadFault);
+    assert_eq!(rt;
+        came.written.as_slice(),
+        b"feed 1 r1 updates 1 skipped 0 refused 0 readfault\nhistory 1\n1 feed 1 r1 set 10.0.0.0/8 metric 20 to r2 by a\njob 1\nline 2 at 1 path r1 10.1.2.3\nhops r1 r2\nend noroute\ndone\n".as_slice()
+    );
+    Ok(())
+}
+
+#[test]
+fn a_topology_that_fails_is_told(rt: HostRuntime) -> Result<(), Fail> {
+    let alloc = rt.alloc();
+    let topology = file(alloc, "topology", RING.as_bytes(), 4096, &[1])?;
+    let script = file(alloc, "script", TAKE_ALL.as_bytes(), 4096, &[])?;
+    let feed = file(alloc, "f1", &set_frame(0, 8, 2), 4096, &[])?;
+    let sink = MemSink::new(alloc, 4096, Vec::new(alloc));
+    let came = come(alloc, &USUAL, topology, script, feed, sink)?;
+    assert_eq!(rt; came.status, Status::ReadFault);
+    assert_eq!(rt;
+        came.written.as_slice(),
+        b"error read topology\n".as_slice()
+    );
     Ok(())
 }
 
@@ -119,11 +222,15 @@ fn but_the_last(bytes: &[u8]) -> &[u8] {
 }
 
 #[test]
-fn cut_short(rt: HostRuntime) -> Result<(), Fail> {
+fn a_feed_is_cut_short(rt: HostRuntime) -> Result<(), Fail> {
     let alloc = rt.alloc();
-    let feed = file(alloc, "feed", but_the_last(&set_frame(0, 8, 2)), 4096, &[])?;
-    let sink = MemSink::new(alloc, 4096, Vec::new(alloc));
-    let came = come_with(alloc, feed, SCRIPT, sink)?;
+    let came = come_to(
+        alloc,
+        &USUAL,
+        RING,
+        TAKE_ALL,
+        but_the_last(&set_frame(0, 8, 2)),
+    )?;
     assert_eq!(rt; came.status, Status::Refusals);
     assert_eq!(rt;
         came.written.as_slice(),
@@ -132,132 +239,219 @@ fn cut_short(rt: HostRuntime) -> Result<(), Fail> {
     Ok(())
 }
 
+/// Asks the same path before the first take, between the takes, and after the last.
+const SCRIPT_BY_TURNS: &str =
+    "path r1 10.1.2.3\ntake r1 1\npath r1 10.1.2.3\ntake r1 all\npath r1 10.1.2.3\n";
+
 #[test]
 fn pins_hold_what_was_taken(rt: HostRuntime) -> Result<(), Fail> {
     let alloc = rt.alloc();
     let mut bytes = Vec::from_slice(alloc, &set_frame(0, 8, 2))?;
     bytes.extend_from_slice(&set_frame(1, 16, 3))?;
     bytes.extend_from_slice(&set_frame(2, 16, 3))?;
-    let feed = file(alloc, "feed", bytes.as_slice(), 4096, &[])?;
-    let sink = MemSink::new(alloc, 4096, Vec::new(alloc));
-    let script = "take r1 1\npath r1 10.1.2.3\ntake r1 all\npath r1 10.1.2.3\n";
-    let came = come_with(alloc, feed, script, sink)?;
+    let came = come_to(alloc, &USUAL, RING, SCRIPT_BY_TURNS, bytes.as_slice())?;
     assert_eq!(rt; came.status, Status::Done);
     assert_eq!(rt;
         came.written.as_slice(),
-        b"feed 1 r1 updates 3 skipped 0 refused 0 end\nhistory 3\n1 feed 1 r1 set 10.0.0.0/8 metric 20 to r2 by a\n2 feed 1 r1 set 10.1.0.0/16 metric 20 to r3 by c\n3 feed 1 r1 set 10.2.0.0/16 metric 20 to r3 by c\njob 1\nline 2 at 1 path r1 10.1.2.3\nhops r1 r2\nend noroute\nline 4 at 3 path r1 10.1.2.3\nhops r1 r3\nend noroute\ndone\n".as_slice()
+        b"feed 1 r1 updates 3 skipped 0 refused 0 end\nhistory 3\n1 feed 1 r1 set 10.0.0.0/8 metric 20 to r2 by a\n2 feed 1 r1 set 10.1.0.0/16 metric 20 to r3 by c\n3 feed 1 r1 set 10.2.0.0/16 metric 20 to r3 by c\njob 1\nline 1 at 0 path r1 10.1.2.3\nhops r1\nend noroute\nline 3 at 1 path r1 10.1.2.3\nhops r1 r2\nend noroute\nline 5 at 3 path r1 10.1.2.3\nhops r1 r3\nend noroute\ndone\n".as_slice()
     );
     Ok(())
 }
 
 #[test]
-fn failing_sink(rt: HostRuntime) -> Result<(), Fail> {
+fn a_frame_of_two_messages(rt: HostRuntime) -> Result<(), Fail> {
     let alloc = rt.alloc();
-    let feed = file(alloc, "feed", &set_frame(0, 8, 2), 4096, &[])?;
-    let sink = MemSink::new(alloc, 16, Vec::from_slice(alloc, &[2])?);
-    let came = come_with(alloc, feed, SCRIPT, sink)?;
-    assert_eq!(rt; came.status, Status::WriteFault);
-    assert_eq!(rt; came.written.as_slice(), b"feed 1 r1 update".as_slice());
-    Ok(())
-}
-
-#[test]
-fn failing_feed(rt: HostRuntime) -> Result<(), Fail> {
-    let alloc = rt.alloc();
-    let feed = file(alloc, "feed", &set_frame(0, 8, 2), 64, &[2])?;
-    let sink = MemSink::new(alloc, 4096, Vec::new(alloc));
-    let came = come_with(alloc, feed, SCRIPT, sink)?;
-    assert_eq!(rt; came.status, Status::ReadFault);
+    let mut bytes = Vec::from_slice(alloc, &set_frame(0, 8, 2))?;
+    bytes.extend_from_slice(&MOVE_TO_3)?;
+    let came = come_to(alloc, &FEED_ALONE, RING, "", bytes.as_slice())?;
+    assert_eq!(rt; came.status, Status::Done);
     assert_eq!(rt;
         came.written.as_slice(),
-        b"feed 1 r1 updates 1 skipped 0 refused 0 readfault\nhistory 1\n1 feed 1 r1 set 10.0.0.0/8 metric 20 to r2 by a\njob 1\nline 2 at 1 path r1 10.1.2.3\nhops r1 r2\nend noroute\ndone\n".as_slice()
+        b"feed 1 r1 updates 3 skipped 0 refused 0 end\nhistory 3\n1 feed 1 r1 set 10.0.0.0/8 metric 20 to r2 by a\n2 feed 1 r1 clear 10.0.0.0/8 metric 20\n3 feed 1 r1 set 10.0.0.0/8 metric 20 to r3 by c\njob 1\ndone\n".as_slice()
     );
     Ok(())
 }
 
 #[test]
-fn feed_that_no_script_takes(rt: HostRuntime) -> Result<(), Fail> {
+fn a_refused_frame_changes_nothing(rt: HostRuntime) -> Result<(), Fail> {
     let alloc = rt.alloc();
-    let feed = file(alloc, "feed", &[1, 2, 0, 4, 2], 4096, &[])?;
-    let sink = MemSink::new(alloc, 4096, Vec::new(alloc));
-    let came = come_with(alloc, feed, "path r9 10.0.0.1\n", sink)?;
+    let mut bytes = Vec::from_slice(alloc, &BAD_LENGTH)?;
+    bytes.extend_from_slice(&set_frame(0, 8, 2))?;
+    let came = come_to(alloc, &FEED_ALONE, RING, "", bytes.as_slice())?;
     assert_eq!(rt; came.status, Status::Refusals);
     assert_eq!(rt;
         came.written.as_slice(),
-        b"feed 1 r1 updates 0 skipped 0 refused 1 lost 4 BadVersion\nrefused offset 0 message 0 cause 0 Unread\nhistory 0\njob 1\nline 1 path r9 10.0.0.1\nunknown router r9\njob 2\ndone\n".as_slice()
+        b"feed 1 r1 updates 1 skipped 0 refused 1 end\nrefused offset 0 message 60 cause 1 BadLength\nhistory 1\n1 feed 1 r1 set 10.0.0.0/8 metric 20 to r2 by a\njob 1\ndone\n".as_slice()
     );
     Ok(())
 }
 
-/// The status and the text of a run of these words over these texts of a topology and a script, whose reads fail where
-/// the numbers say so.
-fn refused(
-    alloc: Global,
-    words: &[&str],
-    topology: &str,
-    topology_fails: &[u64],
-    script: &str,
-) -> Result<Came, AllocError> {
-    let topology = file(alloc, "topology", topology.as_bytes(), 4096, topology_fails)?;
-    let feed = file(alloc, "feed", &set_frame(0, 8, 2), 4096, &[])?;
-    let script = file(alloc, "script", script.as_bytes(), 4096, &[])?;
-    let sink = MemSink::new(alloc, 4096, Vec::new(alloc));
-    come(alloc, words, topology, feed, script, sink)
+#[test]
+fn feeds_without_updates(rt: HostRuntime) -> Result<(), Fail> {
+    let alloc = rt.alloc();
+    let no_interface = set_frame(0, 8, 9);
+    let cases: [(&[u8], Status, &str); 7] = [
+        (&[], Status::Done, "0 refused 0 end\n"),
+        (&[2], Status::Refusals, "0 refused 0 lost 0 BadVersion\n"),
+        (
+            &[1, 1, 0, 3],
+            Status::Refusals,
+            "0 refused 0 lost 0 BadFrameLength\n",
+        ),
+        (
+            &[1, 2, 0, 4, 1, 1, 0, 4],
+            Status::Refusals,
+            "0 refused 1 end\nrefused offset 0 message 0 cause 14 FrameType\n",
+        ),
+        (
+            &MULTIPATH_AND_IPV6,
+            Status::Refusals,
+            "1 refused 1 end\nrefused offset 0 message 0 cause 9 Multipath\n",
+        ),
+        (
+            &no_interface,
+            Status::Refusals,
+            "0 refused 1 end\nrefused offset 0 message 0 cause 13 UnknownInterface\n",
+        ),
+        (
+            &HOST_BITS,
+            Status::Refusals,
+            "0 refused 1 end\nrefused offset 0 message 0 cause 7 HostBits\n",
+        ),
+    ];
+    for (bytes, status, told) in cases {
+        let came = come_to(alloc, &FEED_ALONE, RING, "", bytes)?;
+        let text = format!(in alloc; "feed 1 r1 updates 0 skipped {told}history 0\njob 1\ndone\n")?;
+        assert_eq!(rt; came.status, status, "{told}");
+        assert_eq!(rt; came.written.as_slice(), text.as_bytes(), "{told}");
+    }
+    Ok(())
+}
+
+#[test]
+fn a_clear_of_empty_tables(rt: HostRuntime) -> Result<(), Fail> {
+    let alloc = rt.alloc();
+    let came = come_to(alloc, &USUAL, RING, TAKE_ALL, &CLEAR)?;
+    assert_eq!(rt; came.status, Status::Done);
+    assert_eq!(rt;
+        came.written.as_slice(),
+        b"feed 1 r1 updates 1 skipped 0 refused 0 end\nhistory 1\n1 feed 1 r1 clear 10.0.0.0/8\njob 1\nline 2 at 1 path r1 10.1.2.3\nhops r1\nend noroute\ndone\n".as_slice()
+    );
+    Ok(())
+}
+
+#[test]
+fn a_path_over_three_feeds(rt: HostRuntime) -> Result<(), Fail> {
+    let alloc = rt.alloc();
+    let words = [
+        "deltanet", "run", "topology", "r1=f1", "@script", "r2=f2", "r3=f3",
+    ];
+    let script = "take r1 all\ntake r2 all\ntake r3 all\npath r1 10.0.0.0\n";
+    let came = come_to(alloc, &words, RING, script, &set_frame(0, 8, 2))?;
+    assert_eq!(rt; came.status, Status::Done);
+    assert_eq!(rt;
+        came.written.as_slice(),
+        b"feed 1 r1 updates 1 skipped 0 refused 0 end\nfeed 2 r2 updates 1 skipped 0 refused 0 end\nfeed 3 r3 updates 1 skipped 0 refused 0 end\nhistory 3\n1 feed 1 r1 set 10.0.0.0/8 metric 20 to r2 by a\n2 feed 2 r2 set 10.0.0.0/8 metric 20 to r3 by b\n3 feed 3 r3 set 10.0.0.0/8 metric 20 exit 1\njob 1\nline 4 at 3 path r1 10.0.0.0\nhops r1 r2 r3\nend exit 1\ndone\n".as_slice()
+    );
+    Ok(())
+}
+
+#[test]
+fn feeds_that_no_script_takes_are_jobs(rt: HostRuntime) -> Result<(), Fail> {
+    let alloc = rt.alloc();
+    let words = ["deltanet", "run", "topology", "r3=f3", "r1=f1"];
+    let came = come_to(alloc, &words, RING, "", &set_frame(0, 8, 2))?;
+    assert_eq!(rt; came.status, Status::Done);
+    assert_eq!(rt;
+        came.written.as_slice(),
+        b"feed 1 r3 updates 1 skipped 0 refused 0 end\nfeed 2 r1 updates 1 skipped 0 refused 0 end\nhistory 2\n1 feed 1 r3 set 10.0.0.0/8 metric 20 exit 1\n2 feed 2 r1 set 10.0.0.0/8 metric 20 to r2 by a\njob 1\njob 2\ndone\n".as_slice()
+    );
+    Ok(())
+}
+
+#[test]
+fn an_unknown_name_makes_no_pin(rt: HostRuntime) -> Result<(), Fail> {
+    let alloc = rt.alloc();
+    let words = ["deltanet", "run", "topology", "@script"];
+    let script = "path r9 10.0.0.0\npath r1 10.0.0.0\n";
+    let came = come_to(alloc, &words, RING, script, &[])?;
+    assert_eq!(rt; came.status, Status::Done);
+    assert_eq!(rt;
+        came.written.as_slice(),
+        b"history 0\njob 1\nline 1 path r9 10.0.0.0\nunknown router r9\nline 2 at 0 path r1 10.0.0.0\nhops r1\nend noroute\ndone\n".as_slice()
+    );
+    Ok(())
 }
 
 #[test]
 fn refused_words(rt: HostRuntime) -> Result<(), Fail> {
     let alloc = rt.alloc();
-    let none = refused(alloc, &["deltanet"], TOPOLOGY, &[], SCRIPT)?;
-    assert_eq!(rt; none.status, Status::BadWords);
-    assert_eq!(rt; none.written.as_slice(), b"error words\n".as_slice());
-    let words = ["deltanet", "run", "topology", "r9=feed", "@script"];
-    let unknown = refused(alloc, &words, TOPOLOGY, &[], SCRIPT)?;
-    assert_eq!(rt; unknown.status, Status::BadWords);
-    assert_eq!(rt;
-        unknown.written.as_slice(),
-        b"error part 1 UnknownRouter\n".as_slice()
-    );
+    let none = come_to(alloc, &["deltanet"], RING, "", &[])?;
+    assert!(rt; is_come(&none, Status::BadWords, "error words\n"));
+    let cases: [(&str, &str); 4] = [
+        ("x", "error part 2 BadPart\n"),
+        ("r1=f2", "error part 2 RouterTwice\n"),
+        ("r9=f2", "error part 2 UnknownRouter\n"),
+        ("@", "error part 2 BadPart\n"),
+    ];
+    for (part, text) in cases {
+        let words = ["deltanet", "run", "topology", "r1=f1", part];
+        let came = come_to(alloc, &words, RING, "", &[])?;
+        assert!(rt; is_come(&came, Status::BadWords, text), "{part}");
+    }
     Ok(())
 }
 
 #[test]
-fn refused_texts(rt: HostRuntime) -> Result<(), Fail> {
+fn refused_topologies(rt: HostRuntime) -> Result<(), Fail> {
     let alloc = rt.alloc();
-    let topology = refused(alloc, &WORDS, "routers = 1\n", &[], SCRIPT)?;
-    assert_eq!(rt; topology.status, Status::BadTopology);
-    assert_eq!(rt;
-        topology.written.as_slice(),
-        b"error topology top 0 1 NotToml\n".as_slice()
-    );
-    let script = refused(alloc, &WORDS, TOPOLOGY, &[], "loops\n")?;
-    assert_eq!(rt; script.status, Status::BadScript);
-    assert_eq!(rt;
-        script.written.as_slice(),
-        b"error script 2 line 0 1 BadLine\n".as_slice()
-    );
+    let cases: [(&str, &str); 2] = [
+        ("routers = 1\n", "error topology top 0 3 MissingKey\n"),
+        (END_TWICE, "error topology link 2 7 EndTwice\n"),
+    ];
+    for (topology, text) in cases {
+        let came = come_to(alloc, &USUAL, topology, TAKE_ALL, &[])?;
+        assert!(rt; is_come(&came, Status::BadTopology, text), "{text}");
+    }
     Ok(())
 }
 
 #[test]
-fn failing_files(rt: HostRuntime) -> Result<(), Fail> {
+fn refused_scripts(rt: HostRuntime) -> Result<(), Fail> {
     let alloc = rt.alloc();
-    let topology = refused(alloc, &WORDS, TOPOLOGY, &[1], SCRIPT)?;
-    assert_eq!(rt; topology.status, Status::ReadFault);
-    assert_eq!(rt;
-        topology.written.as_slice(),
-        b"error read topology\n".as_slice()
-    );
-    let words = ["deltanet", "run", "topology", "r1=feed", "@nothing"];
-    let script = refused(alloc, &words, TOPOLOGY, &[], SCRIPT)?;
-    assert_eq!(rt; script.status, Status::ReadFault);
-    assert_eq!(rt;
-        script.written.as_slice(),
-        b"error read part 2\n".as_slice()
-    );
-    let words = ["deltanet", "run", "topology", "r1=nothing", "@script"];
-    let feed = refused(alloc, &words, TOPOLOGY, &[], SCRIPT)?;
-    assert_eq!(rt; feed.status, Status::ReadFault);
-    assert_eq!(rt; feed.written.as_slice(), b"error read part 1\n".as_slice());
+    let cases: [(&str, &str); 3] = [
+        ("take r9 all\n", "error script 1 line 1 2 TakeUnknown\n"),
+        ("path r1 r9\n", "error script 1 line 1 1 BadLine\n"),
+        ("# a note\ntake r1 0\n", "error script 1 line 2 1 BadLine\n"),
+    ];
+    for (script, text) in cases {
+        let words = ["deltanet", "run", "topology", "@script", "r1=f1"];
+        let came = come_to(alloc, &words, RING, script, &[])?;
+        assert!(rt; is_come(&came, Status::BadScript, text), "{text}");
+    }
+    Ok(())
+}
+
+#[test]
+fn files_that_are_not_there(rt: HostRuntime) -> Result<(), Fail> {
+    let alloc = rt.alloc();
+    let cases: [([&str; 5], &str); 3] = [
+        (
+            ["deltanet", "run", "none", "r1=f1", "@script"],
+            "error read topology\n",
+        ),
+        (
+            ["deltanet", "run", "topology", "r1=none", "@script"],
+            "error read part 1\n",
+        ),
+        (
+            ["deltanet", "run", "topology", "r1=f1", "@none"],
+            "error read part 2\n",
+        ),
+    ];
+    for (words, text) in cases {
+        let came = come_to(alloc, &words, RING, TAKE_ALL, &[])?;
+        assert!(rt; is_come(&came, Status::ReadFault, text), "{text}");
+    }
     Ok(())
 }

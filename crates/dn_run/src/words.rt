@@ -1,12 +1,16 @@
-//! The words of the command line.
+//! The words of the command line, by `clap`.
 
-ghost use Rattle.std.specs.Prelude.{◌≡◌, IfOk, IfErr, MatchOption, Some, None, map, List};
+ghost use Rattle.std.specs.Prelude.{◌≡◌, [], IfOk, IfErr, Some, codes, map, option_and_then, unwrap_or};
 ghost use Rattle.std.specs.String.{string_bytes};
-ghost use Rattle.dn_model.specs.Words.{command_of, run_of, feed_of_part, script_of_part, is_equals_sign};
-ghost use Rattle.dn_run.specs.WordsRefused.{AreRefused, command_texts, feed_texts};
+ghost use Rattle.clap.specs.Matches.{found_of};
+ghost use Rattle.clap.specs.Simple.{app_of, subcommand_rows_of};
+ghost use Rattle.clap.specs.Walk.{all_of, rows_of};
+ghost use Rattle.dn_run.specs.CommandLine.{command_line, command_of, meaning_of, run_of_rows};
+ghost use Rattle.dn_run.specs.WordsRefused.{AreRefused, command_texts};
 
-use crate::text_cut::is_same;
-use dn_model::{Name, OutOfMemory, is_name};
+use clap::error::ErrorKind;
+use clap::{Arg, ArgAction, ArgMatches};
+use dn_model::OutOfMemory;
 use std::alloc::{AllocError, Global};
 
 /// Why a command line isn't read.
@@ -40,88 +44,87 @@ impl From<AllocError> for WordsRefused {
     }
 }
 
-/// A feed of a run: its router's name and its file.
-#[derive(Drop)]
-pub struct FeedPart {
-    pub router: Name,
-    pub file: String,
-}
-
-/// What a command line asks for: a run of a topology, a feed and a script, each by its file.
+/// What a command line asks for: a run over a topology, by its file. The parts are the words after the topology's, as
+/// they stand: which are feeds and which scripts, `read_parts` says.
 #[derive(Drop)]
 pub struct Command {
     pub topology: String,
-    pub feed: FeedPart,
-    pub script: String,
+    pub parts: Vec<String>,
 }
 
-/// The feed that a part `ROUTER=FILE` is.
-fn read_feed_part(alloc: Global, part: &str) -> Result<FeedPart, WordsRefused>
-    ensures ok { IfOk result (λ f. feed_of_part part.now ≡ Some (feed_texts f)) }
-    ensures refused { IfErr result (λ e. AreRefused e (feed_of_part part.now)) }
+/// The command `run TOPOLOGY [PART]..`, as `clap` knows it.
+fn command_line<'a>(alloc: Global) -> Result<clap::Command<'a>, AllocError>
+    ensures { IfOk result (λ command. app_of command ≡ command_line) }
 {
-    let Some((router, file)) = part.split_once('=') else {
+    let topology = Arg::new(alloc, "topology")
+        .required(true)
+        .action(ArgAction::Set);
+    let part = Arg::new(alloc, "part").action(ArgAction::Append);
+    let run = clap::Command::new(alloc, "run").arg(topology)?.arg(part)?;
+    clap::Command::new(alloc, "deltanet")
+        .subcommand_required(true)
+        .subcommand(run)
+}
+
+/// Copies of texts, in order.
+pub(crate) fn copied(alloc: Global, texts: &[&str]) -> Result<Vec<String>, AllocError>
+    ensures { IfOk result (λ copies. map string_bytes copies.items ≡ map (λ text. text.now) texts.now) }
+{
+    let mut copies = Vec::new(alloc);
+    for text in texts {
+        let copy = String::from_str(alloc, text)?;
+        copies.push(copy)?;
+    }
+    Ok(copies)
+}
+
+/// The words that the values of `run` say the parts are.
+fn read_part_words(alloc: Global, run: &ArgMatches) -> Result<Vec<String>, AllocError>
+    ensures { IfOk result (λ parts. map string_bytes parts.items ≡ unwrap_or (all_of (codes "part") (rows_of (found_of run.now))) []) }
+{
+    match run.get_raw("part") {
+        Some(parts) => copied(alloc, parts),
+        None => Ok(Vec::new(alloc)),
+    }
+}
+
+/// The run that the values of `run` say.
+fn read_run(alloc: Global, run: &ArgMatches) -> Result<Command, WordsRefused>
+    ensures ok { IfOk result (λ c. run_of_rows (rows_of (found_of run.now)) ≡ Some (command_texts c)) }
+    ensures refused { IfErr result (λ e. AreRefused e (run_of_rows (rows_of (found_of run.now)))) }
+{
+    let Some(topology) = run.get_str("topology") else {
         return Err(WordsRefused::BadWords);
     };
-    if !is_name(router.as_bytes()) {
-        return Err(WordsRefused::BadWords);
-    }
-    if file.is_empty() {
-        return Err(WordsRefused::BadWords);
-    }
-    let router = Name::from_text(alloc, router.as_bytes())?;
-    let file = String::from_str(alloc, file)?;
-    Ok(FeedPart { router, file })
-}
-
-/// The file of the script that a part `@FILE` is.
-fn read_script_part(alloc: Global, part: &str) -> Result<String, WordsRefused>
-    ensures ok { IfOk result (λ f. script_of_part part.now ≡ Some (string_bytes f)) }
-    ensures refused { IfErr result (λ e. AreRefused e (script_of_part part.now)) }
-{
-    let Some(file) = part.strip_prefix('@') else {
-        return Err(WordsRefused::BadWords);
-    };
-    if file.is_empty() {
-        return Err(WordsRefused::BadWords);
-    }
-    let file = String::from_str(alloc, file)?;
-    Ok(file)
-}
-
-/// The run that the words after `run` ask for.
-fn read_run(
-    alloc: Global,
-    topology: &str,
-    feed: &str,
-    script: &str,
-) -> Result<Command, WordsRefused>
-    ensures ok { IfOk result (λ c. run_of topology.now (feed_of_part feed.now) (script_of_part script.now) ≡ Some (command_texts c)) }
-    ensures refused { IfErr result (λ e. AreRefused e (run_of topology.now (feed_of_part feed.now) (script_of_part script.now))) }
-{
-    let feed = read_feed_part(alloc, feed)?;
-    let script = read_script_part(alloc, script)?;
     let topology = String::from_str(alloc, topology)?;
-    Ok(Command {
-        topology,
-        feed,
-        script,
-    })
+    let parts = read_part_words(alloc, run)?;
+    Ok(Command { topology, parts })
 }
 
-/// What a whole command line asks for, the program's name first: `run TOPOLOGY ROUTER=FILE @FILE`.
+/// What the subcommand that was met asks for.
+fn read_subcommand(alloc: Global, matches: &ArgMatches) -> Result<Command, WordsRefused>
+    ensures ok { IfOk result (λ c. option_and_then meaning_of (subcommand_rows_of matches.now) ≡ Some (command_texts c)) }
+    ensures refused { IfErr result (λ e. AreRefused e (option_and_then meaning_of (subcommand_rows_of matches.now))) }
+{
+    match matches.subcommand_matches("run") {
+        Some(run) => read_run(alloc, run),
+        None => Err(WordsRefused::BadWords),
+    }
+}
+
+/// What a whole command line asks for, the program's name first: `run TOPOLOGY [PART]..`. Up to a first `--` a word
+/// that begins with `-`, but for `-` alone, is an option, of which there is none. Words that ask for help are refused too.
 pub fn read_words(alloc: Global, words: &[String]) -> Result<Command, WordsRefused>
     ensures ok { IfOk result (λ c. command_of (map string_bytes words.now) ≡ Some (command_texts c)) }
     ensures refused { IfErr result (λ e. AreRefused e (command_of (map string_bytes words.now))) }
 {
-    match words {
-        [_, verb, topology, feed, script] => {
-            if !is_same(verb.as_bytes(), b"run") {
-                return Err(WordsRefused::BadWords);
-            }
-            read_run(alloc, topology.as_str(), feed.as_str(), script.as_str())
+    let command = command_line(alloc)?;
+    match command.try_get_matches_from(words) {
+        Ok(matches) => read_subcommand(alloc, &matches),
+        Err(error) => match error.kind() {
+            ErrorKind::OutOfMemory => Err(WordsRefused::OutOfMemory),
+            _ => Err(WordsRefused::BadWords),
         },
-        _ => Err(WordsRefused::BadWords),
     }
 }
 

@@ -1,56 +1,62 @@
 use super::*;
 use std::test::Fail;
 
-/// Whether these words are a command line.
-fn is_command(alloc: Global, words: &[&str]) -> Result<bool, WordsRefused> {
-    let mut texts = Vec::new(alloc);
-    for word in words {
-        let text = String::from_str(alloc, word)?;
-        texts.push(text).map_err(AllocError::from)?;
-    }
-    match read_words(alloc, texts.as_slice()) {
-        Ok(_) => Ok(true),
-        Err(WordsRefused::BadWords) => Ok(false),
-        Err(WordsRefused::OutOfMemory) => Err(WordsRefused::OutOfMemory),
-    }
+/// What these words, the program's name first, are read as.
+fn read(alloc: Global, words: &[&str]) -> Result<Command, WordsRefused> {
+    let words = copied(alloc, words)?;
+    read_words(alloc, words.as_slice())
 }
 
 #[test]
 fn reads_a_run(rt: HostRuntime) -> Result<(), Fail> {
     let alloc = rt.alloc();
-    let program = String::from_str(alloc, "deltanet")?;
-    let verb = String::from_str(alloc, "run")?;
-    let topology = String::from_str(alloc, "--help")?;
-    let feed = String::from_str(alloc, "r-1=a=b")?;
-    let script = String::from_str(alloc, "@späth")?;
-    let words = vec![in alloc; program, verb, topology, feed, script]?;
-    let command = read_words(alloc, words.as_slice())?;
-    assert_eq!(rt; command.topology.as_str(), "--help");
-    assert!(rt; command.feed.router.as_bytes() == b"r-1".as_slice());
-    assert_eq!(rt; command.feed.file.as_str(), "a=b");
-    assert_eq!(rt; command.script.as_str(), "späth");
+    let command = read(alloc, &["deltanet", "run", "K3", "r-1=a=b", "@späth", "x"])?;
+    assert_eq!(rt; command.topology.as_str(), "K3");
+    assert_eq!(rt; command.parts.len(), 3);
+    assert_eq!(rt; command.parts[0].as_str(), "r-1=a=b");
+    assert_eq!(rt; command.parts[1].as_str(), "@späth");
+    assert_eq!(rt; command.parts[2].as_str(), "x");
     Ok(())
 }
 
 #[test]
-fn refuses_other_words(rt: HostRuntime) -> Result<(), Fail> {
+fn reads_a_run_without_parts(rt: HostRuntime) -> Result<(), Fail> {
     let alloc = rt.alloc();
-    let good: &[&str] = &["deltanet", "run", "", "r1=f", "@s"];
-    assert!(rt; is_command(alloc, good)?);
-    let bad: [&[&str]; 10] = [
+    let command = read(alloc, &["deltanet", "run", "K3"])?;
+    assert_eq!(rt; command.topology.as_str(), "K3");
+    assert!(rt; command.parts.is_empty());
+    let command = read(alloc, &["deltanet", "run", ""])?;
+    assert_eq!(rt; command.topology.as_str(), "");
+    Ok(())
+}
+
+#[test]
+fn takes_plain_words_after_two_hyphens(rt: HostRuntime) -> Result<(), Fail> {
+    let command = read(
+        rt.alloc(),
+        &["deltanet", "run", "K3", "--", "-r=f", "--help"],
+    )?;
+    assert_eq!(rt; command.parts.len(), 2);
+    assert_eq!(rt; command.parts[0].as_str(), "-r=f");
+    assert_eq!(rt; command.parts[1].as_str(), "--help");
+    Ok(())
+}
+
+#[test]
+fn refuses_other_words(rt: HostRuntime) {
+    let alloc = rt.alloc();
+    let bad: [&[&str]; 9] = [
         &[],
         &["deltanet"],
-        &["deltanet", "run", "t", "r1=f"],
-        &["deltanet", "run", "t", "r1=f", "@s", "@s"],
-        &["deltanet", "runs", "t", "r1=f", "@s"],
-        &["deltanet", "run", "t", "r1", "@s"],
-        &["deltanet", "run", "t", "=f", "@s"],
-        &["deltanet", "run", "t", "r1=", "@s"],
-        &["deltanet", "run", "t", "r1=f", "@"],
-        &["deltanet", "run", "t", "@s", "r1=f"],
+        &["deltanet", "run"],
+        &["deltanet", "runs", "K3"],
+        &["deltanet", "--help"],
+        &["deltanet", "help"],
+        &["deltanet", "run", "--help"],
+        &["deltanet", "run", "K3", "-r=f"],
+        &["deltanet", "-v", "run", "K3"],
     ];
     for words in bad {
-        assert!(rt; !is_command(alloc, words)?);
+        assert_eq!(rt; read(alloc, words).err(), Some(WordsRefused::BadWords));
     }
-    Ok(())
 }

@@ -1,7 +1,7 @@
 use Rattle.std.proofs.Common.{◌≡◌, ◌++◌, ◌∷◌, [], length, ◌∙◌}
 use Rattle.dn_io.specs.Calls.{call_of, back_with}
 use Rattle.dn_run.proofs.CallsLemmas.{state_at-with_out}
-use Rattle.dn_run.proofs.ReadLemmas.{given_back, was_read, was_fault, named_one, bytes_read}
+use Rattle.dn_run.proofs.ReadLemmas.{given_back, was_read, was_fault, named_one}
 use Rattle.dn_run.proofs.files.read_file.Goals as goal
 
 pub give_back-requires : goal.give_back-requires
@@ -10,20 +10,16 @@ give_back-requires g c =
 
 pub returns-clause-read : goal.returns-clause-read
 returns-clause-read g c =
-    was_read c.read_to_end-read.result _ _ _ _ _ _
+    was_read (λ v. v.items) c.read_to_end-read.result _ _ _ _ _ _ _ _ _
     (given_back _ _ _ _ _ _ c.in_ok-source.ensures.handed_out (c.read_to_end-read.ensures.stays ∙ c.in_ok-source.ensures.place) c.give_back.ensures.back)
-    c.in_ok-source.ensures.fresh c.read_to_end-read.ensures.count
-
-pub returns-clause-bytes : goal.returns-clause-bytes
-returns-clause-bytes g c =
-    bytes_read (λ v. v.items) c.read_to_end-read.result _ _ _ _ _ c.in_ok-source.ensures.has_bytes c.in_ok-source.ensures.left
+    c.in_ok-source.ensures.fresh c.read_to_end-read.ensures.count c.in_ok-source.ensures.has_bytes c.in_ok-source.ensures.left
     c.read_to_end-read.ensures.all c.read_to_end-read.ensures.end c.read_to_end-read.ensures.within
 
 pub returns-clause-failed : goal.returns-clause-failed
 returns-clause-failed g c =
-    was_fault _ _ _ _ _ _
+    was_fault _ _ _ _ _ _ _ _ _
     (given_back _ _ _ _ _ _ c.in_ok-source.ensures.handed_out (c.read_to_end-read.ensures.stays ∙ c.in_ok-source.ensures.place) c.give_back.ensures.back)
-    c.in_ok-source.ensures.fresh c.read_to_end-read.ensures.failed
+    c.in_ok-source.ensures.fresh c.read_to_end-read.ensures.failed c.read_to_end-read.ensures.front c.in_ok-source.ensures.has_bytes c.in_ok-source.ensures.left
 
 pub returns-clause-memory : goal.returns-clause-memory
 returns-clause-memory g c h =

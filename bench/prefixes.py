@@ -1,0 +1,103 @@
+#!/usr/bin/env python3
+"""Time and peak memory of deltanet over feeds of N distinct prefixes in all, dealt out to eight routers in a ring.
+
+Each frame sets a route of a prefix that no other frame has, so tables and history grow by one a frame. Each feed is
+also read with its routes in another table, which are decoded and skipped: reading and decoding alone.
+
+Usage: bench/prefixes.py [RUNS] [N]..      runs of each feed (1), of which the fastest counts, and the N
+                                           (25000 50000 100000 200000 400000), at most 16777216, multiples of 8
+"""
+
+import os
+import struct
+import sys
+import tempfile
+
+from program import build, run
+
+ROUTERS = 8
+MAIN, OTHER = 254, 100
+MULTIPLIER = 2654435761  # odd, so that different j below 2^24 give different prefixes
+BYTES_OF_FRAME = 64
+
+
+def prefix(j):
+    """The address of prefix j, whose length is 24."""
+    return j * MULTIPLIER % 2**24 << 8
+
+
+def frame(j, table):
+    """A frame that sets prefix j, metric 20, over interface 2 with a gateway, in the layout that write_route has."""
+    message = struct.pack("<IHHII", 60, 24, 0x0501, 0, 0)
+    message += struct.pack("<BBBBBBBBI", 2, 24, 0, 0, table, 11, 0, 1, 0)
+    message += struct.pack("<HH", 8, 1) + struct.pack(">I", prefix(j))
+    message += struct.pack("<HH", 8, 5) + bytes([192, 0, 2, 1])
+    message += struct.pack("<HHI", 8, 4, 2)
+    message += struct.pack("<HHI", 8, 6, 20)
+    return struct.pack(">BBH", 1, 1, 4 + len(message)) + message
+
+
+def write_network(folder):
+    """A ring: link li from interface 2 of mi to interface 3 of the next router."""
+    with open(os.path.join(folder, "topology.toml"), "w") as out:
+        names = ", ".join(f'"m{i}"' for i in range(ROUTERS))
+        out.write(f"routers = [{names}]\n")
+        for i in range(ROUTERS):
+            out.write(f'[[link]]\nname = "l{i}"\nends = ["m{i}:2", "m{(i + 1) % ROUTERS}:3"]\n')
+    with open(os.path.join(folder, "script"), "w") as out:
+        for i in range(ROUTERS):
+            out.write(f"take m{i} all\n")
+        out.write("path m0 0.0.0.1\n")
+
+
+def write_feeds(folder, count, table):
+    for i in range(ROUTERS):
+        with open(os.path.join(folder, f"m{i}.fpm"), "wb") as out:
+            out.writelines(frame(j, table) for j in range(i, count, ROUTERS))
+
+
+def expected(count, table):
+    """The head and the end of the report. Prefix 0, 0.0.0.0/24, is m0's alone."""
+    each = count // ROUTERS
+    updates, skipped = (each, 0) if table == MAIN else (0, each)
+    feeds = "".join(f"feed {i + 1} m{i} updates {updates} skipped {skipped} refused 0 end\n" for i in range(ROUTERS))
+    history = count if table == MAIN else 0
+    first = "1 feed 1 m0 set 0.0.0.0/24 metric 20 to m1 by l0\n" if table == MAIN else "job 1\n"
+    hops = "m0 m1" if table == MAIN else "m0"
+    end = f"line 9 at {history} path m0 0.0.0.1\nhops {hops}\nend noroute\ndone\n"
+    return f"{feeds}history {history}\n{first}".encode(), end.encode()
+
+
+def measure(folder, count, table, runs):
+    write_feeds(folder, count, table)
+    words = [os.path.join(folder, "topology.toml")]
+    words += [f"m{i}={folder}/m{i}.fpm" for i in range(ROUTERS)]
+    words.append(f"@{folder}/script")
+    return min(run(folder, words, *expected(count, table)) for _ in range(runs))
+
+
+def main():
+    runs = int(sys.argv[1]) if len(sys.argv) > 1 else 1
+    counts = [int(word) for word in sys.argv[2:]] or [25000, 50000, 100000, 200000, 400000]
+    if any(n % ROUTERS or not 0 < n <= 2**24 for n in counts):
+        sys.exit("prefixes.py: N is a multiple of 8, at most 16777216")
+    build()
+    times = []
+    with tempfile.TemporaryDirectory() as folder:
+        write_network(folder)
+        for n in counts:
+            size = n * BYTES_OF_FRAME
+            alone, _, _ = measure(folder, n, OTHER, runs)
+            clock, processor, peak = measure(folder, n, MAIN, runs)
+            times.append(clock / n)
+            print(
+                f"{n} prefixes: {clock:.3f} s, {processor:.3f} s of the processor, {clock / n * 1e6:.3f} us an update, "
+                f"peak {peak / 2**20:.1f} MiB, {peak / n:.0f} bytes an update, {size / clock / 1e6:.1f} MB/s; "
+                f"reading and decoding alone {size / alone / 1e6:.1f} MB/s",
+                flush=True,
+            )
+    print(f"time of an update at {counts[-1]} over that at {counts[0]}: {times[-1] / times[0]:.2f}")
+
+
+if __name__ == "__main__":
+    main()

@@ -1,0 +1,25 @@
+use Rattle.std.proofs.Common.{◌≡◌, refl, None, ap, sym, ◌∙◌, arith}
+use Rattle.std.proofs.lemmas.List.{append-nil}
+use Rattle.std.proofs.lemmas.Grind.{common_steps}
+use Rattle.route_feed.specs.FeedReader.{told_then, end_of}
+use Rattle.dn_model.specs.Steps.{Accepted, Refused}
+use Rattle.dn_run.proofs.TakesLemmas.{gives-step, end-before_ops}
+use Rattle.dn_run.proofs.take.take_frame.Goals as goal
+
+pub returns-in_ok-post_all-in-Ops-clause-taken : goal.returns-in_ok-post_all-in-Ops-clause-taken
+returns-in_ok-post_all-in-Ops-clause-taken g c =
+    let is : c.args.reader.now.told.end ≡ None = end-before_ops _ _ (ap end_of c.in-Ops.is) c.in_ok-ops.ensures.again in
+    let told = rw c.in-Ops.is at (c.in_ok-ops.ensures.told is) in (
+      Accepted c.in-Ops.ops c.in-Ops.field-1,
+      gives-step c.args.topology.now g.S.Source.left c.args.reader.now c.next_frame.new.self _ _ (Accepted c.in-Ops.ops c.in-Ops.field-1)
+          is (ap (λ t. t.end) told ∙ is) (λ bytes steps at. rw c.in-Ops.is at (c.in_ok-ops.ensures.outcome bytes steps at)) (grind (arith, common_steps)),
+    )
+
+pub returns-in-Refused-clause-taken : goal.returns-in-Refused-clause-taken
+returns-in-Refused-clause-taken g c =
+    let is : c.args.reader.now.told.end ≡ None = end-before_ops _ _ (ap end_of c.in-Refused.is) c.in_ok-ops.ensures.again in
+    let told = rw c.in-Refused.is at (c.in_ok-ops.ensures.told is) in (
+      Refused (record { offset = c.in-Refused.offset; at = c.in-Refused.at; cause = c.in-Refused.cause }),
+      gives-step c.args.topology.now g.S.Source.left c.args.reader.now c.next_frame.new.self _ _ (Refused (record { offset = c.in-Refused.offset; at = c.in-Refused.at; cause = c.in-Refused.cause }))
+          is (ap (λ t. t.end) told ∙ is) (λ bytes steps at. rw c.in-Refused.is at (c.in_ok-ops.ensures.outcome bytes steps at)) (sym (append-nil _)),
+    )

@@ -1,7 +1,0 @@
-use Rattle.std.proofs.Common.{map}
-use Rattle.toml.specs.View.{view}
-use Rattle.dn_run.proofs.TopologyRuns.{LinksSoFar}
-use Rattle.dn_run.proofs.topology_text.lists.read_links.Given as goal
-
-abbrev pub invariant-loop-entry : goal.invariant-loop-entry
-invariant-loop-entry l = LinksSoFar l.routers (map view l.entries) l.entry-index l.links

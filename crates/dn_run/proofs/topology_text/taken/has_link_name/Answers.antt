@@ -1,5 +1,0 @@
-use Rattle.dn_run.proofs.TopologyValues.{has_text-links}
-use Rattle.dn_run.proofs.topology_text.taken.has_link_name.Goals as goal
-
-pub returns : goal.returns
-returns c = rw (has_text-links c.args.name.now c.args.links.now) c.is_among_link_names.ensures

@@ -1,6 +1,0 @@
-use Rattle.dn_model.specs.TopologyText.{is_link_key}
-use Rattle.dn_run.proofs.TopologyValues.{has_key_besides-entries}
-use Rattle.dn_run.proofs.topology_text.value.has_unknown_link_key.Goals as goal
-
-pub returns : goal.returns
-returns c = rw (has_key_besides-entries is_link_key c.args.table.now.entries) c.some_key_is_no_link_key.ensures

@@ -1,6 +1,0 @@
-use Rattle.dn_model.specs.TopologyText.{is_top_key}
-use Rattle.dn_run.proofs.TopologyValues.{has_key_besides-entries}
-use Rattle.dn_run.proofs.topology_text.value.has_unknown_top_key.Goals as goal
-
-pub returns : goal.returns
-returns c = rw (has_key_besides-entries is_top_key c.args.table.now.entries) c.some_key_is_no_top_key.ensures

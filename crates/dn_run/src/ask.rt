@@ -1,0 +1,60 @@
+//! A query of a script is asked over the history so far.
+
+ghost use Rattle.std.specs.Prelude.{◌≡◌, ◌<◌, ◌≤◌, ◌^◌, length, IfOk, OnOk};
+ghost use Rattle.dn_run.specs.Tracks.{IsOutcomeNow, Adds};
+
+use crate::answerer::answer;
+use crate::take::Book;
+use dn_io::{Gate, Point};
+use dn_model::{List, OutOfMemory, Outcome, Query, Told, Topology};
+use std::alloc::Global;
+
+/// The answer to a query over the history so far, whose length is its pin; or the query's first unknown name, without
+/// a pin.
+fn outcome<G: Gate>(
+    alloc: Global,
+    topology: &Topology,
+    book: &Book,
+    query: &Query,
+    gate: &G,
+    job: u32,
+) -> Result<Outcome, OutOfMemory>
+    requires few { length query.now.without ≤ 4096 }
+    requires tables { length book.now.tables ≡ length topology.now.routers }
+    requires fits { length book.now.history < 2 ^ 32 }
+    ensures { IfOk result (IsOutcomeNow topology.now book.now.tables (length book.now.history) query.now) }
+{
+    if let Some(unknown) = query.unknown(topology) {
+        return Ok(Outcome::Unknown(unknown));
+    }
+    let number = book.history.len() as u32;
+    gate.at(job, Point::AfterPin);
+    let answer = answer(alloc, topology, &book.tables, query)?;
+    gate.at(job, Point::AfterAnswer);
+    Ok(Outcome::Answered { number, answer })
+}
+
+/// Asks a query, and adds what is told of it.
+pub fn ask<G: Gate>(
+    alloc: Global,
+    topology: &Topology,
+    book: &Book,
+    line: u32,
+    query: &Query,
+    told: &mut List<Told>,
+    gate: &G,
+    job: u32,
+) -> Result<(), OutOfMemory>
+    requires few { length query.now.without ≤ 4096 }
+    requires tables { length book.now.tables ≡ length topology.now.routers }
+    requires fits { length book.now.history < 2 ^ 32 }
+    ensures { OnOk result (Adds told.old told.new line query.now (IsOutcomeNow topology.now book.now.tables (length book.now.history) query.now)) }
+{
+    let outcome = outcome(alloc, topology, book, query, gate, job)?;
+    let query = query.copy(alloc)?;
+    told.push(Told {
+        line,
+        query,
+        outcome,
+    })
+}

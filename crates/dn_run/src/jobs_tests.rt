@@ -1,0 +1,173 @@
+//! Jobs over several feeds in memory, against histories and pins worked out by hand.
+
+ghost use Rattle.std.specs.Prelude.{◌≡◌, ◌≤◌, ◌∷◌, [], IfOk, length};
+ghost use Rattle.std.specs.Prelude.{All};
+ghost use Rattle.std.specs.Option.{option_copied};
+ghost use Rattle.dn_run.specs.Jobs.{scripts_of};
+ghost use Rattle.dn_run.specs.Tracks.{IsShort};
+
+use crate::jobs::{JobsDone, run_jobs};
+use dn_io::{MemSource, NoGate};
+use dn_model::{
+    Ask, Line, List, Name, OutOfMemory, Outcome, Posted, Query, RouterId, Script, Told, TopoEnd,
+    Topology,
+};
+use route_feed::FeedReader;
+use std::alloc::Global;
+use std::test::Fail;
+
+/// An edge at a router's interface 2.
+fn edge(router: u16) -> TopoEnd
+    ensures { result ≡ record { router = record { 0 = router }; index = 2 } }
+{
+    TopoEnd {
+        router: RouterId(router),
+        index: 2,
+    }
+}
+
+/// Three routers, `r1`, `r2` and `r3`, each with an edge at its interface 2.
+fn three_routers(alloc: Global) -> Result<Topology, OutOfMemory>
+    ensures { IfOk result (λ t. length t.routers ≡ 3) }
+{
+    let mut routers = List::new(alloc);
+    routers.push(Name::from_text(alloc, b"r1")?)?;
+    routers.push(Name::from_text(alloc, b"r2")?)?;
+    routers.push(Name::from_text(alloc, b"r3")?)?;
+    let mut edges = List::new(alloc);
+    edges.push(edge(0))?;
+    edges.push(edge(1))?;
+    edges.push(edge(2))?;
+    Ok(Topology {
+        routers,
+        links: List::new(alloc),
+        edges,
+    })
+}
+
+/// A frame that sets 10.`second`.0.0/16 over interface 2, with metric 20 and the gateway 192.0.2.1.
+fn set_frame(second: u8) -> [u8; 64] {
+    [
+        1, 1, 0, 64, 60, 0, 0, 0, 24, 0, 1, 5, 0, 0, 0, 0, 0, 0, 0, 0, 2, 16, 0, 0, 254, 11, 0, 1,
+        0, 0, 0, 0, 8, 0, 1, 0, 10, second, 0, 0, 8, 0, 5, 0, 192, 0, 2, 1, 8, 0, 4, 0, 2, 0, 0, 0,
+        8, 0, 6, 0, 20, 0, 0, 0,
+    ]
+}
+
+/// The source of a feed with so many updates.
+fn source(alloc: Global, count: u8) -> Result<MemSource, OutOfMemory>
+    ensures { IfOk result (λ s. s.plan.faults ≡ 0) }
+{
+    let mut bytes = Vec::new(alloc);
+    for second in 0..count {
+        bytes.extend_from_slice(&set_frame(second))?;
+    }
+    Ok(MemSource::new(bytes, 64, Vec::new(alloc)))
+}
+
+/// A line that takes frames of a router's feed.
+fn take_line(line: u32, router: u16, count: Option<u32>) -> Line
+    ensures { IsShort result }
+{
+    Line::Take {
+        line,
+        router: RouterId(router),
+        count,
+    }
+}
+
+/// A line that asks for the path of 10.0.0.1 from `r1`.
+fn path_line(alloc: Global, line: u32) -> Result<Line, OutOfMemory>
+    ensures { IfOk result IsShort }
+{
+    Ok(Line::Ask {
+        line,
+        query: Query {
+            without: List::new(alloc),
+            ask: Ask::Path(Name::from_text(alloc, b"r1")?, 0x0A00_0001),
+        },
+    })
+}
+
+/// The numbers of the feeds that a history's entries came from.
+fn feeds_of(alloc: Global, history: &[Posted]) -> Result<Vec<u32>, OutOfMemory> {
+    let mut feeds = Vec::new(alloc);
+    for posted in history {
+        feeds.push(posted.entry.feed_no)?;
+    }
+    Ok(feeds)
+}
+
+/// The pins of what was told.
+fn pins_of(alloc: Global, tolds: &[Told]) -> Result<Vec<u32>, OutOfMemory> {
+    let mut pins = Vec::new(alloc);
+    for told in tolds {
+        if let Outcome::Answered { number, .. } = told.outcome {
+            pins.push(number)?;
+        }
+    }
+    Ok(pins)
+}
+
+/// What the jobs of these lines come to over feeds of `r1`, `r2` and `r3` with so many updates.
+fn run_three(
+    alloc: Global,
+    counts: [u8; 3],
+    script: Option<&Script>,
+) -> Result<JobsDone, OutOfMemory>
+    requires { All (All IsShort) (scripts_of (option_copied script)) }
+{
+    let topology = three_routers(alloc)?;
+    let [first, second, third] = counts;
+    let mut readers = Vec::from_array(
+        alloc,
+        [
+            FeedReader::new(alloc, source(alloc, first)?, RouterId(0), 1, 1000),
+            FeedReader::new(alloc, source(alloc, second)?, RouterId(1), 2, 1000),
+            FeedReader::new(alloc, source(alloc, third)?, RouterId(2), 3, 1000),
+        ],
+    )?;
+    run_jobs(alloc, &topology, script, &mut readers, &NoGate)
+}
+
+#[test]
+fn a_script_over_two_of_three_feeds(rt: HostRuntime) -> Result<(), Fail> {
+    let alloc = rt.alloc();
+    let lines = Vec::from_array(
+        alloc,
+        [
+            take_line(1, 0, Some(1)),
+            path_line(alloc, 2)?,
+            take_line(3, 2, None),
+            path_line(alloc, 4)?,
+        ],
+    )?;
+    let script = Script {
+        lines: List::from_vec(lines),
+    };
+    let done = run_three(alloc, [2, 1, 2], Some(&script))?;
+    let feeds = feeds_of(alloc, done.history.as_slice())?;
+    assert_eq!(rt; feeds.as_slice(), [1u32, 3, 3, 1, 2].as_slice());
+    assert_eq!(rt; done.jobs.len(), 2);
+    let pins = pins_of(alloc, done.jobs[0].told.as_slice())?;
+    assert_eq!(rt; pins.as_slice(), [1u32, 3].as_slice());
+    assert_eq!(rt; done.jobs[1].number, 2);
+    Ok(())
+}
+
+#[test]
+fn a_script_that_takes_no_feed(rt: HostRuntime) -> Result<(), Fail> {
+    let alloc = rt.alloc();
+    let lines = Vec::from_array(alloc, [path_line(alloc, 1)?])?;
+    let script = Script {
+        lines: List::from_vec(lines),
+    };
+    let done = run_three(alloc, [2, 1, 0], Some(&script))?;
+    let feeds = feeds_of(alloc, done.history.as_slice())?;
+    assert_eq!(rt; feeds.as_slice(), [1u32, 1, 2].as_slice());
+    assert_eq!(rt; done.jobs.len(), 4);
+    let pins = pins_of(alloc, done.jobs[0].told.as_slice())?;
+    assert_eq!(rt; pins.as_slice(), [0u32].as_slice());
+    assert_eq!(rt; done.jobs[3].number, 4);
+    Ok(())
+}

@@ -13,7 +13,7 @@ use Rattle.dn_model.specs.Feed.{AreSteps}
 use Rattle.dn_model.specs.Frames.{IsFrame, Frame}
 use Rattle.dn_model.specs.Lawful.{Job, Tells, TellsAll, KeepsOrder, IsShuffle, jobs_of, entries_of_job, takes, takes_feed, left_by, is_from, is_from_some}
 use Rattle.dn_model.specs.Steps.{FrameStep, FeedRead, updates, entries_by, entries_of}
-use Rattle.dn_model.specs.Table.{TablesOf}
+use Rattle.dn_run.specs.Tables.{TablesOf}
 use Rattle.dn_model.specs.Topology.{all_differ}
 use Rattle.dn_model.specs.declared.entry.Entry.{Entry}
 use Rattle.dn_model.specs.declared.entry.Posted.{Posted}

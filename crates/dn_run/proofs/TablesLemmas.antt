@@ -1,30 +1,57 @@
--- One of several vectors changed.
-use Rattle.std.proofs.Common.{◌≡◌, ℕ, ◌<◌, List, [], length, get_or, set, map, ap, sym, ◌∙◌, Vec, Global}
-use Rattle.std.proofs.lemmas.List.{map-set, get_or-map, length-map}
-use Rattle.std.proofs.Math.Seq.{map-set_same}
+-- Tables of all routers, up to the order of their routes, after one more update; and what they say of a history.
+use Rattle.std.proofs.Common.{◌≡◌, ◌≢◌, ℕ, ◌<◌, ◌≤◌, Option, Some, None, slice_get, unwrap_or, List, [], ◌∷◌, ◌++◌, length, get_or, set, replicate, refl, ap, sym, ◌∙◌, subst, ⊎_elim, arith}
+use Rattle.std.specs.List.Sorted.{IsPermutation}
+use Rattle.std.proofs.lemmas.Bool.{cases_eq, cases_lt}
+use Rattle.std.proofs.lemmas.List.{get_or-set_same, get_or-set_other, get_or-replicate, get_or_past, length-replicate}
+use Rattle.std.proofs.lemmas.Option.{get_or_from_slice_get, unwrap_or-slice_get}
+use Rattle.dn_model.specs.Routes.{IsTable, SameRoutes}
+use Rattle.dn_model.specs.Table.{after_op, table, target, target_in}
+use Rattle.dn_model.specs.Walk.{without, next}
+use Rattle.dn_model.specs.declared.entry.Entry.{Entry}
 use Rattle.dn_model.specs.declared.entry.Op.{Op}
 use Rattle.dn_model.specs.declared.entry.Route.{Route}
-use Rattle.dn_model.specs.declared.entry.Entry.{Entry}
-use Rattle.dn_model.specs.declared.ids.RouterId.{RouterId}
 use Rattle.dn_model.specs.declared.ids.LinkId.{LinkId}
-use Rattle.dn_model.specs.declared.answer.PathEnd.{PathEnd}
-use Rattle.dn_model.specs.Table.{after_op, TablesOf}
-use Rattle.dn_model.specs.Walk.{next, next_in, walk_end}
-use Rattle.dn_model.proofs.Tables.{walk_end-next_in}
+use Rattle.dn_model.specs.declared.ids.RouterId.{RouterId}
+use Rattle.dn_model.specs.declared.target.Target.{Target}
+use Rattle.dn_model.specs.declared.target.Target.TheVariants.{NoRoute}
+use Rattle.dn_model.proofs.SameRoutes.{same-refl, same-own, same-other, same-target}
+use Rattle.dn_run.specs.Tables.{TablesOf, UpdatesAt}
 
-abbrev pub items_of : Vec Route Global → List Route
-items_of v = v.items
+pub tables-push : (old new : List (List Route)) (history : List Entry) (e : Entry) → e.router.0 < length old → UpdatesAt e.router.0 e.op old new → TablesOf old history → TablesOf new (history ++ e ∷ [])
+tables-push old new history e within updates of = record {
+  each = λ r. subst (λ (ts : List (List Route)). SameRoutes (get_or ts r.0 []) (table (history ++ e ∷ []) r)) (sym updates.placed)
+      (⊎_elim
+      (λ (same : e.router.0 ≡ r.0).
+      let was : SameRoutes (get_or old e.router.0 []) (table history r) = subst (λ k. SameRoutes (get_or old k []) (table history r)) (sym same) (of.each r) in
+      let here : get_or (set old e.router.0 updates.made) r.0 [] ≡ updates.made = subst (λ k. get_or (set old e.router.0 updates.made) k [] ≡ updates.made) same (get_or-set_same old e.router.0 updates.made [] within) in
+      subst (λ rs. SameRoutes rs (table (history ++ e ∷ []) r)) (sym here) (same-own history e r (get_or old e.router.0 []) updates.made same was updates.as_updated))
+      (λ (other : e.router.0 ≢ r.0).
+      subst (λ rs. SameRoutes rs (table (history ++ e ∷ []) r)) (sym (get_or-set_other old e.router.0 r.0 updates.made [] (λ same. other (sym same))))
+      (same-other history e r (get_or old r.0 []) other (of.each r)))
+      (cases_eq e.router.0 r.0));
+}
 
--- the vector that held the old items has the new ones
-pub items-updated : (vs : List (Vec Route Global)) (i : ℕ) (v w : Vec Route Global) (op : Op) → i < length vs → v ≡ get_or vs i v → w.items ≡ after_op v.items op → map items_of (set vs i w) ≡ set (map items_of vs) i (after_op (get_or (map items_of vs) i []) op)
-items-updated vs i v w op h e u = map-set items_of vs i w ∙ ap (set (map items_of vs) i) (u ∙ ap (λ (rs : List Route). after_op rs op) (ap items_of e ∙ sym (get_or-map items_of vs i v [] h)))
+pub tables-empty : (n : ℕ) → TablesOf (replicate n []) []
+tables-empty n = record {
+  each = λ r. subst (λ rs. SameRoutes rs (table [] r)) (sym (⊎_elim
+      (λ (in' : r.0 < n). get_or-replicate n r.0 [] [] in')
+      (λ (out : n ≤ r.0). get_or_past (replicate n []) r.0 [] (rw length-replicate out))
+      (cases_lt r.0 n))) (same-refl []);
+}
 
--- a vector with the same items changes nothing
-pub items-kept : (vs : List (Vec Route Global)) (i : ℕ) (v w : Vec Route Global) → v ≡ get_or vs i v → w.items ≡ v.items → map items_of (set vs i w) ≡ map items_of vs
-items-kept vs i v w e u = map-set_same items_of vs i w v (u ∙ ap items_of e)
+-- what a router does by its table
+pub next-here : (tables : List (List Route)) (history : List Entry) (down : List LinkId) (a : ℕ) (r : RouterId) (routes : List Route) (t : Target) →
+    TablesOf tables history → Some routes ≡ slice_get tables r.0 → IsTable routes → t ≡ target_in routes a → without down t ≡ next history down a r
+next-here tables history down a r routes t of here sound is =
+    let at : get_or tables r.0 [] ≡ routes = get_or_from_slice_get tables r.0 routes [] (sym here) in
+    ap (without down) (is ∙ same-target routes history r a sound (subst (λ rs. SameRoutes rs (table history r)) at (of.each r)))
 
--- the end of a walk by lists that stand for a history
-pub ended-after : (vs slice : List (Vec Route Global)) (tables : List (List Route)) (down : List LinkId) (a : ℕ) (first : RouterId) (end : PathEnd) → slice ≡ vs → map items_of vs ≡ tables → end ≡ walk_end (next_in (map items_of slice) down a) (length slice) first → (history : List Entry) → TablesOf tables history → end ≡ walk_end (next history down a) (length tables) first
-ended-after vs slice tables down a first end s v e history t =
-    let lists : map items_of slice ≡ tables = ap (map items_of) s ∙ v in
-    e ∙ ap (λ (ts : List (List Route)). walk_end (next_in ts down a) (length slice) first) lists ∙ ap (λ (n : ℕ). walk_end (next_in tables down a) n first) (sym (length-map slice items_of) ∙ ap length lists) ∙ walk_end-next_in tables history down a (length tables) first t
+-- a router that has no table has no route
+pub next-none : (tables : List (List Route)) (history : List Entry) (down : List LinkId) (a : ℕ) (r : RouterId) → TablesOf tables history → None ≡ slice_get tables r.0 → NoRoute ≡ next history down a r
+next-none tables history down a r of past =
+    let at : get_or tables r.0 [] ≡ [] = sym (unwrap_or-slice_get tables r.0 []) ∙ ap (λ (o : Option (List Route)). unwrap_or o []) (sym past) in
+    let none : SameRoutes [] (table history r) = subst (λ rs. SameRoutes rs (table history r)) at (of.each r) in
+    ap (without down) (same-target [] history r a empty none)
+  where
+    empty : IsTable []
+    empty = record { keys = refl; prefixes = λ x inside. grind (arith, inside) }

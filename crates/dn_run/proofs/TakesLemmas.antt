@@ -10,7 +10,7 @@ use Rattle.dn_model.specs.declared.ids.RouterId.{RouterId}
 use Rattle.dn_model.specs.declared.topology.Topology.{Topology}
 use Rattle.dn_model.specs.declared.told.FeedEnd.{FeedEnd}
 use Rattle.route_feed.specs.FeedReader.{Reader, IsAt}
-use Rattle.dn_model.specs.Table.{TablesOf}
+use Rattle.dn_run.specs.Tables.{TablesOf}
 use Rattle.dn_run.specs.Network.{entries, StandsBy, IsCount, EndsUnless, CountsFaults}
 use Rattle.dn_run.specs.Takes.{IsLater, Gives, Moves, TakesOne, TakesExactly, TakesAny, TakesSome, tag_of}
 use Rattle.dn_run.specs.declared.take.Book.{Book}

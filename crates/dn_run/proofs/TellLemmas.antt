@@ -8,7 +8,7 @@ use Rattle.std.proofs.lemmas.List.Elements.{All-filter}
 use Rattle.dn_model.specs.Answer.{unknown_of, IsAnswer}
 use Rattle.dn_model.specs.Lawful.{Tells, IsOutcome, HoldsWhatWasTaken, asked, asked_by, both_counts, front_of, taken, takes, pin_after, is_from}
 use Rattle.dn_model.specs.Steps.{FrameStep, FeedRead, updates, entries_of, entries_by}
-use Rattle.dn_model.specs.Table.{TablesOf}
+use Rattle.dn_run.specs.Tables.{TablesOf}
 use Rattle.dn_model.specs.declared.entry.Entry.{Entry}
 use Rattle.dn_model.specs.declared.entry.Posted.{Posted}
 use Rattle.dn_model.specs.declared.entry.Route.{Route}

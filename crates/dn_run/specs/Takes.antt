@@ -1,7 +1,7 @@
 -- What taking frames of one feed does.
 use Rattle.std.specs.Prelude.{◌≡◌, ℕ, ◌+◌, ◌*◌, ◌<◌, ◌≤◌, Bool, true, false, List, [], ◌∷◌, ◌++◌, length, Option, None, Some}
 use Rattle.dn_model.specs.Steps.{FrameStep, updates, entries_by}
-use Rattle.dn_model.specs.Table.{TablesOf}
+use Rattle.dn_run.specs.Tables.{TablesOf}
 use Rattle.dn_model.specs.declared.entry.Entry.{Entry}
 use Rattle.dn_model.specs.declared.ids.RouterId.{RouterId}
 use Rattle.dn_model.specs.declared.topology.Topology.{Topology}

@@ -5,7 +5,7 @@ use Rattle.dn_model.specs.Answer.{unknown_of, IsAnswer}
 use Rattle.dn_model.specs.Lawful.{Job, Tells, TellsAll, KeepsOrder, asked, takes, takes_feed, pin_after, is_from, is_from_some, taken_along, first_taken, left_by}
 pub use Rattle.dn_model.specs.ScriptText.{IsShort}
 use Rattle.dn_model.specs.Steps.{FrameStep, FeedRead, updates, entries_by}
-use Rattle.dn_model.specs.Table.{TablesOf}
+use Rattle.dn_run.specs.Tables.{TablesOf}
 use Rattle.dn_model.specs.declared.entry.Entry.{Entry}
 use Rattle.dn_model.specs.declared.entry.Route.{Route}
 use Rattle.dn_model.specs.declared.ids.RouterId.{RouterId}

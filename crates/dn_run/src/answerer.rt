@@ -3,7 +3,7 @@
 ghost use Rattle.std.specs.Prelude.{◌≡◌, ◌+◌, ◌<◌, ◌^◌, List, length, IfOk, IsSome, None};
 ghost use Rattle.dn_model.specs.Answer.{unknown_of, links_of, IsAnswer, path_answer};
 ghost use Rattle.dn_model.specs.Lookup.{router_of};
-ghost use Rattle.dn_model.specs.Table.{TablesOf};
+ghost use Rattle.dn_run.specs.Tables.{TablesOf};
 ghost use Rattle.dn_model.specs.declared.entry.Entry.{Entry};
 
 use crate::tables::Tables;

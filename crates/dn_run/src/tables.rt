@@ -1,137 +1,68 @@
-//! The routing tables of all routers, as plain lists of routes.
+//! The routing tables of all routers.
 
-ghost use Rattle.std.specs.Prelude.{◌≡◌, ◌<◌, ◌≤◌, ◌++◌, ◌∷◌, [], List, IfOk, OnOk, OnErr, length, filter, map, not, slice_set, slice_index_or, replicate, vec_len, vec_capacity};
-ghost use Rattle.dn_model.specs.Cidr.{covers};
-ghost use Rattle.dn_model.specs.Table.{is_of_prefix, has_key, after_op, goes_before, better, best, target_in, TablesOf};
-ghost use Rattle.dn_model.specs.Walk.{is_down, without, next, next_in, walk, walk_end};
+ghost use Rattle.std.specs.Prelude.{◌≡◌, ◌<◌, ◌++◌, ◌∷◌, [], List, IfOk, OnOk, OnErr, length, slice_get, replicate, vec_len, IsPermutation};
+ghost use Rattle.std.specs.Option.{option_copied};
+ghost use Rattle.dn_model.specs.Routes.{IsTable};
+ghost use Rattle.dn_model.specs.Table.{after_op, target_in};
+ghost use Rattle.dn_model.specs.Walk.{is_down, without, next, walk, walk_end};
 ghost use Rattle.dn_model.specs.declared.entry.Entry.{Entry};
+ghost use Rattle.dn_run.specs.Tables.{TablesOf, UpdatesAt};
 
-use dn_model::{Entry, LinkId, List, Op, OutOfMemory, PathEnd, Prefix, Route, RouterId, Target};
+use dn_model::{Entry, LinkId, List, Op, OutOfMemory, PathEnd, RouterId, Target};
+use route_table::RouteTable;
 use std::alloc::Global;
 use std::marker::Model;
 
-/// The routes of each router, in the order of the topology. A contract sees the list of the routers' lists.
+/// The table of each router, in the order of the topology. A contract sees the list of the routers' lists of routes, of
+/// which the order means nothing.
 #[derive(Drop)]
 pub struct Tables {
-    routers: Vec<Vec<Route>>,
+    routers: Vec<RouteTable>,
 }
 
 impl Model for Tables {
-    ghost use Rattle.std.specs.Prelude.{List, map};
+    ghost use Rattle.std.specs.Prelude.{List};
     ghost use Rattle.dn_model.specs.declared.entry.Route.{Route};
 
     ghost Value = { List (List Route) };
 
-    ghost view = { λ t. map (λ v. v.items) t.routers.items };
+    ghost view = { λ t. t.routers.items };
 }
 
-/// Whether a route has this prefix.
-fn is_of(prefix: Prefix, route: &Route) -> bool
-    ensures { result ≡ is_of_prefix prefix route.now }
-{
-    route.prefix.base() == prefix.base() && route.prefix.len() == prefix.len()
-}
-
-/// Takes away the route of a prefix with this metric.
-fn remove_route(routes: &mut Vec<Route>, prefix: Prefix, metric: u32)
-    ensures items { routes.new.items ≡ filter (λ r. not (has_key prefix metric r)) routes.old.items }
-    ensures room { vec_len routes.new ≤ vec_len routes.old }
-    ensures capacity { vec_capacity routes.new ≡ vec_capacity routes.old }
-{
-    routes.retain(|route| !(is_of(prefix, route) && route.metric == metric));
-}
-
-/// Takes away all routes of a prefix.
-fn remove_prefix(routes: &mut Vec<Route>, prefix: Prefix)
-    ensures { routes.new.items ≡ filter (λ r. not (is_of_prefix prefix r)) routes.old.items }
-{
-    routes.retain(|route| !is_of(prefix, route));
-}
-
-/// Puts a route in the place of the one with its prefix and metric. The room is taken first, so that after
-/// `OutOfMemory` no route is gone.
-fn put_route(routes: &mut Vec<Route>, route: Route) -> Result<(), OutOfMemory>
-    ensures ok { OnOk result (routes.new.items ≡ filter (λ r. not (has_key route.prefix route.metric r)) routes.old.items ++ route ∷ []) }
-    ensures err { OnErr result (routes.new.items ≡ routes.old.items) }
-{
-    routes.reserve(1)?;
-    remove_route(routes, route.prefix, route.metric);
-    routes.push_reserved(route);
-    Ok(())
-}
-
-/// Makes an update to a router's routes.
-fn update(routes: &mut Vec<Route>, op: &Op) -> Result<(), OutOfMemory>
-    ensures ok { OnOk result (routes.new.items ≡ after_op routes.old.items op.now) }
-    ensures err { OnErr result (routes.new.items ≡ routes.old.items) }
+/// Makes an update to a router's table. After `OutOfMemory`, for which alone it fails, the table is as before.
+fn update(table: &mut RouteTable, op: &Op) -> Result<(), OutOfMemory>
+    ensures ok { OnOk result (IsPermutation table.new (after_op table.old op.now)) }
+    ensures err { OnErr result (table.new ≡ table.old) }
 {
     match *op {
         Op::Set {
             prefix,
             metric,
             target,
-        } => put_route(
-            routes,
-            Route {
-                prefix,
-                metric,
-                target,
-            },
-        )?,
-        Op::Clear {
-            prefix,
-            metric: None,
-        } => remove_prefix(routes, prefix),
-        Op::Clear {
-            prefix,
-            metric: Some(metric),
-        } => remove_route(routes, prefix, metric),
+        } => table.set(prefix, metric, target),
+        Op::Clear { prefix, metric } => {
+            table.clear(prefix, metric);
+            Ok(())
+        }
     }
-    Ok(())
 }
 
-/// Makes an update to the routes of the router at this place.
-fn update_at(routers: &mut Vec<Vec<Route>>, at: usize, op: &Op) -> Result<(), OutOfMemory>
+/// Makes an update to the table of the router at this place.
+fn update_at(routers: &mut Vec<RouteTable>, at: usize, op: &Op) -> Result<(), OutOfMemory>
     requires { at < vec_len routers.old }
     ensures len { vec_len routers.new ≡ vec_len routers.old }
-    ensures ok { OnOk result (map (λ v. v.items) routers.new.items ≡ slice_set (map (λ v. v.items) routers.old.items) at (after_op (slice_index_or (map (λ v. v.items) routers.old.items) at []) op.now)) }
-    ensures err { OnErr result (map (λ v. v.items) routers.new.items ≡ map (λ v. v.items) routers.old.items) }
+    ensures ok { OnOk result (UpdatesAt at op.now routers.old.items routers.new.items) }
+    ensures err { OnErr result (routers.new.items ≡ routers.old.items) }
 {
     update(&mut routers[at], op)
 }
 
-/// Whether a prefix covers an address.
-fn holds(prefix: Prefix, a: u32) -> bool
-    ensures { result ≡ covers prefix a }
+/// What a router's table does with an address.
+fn target_of(table: &RouteTable, a: u32) -> Target
+    ensures value { result ≡ target_in table.now a }
+    ensures table { IsTable table.now }
 {
-    let base = u64::from(prefix.base());
-    let size = 1u64 << (32 - prefix.len());
-    base <= u64::from(a) && u64::from(a) < base + size
-}
-
-/// The one of two routes that goes first; the earlier one, where neither does.
-fn first_of(x: Option<Route>, y: Route) -> Option<Route>
-    ensures { result ≡ better x y }
-{
-    let Some(x) = x else {
-        return Some(y);
-    };
-    let goes_first = x.prefix.len() < y.prefix.len()
-        || (y.prefix.len() == x.prefix.len() && y.metric < x.metric);
-    if goes_first { Some(y) } else { Some(x) }
-}
-
-/// What a list of routes does with an address.
-fn target_of(routes: &[Route], a: u32) -> Target
-    ensures { result ≡ target_in routes.now a }
-{
-    let mut first = None;
-    for route in routes {
-        if holds(route.prefix, a) {
-            first = first_of(first, *route);
-        }
-    }
-    match first {
+    match table.best(a) {
         Some(route) => route.target,
         None => Target::NoRoute,
     }
@@ -160,26 +91,33 @@ fn with_links_down(down: &[LinkId], target: Target) -> Target
     }
 }
 
-/// What a router does with an address by the lists of all routers.
-fn next_by(routers: &[Vec<Route>], down: &[LinkId], a: u32, router: RouterId) -> Target
-    ensures { result ≡ next_in (map (λ v. v.items) routers.now) down.now a router }
+/// The table of a router, if there is one.
+fn table_of(routers: &[RouteTable], router: RouterId) -> Option<&RouteTable>
+    ensures { option_copied result ≡ slice_get routers.now router.0 }
 {
-    match routers.get(usize::from(router.0)) {
-        Some(routes) => with_links_down(down, target_of(routes.as_slice(), a)),
+    routers.get(usize::from(router.0))
+}
+
+/// What a router does with an address by the tables of all routers.
+fn next_by(routers: &[RouteTable], down: &[LinkId], a: u32, router: RouterId) -> Target
+    ensures { (history : List Entry) → TablesOf routers.now history → result ≡ next history down.now a router }
+{
+    match table_of(routers, router) {
+        Some(table) => with_links_down(down, target_of(table, a)),
         None => Target::NoRoute,
     }
 }
 
-/// The walk of an address by the lists of all routers.
+/// The walk of an address by the tables of all routers.
 fn walk_by(
     alloc: Global,
-    routers: &[Vec<Route>],
+    routers: &[RouteTable],
     down: &[LinkId],
     first: RouterId,
     a: u32,
 ) -> Result<(List<RouterId>, PathEnd), OutOfMemory>
-    ensures hops { IfOk result (λ answer. answer.0 ≡ walk (next_in (map (λ v. v.items) routers.now) down.now a) (length routers.now) first) }
-    ensures end { IfOk result (λ answer. answer.1 ≡ walk_end (next_in (map (λ v. v.items) routers.now) down.now a) (length routers.now) first) }
+    ensures hops { IfOk result (λ answer. (history : List Entry) → TablesOf routers.now history → answer.0 ≡ walk (next history down.now a) (length routers.now) first) }
+    ensures end { IfOk result (λ answer. (history : List Entry) → TablesOf routers.now history → answer.1 ≡ walk_end (next history down.now a) (length routers.now) first) }
 {
     let mut hops = Vec::new(alloc);
     let mut router = first;
@@ -196,15 +134,15 @@ fn walk_by(
     Ok((List::from_vec(hops), PathEnd::Loop))
 }
 
-/// As many empty lists.
-fn empty_lists(alloc: Global, count: usize) -> Result<Vec<Vec<Route>>, OutOfMemory>
-    ensures { IfOk result (λ lists. map (λ v. v.items) lists.items ≡ replicate count []) }
+/// As many empty tables.
+fn empty_tables(alloc: Global, count: usize) -> Result<Vec<RouteTable>, OutOfMemory>
+    ensures { IfOk result (λ tables. tables.items ≡ replicate count []) }
 {
-    let mut lists = Vec::new(alloc);
+    let mut tables = Vec::new(alloc);
     for _ in 0..count {
-        lists.push(Vec::new(alloc))?;
+        tables.push(RouteTable::new(alloc))?;
     }
-    Ok(lists)
+    Ok(tables)
 }
 
 impl Tables {
@@ -213,12 +151,12 @@ impl Tables {
         ensures len { IfOk result (λ tables. length tables ≡ routers) }
         ensures empty { IfOk result (λ tables. TablesOf tables []) }
     {
-        let routers = empty_lists(alloc, routers)?;
+        let routers = empty_tables(alloc, routers)?;
         Ok(Tables { routers })
     }
 
-    /// Makes an update, which takes time by the length of its router's list. After `OutOfMemory`, for which alone it
-    /// fails, the tables are as before.
+    /// Makes an update, which takes time by the logarithm of its router's routes, and by the routes that it removes.
+    /// After `OutOfMemory`, for which alone it fails, the tables are as before.
     pub fn apply(&mut self, entry: &Entry) -> Result<(), OutOfMemory>
         requires { entry.now.router.0 < length self.old }
         ensures len { length self.new ≡ length self.old }

@@ -2,7 +2,7 @@
 
 ghost use Rattle.std.specs.Prelude.{◌≡◌, ℕ, ◌<◌, ◌≤◌, ◌++◌, ◌∷◌, [], List, length, OnOk, IfOk, is_none, Some, None, IsSome, true};
 ghost use Rattle.dn_model.specs.Steps.{entries_by};
-ghost use Rattle.dn_model.specs.Table.{TablesOf};
+ghost use Rattle.dn_run.specs.Tables.{TablesOf};
 ghost use Rattle.dn_model.specs.declared.entry.Entry.{Entry};
 ghost use Rattle.dn_run.specs.Network.{entries};
 ghost use Rattle.dn_run.specs.Takes.{TakesOne, TakesSome, Moves, tag_of};

@@ -1,6 +1,6 @@
 use Rattle.std.proofs.Common.{◌≡◌, ◌++◌, List, length, take}
 use Rattle.dn_model.specs.Steps.{entries_by}
-use Rattle.dn_model.specs.Table.{TablesOf}
+use Rattle.dn_run.specs.Tables.{TablesOf}
 use Rattle.dn_model.specs.declared.entry.Entry.{Entry}
 use Rattle.dn_run.specs.Network.{entries}
 use Rattle.dn_run.proofs.take.post_all.Given as goal

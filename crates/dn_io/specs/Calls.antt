@@ -54,10 +54,6 @@ state_failed Out = false
 state_failed Refused = true
 state_failed (Back failed left) = failed
 
--- the entry has failed
-abbrev pub HasFailed : Call → Type 0
-HasFailed call = state_failed call.state ≡ true
-
 -- whether a state is Out
 abbrev pub state_is_out : CallState → Bool
 state_is_out Out = true

@@ -8,7 +8,6 @@ pub mod Keyed
 pub mod Keys
 pub mod Lookups
 pub mod Loops
-pub mod Message
 pub mod RoomLemmas
 pub mod RunsOnce
 pub mod SameRoutes

@@ -53,10 +53,6 @@ lost_cause BadFrameLength = Some 16
 abbrev pub frames_text : List Frame → List ℕ
 frames_text frames = flat_map frame_text frames
 
--- where the frame with this place among the frames, from 0, begins
-abbrev pub frame_offset : List Frame → ℕ → ℕ
-frame_offset frames place = length (frames_text (take place frames))
-
 -- the bytes are these frames, and then a rest that begins with no frame
 pub record Frames (bytes : List ℕ) (frames : List Frame) (rest : List ℕ) : Type 0 where
   pub whole : bytes ≡ frames_text frames ++ rest

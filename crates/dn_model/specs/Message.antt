@@ -73,19 +73,6 @@ message_text raw =
 abbrev pub NumberFits : Option ℕ → Type 0
 NumberFits n = IfSome n (λ m. m < 2 ^ 32)
 
--- what a message to set a route has here: a metric and an interface; one to delete has neither interface nor gateway
-abbrev pub HasPlainParts : Bool → Option ℕ → Bool → Option ℕ → Type 0
-HasPlainParts true metric via oif = (via ≡ false) × (oif ≡ None)
-HasPlainParts false metric via oif = IsSome metric × IsSome oif
-
--- the routes that are read: unicast ones
-pub record IsPlainRoute (raw : RawRoute) : Type 0 where
-  pub prefix : IsCidr raw.prefix
-  pub kind : raw.kind ≡ Unicast
-  pub parts : HasPlainParts raw.del raw.metric raw.via raw.oif
-  pub metric : NumberFits raw.metric
-  pub oif : NumberFits raw.oif
-
 -- What a unicast route does at this interface. Over a link it leads to the far router where it names a gateway or the
 -- link is unnumbered; at an edge it leaves the network where it names a gateway. Else it is for the segment itself.
 abbrev pub target_at : Port → Bool → ℕ → Target

@@ -24,6 +24,6 @@ pub enum ErrorLine {
     Script { part: u32, line: u32, cause: u8 },
     /// The topology's file couldn't be read.
     ReadTopology,
-    /// The file of a script, which this part names, couldn't be read.
+    /// The file of a script or a feed, which this part names, couldn't be read.
     ReadPart { part: u32 },
 }

@@ -3,11 +3,11 @@
 /// What a run comes to, before its text is written.
 #[derive(Clone, Copy, Debug, PartialEq, Eq)]
 pub enum Verdict {
-    /// All was accepted, the feed was read to its end, and no frame was refused.
+    /// All was accepted, each feed was read to its end, and no frame was refused.
     Done,
-    /// All was accepted and no fault came, but a frame was refused, or the feed ended in another way.
+    /// All was accepted and no fault came, but a frame was refused, or some feed ended in another way.
     Refusals,
-    /// The words of the command line are refused.
+    /// The words, a part, a feed's router or the number of jobs is refused.
     BadWords,
     /// The topology is refused.
     BadTopology,
@@ -20,17 +20,17 @@ pub enum Verdict {
 /// The exit status of a run, by its number as `u8`.
 #[derive(Clone, Copy, Debug, PartialEq, Eq)]
 pub enum Status {
-    /// All was accepted, the feed was read to its end, no frame was refused, and the report was written whole.
+    /// All was accepted, each feed was read to its end, no frame was refused, and the report was written whole.
     Done = 0,
-    /// The report was written whole, but a frame was refused, or the feed ended in another way than its end.
+    /// The report was written whole, but a frame was refused, or some feed ended in another way than its end.
     Refusals = 1,
-    /// The words are refused, and the error line was written.
+    /// The words, a part, a feed's router or the number of jobs is refused, and the error line was written.
     BadWords = 2,
     /// The topology is refused, and the error line was written.
     BadTopology = 3,
     /// The script is refused, and the error line was written.
     BadScript = 4,
-    /// A file failed; the error line, or the feed's end in the report, names it.
+    /// A file failed; the error line, or a feed's end in the report, names it.
     ReadFault = 5,
     /// The sink failed; what was written is a front of the text that was due.
     WriteFault = 6,

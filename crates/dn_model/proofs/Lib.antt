@@ -1,4 +1,6 @@
 pub mod Best
+pub mod Covers
+pub mod Cuts
 pub mod DeltaOnce
 pub mod Digits
 pub mod FeedLemmas
@@ -8,6 +10,7 @@ pub mod Keyed
 pub mod Keys
 pub mod Lookups
 pub mod Loops
+pub mod Meets
 pub mod RoomLemmas
 pub mod RunsOnce
 pub mod SameRoutes

@@ -1,4 +1,4 @@
-//! Numbers of routers and links: places in the topology's lists, from 0.
+//! Numbers of routers and links, which are places in the topology's lists, from 0, and of atoms.
 
 /// A router: its place in the topology's list of routers, from 0.
 #[derive(Clone, Copy, Debug, PartialEq, Eq, PartialOrd, Ord)]
@@ -7,3 +7,8 @@ pub struct RouterId(pub u16);
 /// A link: its place in the topology's list of links, from 0.
 #[derive(Clone, Copy, Debug, PartialEq, Eq, PartialOrd, Ord)]
 pub struct LinkId(pub u16);
+
+/// An atom: the number of an interval of addresses that no boundary of a prefix cuts, in the order in which the atoms
+/// were made, from 0 (the atoms of Delta-net, NSDI 2017).
+#[derive(Clone, Copy, Debug, PartialEq, Eq, PartialOrd, Ord)]
+pub struct AtomId(pub u32);

@@ -4,13 +4,16 @@
 #![tactic(auto)]
 
 mod answer;
+mod atom_row;
 pub mod cause;
 mod change;
 mod decimal;
 mod entry;
 mod error_line;
 mod ids;
+mod label_row;
 mod laws;
+mod laws_of_rows;
 mod list;
 mod lookup;
 mod memory;
@@ -27,6 +30,7 @@ mod print_tests;
 mod query;
 mod raw_route;
 pub mod refusal;
+mod rule;
 mod run;
 mod script;
 mod target;
@@ -37,15 +41,20 @@ mod topology_fault;
 mod unknown;
 
 pub use answer::{Answer, PathEnd};
+pub use atom_row::AtomRow;
 pub use change::Change;
 pub use decimal::read_number;
 pub use entry::{Entry, Op, Posted, Route};
 pub use error_line::ErrorLine;
-pub use ids::{LinkId, RouterId};
+pub use ids::{AtomId, LinkId, RouterId};
+pub use label_row::LabelRow;
 pub use laws::{
     best_goes_first, best_has_no_order, failed_feeds_have_one_reading, feeds_have_one_reading,
     histories_lead_within, loops_are_true, payloads_are_unique, runs_are_unique,
     tables_have_keys_once, walks_end_at_the_last_router,
+};
+pub use laws_of_rows::{
+    addresses_have_one_place, cuts_keep_all_other_rows, cuts_part_one_row, meeting_is_sharing,
 };
 pub use list::List;
 pub use lookup::{link, port, router};
@@ -61,6 +70,7 @@ pub use print::{
 };
 pub use query::{Ask, Query, Unknown};
 pub use raw_route::{RawRoute, RouteKind};
+pub use rule::Rule;
 pub use run::Run;
 pub use script::{Line, Script};
 pub use target::{DropKind, Target};

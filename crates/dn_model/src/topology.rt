@@ -1,6 +1,6 @@
 //! The network's topology.
 
-ghost use Rattle.std.specs.Prelude.{IsTrue};
+ghost use Rattle.std.specs.Prelude.{IsTrue, ◌≡◌, ◌≤◌, length};
 ghost use Rattle.dn_model.specs.Topology.{is_sound_topology};
 
 use crate::ids::RouterId;
@@ -32,4 +32,14 @@ pub struct Topology {
     pub links: List<TopoLink>,
     pub edges: List<TopoEnd>,
     ghost sound: { IsTrue (is_sound_topology routers links edges) },
+}
+
+impl Topology {
+    /// How many routers there are, at most 1,024.
+    pub fn router_count(&self) -> u32
+        ensures value { result ≡ length self.now.routers }
+        ensures few { result ≤ 1024 }
+    {
+        self.routers.len() as u32
+    }
 }

@@ -8,8 +8,8 @@ use Rattle.dn_model.specs.Table.{IsBest, target_in, target_or_none}
 use Rattle.dn_model.specs.declared.entry.Route.{Route}
 use Rattle.dn_model.proofs.Best.{contains-none}
 use Rattle.dn_model.proofs.SameRoutes.{only-best}
-use Rattle.owner_tree.specs.declared.rule.Rule.{Rule}
-use Rattle.owner_tree.specs.Rules.{Covers, IsTop, OwnersOf, rule_before, rule_of, target_of}
+use Rattle.dn_model.specs.declared.rule.Rule.{Rule}
+use Rattle.dn_model.specs.Rules.{Covers, IsTop, OwnersOf, rule_before, rule_of, target_of}
 
 none-best : (rules : List Rule) (routes : List Route) (a : ℕ) → OwnersOf rules routes a → rules ≡ [] → IsBest routes a None
 none-best rules routes a owners empty = λ x inside. false_from_ne_true (covers x.prefix a) (λ t.

@@ -9,7 +9,7 @@ use Rattle.dn_model.specs.declared.target.Target.{Target}
 use Rattle.dn_model.proofs.KeyOrder.{nat-at, nat-exact, then-at, then-first, then-second}
 use Rattle.owner_tree.specs.declared.rule.RuleKey.{RuleKey}
 use Rattle.owner_tree.specs.Entries.{entry_rule, rule_cmp}
-use Rattle.owner_tree.specs.Rules.{has_rule_key}
+use Rattle.dn_model.specs.Rules.{has_rule_key}
 
 pub rule-total : IsTotalOrder rule_cmp
 rule-total = then_total (on_total (λ (k : RuleKey). k.len) nat_cmp_total) (on_total (λ (k : RuleKey). k.metric) nat_cmp_total)

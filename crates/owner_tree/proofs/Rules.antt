@@ -14,10 +14,10 @@ use Rattle.std.proofs.lemmas.Map.Keys.{sorted_head, sorted_tail}
 use Rattle.dn_model.specs.Topology.{all_differ}
 use Rattle.dn_model.specs.declared.target.Target.{Target}
 use Rattle.dn_model.proofs.Keyed.{others, remove-others, insert-others}
-use Rattle.owner_tree.specs.declared.rule.Rule.{Rule}
+use Rattle.dn_model.specs.declared.rule.Rule.{Rule}
 use Rattle.owner_tree.specs.declared.rule.RuleKey.{RuleKey}
 use Rattle.owner_tree.specs.Entries.{entry_rule, rules_of, rule_cmp}
-use Rattle.owner_tree.specs.Rules.{has_rule_key, without_rule, with_rule, HasRulesOnce}
+use Rattle.dn_model.specs.Rules.{has_rule_key, without_rule, with_rule, HasRulesOnce}
 use Rattle.owner_tree.proofs.Order.{rule-total, rule-exact, at-rule}
 
 -- the rules with other keys

@@ -11,10 +11,10 @@ use Rattle.std.proofs.lemmas.Option.{none-some}
 use Rattle.dn_model.specs.declared.target.Target.{Target}
 use Rattle.dn_model.proofs.KeyOrder.{nat-from, nat-upto, then-from, then-not_before, then-rest, then-upto}
 use Rattle.dn_model.proofs.Keyed.{contains-map, entry-in, in-entry, map-contains}
-use Rattle.owner_tree.specs.declared.rule.Rule.{Rule}
+use Rattle.dn_model.specs.declared.rule.Rule.{Rule}
 use Rattle.owner_tree.specs.declared.rule.RuleKey.{RuleKey}
 use Rattle.owner_tree.specs.Entries.{entry_rule, rules_of, rule_cmp}
-use Rattle.owner_tree.specs.Rules.{IsTop, rule_before}
+use Rattle.dn_model.specs.Rules.{IsTop, rule_before}
 use Rattle.owner_tree.proofs.Order.{rule-total, rule-exact}
 
 -- no entry, no rule

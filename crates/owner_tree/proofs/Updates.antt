@@ -13,8 +13,8 @@ use Rattle.dn_model.specs.declared.entry.Route.{Route}
 use Rattle.dn_model.specs.declared.target.Target.{Target}
 use Rattle.dn_model.proofs.Best.{contains-filter, contains-here, filter-contains}
 use Rattle.dn_model.proofs.Keys.{base-once}
-use Rattle.owner_tree.specs.declared.rule.Rule.{Rule}
-use Rattle.owner_tree.specs.Rules.{Covers, OwnersOf, has_rule_key, rule_of, with_rule, without_rule}
+use Rattle.dn_model.specs.declared.rule.Rule.{Rule}
+use Rattle.dn_model.specs.Rules.{Covers, OwnersOf, has_rule_key, rule_of, with_rule, without_rule}
 
 -- where prefix and route cover one address, the route has the key exactly where its rule has it
 key-rule : (p : Cidr) (m : ℕ) (x : Route) → has_key p m x ≡ true → has_rule_key p.len m (rule_of x) ≡ true

@@ -3,7 +3,7 @@ use Rattle.std.specs.Prelude.{List, map}
 use Rattle.std.specs.Ordering.{nat_cmp, ordering_then}
 use Rattle.std.specs.declared.cmp.Ordering.{Ordering}
 use Rattle.dn_model.specs.declared.target.Target.{Target}
-use Rattle.owner_tree.specs.declared.rule.Rule.{Rule}
+use Rattle.dn_model.specs.declared.rule.Rule.{Rule}
 use Rattle.owner_tree.specs.declared.rule.RuleKey.{RuleKey}
 
 abbrev pub entry_rule : RuleKey × Target → Rule

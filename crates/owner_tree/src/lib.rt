@@ -8,4 +8,4 @@ mod rule;
 mod tests;
 
 pub use owners::Owners;
-pub use rule::Rule;
+pub use dn_model::Rule;

@@ -2,10 +2,10 @@
 
 ghost use Rattle.std.specs.Prelude.{◌≡◌, [], OnOk, OnErr, IfOk, IsPermutation};
 ghost use Rattle.std.specs.List.{list_any};
-ghost use Rattle.owner_tree.specs.Rules.{has_rule_key, without_rule, with_rule, HasRulesOnce, IsTop};
+ghost use Rattle.dn_model.specs.Rules.{has_rule_key, without_rule, with_rule, HasRulesOnce, IsTop};
 
-use crate::rule::{Rule, RuleKey};
-use dn_model::{OutOfMemory, Target};
+use crate::rule::RuleKey;
+use dn_model::{OutOfMemory, Rule, Target};
 use std::alloc::Global;
 use std::collections::BTreeMap;
 use std::marker::Model;
@@ -20,7 +20,7 @@ pub struct Owners {
 impl Model for Owners {
     ghost use Rattle.std.specs.Prelude.{List};
     ghost use Rattle.std.specs.BTreeMap.{IsOrdered};
-    ghost use Rattle.owner_tree.specs.declared.rule.Rule.{Rule};
+    ghost use Rattle.dn_model.specs.declared.rule.Rule.{Rule};
     ghost use Rattle.owner_tree.specs.Entries.{rules_of, rule_cmp};
 
     ghost Value = { List Rule };

@@ -1,19 +1,9 @@
-//! Rules and their keys.
+//! The keys of rules.
 
 ghost use Rattle.std.specs.Prelude.{◌≡◌};
 ghost use Rattle.owner_tree.specs.Entries.{entry_rule};
 
-use dn_model::Target;
-
-/// What a route says where it covers: the length of its prefix in bits, its metric and what is done with the
-/// addresses. Length and metric are its key, since all rules of one set cover the same addresses, where a length fixes
-/// the prefix.
-#[derive(Clone, Copy, Debug, PartialEq, Eq)]
-pub struct Rule {
-    pub len: u8,
-    pub metric: u32,
-    pub target: Target,
-}
+use dn_model::{Rule, Target};
 
 /// What tells the rules of one set apart. They are in order of the length, then of the metric.
 #[derive(Clone, Copy, Debug, PartialEq, Eq, PartialOrd, Ord)]

@@ -1,6 +1,6 @@
 use Rattle.std.proofs.Common.{List, refl, subst}
-use Rattle.owner_tree.specs.Rules.{HasRulesOnce}
-use Rattle.owner_tree.specs.declared.rule.Rule.{Rule}
+use Rattle.dn_model.specs.Rules.{HasRulesOnce}
+use Rattle.dn_model.specs.declared.rule.Rule.{Rule}
 use Rattle.owner_tree.proofs.Rules.{rules-once}
 use Rattle.owner_tree.proofs.Top.{top-at}
 use Rattle.owner_tree.proofs.owners.Owners.top.Goals as goal

@@ -3,10 +3,12 @@
 use Rattle.std.specs.Prelude.{ℕ, Bool, List, [], ◌∷◌, ◌++◌, Option, None, Some, filter, not, nat_lt, Contains, IsTrue, IsFalse, ◌≡◌, ◌&&◌, ◌||◌, ◌==◌}
 use Rattle.dn_model.specs.Cidr.{covers}
 use Rattle.dn_model.specs.Topology.{all_differ}
+use Rattle.dn_model.specs.declared.entry.Op.{Op}
+use Rattle.dn_model.specs.declared.entry.Op.TheVariants.{Set, Clear}
 use Rattle.dn_model.specs.declared.entry.Route.{Route}
 use Rattle.dn_model.specs.declared.target.Target.{Target}
 use Rattle.dn_model.specs.declared.target.Target.TheVariants.{NoRoute}
-use Rattle.owner_tree.specs.declared.rule.Rule.{Rule}
+use Rattle.dn_model.specs.declared.rule.Rule.{Rule}
 
 -- whether a rule has this key
 abbrev pub has_rule_key : ℕ → ℕ → Rule → Bool
@@ -19,6 +21,21 @@ without_rule rules l m = filter (λ r. not (has_rule_key l m r)) rules
 -- a rule in the place of the one with its key
 abbrev pub with_rule : List Rule → Rule → List Rule
 with_rule rules rule = without_rule rules rule.len rule.metric ++ rule ∷ []
+
+-- the rules of other lengths
+abbrev pub without_length : List Rule → ℕ → List Rule
+without_length rules l = filter (λ r. not (r.len == l)) rules
+
+-- the rules but for the one of a length and a metric, or without a metric but for all of the length
+abbrev pub cleared_rules : List Rule → ℕ → Option ℕ → List Rule
+cleared_rules rules l None = without_length rules l
+cleared_rules rules l (Some m) = without_rule rules l m
+
+-- what an update makes of the rules where its prefix covers: Set puts its rule in the place of the one with its key;
+-- Clear takes away the rule with its key, or without a metric all rules of its length
+abbrev pub after_rule_op : List Rule → Op → List Rule
+after_rule_op rules (Set p m t) = with_rule rules (record { len = p.len; metric = m; target = t })
+after_rule_op rules (Clear p m) = cleared_rules rules p.len m
 
 -- whether a rule goes before another: the longer prefix, and of equal lengths the lesser metric
 abbrev pub rule_before : Rule → Rule → Bool

@@ -1,0 +1,150 @@
+-- Where the atoms begin, by number: at first, after a cut, and where one is asked for.
+use Rattle.std.proofs.Common.{◌≡◌, ℕ, ◌+◌, ◌<◌, ◌≤◌, ◌^◌, ◌∙◌, ⊎_elim, zero, suc, true, false, Some, option_map, Contains, List, [], ◌∷◌, ◌++◌, length, get_or, refl, ap, sym, subst, arith, leb, ltb, lit<}
+use Rattle.std.proofs.lemmas.Bool.{cases_Bool, cases_lt, and_parts, leb-true, ne_eqb}
+use Rattle.std.proofs.lemmas.List.{get_or_append_left, get_or_push, length_push}
+use Rattle.std.proofs.lemmas.Option.{none-some}
+use Rattle.dn_model.specs.Rows.{is_within, CoverFrom}
+use Rattle.dn_model.specs.Atoms.{AreAtoms, AreBelow, atom_of, low_of, high_of, has_address, row_at, row_of, is_boundary, lower_part, upper_part, cut_rows, part_of}
+use Rattle.dn_model.specs.declared.atom_row.AtomRow.{AtomRow}
+use Rattle.dn_model.specs.declared.ids.AtomId.{AtomId}
+use Rattle.dn_model.proofs.Covers.{within-yes, holder-first, holder-rest, holder-at, few-rows}
+use Rattle.dn_model.proofs.Cuts.{boundary-at, boundary-parts, row-after-cut, length-after-cut, atoms-after-cut, part-whole, part-lower, part-upper}
+use Rattle.atom_map.specs.Index.{one_atom, Begins, IsIndexed}
+
+-- the one atom
+one-begins : (n : ℕ) → n < length one_atom → Begins one_atom n (get_or (0 ∷ []) n 0)
+one-begins zero l = record {
+  row = row_of (record { 0 = 0 }) 0 (2 ^ 32);
+  at = holder-first low_of high_of (row_of (record { 0 = 0 }) 0 (2 ^ 32)) [] 0 (within-yes 0 (2 ^ 32) 0 (omega arith) (lit< tt));
+  low = refl;
+  is = refl;
+}
+one-begins (suc n) l = absurd (omega arith)
+
+pub one-indexed : IsIndexed one_atom (0 ∷ [])
+one-indexed = record {
+  atoms = record { cover = (refl, lit< tt, refl); below = (lit< tt, tt); once = (tt, tt) };
+  long = refl;
+  begins = one-begins;
+}
+
+-- the row of an address doesn't begin at an address where none begins
+not-boundary : (rows : List AtomRow) (b at : ℕ) (row : AtomRow) → row_at rows b ≡ Some row → is_boundary rows at ≡ false → row.low ≡ at → ⊥
+not-boundary [] b at row e n = absurd (none-some row e)
+not-boundary (r ∷ rs) b at row e n =
+    ⊎_elim
+    (λ (y : is_within r.low r.high b ≡ true).
+    let s : Some r ≡ Some row = sym (holder-first low_of high_of r rs b y) ∙ e in
+    let k : r ≡ row = cc in
+    let P : AtomRow → Type 0 = λ x. x.low ≡ at → ⊥ in
+    subst P k (boundary-parts r rs at n).0)
+    (λ (y : is_within r.low r.high b ≡ false).
+    not-boundary rs b at row (sym (holder-rest low_of high_of r rs b y) ∙ e) (boundary-parts r rs at n).1)
+    (cases_Bool (is_within r.low r.high b))
+
+-- an atom that was there begins where it began
+old-begins : (rows : List AtomRow) (at n b : ℕ) (new : AtomId) → AreAtoms rows → is_boundary rows at ≡ false → Begins rows n b → Begins (cut_rows rows at new) n b
+old-begins rows at n b new h none w =
+    let e : row_at (cut_rows rows at new) b ≡ Some (part_of at new b w.row) = row-after-cut 0 rows at new b h.cover ∙ ap (option_map (part_of at new b)) w.at in
+    let apart : w.row.low ≡ at → ⊥ = not-boundary rows b at w.row w.at none in
+    let low : w.row.low ≡ b = w.low in
+    ⊎_elim
+    (λ (y : has_address at w.row ≡ true).
+    let from : w.row.low ≤ at = leb-true w.row.low at (and_parts (leb w.row.low at) (ltb at w.row.high) y).0 in
+    let below : b < at = omega arith in
+    record {
+      row = lower_part at w.row;
+      at = e ∙ ap (λ (x : AtomRow). Some x) (part-lower at new b w.row y below);
+      low = low;
+      is = w.is;
+    })
+    (λ (y : has_address at w.row ≡ false).
+    record {
+      row = w.row;
+      at = e ∙ ap (λ (x : AtomRow). Some x) (part-whole at new b w.row y);
+      low = low;
+      is = w.is;
+    })
+    (cases_Bool (has_address at w.row))
+
+-- the new one begins at the cut
+new-begins : (rows : List AtomRow) (place at : ℕ) (d : AtomRow) (new : AtomId) → AreAtoms rows → place < length rows → low_of (get_or rows place d) ≤ at → at < high_of (get_or rows place d) → Begins (cut_rows rows at new) new.0 at
+new-begins rows place at d new h l from to =
+    let row : AtomRow = get_or rows place d in
+    let has : has_address at (get_or rows place d) ≡ true = within-yes (low_of (get_or rows place d)) (high_of (get_or rows place d)) at from to in
+    record {
+      row = upper_part at new (get_or rows place d);
+      at = row-after-cut 0 rows at new at h.cover
+          ∙ ap (option_map (part_of at new at)) (holder-at low_of high_of 0 rows place d at h.cover l from to)
+          ∙ ap (λ (x : AtomRow). Some x) (part-upper at new at (get_or rows place d) has (omega arith));
+      low = refl;
+      is = refl;
+    }
+
+-- a cut in the midst of an atom
+pub no-boundary : (rows : List AtomRow) (place at : ℕ) (d : AtomRow) → AreAtoms rows → place < length rows → low_of (get_or rows place d) < at → at < high_of (get_or rows place d) → is_boundary rows at ≡ false
+no-boundary rows place at d h l from to = boundary-at 0 rows place d at h.cover l (omega arith) to ∙ ne_eqb (low_of (get_or rows place d)) at (λ (q : low_of (get_or rows place d) ≡ at). omega arith)
+
+pub cut-indexed : (rows : List AtomRow) (lows : List ℕ) (place at : ℕ) (d : AtomRow) (new : AtomId) → IsIndexed rows lows → at < 2 ^ 32 → place < length rows → low_of (get_or rows place d) < at → at < high_of (get_or rows place d) → new.0 ≡ length rows → IsIndexed (cut_rows rows at new) (lows ++ at ∷ [])
+cut-indexed rows lows place at d new h b l from to e =
+    let none : is_boundary rows at ≡ false = no-boundary rows place at d h.atoms l from to in
+    let long : length (cut_rows rows at new) ≡ suc (length rows) = length-after-cut 0 rows at new h.atoms.cover (omega arith) b in
+    let same : length lows ≡ length rows = h.long in
+    record {
+      atoms = atoms-after-cut rows at new h.atoms b none e;
+      long = length_push lows at ∙ (let s : length lows + 1 ≡ suc (length rows) = omega arith in s) ∙ sym long;
+      begins = λ n k.
+          ⊎_elim
+          (λ (o : n < length rows).
+          let P : ℕ → Type 0 = λ x. Begins (cut_rows rows at new) n x in
+          subst P (sym (get_or_append_left lows (at ∷ []) 0 n (omega arith))) (old-begins rows at n (get_or lows n 0) new h.atoms none (h.begins n o)))
+          (λ (o : length rows ≤ n).
+          let is : length lows ≡ n = omega (arith, long) in
+          let number : new.0 ≡ n = omega arith in
+          let P : ℕ → Type 0 = λ x. Begins (cut_rows rows at new) n x in
+          let Q : ℕ → Type 0 = λ x. Begins (cut_rows rows at new) x at in
+          subst P (sym (get_or_push lows at 0 n is)) (subst Q number (new-begins rows place at d new h.atoms l (omega arith) to)))
+          (cases_lt n (length rows));
+    }
+
+-- the atom with a number is the one of the address where it begins
+pub number-at : (rows : List AtomRow) (lows : List ℕ) (n place low : ℕ) (d : AtomRow) → IsIndexed rows lows → n < length rows → low ≡ get_or lows n 0 → place < length rows → low_of (get_or rows place d) ≤ low → low < high_of (get_or rows place d) → (get_or rows place d).atom.0 ≡ n
+number-at rows lows n place low d h l e k from to =
+    let w : Begins rows n (get_or lows n 0) = h.begins n l in
+    let p : row_at rows low ≡ Some (get_or rows place d) = holder-at low_of high_of 0 rows place d low h.atoms.cover k from to in
+    let q : row_at rows low ≡ Some w.row = ap (λ a. row_at rows a) e ∙ w.at in
+    let s : Some (get_or rows place d) ≡ Some w.row = sym p ∙ q in
+    let r : get_or rows place d ≡ w.row = cc in
+    ap (λ (x : AtomRow). x.atom.0) r ∙ w.is
+
+pub contained : (rows : List AtomRow) (place : ℕ) (row : AtomRow) (atom : AtomId) → place < length rows → row ≡ get_or rows place row → row.atom.0 ≡ atom.0 → Contains rows (row_of atom row.low row.high)
+contained rows place row atom l is e =
+    let P : AtomRow → Type 0 = λ r. Contains rows r in
+    let s : row ≡ row_of atom row.low row.high = ap (λ n. row_of (record { 0 = n }) row.low row.high) e in
+    subst P s (place, l, sym is)
+
+-- there are no more atoms than addresses, and fewer where one has two
+few-wide : (start : ℕ) (rows : List AtomRow) (i : ℕ) (d : AtomRow) → CoverFrom low_of high_of start rows → i < length rows → suc (low_of (get_or rows i d)) < high_of (get_or rows i d) → start + length rows < 2 ^ 32
+few-wide start [] i d h l w = absurd (omega arith)
+few-wide start (r ∷ rs) zero d h l w =
+    let e : r.low ≡ start = h.0 in
+    let k : r.high + length rs ≤ 2 ^ 32 = few-rows low_of high_of r.high rs h.2 in
+    omega arith
+few-wide start (r ∷ rs) (suc i) d h l w =
+    let e : r.low ≡ start = h.0 in
+    let o : r.low < r.high = h.1 in
+    let k : r.high + length rs < 2 ^ 32 = few-wide r.high rs i d h.2 (omega arith) w in
+    omega arith
+
+pub few-atoms : (rows : List AtomRow) (place at : ℕ) (d : AtomRow) → AreAtoms rows → place < length rows → low_of (get_or rows place d) < at → at < high_of (get_or rows place d) → length rows < 2 ^ 32
+few-atoms rows place at d h l from to = let k : 0 + length rows < 2 ^ 32 = few-wide 0 rows place d h.cover l (omega arith) in omega arith
+
+-- the number of an atom is below their count
+pub below-at : (n : ℕ) (rows : List AtomRow) (i : ℕ) (d : AtomRow) → AreBelow n rows → i < length rows → (get_or rows i d).atom.0 < n
+below-at n [] i d h l = absurd (omega arith)
+below-at n (r ∷ rs) zero d h l = h.0
+below-at n (r ∷ rs) (suc i) d h l = below-at n rs i d h.1 (omega arith)
+
+-- the atom of an address, by place
+pub atom-at : (rows : List AtomRow) (place a : ℕ) (row : AtomRow) → AreAtoms rows → place < length rows → row ≡ get_or rows place row → low_of (get_or rows place row) ≤ a → a < high_of (get_or rows place row) → option_map atom_of (row_at rows a) ≡ Some row.atom
+atom-at rows place a row h l is from to = ap (option_map atom_of) (holder-at low_of high_of 0 rows place row a h.cover l from to) ∙ ap (λ (x : AtomRow). Some x.atom) (sym is)

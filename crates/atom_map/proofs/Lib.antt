@@ -1,0 +1,4 @@
+pub mod Answered
+pub mod Begun
+pub mod Meeting
+pub mod Placed

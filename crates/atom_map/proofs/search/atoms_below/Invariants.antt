@@ -1,0 +1,8 @@
+use Rattle.std.proofs.Common.{◌≡◌, ◌++◌, drop, map}
+use Rattle.dn_model.specs.Atoms.{atom_of}
+use Rattle.atom_map.specs.Index.{first_below}
+use Rattle.atom_map.proofs.search.atoms_below.Given as goal
+
+-- the atoms so far and the first of those that are left are all
+abbrev pub invariant-loop-row : goal.invariant-loop-row
+invariant-loop-row l = l.atoms.items ++ map atom_of (first_below l.hi (drop l.row-index l.rows)) ≡ map atom_of (first_below l.hi l.rows)

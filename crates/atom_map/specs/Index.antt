@@ -1,0 +1,34 @@
+-- Atoms, and beside them where the atom of each number begins.
+use Rattle.std.specs.Prelude.{ℕ, List, [], ◌∷◌, Some, length, ◌≡◌, ◌<◌, ◌≤◌, ◌^◌, nat_lt, slice_index_or, if◌then◌else◌}
+use Rattle.dn_model.specs.Atoms.{AreAtoms, row_at, row_of}
+use Rattle.dn_model.specs.declared.atom_row.AtomRow.{AtomRow}
+
+-- one atom, number 0, of all addresses
+abbrev pub one_atom : List AtomRow
+one_atom = row_of (record { 0 = 0 }) 0 (2 ^ 32) ∷ []
+
+-- the first atoms, up to the first that begins at this address or above it
+abbrev pub first_below : ℕ → List AtomRow → List AtomRow
+first_below hi [] = []
+first_below hi (r ∷ rs) = if nat_lt r.low hi then r ∷ first_below hi rs else []
+
+-- the atom of this number begins at this address
+pub record Begins (rows : List AtomRow) (number : ℕ) (first : ℕ) : Type 0 where
+  pub row : AtomRow
+  pub at : row_at rows first ≡ Some row
+  pub low : row.low ≡ first
+  pub is : row.atom.0 ≡ number
+
+-- the atom of each number begins where the list of beginnings says
+pub record IsIndexed (rows : List AtomRow) (lows : List ℕ) : Type 0 where
+  pub atoms : AreAtoms rows
+  pub long : length lows ≡ length rows
+  pub begins : (number : ℕ) → number < length rows → Begins rows number (slice_index_or lows number 0)
+
+-- the atom of an address `a` is one of those from `place` up to, and without, `past`: the first of them doesn't begin
+-- above it, and what follows the last does
+pub record IsLeft (rows : List AtomRow) (a place past : ℕ) : Type 0 where
+  pub order : place < past
+  pub inside : past ≤ length rows
+  pub from : (d : AtomRow) → (slice_index_or rows place d).low ≤ a
+  pub next : (d : AtomRow) → past < length rows → a < (slice_index_or rows past d).low

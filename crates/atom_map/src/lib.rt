@@ -1,0 +1,10 @@
+//! Atoms: the addresses cut into half-closed intervals at the boundaries of prefixes, with an ordered table from
+//! boundary to atom (Delta-net, NSDI 2017).
+#![tactic(auto)]
+
+mod map;
+mod search;
+#[cfg(test)]
+mod tests;
+
+pub use map::AtomMap;

@@ -1,0 +1,126 @@
+//! Atoms by address and by number.
+
+ghost use Rattle.std.specs.Prelude.{◌≡◌, ◌<◌, ◌≤◌, ◌^◌, Some, OnErr, IfOk, IfSome, Contains, length, map, option_map};
+ghost use Rattle.dn_model.specs.Atoms.{AreAtoms, IsCut, atom_of, atoms_in, bounds_of, row_at, row_of};
+ghost use Rattle.atom_map.specs.Index.{one_atom};
+
+use crate::search::{atoms_below, part, place_of, rest};
+use dn_model::{AtomId, AtomRow, List, OutOfMemory};
+use std::alloc::Global;
+use std::marker::Model;
+
+/// The address after the last.
+const END: u64 = 0x1_0000_0000;
+
+/// The addresses, cut into atoms. A contract sees it as the list of the atoms with their bounds, in order: they cover
+/// the addresses from 0 to 2^32 once, and their numbers are those below their count.
+#[derive(Drop)]
+pub struct AtomMap {
+    rows: Vec<AtomRow>,
+    lows: Vec<u32>,
+}
+
+impl Model for AtomMap {
+    ghost use Rattle.std.specs.Prelude.{List};
+    ghost use Rattle.dn_model.specs.declared.atom_row.AtomRow.{AtomRow};
+    ghost use Rattle.atom_map.specs.Index.{IsIndexed};
+
+    ghost Value = { List AtomRow };
+
+    ghost view = { λ m. m.rows.items };
+
+    ghost invariant = { λ m. IsIndexed m.rows.items m.lows.items };
+}
+
+impl AtomMap {
+    /// One atom, number 0, of all addresses.
+    pub fn new(alloc: Global) -> Result<AtomMap, OutOfMemory>
+        ensures { IfOk result (λ atoms. atoms ≡ one_atom) }
+    {
+        let mut rows = Vec::new(alloc);
+        rows.push(AtomRow {
+            atom: AtomId(0),
+            low: 0,
+            high: END,
+        })?;
+        let mut lows = Vec::new(alloc);
+        lows.push(0)?;
+        Ok(AtomMap { rows, lows })
+    }
+
+    /// Cuts the atom of an address in two there: the atom ends at the address now, and a new one, whose number is the
+    /// count of the atoms before, begins there. It answers both, and none exactly where an atom begins at the address
+    /// already. After `OutOfMemory`, for which alone it fails, the atoms are as before.
+    pub fn cut(&mut self, at: u32) -> Result<Option<(AtomId, AtomId)>, OutOfMemory>
+        ensures ok { IfOk result (IsCut self.old self.new at) }
+        ensures err { OnErr result (self.new ≡ self.old) }
+        ensures form { AreAtoms self.new }
+        ensures there { IfOk result (λ cut. IfSome cut (λ p. (p.0.0 < length self.new) × (p.1.0 < length self.new))) }
+    {
+        let place = place_of(&self.rows, at);
+        let row = self.rows[place];
+        if row.low == at as u64 {
+            return Ok(None);
+        }
+        let new = AtomId(self.rows.len() as u32);
+        part(&mut self.rows, &mut self.lows, place, at, new)?;
+        Ok(Some((row.atom, new)))
+    }
+
+    /// The atom of an address. It takes no memory.
+    pub fn atom_of(&self, a: u32) -> AtomId
+        ensures atom { option_map atom_of (row_at self.now a) ≡ Some result }
+        ensures there { result.0 < length self.now }
+    {
+        let place = place_of(&self.rows, a);
+        self.rows[place].atom
+    }
+
+    /// The bounds of an atom: its first address, and the one after its last, which for the last atom is 2^32. It takes
+    /// no memory.
+    pub fn bounds(&self, atom: AtomId) -> (u64, u64)
+        requires { atom.0 < length self.now }
+        ensures row { Contains self.now (row_of atom result.0 result.1) }
+        ensures order { result.0 < result.1 }
+        ensures end { result.1 ≤ 2 ^ 32 }
+    {
+        let low = self.lows[atom.0 as usize];
+        let place = place_of(&self.rows, low);
+        let row = self.rows[place];
+        (row.low, row.high)
+    }
+
+    /// The atoms that have one of the addresses from `lo` up to, and without, `hi`, in order.
+    pub fn atoms_in(&self, alloc: Global, lo: u64, hi: u64) -> Result<List<AtomId>, OutOfMemory>
+        ensures { IfOk result (λ atoms. atoms ≡ atoms_in self.now lo hi) }
+    {
+        let _ = &self.rows;
+        if lo >= hi || lo >= END {
+            return Ok(List::new(alloc));
+        }
+        let from = place_of(&self.rows, lo as u32);
+        let atoms = atoms_below(alloc, rest(&self.rows, from), hi)?;
+        Ok(List::from_vec(atoms))
+    }
+
+    /// Each atom with its bounds, in order.
+    pub fn rows(&self, alloc: Global) -> Result<List<(AtomId, u64, u64)>, OutOfMemory>
+        ensures value { IfOk result (λ rows. rows ≡ map bounds_of self.now) }
+        ensures form { AreAtoms self.now }
+    {
+        let mut rows = Vec::new(alloc);
+        for row in &self.rows {
+            rows.push((row.atom, row.low, row.high))?;
+        }
+        Ok(List::from_vec(rows))
+    }
+
+    /// The same atoms again.
+    pub fn copy(&self, alloc: Global) -> Result<AtomMap, OutOfMemory>
+        ensures { IfOk result (λ atoms. atoms ≡ self.now) }
+    {
+        let rows = Vec::from_slice(alloc, self.rows.as_slice())?;
+        let lows = Vec::from_slice(alloc, self.lows.as_slice())?;
+        Ok(AtomMap { rows, lows })
+    }
+}

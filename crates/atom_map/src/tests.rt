@@ -1,0 +1,36 @@
+//! A map that is cut once, whose answers were worked out by hand.
+
+use super::AtomMap;
+use dn_model::AtomId;
+use std::test::Fail;
+
+/// Atoms cross to another thread.
+fn crosses<T: Send + Sync>(_value: &T) {}
+
+#[test]
+fn a_cut_parts_the_atom_of_all_addresses(rt: HostRuntime) -> Result<(), Fail> {
+    let mut atoms = AtomMap::new(rt.alloc())?;
+    crosses(&atoms);
+    assert_eq!(rt; atoms.cut(0)?, None);
+    assert_eq!(rt; atoms.cut(167_772_160)?, Some((AtomId(0), AtomId(1))));
+    assert_eq!(rt; atoms.cut(167_772_160)?, None);
+    assert_eq!(rt; atoms.atom_of(167_772_160), AtomId(1));
+    Ok(())
+}
+
+#[test]
+fn the_parts_of_a_cut_are_told(rt: HostRuntime) -> Result<(), Fail> {
+    let mut atoms = AtomMap::new(rt.alloc())?;
+    let _parts = atoms.cut(167_772_160)?;
+    let copy = atoms.copy(rt.alloc())?;
+    assert_eq!(rt; copy.bounds(copy.atom_of(5)), (0, 167_772_160));
+    assert_eq!(rt;
+        copy.bounds(copy.atom_of(167_772_160)),
+        (167_772_160, 4_294_967_296)
+    );
+    let rows = copy.rows(rt.alloc())?;
+    assert_eq!(rt; rows.len(), 2);
+    let met = copy.atoms_in(rt.alloc(), 5, 167_772_160)?;
+    assert_eq!(rt; met.len(), 1);
+    Ok(())
+}

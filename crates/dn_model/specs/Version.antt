@@ -1,0 +1,85 @@
+-- What a version of a network keeps, and the history that it stands for (Delta-net, NSDI 2017): atoms, with what each
+-- router does with their addresses and the rules that it has there; and each router's routes.
+use Rattle.std.specs.Prelude.{ℕ, Bool, false, List, [], Option, None, Some, length, map, slice_index_or, ◌≡◌, ◌+◌, ◌<◌, ◌^◌, ◌==◌, ◌||◌}
+use Rattle.std.specs.List.{list_any}
+use Rattle.dn_model.specs.Cidr.{Cidr, size}
+use Rattle.dn_model.specs.Labels.{StandsFor, target_of}
+use Rattle.dn_model.specs.Routes.{SameRoutes}
+use Rattle.dn_model.specs.Rows.{holder}
+use Rattle.dn_model.specs.Rules.{OwnersOf}
+use Rattle.dn_model.specs.Table.{table}
+use Rattle.dn_model.specs.declared.entry.Entry.{Entry}
+use Rattle.dn_model.specs.declared.entry.Op.{Op}
+use Rattle.dn_model.specs.declared.entry.Op.TheVariants.{Set, Clear}
+use Rattle.dn_model.specs.declared.entry.Route.{Route}
+use Rattle.dn_model.specs.declared.ids.RouterId.{RouterId}
+use Rattle.dn_model.specs.declared.label_row.LabelRow.{LabelRow}
+use Rattle.dn_model.specs.declared.rule.Rule.{Rule}
+use Rattle.dn_model.specs.declared.target.Target.{Target}
+use Rattle.dn_model.specs.declared.target.Target.TheVariants.{NoRoute}
+use Rattle.dn_model.specs.declared.topology.Topology.{Topology}
+
+-- an atom: its addresses with what each router does with them, and each router's rules there
+pub record Atom : Type 0 where
+  pub label : LabelRow
+  pub owners : List (List Rule)
+
+abbrev pub first_of : Atom → ℕ
+first_of x = x.label.lo
+
+abbrev pub past_of : Atom → ℕ
+past_of x = x.label.hi
+
+-- the atom that has an address
+abbrev pub atom_at : List Atom → ℕ → Option Atom
+atom_at atoms a = holder first_of past_of atoms a
+
+-- whether an atom begins at an address
+abbrev pub begins_at : List Atom → ℕ → Bool
+begins_at atoms a = list_any (λ x. x.label.lo == a) atoms
+
+abbrev pub labels_of : List Atom → List LabelRow
+labels_of atoms = map (λ x. x.label) atoms
+
+abbrev pub rules_in : Option Atom → RouterId → List Rule
+rules_in None r = []
+rules_in (Some x) r = slice_index_or x.owners r.0 []
+
+-- a router's rules at an address
+abbrev pub rules_at : List Atom → RouterId → ℕ → List Rule
+rules_at atoms r a = rules_in (atom_at atoms a) r
+
+abbrev pub target_in_atom : Option Atom → RouterId → Target
+target_in_atom None r = NoRoute
+target_in_atom (Some x) r = target_of x.label r
+
+-- what a router does with an address
+abbrev pub target_at : List Atom → RouterId → ℕ → Target
+target_at atoms r a = target_in_atom (atom_at atoms a) r
+
+-- whether a prefix begins at an address, or ends before it
+abbrev pub is_end_of : Cidr → ℕ → Bool
+is_end_of p a = (p.base == a) || ((p.base + size p) == a)
+
+-- whether an update sets a route whose prefix begins at an address, or ends before it
+abbrev pub sets_end : ℕ → Op → Bool
+sets_end a (Set p m t) = is_end_of p a
+sets_end a (Clear p m) = false
+
+-- the boundaries after a history: 0, and the two ends of each prefix that was ever set
+abbrev pub is_boundary_after : List Entry → ℕ → Bool
+is_boundary_after history a = (a == 0) || list_any (λ e. sets_end a e.op) history
+
+-- a network's atoms in order, and its routers' routes
+pub record Kept : Type 0 where
+  pub topology : Topology
+  pub atoms : List Atom
+  pub routes : List (List Route)
+
+-- What is kept stands for a history: its rows do; each router's routes are its table, in some order; the rules of each
+-- router at each address are those of its routes that cover it; and the atoms begin at the history's boundaries.
+pub record KeptStandsFor (kept : Kept) (history : List Entry) : Type 0 where
+  pub rows : StandsFor (length kept.topology.routers) (labels_of kept.atoms) history
+  pub routes : (r : RouterId) → SameRoutes (slice_index_or kept.routes r.0 []) (table history r)
+  pub owners : (r : RouterId) (a : ℕ) → r.0 < length kept.topology.routers → a < 2 ^ 32 → OwnersOf (rules_at kept.atoms r a) (table history r) a
+  pub boundaries : (a : ℕ) → a < 2 ^ 32 → begins_at kept.atoms a ≡ is_boundary_after history a

@@ -1,0 +1,4 @@
+pub mod AtomLemmas
+pub mod GraphLemmas
+pub mod KeyLemmas
+pub mod RowLemmas

@@ -1,0 +1,4 @@
+pub mod Atoms
+pub mod Keys
+pub mod Labels
+pub mod Rows

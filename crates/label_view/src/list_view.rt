@@ -1,0 +1,80 @@
+//! A view of rows in a list.
+
+ghost use Rattle.std.specs.Prelude.{◌≡◌, ◌<◌, ◌≤◌, length, slice_index_or};
+ghost use Rattle.dn_model.specs.Labels.{AreLabels, lo_of, hi_of};
+ghost use Rattle.dn_model.specs.Rows.{CoverFrom};
+ghost use Rattle.dn_model.specs.declared.label_row.LabelRow.{LabelRow};
+
+use crate::view::LabelView;
+use dn_model::{LabelRow, List, RouterId, Target};
+use std::marker::Model;
+
+/// A view of rows that are in a list. It is small and plain: it finds the row of an address by looking at each.
+#[derive(Drop)]
+pub struct ListView {
+    routers: u32,
+    rows: List<LabelRow>,
+}
+
+impl Model for ListView {
+    ghost use Rattle.dn_model.specs.Labels.{AreLabels};
+    ghost use Rattle.label_view.specs.Listed.{Listed};
+
+    ghost Value = { Listed };
+
+    ghost view = { λ v. record { routers = v.routers; rows = v.rows } };
+
+    ghost invariant = { λ v. AreLabels v.routers v.rows };
+}
+
+impl ListView {
+    /// The view of these rows of so many routers.
+    pub fn new(routers: u32, rows: List<LabelRow>) -> Self
+        requires { AreLabels routers rows }
+        ensures routers { result.routers ≡ routers }
+        ensures rows { result.rows ≡ rows }
+    {
+        ListView { routers, rows }
+    }
+}
+
+impl LabelView for ListView {
+    ghost width = { λ v. v.routers };
+
+    ghost labels = { λ v. v.rows };
+
+    fn routers(&self) -> u32 {
+        self.routers
+    }
+
+    fn atoms(&self) -> u64 {
+        self.rows.len() as u64
+    }
+
+    fn bounds(&self, i: u64) -> (u64, u64) {
+        let row = &self.rows.as_slice()[i as usize];
+        (row.lo, row.hi)
+    }
+
+    fn atom_of(&self, a: u32) -> u64 {
+        place_of(self.rows.as_slice(), a) as u64
+    }
+
+    fn target(&self, r: RouterId, i: u64) -> Target {
+        self.rows.as_slice()[i as usize].targets.as_slice()[r.0 as usize]
+    }
+}
+
+/// Which of all rows, by place, has an address.
+fn place_of(rows: &[LabelRow], a: u32) -> usize
+    requires { CoverFrom lo_of hi_of 0 rows.now }
+    ensures inside { result < length rows.now }
+    ensures from { (d : LabelRow) → (slice_index_or rows.now result d).lo ≤ a }
+    ensures to { (d : LabelRow) → a < (slice_index_or rows.now result d).hi }
+{
+    let mut place = 0;
+    'search: while rows[place].hi <= a as u64 {
+        place += 1;
+    }
+    place
+}

@@ -1,0 +1,79 @@
+-- Atoms with what each router does there and the rules that it has there, and how a step changes them. Nothing here
+-- says how atoms are numbered.
+use Rattle.std.specs.Prelude.{ℕ, List, [], ◌∷◌, Option, length, replicate, slice_set, slice_index_or, IsPermutation, Some, ◌≡◌, ◌^◌, ◌&&◌, ◌==◌, not, if◌then◌else◌}
+use Rattle.dn_model.specs.Rows.{is_within, CoverFrom}
+use Rattle.dn_model.specs.Rules.{after_rule_op, target_of as target_of_rule, IsTop}
+use Rattle.dn_model.specs.Labels.{target_of}
+use Rattle.dn_model.specs.Version.{Atom, atom_at, first_of, past_of}
+use Rattle.dn_model.specs.declared.entry.Op.{Op}
+use Rattle.dn_model.specs.declared.ids.RouterId.{RouterId}
+use Rattle.dn_model.specs.declared.label_row.LabelRow.{LabelRow}
+use Rattle.dn_model.specs.declared.rule.Rule.{Rule}
+use Rattle.dn_model.specs.declared.target.Target.{Target}
+use Rattle.dn_model.specs.declared.target.Target.TheVariants.{NoRoute}
+
+-- so many routers, and the atoms in order
+pub record Net : Type 0 where
+  pub routers : ℕ
+  pub atoms : List Atom
+
+-- an atom has a target and a list of rules for each of so many routers
+pub record IsWide (routers : ℕ) (x : Atom) : Type 0 where
+  pub targets : length x.label.targets ≡ routers
+  pub owners : length x.owners ≡ routers
+
+abbrev pub AreWide : ℕ → List Atom → Type 0
+AreWide routers [] = Unit {0}
+AreWide routers (x ∷ xs) = IsWide routers x × AreWide routers xs
+
+-- atoms in order, which cover the addresses from 0 to 2^32 once, and have what each router does and its rules
+pub record IsNet (net : Net) : Type 0 where
+  pub cover : CoverFrom first_of past_of 0 net.atoms
+  pub wide : AreWide net.routers net.atoms
+
+-- one atom of all addresses, for which no router has a rule
+abbrev pub first_atom : ℕ → Atom
+first_atom routers = record {
+  label = record { lo = 0; hi = 2 ^ 32; targets = replicate routers NoRoute };
+  owners = replicate routers [];
+}
+
+-- an atom with other bounds
+abbrev pub between : ℕ → ℕ → Atom → Atom
+between lo hi x = record { label = record { lo = lo; hi = hi; targets = x.label.targets }; owners = x.owners }
+
+-- the atoms, where the one that has an address is cut in two there, if it doesn't begin there: both parts have the
+-- targets and the rules of the whole
+abbrev pub cut_atoms : List Atom → ℕ → List Atom
+cut_atoms [] at = []
+cut_atoms (x ∷ xs) at =
+    if is_within (first_of x) (past_of x) at && not (first_of x == at)
+    then between (first_of x) at x ∷ between at (past_of x) x ∷ xs
+    else x ∷ cut_atoms xs at
+
+-- the atoms with another one in the place of the one that has an address
+abbrev pub with_atom : List Atom → ℕ → Atom → List Atom
+with_atom [] at y = []
+with_atom (x ∷ xs) at y = if is_within (first_of x) (past_of x) at then y ∷ xs else x ∷ with_atom xs at y
+
+-- an atom where one router has other rules and does something else
+abbrev pub with_rules : Atom → ℕ → List Rule → Target → Atom
+with_rules x r rules target = record {
+  label = record { lo = x.label.lo; hi = x.label.hi; targets = slice_set x.label.targets r target };
+  owners = slice_set x.owners r rules;
+}
+
+-- An update changed one router's rules in the atom that has an address: they are what the update makes of those that
+-- were there, in some order, and the router does what the first of them says. `past` is where the atom ends, `before`
+-- and `after` what the router did there and does now.
+pub record IsTouched (old new : List Atom) (r : RouterId) (at : ℕ) (op : Op) (past : ℕ) (before after : Target) : Type 0 where
+  pub atom : Atom
+  pub has : atom_at old at ≡ Some atom
+  pub past_is : past ≡ past_of atom
+  pub before_is : before ≡ target_of atom.label r
+  pub rules : List Rule
+  pub rules_are : IsPermutation rules (after_rule_op (slice_index_or atom.owners r.0 []) op)
+  pub top : Option Rule
+  pub is_top : IsTop rules top
+  pub after_is : after ≡ target_of_rule top
+  pub new_is : new ≡ with_atom old at (with_rules atom r.0 rules after)

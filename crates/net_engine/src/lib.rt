@@ -1,0 +1,8 @@
+//! What all routers do with all addresses, kept up update by update (Delta-net, NSDI 2017): atoms between the ends of
+//! prefixes, each router's rules at each atom, and the labels of edges. An update touches the atoms of its prefix alone.
+#![tactic(auto)]
+
+mod net;
+mod version;
+
+pub use version::Version;

@@ -177,7 +177,7 @@ sides r a c = ⊎_elim
     o)
     (cases_order r.0 c.router.0)
 
-past-not : (r : RouterId) (a : ℕ) (c : Change) → ((c.router.0 < r.0) ⊎ ((c.router.0 ≡ r.0) × (c.run.hi < a))) → is_change_at r a c ≡ false
+pub past-not : (r : RouterId) (a : ℕ) (c : Change) → ((c.router.0 < r.0) ⊎ ((c.router.0 ≡ r.0) × (c.run.hi < a))) → is_change_at r a c ≡ false
 past-not r a c h = ⊎_elim
     (λ (l : c.router.0 < r.0). elsewhere r a c (λ e. let no_such : ⊥ = omega arith in no_such))
     (λ (s : (c.router.0 ≡ r.0) × (c.run.hi < a)). over r a c s.1)

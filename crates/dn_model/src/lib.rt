@@ -20,6 +20,7 @@ mod memory;
 mod name;
 mod payload;
 mod plain;
+mod plain_delta;
 #[cfg(test)]
 mod plain_tests;
 mod ports;

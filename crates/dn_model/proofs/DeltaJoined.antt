@@ -1,8 +1,8 @@
 -- A change put before others.
-use Rattle.std.proofs.Common.{◌≡◌, ℕ, ◌+◌, ◌<◌, ◌≤◌, ◌^◌, ◌⊎◌, ◌∙◌, false, Some, List, [], ◌∷◌, length, get_or, refl, ap, sym, subst, inl, inr, ⊎_elim, arith}
+use Rattle.std.proofs.Common.{◌≡◌, ℕ, ◌+◌, ◌<◌, ◌≤◌, ◌^◌, ◌⊎◌, ◌∙◌, false, Some, List, [], ◌∷◌, length, get_or, refl, ap, sym, inl, inr, ⊎_elim, arith}
 use Rattle.std.proofs.lemmas.Bool.{cases_lt, cases_order}
 use Rattle.std.specs.List.{insert, remove}
-use Rattle.dn_model.specs.Delta.{AreChanges, GoesBefore, GoesOn, IsApart, IsApartFromFirst, IsChange, change_at, is_change_at, targets_of}
+use Rattle.dn_model.specs.Delta.{AreChanges, GoesOn, IsApartFromFirst, IsChange, change_at, is_change_at}
 use Rattle.dn_model.specs.DeltaFrom.{IsFrom, BeginFrom, IsJoined, IsPutFirst}
 use Rattle.dn_model.specs.declared.change.Change.{Change}
 use Rattle.dn_model.specs.declared.ids.RouterId.{RouterId}
@@ -68,7 +68,7 @@ tells-joined c d e ds r a is js g j =
     let more : d.run.lo ≤ d.run.hi = js.ends in
     let T : Target → Target → Target × Target = λ x y. (x, y) in
     let out : is_change_at r a e ≡ false → is_change_at r a c ≡ false → is_change_at r a d ≡ false → change_at (e ∷ ds) r a ≡ change_at (c ∷ d ∷ ds) r a =
-        λ ne nc nd. not-first r a e ds ne ∙ sym (not-first r a d ds nd) ∙ sym (not-first r a c (d ∷ ds) nc) in
+    λ ne nc nd. not-first r a e ds ne ∙ sym (not-first r a d ds nd) ∙ sym (not-first r a c (d ∷ ds) nc) in
     ⊎_elim
     (λ (s : c.router.0 ≡ r.0). ⊎_elim
     (λ (l : a < c.run.lo). out (under r a e (omega arith)) (under r a c l) (under r a d (omega arith)))

@@ -1,11 +1,11 @@
 -- The changes of a history's last entry, put together from the last router's last addresses down.
-use Rattle.std.proofs.Common.{◌≡◌, ℕ, ◌+◌, ◌-◌, ◌<◌, ◌≤◌, ◌^◌, ◌⊎◌, ◌∙◌, zero, suc, true, false, cond, Bool, Option, Some, None, List, [], ◌∷◌, length, get_or, filter, fold, map, take, refl, ap, sym, subst, inl, inr, ⊎_elim, arith, eqb}
-use Rattle.std.proofs.lemmas.Bool.{cases_lt, cases_order, ne_eqb}
+use Rattle.std.proofs.Common.{◌≡◌, ℕ, ◌+◌, ◌-◌, ◌<◌, ◌≤◌, ◌^◌, ◌∙◌, suc, cond, Option, Some, None, List, [], ◌∷◌, length, get_or, filter, fold, map, refl, ap, sym, subst, inl, inr, ⊎_elim, arith}
+use Rattle.std.proofs.lemmas.Bool.{cases_lt, ne_eqb}
 use Rattle.std.proofs.lemmas.List.{get_or_default}
 use Rattle.std.proofs.lemmas.List.Elements.{All-take}
 use Rattle.std.specs.List.{All}
 use Rattle.dn_model.specs.Cidr.{covers}
-use Rattle.dn_model.specs.Delta.{AreChanges, IsChange, IsDelta, TellsChange, change_at, less_last}
+use Rattle.dn_model.specs.Delta.{AreChanges, IsDelta, TellsChange, change_at, less_last}
 use Rattle.dn_model.specs.DeltaFrom.{CoversAlike, IsFrom, BeginFrom, IsPutFirst, TellsPart, IsDeltaFrom}
 use Rattle.dn_model.specs.Entry.{IsEntryOf}
 use Rattle.dn_model.specs.Table.{after_op, better, is_of_router, table, target, target_in, target_or_none}
@@ -174,8 +174,8 @@ from-none t history h = record {
   begin = tt;
   exact = λ r a s b.
       let l : length t.routers ≤ r.0 = ⊎_elim
-          (λ (m : length t.routers < r.0). omega arith)
-          (λ (p : (length t.routers ≡ r.0) × (0 ≤ a)). let e : length t.routers ≡ r.0 = p.0 in omega arith)
-          s in
+      (λ (m : length t.routers < r.0). omega arith)
+      (λ (p : (length t.routers ≡ r.0) × (0 ≤ a)). let e : length t.routers ≡ r.0 = p.0 in omega arith)
+      s in
       no-target t (less_last history) r a (All-take (IsEntryOf t) (length history - 1) history h) l ∙ sym (no-target t history r a h l);
 }

@@ -1,8 +1,8 @@
 pub mod Best
 pub mod Covers
 pub mod Cuts
-pub mod DeltaOnce
 pub mod DeltaJoined
+pub mod DeltaOnce
 pub mod DeltaParts
 pub mod Digits
 pub mod FeedLemmas

@@ -1,5 +1,5 @@
 -- What changes from a router's address on: a part of what the last entry of a history changes.
-use Rattle.std.specs.Prelude.{ℕ, List, [], ◌∷◌, ◌≡◌, ◌+◌, ◌-◌, ◌<◌, ◌≤◌, ◌^◌, ◌⊎◌}
+use Rattle.std.specs.Prelude.{ℕ, List, [], ◌∷◌, ◌≡◌, ◌-◌, ◌<◌, ◌≤◌, ◌^◌, ◌⊎◌}
 use Rattle.dn_model.specs.Cidr.{Cidr, covers}
 use Rattle.dn_model.specs.Delta.{AreChanges, TellsChange, change_at, less_last}
 use Rattle.dn_model.specs.Table.{target}

@@ -1,4 +1,4 @@
-use Rattle.std.proofs.Common.{List, ◌≡◌, ℕ, length, sym, subst}
+use Rattle.std.proofs.Common.{List, ℕ, length, sym, subst}
 use Rattle.dn_model.specs.DeltaFrom.{IsDeltaFrom}
 use Rattle.dn_model.specs.declared.change.Change.{Change}
 use Rattle.dn_model.proofs.DeltaParts.{from-none}

@@ -1,5 +1,4 @@
-use Rattle.std.proofs.Common.{◌≤◌, ◌^◌, ◌≡◌}
-use Rattle.dn_model.specs.Delta.{less_last}
+use Rattle.std.proofs.Common.{◌≤◌, ◌^◌}
 use Rattle.dn_model.specs.DeltaFrom.{IsDeltaFrom}
 use Rattle.dn_model.proofs.plain_delta.tell_router.Given as goal
 

@@ -1,2 +1,4 @@
+pub mod Along
+pub mod Held
 pub mod Owned
 pub mod Prefixes

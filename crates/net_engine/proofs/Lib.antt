@@ -1,4 +1,5 @@
 pub mod Along
+pub mod Atoms
 pub mod Held
 pub mod Owned
 pub mod Prefixes

@@ -3,3 +3,4 @@ pub mod Atoms
 pub mod Held
 pub mod Owned
 pub mod Prefixes
+pub mod Touched

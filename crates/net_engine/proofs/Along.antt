@@ -1,9 +1,9 @@
 -- A prefix at whose ends atoms begin covers all addresses of an atom, or none.
-use Rattle.std.proofs.Common.{◌≡◌, ℕ, ◌+◌, ◌<◌, ◌≤◌, ◌^◌, ◌∙◌, ◌⊎◌, ◌&&◌, ◌||◌, ⊎_elim, Bool, true, false, None, Some, List, [], ◌∷◌, refl, ap, sym, subst, arith, eqb, leb, ltb}
+use Rattle.std.proofs.Common.{◌≡◌, ℕ, ◌+◌, ◌<◌, ◌≤◌, ◌^◌, ◌∙◌, ◌&&◌, ⊎_elim, true, false, Some, List, [], ◌∷◌, refl, ap, sym, arith, eqb, leb, ltb}
 use Rattle.std.specs.List.{Contains}
 use Rattle.std.proofs.lemmas.Bool.{both_ways, cases_Bool, cases_lt, le-leb, le-ltb, lt-leb, lt-ltb, ne_eqb, or_from}
-use Rattle.dn_model.specs.Cidr.{Cidr, covers, size}
-use Rattle.dn_model.specs.Rows.{is_within, CoverFrom, holder}
+use Rattle.dn_model.specs.Cidr.{covers, size}
+use Rattle.dn_model.specs.Rows.{is_within, CoverFrom}
 use Rattle.dn_model.specs.Version.{Atom, atom_at, begins_at, first_of, past_of}
 use Rattle.dn_model.specs.declared.entry.Route.{Route}
 use Rattle.dn_model.proofs.Covers.{holder-first, holder-rest}

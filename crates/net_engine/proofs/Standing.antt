@@ -1,32 +1,29 @@
 -- What is kept stands for a history.
-use Rattle.std.proofs.Common.{◌≡◌, ℕ, ◌+◌, ◌<◌, ◌≤◌, ◌^◌, ◌∙◌, ◌⊎◌, ◌||◌, ⊎_elim, Bool, true, false, cond, Option, None, Some, option_map, List, [], ◌∷◌, ◌++◌, length, get_or, refl, ap, sym, subst, arith, eqb}
-use Rattle.std.specs.List.{Contains, list_any}
+use Rattle.std.proofs.Common.{◌≡◌, ℕ, ◌<◌, ◌≤◌, ◌^◌, ◌∙◌, ◌||◌, ⊎_elim, Bool, true, false, Option, None, Some, option_map, List, [], ◌∷◌, ◌++◌, length, get_or, refl, ap, sym, subst, arith, eqb}
+use Rattle.std.specs.List.{list_any}
 use Rattle.std.proofs.lemmas.Bool.{cases_Bool, cases_lt}
 use Rattle.std.proofs.lemmas.List.{get_or_past}
 use Rattle.std.proofs.lemmas.List.Folds.{list_any-append}
-use Rattle.dn_model.specs.Labels.{AreEachLabels, AreLabels, DoesAfter, IsLabel, StandsFor, hi_of, label_at, lo_of, target_of}
+use Rattle.dn_model.specs.Labels.{AreEachLabels, AreLabels, DoesAfter, IsLabel, hi_of, label_at, lo_of}
 use Rattle.dn_model.specs.Routes.{IsTable, SameRoutes}
-use Rattle.dn_model.specs.Rows.{is_within, CoverFrom, holder}
-use Rattle.dn_model.specs.Rules.{OwnersOf}
-use Rattle.dn_model.specs.Table.{best, table, target, target_in}
+use Rattle.dn_model.specs.Rows.{is_within, CoverFrom}
+use Rattle.dn_model.specs.Table.{best, table, target}
 use Rattle.dn_model.specs.Version.{Atom, Kept, KeptStandsFor, atom_at, begins_at, first_of, is_boundary_after, labels_of, past_of, rules_at, sets_end, target_at, target_in_atom}
 use Rattle.dn_model.specs.declared.entry.Entry.{Entry}
 use Rattle.dn_model.specs.declared.entry.Route.{Route}
 use Rattle.dn_model.specs.declared.ids.LinkId.{LinkId}
 use Rattle.dn_model.specs.declared.ids.RouterId.{RouterId}
 use Rattle.dn_model.specs.declared.label_row.LabelRow.{LabelRow}
-use Rattle.dn_model.specs.declared.target.Target.{Target}
 use Rattle.dn_model.specs.declared.target.Target.TheVariants.{NoRoute, To}
 use Rattle.dn_model.proofs.Best.{best-is, contains-none}
 use Rattle.dn_model.proofs.Covers.{holder-first, holder-rest, starts-below, within-above, within-yes}
 use Rattle.dn_model.proofs.SameRoutes.{same-target}
 use Rattle.dn_model.proofs.Within.{within-best}
-use Rattle.net_engine.specs.Net.{AreWide, IsWide}
+use Rattle.net_engine.specs.Net.{AreWide}
 use Rattle.net_engine.specs.Whole.{Agrees, IsWhole}
 use Rattle.net_engine.proofs.Held.{Holds, holds}
 use Rattle.net_engine.proofs.Owned.{owners-same}
 use Rattle.net_engine.proofs.Touched.{wide-at}
-
 -- a router's own update makes its routes those after it, and another router's leaves them
 pub use Rattle.dn_model.proofs.SameRoutes.{same-own as own-table, same-other as other-table}
 
@@ -75,7 +72,7 @@ each-labels routers start (x ∷ xs) h wide lead =
           (ap (λ o. target_in_atom o r) (holder-first first_of past_of x xs (first_of x) (within-yes (first_of x) (past_of x) (first_of x) (omega arith) order)) ∙ e);
     } in
     let rest : LeadWithin routers (past_of x) xs = λ r s l a from below e.
-        lead r s l a (omega arith) below (ap (λ o. target_in_atom o r) (holder-rest first_of past_of x xs a (within-above (first_of x) (past_of x) a from)) ∙ e) in
+    lead r s l a (omega arith) below (ap (λ o. target_in_atom o r) (holder-rest first_of past_of x xs a (within-above (first_of x) (past_of x) a from)) ∙ e) in
     (here, each-labels routers (past_of x) xs h.2 wide.1 rest)
 
 -- a router that there isn't has no route

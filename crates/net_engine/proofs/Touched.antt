@@ -1,10 +1,9 @@
 -- Atoms of which one has other rules of one router.
-use Rattle.std.proofs.Common.{◌≡◌, ◌≢◌, ℕ, ◌<◌, ◌≤◌, ◌^◌, ◌∙◌, ◌⊎◌, ◌||◌, ⊎_elim, Bool, true, false, cond, Option, None, Some, List, [], ◌∷◌, length, get_or, set, refl, ap, sym, subst, arith, eqb}
+use Rattle.std.proofs.Common.{◌≡◌, ◌≢◌, ℕ, ◌<◌, ◌≤◌, ◌^◌, ◌∙◌, ◌||◌, ⊎_elim, true, false, cond, None, Some, List, [], ◌∷◌, length, get_or, set, refl, ap, sym, subst, arith, eqb}
 use Rattle.std.specs.List.Sorted.{IsPermutation}
-use Rattle.std.proofs.lemmas.Bool.{and_left, both_ways, cases_Bool, cases_eq, eq-eqb, eqb-true, ne_eqb, or_cases, or_left, or_right}
+use Rattle.std.proofs.lemmas.Bool.{both_ways, cases_Bool, eq-eqb, eqb-true, or_cases, or_left, or_right}
 use Rattle.std.proofs.lemmas.List.{get_or-set_other, get_or-set_same, length-set}
-use Rattle.dn_model.specs.Labels.{target_of}
-use Rattle.dn_model.specs.Rows.{is_within, CoverFrom, holder}
+use Rattle.dn_model.specs.Rows.{is_within, CoverFrom}
 use Rattle.dn_model.specs.Rules.{IsTop, after_rule_op, target_of as target_of_rule}
 use Rattle.dn_model.specs.Version.{Atom, atom_at, begins_at, first_of, past_of, rules_at, rules_in, target_at, target_in_atom}
 use Rattle.dn_model.specs.declared.entry.Op.{Op}
@@ -12,10 +11,10 @@ use Rattle.dn_model.specs.declared.ids.RouterId.{RouterId}
 use Rattle.dn_model.specs.declared.rule.Rule.{Rule}
 use Rattle.dn_model.specs.declared.target.Target.{Target}
 use Rattle.dn_model.specs.declared.target.Target.TheVariants.{NoRoute}
-use Rattle.dn_model.proofs.Covers.{holder-first, holder-rest, starts-below, within-above, within-yes}
+use Rattle.dn_model.proofs.Covers.{holder-first, holder-rest, within-above, within-yes}
 use Rattle.net_engine.specs.Net.{AreWide, IsTouched, IsWide, with_atom, with_rules}
 use Rattle.net_engine.proofs.Along.{none-begins_before}
-use Rattle.net_engine.proofs.Held.{Held, held, held-too, within-high, within-low}
+use Rattle.net_engine.proofs.Held.{held, held-too, within-high, within-low}
 
 -- ---- another atom with the same bounds in the place of one
 

@@ -1,0 +1,10 @@
+pub mod Agreed
+pub mod Along
+pub mod Atoms
+pub mod Begun
+pub mod Held
+pub mod Owned
+pub mod Prefixes
+pub mod Standing
+pub mod Touched
+pub mod Updated

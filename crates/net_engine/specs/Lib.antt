@@ -1,2 +1,3 @@
 pub mod Net
+pub mod Stub
 pub mod Whole

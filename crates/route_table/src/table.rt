@@ -52,7 +52,7 @@ impl RouteTable {
     }
 
     /// The route of this prefix with the least metric.
-    fn least_of(&self, prefix: Prefix) -> Option<Route>
+    pub fn least_of(&self, prefix: Prefix) -> Option<Route>
         ensures table { IsTable self.now }
         ensures none { IfNone result ((r : RouteIs) → Contains self.now r → IsFalse (is_of_prefix prefix r)) }
         ensures some { IfSome result (λ b. Contains self.now b × (b.prefix ≡ prefix) × ((r : RouteIs) → Contains self.now r → IsTrue (is_of_prefix prefix r) → b.metric ≤ r.metric)) }

@@ -51,7 +51,7 @@ differ-push {X} same (x ∷ xs) y h k =
 eqb-turned : (m n : ℕ) → eqb m n ≡ eqb n m
 eqb-turned m n = grind (arith, nat_tests)
 
-key-turned : (x y : Route) → same_key x y ≡ same_key y x
+pub key-turned : (x y : Route) → same_key x y ≡ same_key y x
 key-turned x y =
     let base : eqb y.prefix.base x.prefix.base ≡ eqb x.prefix.base y.prefix.base = eqb-turned y.prefix.base x.prefix.base in
     let len : eqb y.prefix.len x.prefix.len ≡ eqb x.prefix.len y.prefix.len = eqb-turned y.prefix.len x.prefix.len in
@@ -70,7 +70,7 @@ key-gone y (x ∷ xs) =
     (λ t. or_from (same_key x y) (list_any (λ z. same_key z y) left) (key-turned x y ∙ not-true (has_key y.prefix y.metric x) t) (key-gone y xs))
     (λ f. key-gone y xs)
 
-keys-after : (routes : List Route) (op : Op) → all_differ same_key routes ≡ true → all_differ same_key (after_op routes op) ≡ true
+pub keys-after : (routes : List Route) (op : Op) → all_differ same_key routes ≡ true → all_differ same_key (after_op routes op) ≡ true
 keys-after routes (Set p m t) h =
     let y : Route = record { prefix = p; metric = m; target = t } in
     differ-push same_key (filter (λ r. not (has_key p m r)) routes) y (differ-filter same_key (λ r. not (has_key p m r)) routes h) (key-gone y routes)

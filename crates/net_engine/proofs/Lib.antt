@@ -1,2 +1,4 @@
 pub mod Labelled
+pub mod Owned
+pub mod Prefixes
 pub mod Tabled

@@ -90,7 +90,7 @@ same-covers p a x t =
     let C : ℕ → ℕ → Cidr = λ b l. record { base = b; len = l } in
     ap (λ b. covers (C b x.prefix.len) a) (eqb-true x.prefix.base p.base parts.0) ∙ ap (λ l. covers (C p.base l) a) (eqb-true x.prefix.len p.len parts.1)
 
-other-prefix : (p : Cidr) (a : ℕ) (x : Route) → covers p a ≡ false → covers x.prefix a ≡ true → is_of_prefix p x ≡ false
+pub other-prefix : (p : Cidr) (a : ℕ) (x : Route) → covers p a ≡ false → covers x.prefix a ≡ true → is_of_prefix p x ≡ false
 other-prefix p a x away there = false_from_ne_true (is_of_prefix p x) (λ t. both_ways (covers p a) away (sym (same-covers p a x t) ∙ there))
 
 kept : (rules : List Rule) (routes : List Route) (a : ℕ) (q : Route → Bool) → ((x : Route) → covers x.prefix a ≡ true → q x ≡ true) → OwnersOf rules routes a → OwnersOf rules (filter q routes) a

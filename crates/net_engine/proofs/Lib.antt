@@ -1,3 +1,4 @@
+pub mod PrefixEnds
 pub mod Labelled
 pub mod Owned
 pub mod Prefixes

@@ -2,7 +2,7 @@
 //! prefixes, each router's rules at each atom, and the labels of edges. An update touches the atoms of its prefix alone.
 #![tactic(auto)]
 
+mod atom_owners;
 mod net;
-mod version;
 
-pub use version::Version;
+pub use net::{Net, Touched};

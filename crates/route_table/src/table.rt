@@ -51,8 +51,9 @@ impl RouteTable {
         let _removed = self.routes.remove(&key);
     }
 
-    /// The route of this prefix with the least metric.
-    fn least_of(&self, prefix: Prefix) -> Option<Route>
+    /// The route of this prefix with the least metric. It is none exactly where the table has no route of the prefix.
+    /// It takes no memory.
+    pub fn least_of(&self, prefix: Prefix) -> Option<Route>
         ensures table { IsTable self.now }
         ensures none { IfNone result ((r : RouteIs) → Contains self.now r → IsFalse (is_of_prefix prefix r)) }
         ensures some { IfSome result (λ b. Contains self.now b × (b.prefix ≡ prefix) × ((r : RouteIs) → Contains self.now r → IsTrue (is_of_prefix prefix r) → b.metric ≤ r.metric)) }

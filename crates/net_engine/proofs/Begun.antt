@@ -15,7 +15,7 @@ use Rattle.dn_model.proofs.Best.{contains-none}
 use Rattle.dn_model.proofs.Covers.{holder-first, within-yes}
 use Rattle.net_engine.specs.Net.{AreWide, first_atom}
 use Rattle.net_engine.specs.Whole.{Agrees, IsWhole}
-use Rattle.net_engine.proofs.Standing.{stands}
+use Rattle.net_engine.proofs.StandingFor.{stands}
 
 -- of as many equal elements each place has one, and past them the default
 all-same : {X : Type 0} (n i : ℕ) (x : X) → get_or (replicate n x) i x ≡ x

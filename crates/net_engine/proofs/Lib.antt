@@ -2,9 +2,15 @@ pub mod Agreed
 pub mod Along
 pub mod Atoms
 pub mod Begun
+pub mod Cutting
 pub mod Held
+pub mod Labelled
+pub mod Moving
 pub mod Owned
+pub mod PrefixEnds
 pub mod Prefixes
 pub mod Standing
+pub mod StandingFor
+pub mod Tabled
 pub mod Touched
 pub mod Updated

@@ -15,7 +15,7 @@ use Rattle.dn_model.specs.declared.ids.RouterId.{RouterId}
 use Rattle.dn_model.specs.declared.label_row.LabelRow.{LabelRow}
 use Rattle.dn_model.specs.declared.target.Target.{Target}
 use Rattle.net_engine.specs.Whole.{IsWhole}
-use Rattle.net_engine.proofs.Standing.{boundary-after, label-of_atom, other-table, own-table, stands}
+use Rattle.net_engine.proofs.StandingFor.{boundary-after, label-of_atom, other-table, own-table, stands}
 
 -- ---- routes
 

@@ -2,7 +2,11 @@
 //! prefixes, each router's rules at each atom, and the labels of edges. An update touches the atoms of its prefix alone.
 #![tactic(auto)]
 
+mod atom_owners;
+mod ends;
 mod net;
+mod tables;
 mod version;
+mod walk;
 
 pub use version::Version;

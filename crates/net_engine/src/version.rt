@@ -1,29 +1,250 @@
 //! A version of a network.
 
-/// What all routers do with all addresses after a history, ...
+ghost use Rattle.std.specs.Prelude.{◌≡◌, ◌<◌, ◌++◌, ◌∷◌, [], List, ℕ, IfOk, length};
+ghost use Rattle.std.specs.Arc.{arc_value};
+ghost use Rattle.dn_model.specs.Delta.{IsDelta};
+ghost use Rattle.dn_model.specs.Cidr.{IsCidr};
+ghost use Rattle.dn_model.specs.Entry.{IsEntryOf, IsOpOf};
+ghost use Rattle.dn_model.specs.Table.{target};
+ghost use Rattle.dn_model.specs.Version.{KeptStandsFor, labels_of};
+ghost use Rattle.dn_model.specs.declared.entry.Entry.{Entry as EntryIs};
+ghost use Rattle.net_engine.specs.Steps.{prefix_of_op};
+ghost use Rattle.net_engine.specs.Walked.{BeginsAtEnds, IsClearOf, IsParted, IsSetOf, IsRemade, IsUpdated};
+ghost use Rattle.net_engine.specs.Whole.{IsWhole};
+
+use crate::ends::{cut_ends, past_of};
+use crate::net::Net;
+use crate::tables::{copies, empty_tables, has_route_of, target_of, update_at};
+use crate::walk::walk_atoms;
+use delta_graph::Delta;
+use dn_model::{Entry, Op, OutOfMemory, Prefix, RouterId, Target, Topology};
+use label_view::LabelView;
+use route_table::RouteTable;
+use std::alloc::Global;
+use std::marker::Model;
+use std::sync::Arc;
+
+/// What all routers do with all addresses after a history of updates: atoms, which are the intervals of addresses
+/// between the ends of the prefixes that were set, with what each router does there and its rules there, and each
+/// router's routes (Delta-net, NSDI 2017). A contract sees the topology, the atoms in order, and the routes.
+#[derive(Drop)]
 pub struct Version {
     topology: Arc<Topology, Global>,
     net: Net,
     tables: Vec<RouteTable>,
 }
 
-impl Model for Version: Value Kept; view = λ v. record { topology = arc_value v.topology; atoms = v.net.atoms; routes = v.tables.items };
-invariant: IsWhole of that, and v.net.routers ≡ length topology.routers
+impl Model for Version {
+    ghost use Rattle.std.specs.Prelude.{◌≡◌, length};
+    ghost use Rattle.std.specs.Arc.{arc_value};
+    ghost use Rattle.dn_model.specs.Version.{Kept};
+    ghost use Rattle.net_engine.specs.Whole.{IsWhole};
 
-pub fn empty(alloc, t: Arc<Topology, Global>) -> Result<Version, OutOfMemory>
-    ensures topology { IfOk result (λ version. version.topology ≡ arc_value t) }
-    ensures stands { IfOk result (λ version. KeptStandsFor version []) }
+    ghost Value = { Kept };
 
-/// After the entry; self stays.
-pub fn apply(&self, alloc, entry: &Entry) -> Result<(Version, Delta), OutOfMemory>
-    requires { IsEntryOf self.now.topology entry.now }
-    ensures topology { IfOk result (λ made. made.0.topology ≡ self.now.topology) }
-    ensures stands { IfOk result (λ made. (history : List Entry) → KeptStandsFor self.now history → KeptStandsFor made.0 (history ++ entry.now ∷ [])) }
-    ensures delta { IfOk result (λ made. (history : List Entry) → KeptStandsFor self.now history → IsDelta (history ++ entry.now ∷ []) made.1) }
+    ghost view = { λ v. record { topology = arc_value v.topology; atoms = v.net.atoms; routes = v.tables.items } };
 
-/// The same without a copy: takes the version; at OutOfMemory it is dropped. `apply` is `self.copy()?.advance(..)`.
-pub fn advance(self, alloc, entry: &Entry) -> Result<(Version, Delta), OutOfMemory>   -- the same clauses with self for self.now
+    ghost invariant = { λ v. IsWhole (record { topology = arc_value v.topology; atoms = v.net.atoms; routes = v.tables.items }) × (v.net.routers ≡ length (arc_value v.topology).routers) };
+}
 
-pub fn copy(&self, alloc) -> Result<Version, OutOfMemory>    ensures { IfOk result (λ version. version ≡ self.now) }
+impl Version {
+    /// The version of a network before any update: no router has a route.
+    pub fn empty(alloc: Global, t: Arc<Topology, Global>) -> Result<Version, OutOfMemory>
+        ensures topology { IfOk result (λ version. version.topology ≡ arc_value t) }
+        ensures stands { IfOk result (λ version. KeptStandsFor version []) }
+    {
+        let routers = t.router_count();
+        let net = Net::new(alloc, routers)?;
+        let tables = empty_tables(alloc, routers as usize)?;
+        Ok(Version {
+            topology: t,
+            net,
+            tables,
+        })
+    }
 
-impl LabelView for Version: width = λ v. length v.topology.routers; labels = λ v. labels_of v.atoms
+    /// The same version, whose atoms begin at the ends of a prefix too.
+    fn cut(self, alloc: Global, prefix: Prefix) -> Result<Version, OutOfMemory>
+        ensures sound { IsCidr prefix }
+        ensures topology { IfOk result (λ version. version.topology ≡ self.topology) }
+        ensures routes { IfOk result (λ version. version.routes ≡ self.routes) }
+        ensures parted { IfOk result (λ version. IsParted self.atoms version.atoms prefix) }
+        ensures whole { IfOk result IsWhole }
+    {
+        let Version {
+            topology,
+            net,
+            tables,
+        } = self;
+        let net = cut_ends(net, alloc, prefix)?;
+        Ok(Version {
+            topology,
+            net,
+            tables,
+        })
+    }
+
+    /// The version after an update of one of its routers, at whose prefix's ends atoms begin.
+    fn update(
+        self,
+        alloc: Global,
+        r: RouterId,
+        op: &Op,
+        prefix: Prefix,
+    ) -> Result<(Version, Delta), OutOfMemory>
+        requires router { r.0 < length self.topology.routers }
+        requires op { IsOpOf self.topology op.now }
+        requires prefix { prefix_of_op op.now ≡ prefix }
+        requires ends { BeginsAtEnds self.atoms prefix }
+        ensures topology { IfOk result (λ made. made.0.topology ≡ self.topology) }
+        ensures updated { IfOk result (λ made. IsRemade self made.0 r op.now made.1) }
+        ensures whole { IfOk result (λ made. IsWhole made.0) }
+    {
+        let Version {
+            topology,
+            net,
+            mut tables,
+        } = self;
+        let past = past_of(prefix);
+        update_at(&mut tables, usize::from(r.0), op)?;
+        let (net, delta) = walk_atoms(alloc, net, r, op, prefix.base(), past)?;
+        Ok((
+            Version {
+                topology,
+                net,
+                tables,
+            },
+            delta,
+        ))
+    }
+
+    /// The version after a clearing, which changes nothing where the router has no route of the prefix.
+    fn clear(
+        self,
+        alloc: Global,
+        r: RouterId,
+        op: &Op,
+        prefix: Prefix,
+    ) -> Result<(Version, Delta), OutOfMemory>
+        requires router { r.0 < length self.topology.routers }
+        requires op { IsOpOf self.topology op.now }
+        requires clears { IsClearOf op.now prefix }
+        ensures updated { IfOk result (λ made. IsUpdated self made.0 r op.now made.1) }
+        ensures whole { IfOk result (λ made. IsWhole made.0) }
+    {
+        if has_route_of(&self.tables[usize::from(r.0)], prefix) {
+            return self.update(alloc, r, op, prefix);
+        }
+        Ok((self, Delta::new(alloc)))
+    }
+
+    /// The version after a setting, which cuts atoms at the ends of the prefix.
+    fn set(
+        self,
+        alloc: Global,
+        r: RouterId,
+        op: &Op,
+        prefix: Prefix,
+    ) -> Result<(Version, Delta), OutOfMemory>
+        requires router { r.0 < length self.topology.routers }
+        requires op { IsOpOf self.topology op.now }
+        requires sets { IsSetOf op.now prefix }
+        ensures updated { IfOk result (λ made. IsUpdated self made.0 r op.now made.1) }
+        ensures whole { IfOk result (λ made. IsWhole made.0) }
+    {
+        let parted = self.cut(alloc, prefix)?;
+        parted.update(alloc, r, op, prefix)
+    }
+
+    /// The version after an update of one of its routers.
+    fn updated(
+        self,
+        alloc: Global,
+        r: RouterId,
+        op: &Op,
+    ) -> Result<(Version, Delta), OutOfMemory>
+        requires router { r.0 < length self.topology.routers }
+        requires op { IsOpOf self.topology op.now }
+        ensures updated { IfOk result (λ made. IsUpdated self made.0 r op.now made.1) }
+        ensures whole { IfOk result (λ made. IsWhole made.0) }
+    {
+        match *op {
+            Op::Set { prefix, .. } => self.set(alloc, r, op, prefix),
+            Op::Clear { prefix, .. } => self.clear(alloc, r, op, prefix),
+        }
+    }
+
+    /// The version after an update of one of its routers, and where that changes what the router does. It takes the
+    /// version and changes it in place; at `OutOfMemory`, for which alone it fails, it is dropped.
+    pub fn advance(
+        self,
+        alloc: Global,
+        entry: &Entry,
+    ) -> Result<(Version, Delta), OutOfMemory>
+        requires { IsEntryOf self.topology entry.now }
+        ensures topology { IfOk result (λ made. made.0.topology ≡ self.topology) }
+        ensures stands { IfOk result (λ made. (history : List EntryIs) → KeptStandsFor self history → KeptStandsFor made.0 (history ++ entry.now ∷ [])) }
+        ensures delta { IfOk result (λ made. (history : List EntryIs) → KeptStandsFor self history → IsDelta (history ++ entry.now ∷ []) made.1) }
+    {
+        self.updated(alloc, entry.router, &entry.op)
+    }
+
+    /// The version after an update of one of its routers, and where that changes what the router does. This version
+    /// stands as it is; memory is taken for a whole version.
+    pub fn apply(&self, alloc: Global, entry: &Entry) -> Result<(Version, Delta), OutOfMemory>
+        requires { IsEntryOf self.now.topology entry.now }
+        ensures topology { IfOk result (λ made. made.0.topology ≡ self.now.topology) }
+        ensures stands { IfOk result (λ made. (history : List EntryIs) → KeptStandsFor self.now history → KeptStandsFor made.0 (history ++ entry.now ∷ [])) }
+        ensures delta { IfOk result (λ made. (history : List EntryIs) → KeptStandsFor self.now history → IsDelta (history ++ entry.now ∷ []) made.1) }
+    {
+        self.copy(alloc)?.advance(alloc, entry)
+    }
+
+    /// The same version again.
+    pub fn copy(&self, alloc: Global) -> Result<Version, OutOfMemory>
+        ensures { IfOk result (λ version. version ≡ self.now) }
+    {
+        let topology = Arc::try_clone(&self.topology)?;
+        let net = self.net.copy(alloc)?;
+        let tables = copies(alloc, &self.tables)?;
+        Ok(Version {
+            topology,
+            net,
+            tables,
+        })
+    }
+
+    /// What a router does with the address `a` (0 to 2^32 - 1).
+    pub fn target(&self, r: RouterId, a: u32) -> Target
+        requires { r.0 < length self.now.topology.routers }
+        ensures { (history : List EntryIs) → KeptStandsFor self.now history → result ≡ target history r a }
+    {
+        target_of(&self.tables[r.0 as usize], a)
+    }
+}
+
+impl LabelView for Version {
+    ghost width = { λ v. length v.topology.routers };
+
+    ghost labels = { λ v. labels_of v.atoms };
+
+    fn routers(&self) -> u32 {
+        self.net.routers()
+    }
+
+    fn atoms(&self) -> u64 {
+        self.net.count()
+    }
+
+    fn bounds(&self, i: u64) -> (u64, u64) {
+        self.net.bounds(i)
+    }
+
+    fn atom_of(&self, a: u32) -> u64 {
+        self.net.place_of(a)
+    }
+
+    fn target(&self, r: RouterId, i: u64) -> Target {
+        self.net.target(r, i)
+    }
+}

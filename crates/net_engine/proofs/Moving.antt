@@ -1,0 +1,1 @@
+-- An atom where one router has other rules and does something else.

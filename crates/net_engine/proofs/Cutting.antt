@@ -133,15 +133,15 @@ cut-numbered x y os ps from to (r ∷ rs) at g h n f =
     let q : r.atom.0 ≡ from = f r (holder-first low_of high_of r rs at e) in
     ap (λ (zs : List AtomRow). map (numbered y ps) zs) (cut-first r rs at to e)
     ∙ ap (λ (a : Atom). a ∷ numbered y ps (upper_part at to r) ∷ map (numbered y ps) rs)
-      (same-parts r.low at (targets_of y r.atom.0) (targets_of x r.atom.0) (get_or ps r.atom.0 []) (get_or os r.atom.0 []) (old-targets x y os ps from to.0 r.atom.0 g h.0) (old-owners x y os ps from to.0 r.atom.0 g h.0))
+    (same-parts r.low at (targets_of y r.atom.0) (targets_of x r.atom.0) (get_or ps r.atom.0 []) (get_or os r.atom.0 []) (old-targets x y os ps from to.0 r.atom.0 g h.0) (old-owners x y os ps from to.0 r.atom.0 g h.0))
     ∙ ap (λ (a : Atom). between r.low at (numbered x os r) ∷ a ∷ map (numbered y ps) rs)
-      (same-parts at r.high (targets_of y to.0) (targets_of x r.atom.0) (get_or ps to.0 []) (get_or os r.atom.0 []) (new-targets x y os ps from to.0 g ∙ ap (λ j. targets_of x j) (sym q)) (new-owners x y os ps from to.0 g ∙ ap (λ j. get_or os j []) (sym q)))
+    (same-parts at r.high (targets_of y to.0) (targets_of x r.atom.0) (get_or ps to.0 []) (get_or os r.atom.0 []) (new-targets x y os ps from to.0 g ∙ ap (λ j. targets_of x j) (sym q)) (new-owners x y os ps from to.0 g ∙ ap (λ j. get_or os j []) (sym q)))
     ∙ ap (λ (zs : List Atom). between r.low at (numbered x os r) ∷ between at r.high (numbered x os r) ∷ zs) (same-rows x y os ps from to.0 rs g h.1)
     ∙ sym (cut-atom (numbered x os r) (map (numbered x os) rs) at e (ne_eqb r.low at k.0)))
     (λ (e : has_address at r ≡ false).
     ap (λ (zs : List AtomRow). map (numbered y ps) zs) (cut-rest r rs at to e)
     ∙ ap (λ (a : Atom). a ∷ map (numbered y ps) (cut_rows rs at to))
-      (same-parts r.low r.high (targets_of y r.atom.0) (targets_of x r.atom.0) (get_or ps r.atom.0 []) (get_or os r.atom.0 []) (old-targets x y os ps from to.0 r.atom.0 g h.0) (old-owners x y os ps from to.0 r.atom.0 g h.0))
+    (same-parts r.low r.high (targets_of y r.atom.0) (targets_of x r.atom.0) (get_or ps r.atom.0 []) (get_or os r.atom.0 []) (old-targets x y os ps from to.0 r.atom.0 g h.0) (old-owners x y os ps from to.0 r.atom.0 g h.0))
     ∙ ap (λ (zs : List Atom). numbered x os r ∷ zs) (cut-numbered x y os ps from to rs at g h.1 k.1 (λ s p. f s (holder-rest low_of high_of r rs at e ∙ p)))
     ∙ sym (uncut-atom (numbered x os r) (map (numbered x os) rs) at e))
     (cases_Bool (has_address at r))

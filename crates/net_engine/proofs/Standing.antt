@@ -153,7 +153,7 @@ first-atoms routers rows labels owners one first none =
   where
     targets : targets_of labels 0 ≡ replicate routers NoRoute
     targets = ext_get_or NoRoute (targets_of labels 0) (replicate routers NoRoute)
-      (length-targets labels 0 ∙ first.routers ∙ sym (length-replicate routers NoRoute))
-      (λ i l.
-          let k : i < routers = subst (λ n. i < n) (length-targets labels 0 ∙ first.routers) l in
-          read-target labels 0 i ∙ first.targets i 0 ∙ sym (get_or-replicate routers i NoRoute NoRoute k))
+        (length-targets labels 0 ∙ first.routers ∙ sym (length-replicate routers NoRoute))
+        (λ i l.
+        let k : i < routers = subst (λ n. i < n) (length-targets labels 0 ∙ first.routers) l in
+        read-target labels 0 i ∙ first.targets i 0 ∙ sym (get_or-replicate routers i NoRoute NoRoute k))

@@ -3,7 +3,7 @@ use Rattle.std.proofs.Common.{◌≡◌, ℕ, ◌<◌, ◌≤◌, ◌∙◌, ◌
 use Rattle.std.proofs.lemmas.Bool.{cases_Bool, eq-eqb, eqb-true, eqb-false, ne_eqb}
 use Rattle.std.proofs.lemmas.List.{ext_get_or, get_or_read, get_or-set_other, get_or-set_same, length-set}
 use Rattle.std.proofs.lemmas.Option.{none-some}
-use Rattle.dn_model.specs.Atoms.{AreAtoms, AreOnce, HasNone, has_address, high_of, low_of, row_at}
+use Rattle.dn_model.specs.Atoms.{AreOnce, HasNone, has_address, high_of, low_of, row_at}
 use Rattle.dn_model.specs.Rows.{is_within}
 use Rattle.dn_model.specs.Rules.{after_rule_op, IsTop}
 use Rattle.dn_model.specs.Version.{Atom, atom_at, first_of, past_of}

@@ -4,5 +4,7 @@
 
 mod atom_owners;
 mod net;
+#[cfg(test)]
+mod net_tests;
 
 pub use net::{Net, Touched};

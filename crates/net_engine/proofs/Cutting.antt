@@ -1,18 +1,17 @@
 -- An atom that is cut in two: the new number has what the old one has.
-use Rattle.std.proofs.Common.{◌≡◌, ℕ, ◌+◌, ◌<◌, ◌≤◌, ◌^◌, ◌∙◌, ◌∷◌, ◌++◌, ◌||◌, ◌&&◌, not, ⊎_elim, suc, cond, true, false, Bool, Option, None, Some, List, [], length, get_or, map, option_map, refl, ap, sym, subst, arith, eqb, leb, ltb}
-use Rattle.std.proofs.lemmas.Bool.{and_parts, cases_Bool, cases_lt, eq-eqb, eqb-true, eqb-false, leb-true, ne_eqb}
+use Rattle.std.proofs.Common.{◌≡◌, ℕ, ◌+◌, ◌<◌, ◌≤◌, ◌^◌, ◌∙◌, ◌∷◌, ◌++◌, ◌||◌, ◌&&◌, not, ⊎_elim, suc, cond, true, false, Bool, Option, None, Some, List, [], length, get_or, map, option_map, refl, ap, sym, subst, arith, eqb, ltb}
+use Rattle.std.proofs.lemmas.Bool.{cases_Bool, cases_lt, eq-eqb, eqb-true, ne_eqb}
 use Rattle.std.proofs.lemmas.Bool.Decides.{nat_tests}
 use Rattle.std.proofs.lemmas.List.{get_or_append_left, get_or_push, get_or_read, length_push}
 use Rattle.std.proofs.lemmas.Option.{none-some}
-use Rattle.dn_model.specs.Atoms.{AreAtoms, AreBelow, IsCut, atom_of, cut_rows, has_address, high_of, is_boundary, low_of, lower_part, row_at, upper_part}
+use Rattle.dn_model.specs.Atoms.{AreAtoms, AreBelow, IsCut, atom_of, cut_rows, has_address, high_of, is_boundary, low_of, row_at, upper_part}
 use Rattle.dn_model.specs.Rows.{CoverFrom, is_within}
 use Rattle.dn_model.specs.Version.{Atom, begins_at, first_of, past_of}
 use Rattle.dn_model.specs.declared.atom_row.AtomRow.{AtomRow}
 use Rattle.dn_model.specs.declared.ids.AtomId.{AtomId}
 use Rattle.dn_model.specs.declared.rule.Rule.{Rule}
-use Rattle.dn_model.proofs.Covers.{holder-first, holder-rest, starts-below, within-below, within-above}
+use Rattle.dn_model.proofs.Covers.{holder-first, holder-rest, within-below, within-above}
 use Rattle.dn_model.proofs.Cuts.{boundary-parts, cut-first, cut-rest, length-after-cut}
-use Rattle.edge_labels.specs.Atoms.{has_atom}
 use Rattle.edge_labels.specs.Labels.{IsInherited, Labels, target_at}
 use Rattle.net_engine.specs.Net.{Net, between, cut_atoms}
 use Rattle.net_engine.specs.Numbered.{AreNumbered, net_of, numbered, targets_of}

@@ -1,5 +1,5 @@
 -- What follows of a network from how its atoms stand by their numbers: its form, and what is read of it.
-use Rattle.std.proofs.Common.{◌≡◌, ℕ, ◌<◌, ◌≤◌, ◌^◌, ◌∙◌, ◌∷◌, ◌++◌, ◌||◌, zero, suc, true, false, Option, Some, None, List, [], length, get_or, map, replicate, option_map, refl, ap, sym, subst, arith, eqb, ltb, lit<}
+use Rattle.std.proofs.Common.{◌≡◌, ℕ, ◌<◌, ◌≤◌, ◌^◌, ◌∙◌, ◌∷◌, ◌++◌, ◌||◌, zero, suc, true, false, List, [], length, get_or, map, replicate, ap, sym, subst, arith, eqb, ltb}
 use Rattle.std.proofs.lemmas.Bool.{lt-ltb}
 use Rattle.std.proofs.lemmas.Bool.Decides.{nat_tests}
 use Rattle.std.proofs.lemmas.List.{ext_get_or, get_or-replicate, length-map, length-replicate, get_or-map as get_or-map_below}

@@ -1,18 +1,17 @@
 -- An atom that is cut in two: the new number has what the old one has.
-use Rattle.std.proofs.Common.{◌≡◌, ℕ, ◌+◌, ◌<◌, ◌≤◌, ◌^◌, ◌∙◌, ◌∷◌, ◌++◌, ◌||◌, ◌&&◌, not, ⊎_elim, suc, cond, true, false, Bool, Option, None, Some, List, [], length, get_or, map, option_map, refl, ap, sym, subst, arith, eqb, leb, ltb}
-use Rattle.std.proofs.lemmas.Bool.{and_parts, cases_Bool, cases_lt, eq-eqb, eqb-true, eqb-false, leb-true, ne_eqb}
+use Rattle.std.proofs.Common.{◌≡◌, ℕ, ◌+◌, ◌<◌, ◌≤◌, ◌^◌, ◌∙◌, ◌∷◌, ◌++◌, ◌||◌, ◌&&◌, not, ⊎_elim, suc, cond, true, false, Bool, Option, None, Some, List, [], length, get_or, map, option_map, refl, ap, sym, subst, arith, eqb, ltb}
+use Rattle.std.proofs.lemmas.Bool.{cases_Bool, cases_lt, eq-eqb, eqb-true, ne_eqb}
 use Rattle.std.proofs.lemmas.Bool.Decides.{nat_tests}
 use Rattle.std.proofs.lemmas.List.{get_or_append_left, get_or_push, get_or_read, length_push}
 use Rattle.std.proofs.lemmas.Option.{none-some}
-use Rattle.dn_model.specs.Atoms.{AreAtoms, AreBelow, IsCut, atom_of, cut_rows, has_address, high_of, is_boundary, low_of, lower_part, row_at, upper_part}
+use Rattle.dn_model.specs.Atoms.{AreAtoms, AreBelow, IsCut, atom_of, cut_rows, has_address, high_of, is_boundary, low_of, row_at, upper_part}
 use Rattle.dn_model.specs.Rows.{CoverFrom, is_within}
 use Rattle.dn_model.specs.Version.{Atom, begins_at, first_of, past_of}
 use Rattle.dn_model.specs.declared.atom_row.AtomRow.{AtomRow}
 use Rattle.dn_model.specs.declared.ids.AtomId.{AtomId}
 use Rattle.dn_model.specs.declared.rule.Rule.{Rule}
-use Rattle.dn_model.proofs.Covers.{holder-first, holder-rest, starts-below, within-below, within-above}
+use Rattle.dn_model.proofs.Covers.{holder-first, holder-rest, within-below, within-above}
 use Rattle.dn_model.proofs.Cuts.{boundary-parts, cut-first, cut-rest, length-after-cut}
-use Rattle.edge_labels.specs.Atoms.{has_atom}
 use Rattle.edge_labels.specs.Labels.{IsInherited, Labels, target_at}
 use Rattle.net_engine.specs.Net.{Net, between, cut_atoms}
 use Rattle.net_engine.specs.Numbered.{AreNumbered, net_of, numbered, targets_of}
@@ -133,15 +132,15 @@ cut-numbered x y os ps from to (r ∷ rs) at g h n f =
     let q : r.atom.0 ≡ from = f r (holder-first low_of high_of r rs at e) in
     ap (λ (zs : List AtomRow). map (numbered y ps) zs) (cut-first r rs at to e)
     ∙ ap (λ (a : Atom). a ∷ numbered y ps (upper_part at to r) ∷ map (numbered y ps) rs)
-      (same-parts r.low at (targets_of y r.atom.0) (targets_of x r.atom.0) (get_or ps r.atom.0 []) (get_or os r.atom.0 []) (old-targets x y os ps from to.0 r.atom.0 g h.0) (old-owners x y os ps from to.0 r.atom.0 g h.0))
+    (same-parts r.low at (targets_of y r.atom.0) (targets_of x r.atom.0) (get_or ps r.atom.0 []) (get_or os r.atom.0 []) (old-targets x y os ps from to.0 r.atom.0 g h.0) (old-owners x y os ps from to.0 r.atom.0 g h.0))
     ∙ ap (λ (a : Atom). between r.low at (numbered x os r) ∷ a ∷ map (numbered y ps) rs)
-      (same-parts at r.high (targets_of y to.0) (targets_of x r.atom.0) (get_or ps to.0 []) (get_or os r.atom.0 []) (new-targets x y os ps from to.0 g ∙ ap (λ j. targets_of x j) (sym q)) (new-owners x y os ps from to.0 g ∙ ap (λ j. get_or os j []) (sym q)))
+    (same-parts at r.high (targets_of y to.0) (targets_of x r.atom.0) (get_or ps to.0 []) (get_or os r.atom.0 []) (new-targets x y os ps from to.0 g ∙ ap (λ j. targets_of x j) (sym q)) (new-owners x y os ps from to.0 g ∙ ap (λ j. get_or os j []) (sym q)))
     ∙ ap (λ (zs : List Atom). between r.low at (numbered x os r) ∷ between at r.high (numbered x os r) ∷ zs) (same-rows x y os ps from to.0 rs g h.1)
     ∙ sym (cut-atom (numbered x os r) (map (numbered x os) rs) at e (ne_eqb r.low at k.0)))
     (λ (e : has_address at r ≡ false).
     ap (λ (zs : List AtomRow). map (numbered y ps) zs) (cut-rest r rs at to e)
     ∙ ap (λ (a : Atom). a ∷ map (numbered y ps) (cut_rows rs at to))
-      (same-parts r.low r.high (targets_of y r.atom.0) (targets_of x r.atom.0) (get_or ps r.atom.0 []) (get_or os r.atom.0 []) (old-targets x y os ps from to.0 r.atom.0 g h.0) (old-owners x y os ps from to.0 r.atom.0 g h.0))
+    (same-parts r.low r.high (targets_of y r.atom.0) (targets_of x r.atom.0) (get_or ps r.atom.0 []) (get_or os r.atom.0 []) (old-targets x y os ps from to.0 r.atom.0 g h.0) (old-owners x y os ps from to.0 r.atom.0 g h.0))
     ∙ ap (λ (zs : List Atom). numbered x os r ∷ zs) (cut-numbered x y os ps from to rs at g h.1 k.1 (λ s p. f s (holder-rest low_of high_of r rs at e ∙ p)))
     ∙ sym (uncut-atom (numbered x os r) (map (numbered x os) rs) at e))
     (cases_Bool (has_address at r))

@@ -5,8 +5,10 @@ pub mod Begun
 pub mod Cutting
 pub mod Held
 pub mod Labelled
+pub mod Making
 pub mod Moving
 pub mod Owned
+pub mod Parting
 pub mod PrefixEnds
 pub mod Prefixes
 pub mod Standing
@@ -14,3 +16,4 @@ pub mod StandingFor
 pub mod Tabled
 pub mod Touched
 pub mod Updated
+pub mod Walking

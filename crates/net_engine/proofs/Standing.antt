@@ -1,5 +1,5 @@
 -- What follows of a network from how its atoms stand by their numbers: its form, and what is read of it.
-use Rattle.std.proofs.Common.{◌≡◌, ℕ, ◌<◌, ◌≤◌, ◌^◌, ◌∙◌, ◌∷◌, ◌++◌, ◌||◌, zero, suc, true, false, Option, Some, None, List, [], length, get_or, map, replicate, option_map, refl, ap, sym, subst, arith, eqb, ltb, lit<}
+use Rattle.std.proofs.Common.{◌≡◌, ℕ, ◌<◌, ◌≤◌, ◌^◌, ◌∙◌, ◌∷◌, ◌++◌, ◌||◌, zero, suc, true, false, List, [], length, get_or, map, replicate, ap, sym, subst, arith, eqb, ltb}
 use Rattle.std.proofs.lemmas.Bool.{lt-ltb}
 use Rattle.std.proofs.lemmas.Bool.Decides.{nat_tests}
 use Rattle.std.proofs.lemmas.List.{ext_get_or, get_or-replicate, length-map, length-replicate, get_or-map as get_or-map_below}
@@ -153,7 +153,7 @@ first-atoms routers rows labels owners one first none =
   where
     targets : targets_of labels 0 ≡ replicate routers NoRoute
     targets = ext_get_or NoRoute (targets_of labels 0) (replicate routers NoRoute)
-      (length-targets labels 0 ∙ first.routers ∙ sym (length-replicate routers NoRoute))
-      (λ i l.
-          let k : i < routers = subst (λ n. i < n) (length-targets labels 0 ∙ first.routers) l in
-          read-target labels 0 i ∙ first.targets i 0 ∙ sym (get_or-replicate routers i NoRoute NoRoute k))
+        (length-targets labels 0 ∙ first.routers ∙ sym (length-replicate routers NoRoute))
+        (λ i l.
+        let k : i < routers = subst (λ n. i < n) (length-targets labels 0 ∙ first.routers) l in
+        read-target labels 0 i ∙ first.targets i 0 ∙ sym (get_or-replicate routers i NoRoute NoRoute k))

@@ -1,5 +1,5 @@
 -- How a network's atoms stand by their numbers: the labels and the rules of an atom are those of its number.
-use Rattle.std.specs.Prelude.{ℕ, Bool, List, [], Option, length, map, nat_lt, slice_index_or, slice_set, IsPermutation, ◌≡◌, ◌<◌}
+use Rattle.std.specs.Prelude.{ℕ, List, [], Option, length, map, nat_lt, slice_index_or, slice_set, IsPermutation, ◌≡◌, ◌<◌}
 use Rattle.dn_model.specs.Atoms.{AreAtoms}
 use Rattle.dn_model.specs.Rules.{after_rule_op, target_of as target_of_rule, IsTop}
 use Rattle.dn_model.specs.Version.{Atom}

@@ -1,5 +1,5 @@
 -- What the steps of an update make of atoms and of a version, said address by address.
-use Rattle.std.specs.Prelude.{ℕ, Bool, true, false, List, [], Option, Some, None, slice_index_or, slice_set, Contains, IsPermutation, ◌≡◌, ◌+◌, ◌<◌, ◌≤◌, ◌^◌, ◌&&◌, ◌||◌, ◌==◌}
+use Rattle.std.specs.Prelude.{ℕ, Bool, true, false, List, [], length, Option, Some, None, slice_index_or, slice_set, Contains, IsPermutation, ◌≡◌, ◌+◌, ◌<◌, ◌≤◌, ◌^◌, ◌&&◌, ◌||◌, ◌==◌}
 use Rattle.dn_model.specs.Cidr.{Cidr, size}
 use Rattle.dn_model.specs.Delta.{AreChanges, TellsChange, change_at}
 use Rattle.dn_model.specs.Rows.{is_within}
@@ -13,6 +13,7 @@ use Rattle.dn_model.specs.declared.entry.Route.{Route}
 use Rattle.dn_model.specs.declared.ids.RouterId.{RouterId}
 use Rattle.dn_model.specs.declared.rule.Rule.{Rule}
 use Rattle.dn_model.specs.declared.target.Target.{Target}
+use Rattle.net_engine.specs.Whole.{IsWhole}
 
 -- The atoms were cut at the ends of a prefix: they begin there too, and each router has the rules that it had at each
 -- address, and does what it did.
@@ -59,6 +60,7 @@ pub record HasRouteOf (routes : List Route) (p : Cidr) : Type 0 where
 
 -- the list at this place is what the update makes of it, in some order, and the others are as before
 pub record UpdatesAt (at : ℕ) (op : Op) (old new : List (List Route)) : Type 0 where
+  pub inside : at < length old
   pub made : List Route
   pub as_updated : IsPermutation made (after_op (slice_index_or old at []) op)
   pub placed : new ≡ slice_set old at made
@@ -67,6 +69,14 @@ pub record UpdatesAt (at : ℕ) (op : Op) (old new : List (List Route)) : Type 0
 pub record BeginsAtEnds (atoms : List Atom) (p : Cidr) : Type 0 where
   pub first : begins_at atoms p.base ≡ true
   pub past : p.base + size p < 2 ^ 32 → begins_at atoms (p.base + size p) ≡ true
+
+-- a version whose atoms were cut at the ends of a prefix
+pub record IsCutAt (old new : Kept) (p : Cidr) : Type 0 where
+  pub whole : IsWhole new
+  pub topology : new.topology ≡ old.topology
+  pub routes : new.routes ≡ old.routes
+  pub parted : IsParted old.atoms new.atoms p
+  pub ends : BeginsAtEnds new.atoms p
 
 -- an update clears routes of a prefix
 abbrev pub IsClearOf : Op → Cidr → Type 0
@@ -81,6 +91,7 @@ IsSetOf (Clear q m) p = ⊥
 -- An update of one router was made where atoms begin at its prefix's ends already: its routes are what the update makes
 -- of them, and it is told where a router does something else than before.
 pub record IsRemade (old new : Kept) (r : RouterId) (op : Op) (changes : List Change) : Type 0 where
+  pub whole : IsWhole new
   pub topology : new.topology ≡ old.topology
   pub routes : UpdatesAt r.0 op old.routes new.routes
   pub begins : (a : ℕ) → begins_at new.atoms a ≡ begins_at old.atoms a
@@ -90,6 +101,7 @@ pub record IsRemade (old new : Kept) (r : RouterId) (op : Op) (changes : List Ch
 -- An update of one router was made: its routes are what the update makes of them, atoms begin at the ends of a prefix
 -- that it sets too, and it is told where a router does something else than before.
 pub record IsUpdated (old new : Kept) (r : RouterId) (op : Op) (changes : List Change) : Type 0 where
+  pub whole : IsWhole new
   pub topology : new.topology ≡ old.topology
   pub routes : UpdatesAt r.0 op old.routes new.routes
   pub begins : (a : ℕ) → a < 2 ^ 32 → begins_at new.atoms a ≡ (begins_at old.atoms a || sets_end a op)

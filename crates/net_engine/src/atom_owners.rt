@@ -78,7 +78,10 @@ fn changed(owners: &mut Owners, op: &Op) -> Result<(), OutOfMemory>
             metric: *metric,
             target: *target,
         }),
-        Op::Clear { .. } => Err(OutOfMemory),
+        Op::Clear { prefix, metric } => {
+            owners.clear(prefix.len(), *metric);
+            Ok(())
+        }
     }
 }
 

@@ -5,8 +5,12 @@
 mod atom_owners;
 mod ends;
 mod net;
+#[cfg(test)]
+mod net_tests;
 mod tables;
 mod version;
+#[cfg(test)]
+mod version_tests;
 mod walk;
 
 pub use version::Version;

@@ -30,11 +30,7 @@ fn update(table: &mut RouteTable, op: &Op) -> Result<(), OutOfMemory>
 }
 
 /// Makes an update to the table of the router at this place.
-pub fn update_at(
-    tables: &mut Vec<RouteTable>,
-    at: usize,
-    op: &Op,
-) -> Result<(), OutOfMemory>
+pub fn update_at(tables: &mut Vec<RouteTable>, at: usize, op: &Op) -> Result<(), OutOfMemory>
     requires { at < vec_len tables.old }
     ensures len { vec_len tables.new ≡ vec_len tables.old }
     ensures ok { OnOk result (UpdatesAt at op.now tables.old.items tables.new.items) }

@@ -3,14 +3,12 @@
 ghost use Rattle.std.specs.Prelude.{◌≡◌, ◌<◌, ◌++◌, ◌∷◌, [], List, ℕ, IfOk, length};
 ghost use Rattle.std.specs.Arc.{arc_value};
 ghost use Rattle.dn_model.specs.Delta.{IsDelta};
-ghost use Rattle.dn_model.specs.Cidr.{IsCidr};
 ghost use Rattle.dn_model.specs.Entry.{IsEntryOf, IsOpOf};
 ghost use Rattle.dn_model.specs.Table.{target};
 ghost use Rattle.dn_model.specs.Version.{KeptStandsFor, labels_of};
 ghost use Rattle.dn_model.specs.declared.entry.Entry.{Entry as EntryIs};
 ghost use Rattle.net_engine.specs.Steps.{prefix_of_op};
-ghost use Rattle.net_engine.specs.Walked.{BeginsAtEnds, IsClearOf, IsParted, IsSetOf, IsRemade, IsUpdated};
-ghost use Rattle.net_engine.specs.Whole.{IsWhole};
+ghost use Rattle.net_engine.specs.Walked.{BeginsAtEnds, IsClearOf, IsCutAt, IsSetOf, IsRemade, IsUpdated};
 
 use crate::ends::{cut_ends, past_of};
 use crate::net::Net;
@@ -65,11 +63,7 @@ impl Version {
 
     /// The same version, whose atoms begin at the ends of a prefix too.
     fn cut(self, alloc: Global, prefix: Prefix) -> Result<Version, OutOfMemory>
-        ensures sound { IsCidr prefix }
-        ensures topology { IfOk result (λ version. version.topology ≡ self.topology) }
-        ensures routes { IfOk result (λ version. version.routes ≡ self.routes) }
-        ensures parted { IfOk result (λ version. IsParted self.atoms version.atoms prefix) }
-        ensures whole { IfOk result IsWhole }
+        ensures { IfOk result (λ version. IsCutAt self version prefix) }
     {
         let Version {
             topology,
@@ -96,9 +90,7 @@ impl Version {
         requires op { IsOpOf self.topology op.now }
         requires prefix { prefix_of_op op.now ≡ prefix }
         requires ends { BeginsAtEnds self.atoms prefix }
-        ensures topology { IfOk result (λ made. made.0.topology ≡ self.topology) }
-        ensures updated { IfOk result (λ made. IsRemade self made.0 r op.now made.1) }
-        ensures whole { IfOk result (λ made. IsWhole made.0) }
+        ensures { IfOk result (λ made. IsRemade self made.0 r op.now made.1) }
     {
         let Version {
             topology,
@@ -129,8 +121,7 @@ impl Version {
         requires router { r.0 < length self.topology.routers }
         requires op { IsOpOf self.topology op.now }
         requires clears { IsClearOf op.now prefix }
-        ensures updated { IfOk result (λ made. IsUpdated self made.0 r op.now made.1) }
-        ensures whole { IfOk result (λ made. IsWhole made.0) }
+        ensures { IfOk result (λ made. IsUpdated self made.0 r op.now made.1) }
     {
         if has_route_of(&self.tables[usize::from(r.0)], prefix) {
             return self.update(alloc, r, op, prefix);
@@ -149,24 +140,17 @@ impl Version {
         requires router { r.0 < length self.topology.routers }
         requires op { IsOpOf self.topology op.now }
         requires sets { IsSetOf op.now prefix }
-        ensures updated { IfOk result (λ made. IsUpdated self made.0 r op.now made.1) }
-        ensures whole { IfOk result (λ made. IsWhole made.0) }
+        ensures { IfOk result (λ made. IsUpdated self made.0 r op.now made.1) }
     {
         let parted = self.cut(alloc, prefix)?;
         parted.update(alloc, r, op, prefix)
     }
 
     /// The version after an update of one of its routers.
-    fn updated(
-        self,
-        alloc: Global,
-        r: RouterId,
-        op: &Op,
-    ) -> Result<(Version, Delta), OutOfMemory>
+    fn updated(self, alloc: Global, r: RouterId, op: &Op) -> Result<(Version, Delta), OutOfMemory>
         requires router { r.0 < length self.topology.routers }
         requires op { IsOpOf self.topology op.now }
-        ensures updated { IfOk result (λ made. IsUpdated self made.0 r op.now made.1) }
-        ensures whole { IfOk result (λ made. IsWhole made.0) }
+        ensures { IfOk result (λ made. IsUpdated self made.0 r op.now made.1) }
     {
         match *op {
             Op::Set { prefix, .. } => self.set(alloc, r, op, prefix),
@@ -176,11 +160,7 @@ impl Version {
 
     /// The version after an update of one of its routers, and where that changes what the router does. It takes the
     /// version and changes it in place; at `OutOfMemory`, for which alone it fails, it is dropped.
-    pub fn advance(
-        self,
-        alloc: Global,
-        entry: &Entry,
-    ) -> Result<(Version, Delta), OutOfMemory>
+    pub fn advance(self, alloc: Global, entry: &Entry) -> Result<(Version, Delta), OutOfMemory>
         requires { IsEntryOf self.topology entry.now }
         ensures topology { IfOk result (λ made. made.0.topology ≡ self.topology) }
         ensures stands { IfOk result (λ made. (history : List EntryIs) → KeptStandsFor self history → KeptStandsFor made.0 (history ++ entry.now ∷ [])) }

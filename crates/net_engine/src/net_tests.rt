@@ -2,7 +2,7 @@
 
 ghost use Rattle.std.specs.Prelude.{◌≡◌, IfOk};
 
-use super::{Net, Touched};
+use crate::net::{Net, Touched};
 use dn_model::{Op, OutOfMemory, Prefix, RouterId, Target};
 use std::alloc::Global;
 use std::test::Fail;

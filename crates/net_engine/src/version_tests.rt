@@ -1,0 +1,229 @@
+//! Versions of a network of three routers, against answers worked out by hand and against the plain evaluator.
+
+ghost use Rattle.std.specs.Prelude.{◌≡◌, ◌<◌, IfOk, length};
+ghost use Rattle.dn_model.specs.Entry.{IsOpOf};
+ghost use Rattle.dn_model.specs.declared.topology.Topology.{Topology as TopologyIs};
+
+use super::Version;
+use delta_graph::Delta;
+use dn_model::{
+    Change, Entry, List, Name, Op, OutOfMemory, Prefix, RouterId, Run, Target, Topology,
+    plain_routes, plain_target,
+};
+use label_view::LabelView;
+use std::alloc::Global;
+use std::sync::Arc;
+use std::test::Fail;
+
+/// The router of all updates.
+const R1: RouterId = RouterId(0);
+
+/// 10.0.0.0/8.
+fn ten() -> Prefix {
+    Prefix::new(0x0A00_0000, 8)
+}
+
+/// An update of the first router: without an interface where packets leave it clears.
+#[derive(Clone, Copy)]
+struct Update {
+    prefix: Prefix,
+    metric: Option<u32>,
+    exit: Option<u32>,
+}
+
+fn set(prefix: Prefix, metric: u32, exit: u32) -> Update {
+    Update {
+        prefix,
+        metric: Some(metric),
+        exit: Some(exit),
+    }
+}
+
+fn clear(prefix: Prefix, metric: Option<u32>) -> Update {
+    Update {
+        prefix,
+        metric,
+        exit: None,
+    }
+}
+
+fn entry(update: Update) -> Entry
+    ensures router { result.router.0 ≡ 0 }
+    ensures op { (t : TopologyIs) → IsOpOf t result.op }
+{
+    let prefix = update.prefix;
+    let op = match update.exit {
+        Some(exit) => Op::Set {
+            prefix,
+            metric: update.metric.unwrap_or(0),
+            target: Target::Exit(exit),
+        },
+        None => Op::Clear {
+            prefix,
+            metric: update.metric,
+        },
+    };
+    Entry {
+        router: R1,
+        feed_no: 1,
+        op,
+    }
+}
+
+/// Nested prefixes, both ends of the addresses, equal lengths beside each other, clearings of nothing, and settings of
+/// what is done already.
+fn updates() -> [Update; 15] {
+    let all = Prefix::new(0, 0);
+    let low = Prefix::new(0, 8);
+    let high = Prefix::new(0x8000_0000, 1);
+    let last = Prefix::new(0xFFFF_FFFF, 32);
+    let ten_one = Prefix::new(0x0A01_0000, 16);
+    let eleven = Prefix::new(0x0B00_0000, 8);
+    [
+        clear(ten(), None),
+        set(ten(), 20, 2),
+        set(ten(), 5, 3),
+        set(ten_one, 9, 4),
+        set(ten(), 5, 3),
+        set(all, 0, 1),
+        set(high, 7, 5),
+        set(last, 1, 6),
+        set(low, 1, 1),
+        clear(ten(), Some(5)),
+        clear(ten_one, Some(8)),
+        set(eleven, 20, 2),
+        clear(all, None),
+        clear(ten(), None),
+        clear(last, Some(1)),
+    ]
+}
+
+/// Addresses at the ends of those prefixes, and beside them.
+const ADDRESSES: [u32; 16] = [
+    0,
+    0x00FF_FFFF,
+    0x0100_0000,
+    0x09FF_FFFF,
+    0x0A00_0000,
+    0x0A01_0000,
+    0x0A01_FFFF,
+    0x0A02_0000,
+    0x0AFF_FFFF,
+    0x0B00_0000,
+    0x0BFF_FFFF,
+    0x0C00_0000,
+    0x7FFF_FFFF,
+    0x8000_0000,
+    0xFFFF_FFFE,
+    0xFFFF_FFFF,
+];
+
+/// Three routers with no link between them.
+fn three_routers(alloc: Global) -> Result<Topology, OutOfMemory>
+    ensures { IfOk result (λ t. length t.routers ≡ 3) }
+{
+    let mut routers = List::new(alloc);
+    routers.push(Name::from_text(alloc, b"r1")?)?;
+    routers.push(Name::from_text(alloc, b"r2")?)?;
+    routers.push(Name::from_text(alloc, b"r3")?)?;
+    Ok(Topology {
+        routers,
+        links: List::new(alloc),
+        edges: List::new(alloc),
+    })
+}
+
+/// A version crosses to another thread.
+fn crosses<T: Send + Sync>(_value: &T) {}
+
+fn first_version(alloc: Global) -> Result<Version, OutOfMemory>
+    ensures { IfOk result (λ version. length version.topology.routers ≡ 3) }
+{
+    let topology = Arc::new(alloc, three_routers(alloc)?)?;
+    let version = Version::empty(alloc, topology)?;
+    crosses(&version);
+    Ok(version)
+}
+
+fn advanced(
+    alloc: Global,
+    version: Version,
+    update: Update,
+) -> Result<(Version, Delta), OutOfMemory>
+    requires { length version.topology.routers ≡ 3 }
+    ensures { IfOk result (λ made. length made.0.topology.routers ≡ 3) }
+{
+    version.advance(alloc, &entry(update))
+}
+
+/// What a router does with an address by the rows of a view.
+fn by_rows<V: LabelView>(view: &V, r: RouterId, a: u32) -> Target
+    requires { r.0 < V.width view.now }
+{
+    view.target(r, view.atom_of(a))
+}
+
+/// The change that is told of an address.
+fn told(changes: &[Change], a: u32) -> Option<(Target, Target)> {
+    for change in changes {
+        if change.run.lo <= a && a <= change.run.hi {
+            return Some((change.before, change.after));
+        }
+    }
+    None
+}
+
+#[test]
+fn of_two_metrics_the_lesser_wins_and_a_clearing_takes_both(rt: HostRuntime) -> Result<(), Fail> {
+    let alloc = rt.alloc();
+    let version = first_version(alloc)?;
+    let (version, _) = advanced(alloc, version, set(ten(), 20, 2))?;
+    let (version, better) = advanced(alloc, version, set(ten(), 5, 3))?;
+    let run = Run {
+        lo: 0x0A00_0000,
+        hi: 0x0AFF_FFFF,
+    };
+    let change = Change {
+        router: R1,
+        run,
+        before: Target::Exit(2),
+        after: Target::Exit(3),
+    };
+    assert_eq!(rt; better.changes(), &[change][..]);
+    let (version, worse) = advanced(alloc, version, set(ten(), 20, 4))?;
+    assert_eq!(rt; worse.changes().len(), 0);
+    assert_eq!(rt; version.target(R1, 0x0A00_0001), Target::Exit(3));
+    let (version, _) = advanced(alloc, version, clear(ten(), None))?;
+    assert_eq!(rt; version.target(R1, 0x0A00_0001), Target::NoRoute);
+    assert_eq!(rt; by_rows(&version, R1, 0x0A00_0001), Target::NoRoute);
+    assert_eq!(rt; version.routers(), 3);
+    assert_eq!(rt; version.atoms(), 3);
+    assert_eq!(rt; version.copy(alloc)?.bounds(1), (0x0A00_0000, 0x0B00_0000));
+    Ok(())
+}
+
+#[test]
+fn as_the_plain_evaluator(rt: HostRuntime) -> Result<(), Fail> {
+    let alloc = rt.alloc();
+    let mut entries = Vec::new(alloc);
+    let mut old = first_version(alloc)?;
+    for update in updates() {
+        let entry = entry(update);
+        let before = plain_routes(alloc, entries.as_slice(), R1)?;
+        entries.push(entry)?;
+        let after = plain_routes(alloc, entries.as_slice(), R1)?;
+        let (new, delta) = old.apply(alloc, &entry)?;
+        for a in ADDRESSES {
+            let was = plain_target(before.as_slice(), &[], a);
+            let is = plain_target(after.as_slice(), &[], a);
+            let change = if was == is { None } else { Some((was, is)) };
+            assert_eq!(rt; by_rows(&old, R1, a), was, "before, at {a}");
+            assert_eq!(rt; by_rows(&new, R1, a), is, "after, at {a}");
+            assert_eq!(rt; new.target(R1, a), is, "by the table, at {a}");
+            assert_eq!(rt; new.target(RouterId(1), a), Target::NoRoute);
+            assert_eq!(rt; told(delta.changes(), a), change, "told, at {a}");
+        }
+        old = new;
+    }
+    Ok(())
+}

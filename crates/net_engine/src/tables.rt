@@ -2,12 +2,11 @@
 
 ghost use Rattle.std.specs.Prelude.{◌≡◌, ◌<◌, ℕ, [], true, false, IfOk, OnOk, OnErr, IsTrue, IsFalse, Contains, replicate, vec_len, slice_index_or, IsPermutation};
 ghost use Rattle.dn_model.specs.Cidr.{IsCidr};
-ghost use Rattle.dn_model.specs.Routes.{IsTable};
-ghost use Rattle.dn_model.specs.Table.{after_op, is_of_prefix, target_in};
+ghost use Rattle.dn_model.specs.Table.{after_op, is_of_prefix};
 ghost use Rattle.dn_model.specs.declared.entry.Route.{Route};
 ghost use Rattle.net_engine.specs.Walked.{HasRouteOf, UpdatesAt};
 
-use dn_model::{Op, OutOfMemory, Prefix, Target};
+use dn_model::{Op, OutOfMemory, Prefix};
 use route_table::RouteTable;
 use std::alloc::Global;
 
@@ -37,17 +36,6 @@ pub fn update_at(tables: &mut Vec<RouteTable>, at: usize, op: &Op) -> Result<(),
     ensures err { OnErr result (tables.new.items ≡ tables.old.items) }
 {
     update(&mut tables[at], op)
-}
-
-/// What a router's table does with an address.
-pub fn target_of(table: &RouteTable, a: u32) -> Target
-    ensures value { result ≡ target_in table.now a }
-    ensures table { IsTable table.now }
-{
-    match table.best(a) {
-        Some(route) => route.target,
-        None => Target::NoRoute,
-    }
 }
 
 /// Whether a router's table has a route of a prefix.

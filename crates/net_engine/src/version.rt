@@ -4,7 +4,6 @@ ghost use Rattle.std.specs.Prelude.{◌≡◌, ◌<◌, ◌++◌, ◌∷◌, [],
 ghost use Rattle.std.specs.Arc.{arc_value};
 ghost use Rattle.dn_model.specs.Delta.{IsDelta};
 ghost use Rattle.dn_model.specs.Entry.{IsEntryOf, IsOpOf};
-ghost use Rattle.dn_model.specs.Table.{target};
 ghost use Rattle.dn_model.specs.Version.{KeptStandsFor, labels_of};
 ghost use Rattle.dn_model.specs.declared.entry.Entry.{Entry as EntryIs};
 ghost use Rattle.net_engine.specs.Steps.{prefix_of_op};
@@ -12,7 +11,7 @@ ghost use Rattle.net_engine.specs.Walked.{BeginsAtEnds, IsClearOf, IsCutAt, IsSe
 
 use crate::ends::{cut_ends, past_of};
 use crate::net::Net;
-use crate::tables::{copies, empty_tables, has_route_of, target_of, update_at};
+use crate::tables::{copies, empty_tables, has_route_of, update_at};
 use crate::walk::walk_atoms;
 use delta_graph::Delta;
 use dn_model::{Entry, Op, OutOfMemory, Prefix, RouterId, Target, Topology};
@@ -192,14 +191,6 @@ impl Version {
             net,
             tables,
         })
-    }
-
-    /// What a router does with the address `a` (0 to 2^32 - 1).
-    pub fn target(&self, r: RouterId, a: u32) -> Target
-        requires { r.0 < length self.now.topology.routers }
-        ensures { (history : List EntryIs) → KeptStandsFor self.now history → result ≡ target history r a }
-    {
-        target_of(&self.tables[r.0 as usize], a)
     }
 }
 

@@ -192,9 +192,8 @@ fn of_two_metrics_the_lesser_wins_and_a_clearing_takes_both(rt: HostRuntime) -> 
     assert_eq!(rt; better.changes(), &[change][..]);
     let (version, worse) = advanced(alloc, version, set(ten(), 20, 4))?;
     assert_eq!(rt; worse.changes().len(), 0);
-    assert_eq!(rt; version.target(R1, 0x0A00_0001), Target::Exit(3));
+    assert_eq!(rt; by_rows(&version, R1, 0x0A00_0001), Target::Exit(3));
     let (version, _) = advanced(alloc, version, clear(ten(), None))?;
-    assert_eq!(rt; version.target(R1, 0x0A00_0001), Target::NoRoute);
     assert_eq!(rt; by_rows(&version, R1, 0x0A00_0001), Target::NoRoute);
     assert_eq!(rt; version.routers(), 3);
     assert_eq!(rt; version.atoms(), 3);
@@ -219,8 +218,7 @@ fn as_the_plain_evaluator(rt: HostRuntime) -> Result<(), Fail> {
             let change = if was == is { None } else { Some((was, is)) };
             assert_eq!(rt; by_rows(&old, R1, a), was, "before, at {a}");
             assert_eq!(rt; by_rows(&new, R1, a), is, "after, at {a}");
-            assert_eq!(rt; new.target(R1, a), is, "by the table, at {a}");
-            assert_eq!(rt; new.target(RouterId(1), a), Target::NoRoute);
+            assert_eq!(rt; by_rows(&new, RouterId(1), a), Target::NoRoute);
             assert_eq!(rt; told(delta.changes(), a), change, "told, at {a}");
         }
         old = new;

@@ -1,5 +1,5 @@
 -- What an update makes of a version.
-use Rattle.std.proofs.Common.{◌≡◌, ◌≢◌, ℕ, ◌+◌, ◌<◌, ◌≤◌, ◌^◌, ◌∙◌, ◌||◌, ⊎_elim, Bool, true, false, Option, None, Some, List, [], ◌∷◌, length, replicate, get_or, set, refl, ap, sym, subst, arith, eqb, length-set}
+use Rattle.std.proofs.Common.{◌≡◌, ◌≢◌, ℕ, ◌+◌, ◌<◌, ◌≤◌, ◌^◌, ◌∙◌, ◌||◌, ⊎_elim, Bool, true, false, Option, List, [], ◌∷◌, length, replicate, get_or, refl, ap, sym, subst, eqb, length-set}
 use Rattle.std.specs.List.{Contains}
 use Rattle.std.specs.List.Sorted.{IsPermutation}
 use Rattle.std.proofs.lemmas.Bool.{and_parts, and_right, cases_Bool, cases_eq, eqb-true}
@@ -8,7 +8,7 @@ use Rattle.std.proofs.lemmas.List.Sorted.{IsPermutation-refl}
 use Rattle.dn_model.specs.Cidr.{Cidr, IsCidr, covers, size}
 use Rattle.dn_model.specs.Delta.{TellsChange, change_at}
 use Rattle.dn_model.specs.Entry.{IsOpOf}
-use Rattle.dn_model.specs.Rows.{is_within, CoverFrom}
+use Rattle.dn_model.specs.Rows.{CoverFrom}
 use Rattle.dn_model.specs.Table.{after_op, is_of_prefix}
 use Rattle.dn_model.specs.Version.{Atom, Kept, KeptStandsFor, begins_at, first_of, is_end_of, past_of, rules_at, sets_end, target_at}
 use Rattle.dn_model.specs.declared.change.Change.{Change}

@@ -1,10 +1,9 @@
 -- Atoms that are cut at both ends of a prefix.
-use Rattle.std.proofs.Common.{◌≡◌, ℕ, ◌+◌, ◌<◌, ◌≤◌, ◌^◌, ◌∙◌, ◌||◌, ⊎_elim, Bool, true, false, List, refl, ap, sym, arith, eqb}
+use Rattle.std.proofs.Common.{◌≡◌, ℕ, ◌+◌, ◌<◌, ◌^◌, ◌∙◌, ◌||◌, ⊎_elim, Bool, true, false, List, refl, ap, sym, arith, eqb}
 use Rattle.std.proofs.lemmas.Bool.{cases_eq, eq-eqb, ne_eqb, or_left, or_right}
 use Rattle.dn_model.specs.Cidr.{Cidr, IsCidr, size}
 use Rattle.dn_model.specs.Rows.{CoverFrom}
 use Rattle.dn_model.specs.Version.{Atom, begins_at, first_of, is_end_of, past_of, rules_at, target_at}
-use Rattle.dn_model.specs.declared.ids.RouterId.{RouterId}
 use Rattle.net_engine.specs.Net.{cut_atoms}
 use Rattle.net_engine.specs.Walked.{BeginsAtEnds, IsParted}
 use Rattle.net_engine.proofs.Atoms.{cut-begins, cut-rules, cut-target}

@@ -1,21 +1,20 @@
 -- A walk over atoms, step by step.
-use Rattle.std.proofs.Common.{◌≡◌, ◌≢◌, ℕ, ◌<◌, ◌≤◌, ◌^◌, ◌∙◌, ◌&&◌, ⊎_elim, Bool, true, false, Option, None, Some, List, [], refl, ap, sym, subst, arith, eqb, leb, ltb}
+use Rattle.std.proofs.Common.{◌≡◌, ◌≢◌, ℕ, ◌<◌, ◌≤◌, ◌^◌, ◌∙◌, ◌&&◌, ⊎_elim, Bool, true, false, Option, None, List, [], refl, sym, subst, arith, eqb}
 use Rattle.std.specs.List.Sorted.{IsPermutation}
-use Rattle.std.proofs.lemmas.Bool.{and_left, and_right, both_ways, cases_Bool, cases_eq, cases_lt, eq-eqb, ne_eqb}
+use Rattle.std.proofs.lemmas.Bool.{and_left, and_right, both_ways, cases_eq, cases_lt, eq-eqb, ne_eqb}
 use Rattle.dn_model.specs.Delta.{TellsChange, change_at}
 use Rattle.dn_model.specs.Rows.{is_within, CoverFrom}
 use Rattle.dn_model.specs.Rules.{after_rule_op}
-use Rattle.dn_model.specs.Version.{Atom, atom_at, begins_at, first_of, past_of, rules_at, target_at}
+use Rattle.dn_model.specs.Version.{Atom, begins_at, first_of, past_of, rules_at, target_at}
 use Rattle.dn_model.specs.declared.change.Change.{Change}
 use Rattle.dn_model.specs.declared.entry.Op.{Op}
 use Rattle.dn_model.specs.declared.ids.RouterId.{RouterId}
-use Rattle.dn_model.specs.declared.rule.Rule.{Rule}
 use Rattle.dn_model.specs.declared.target.Target.{Target}
 use Rattle.dn_model.proofs.Covers.{within-above, within-below, within-yes}
 use Rattle.net_engine.specs.Net.{AreWide, IsTouched}
 use Rattle.net_engine.specs.Walked.{Follows, IsTold, IsWalked, is_part}
 use Rattle.net_engine.proofs.Along.{none-begins_inside}
-use Rattle.net_engine.proofs.Touched.{touch-begins, touch-first, touch-from, touch-past, touch-rules_away, touch-rules_moved, touch-rules_other, touch-target_away, touch-target_before, touch-target_here, touch-target_other, touch-target_top, touch-to, touch-top, touch-ends}
+use Rattle.net_engine.proofs.Touched.{touch-begins, touch-first, touch-from, touch-past, touch-rules_away, touch-rules_moved, touch-rules_other, touch-target_away, touch-target_before, touch-target_here, touch-target_other, touch-target_top, touch-top, touch-ends}
 
 -- ---- which addresses of which routers are part
 

@@ -1,7 +1,7 @@
 //! Versions of a network of three routers, against answers worked out by hand and against the plain evaluator.
 
 ghost use Rattle.std.specs.Prelude.{◌≡◌, ◌<◌, IfOk, length};
-ghost use Rattle.dn_model.specs.Entry.{IsOpOf};
+ghost use Rattle.dn_model.specs.Entry.{IsEntryOf};
 ghost use Rattle.dn_model.specs.declared.topology.Topology.{Topology as TopologyIs};
 
 use super::Version;
@@ -48,8 +48,7 @@ fn clear(prefix: Prefix, metric: Option<u32>) -> Update {
 }
 
 fn entry(update: Update) -> Entry
-    ensures router { result.router.0 ≡ 0 }
-    ensures op { (t : TopologyIs) → IsOpOf t result.op }
+    ensures { (t : TopologyIs) → 0 < length t.routers → IsEntryOf t result }
 {
     let prefix = update.prefix;
     let op = match update.exit {

@@ -1,8 +1,7 @@
-use Rattle.std.proofs.Common.{◌≡◌, ◌+◌, ◌<◌, ◌^◌, ◌∙◌, ap, arith, sym, subst, ℕ}
+use Rattle.std.proofs.Common.{◌≡◌, ◌+◌, ◌<◌, ◌^◌, ◌∙◌, ap, arith, sym}
 use Rattle.std.proofs.lemmas.Result.{IfOk-weaker}
 use Rattle.dn_model.specs.Cidr.{size}
 use Rattle.net_engine.specs.Net.{Net, cut_atoms}
-use Rattle.net_engine.specs.Walked.{IsParted}
 use Rattle.net_engine.proofs.Parting.{parted-once, parted-twice}
 use Rattle.net_engine.proofs.ends.cut_ends.Goals as goal
 

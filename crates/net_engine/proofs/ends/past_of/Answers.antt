@@ -1,5 +1,5 @@
 use Rattle.std.proofs.Common.{◌∙◌}
-use Rattle.net_engine.proofs.PrefixEnds.{cidr-end, end-found}
+use Rattle.net_engine.proofs.PrefixEnds.{end-found}
 use Rattle.net_engine.proofs.ends.past_of.Goals as goal
 
 pub returns-clause-end : goal.returns-clause-end

@@ -1,5 +1,4 @@
 -- One atom's step, from what was made of the atom and what was told of it.
-use Rattle.std.proofs.Common.{arith}
 use Rattle.net_engine.proofs.Touched.{touch-to, touch-ends}
 use Rattle.net_engine.proofs.Walking.{step-begins, step-stays, step-walked}
 use Rattle.net_engine.proofs.walk.step.Goals as goal

@@ -1,12 +1,11 @@
 -- One more step of the walk.
-use Rattle.std.proofs.Common.{◌≡◌, ◌∙◌, ◌<◌, ◌≤◌, ◌^◌, arith, true}
-use Rattle.dn_model.specs.Version.{begins_at}
+use Rattle.std.proofs.Common.{◌∙◌, ◌<◌, ◌≤◌, ◌^◌, arith}
 use Rattle.net_engine.proofs.Walking.{walked-more}
 use Rattle.net_engine.proofs.walk.walk_atoms.Goals as goal
 
 pub atoms-preserved : goal.atoms-preserved
 atoms-preserved c =
-    let more : c.atoms.walk.at < c.args.hi = c.atoms-test.true in
+    let more : c.atoms.walk.at < c.args.hi = omega (arith, c.atoms-test.true) in
     let end : c.args.hi ≤ 2 ^ 32 = c.requires.end in
     let moves : c.atoms.walk.at < c.in_ok-walk.walk.at = c.in_ok-walk.ensures.moves in
     let from : c.args.lo ≤ c.atoms.walk.at = c.atoms.invariant.from in

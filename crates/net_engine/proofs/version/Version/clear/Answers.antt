@@ -1,4 +1,3 @@
-use Rattle.std.proofs.Common.{refl}
 use Rattle.std.proofs.lemmas.Result.{IfOk-weaker}
 use Rattle.net_engine.proofs.Making.{cleared, read-now, route-ends, unchanged, whole-now}
 use Rattle.net_engine.proofs.version.Version.clear.Goals as goal

@@ -1,0 +1,5 @@
+use Rattle.std.proofs.Common.{arith}
+use Rattle.net_engine.proofs.version_tests.advanced.Goals as goal
+
+pub advance-requires : goal.advance-requires
+advance-requires c = c.entry.ensures _ (omega arith)

@@ -4,6 +4,7 @@ pub mod Cuts
 pub mod DeltaOnce
 pub mod Digits
 pub mod FeedLemmas
+pub mod Filtered
 pub mod FramesLemmas
 pub mod KeyOrder
 pub mod Keyed

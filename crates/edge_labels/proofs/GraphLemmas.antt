@@ -1,13 +1,13 @@
 -- The lists of all routers.
-use Rattle.std.proofs.Common.{◌≡◌, ℕ, zero, suc, ◌+◌, ◌<◌, ◌∙◌, ◌++◌, ◌&&◌, ◌||◌, ◌↔◌, Bool, true, false, cond, List, [], ◌∷◌, length, get_or, get_or-set_other, get_or-set_same, set, replicate, take, Option, Some, None, refl, ap, sym, subst, eqb}
+use Rattle.std.proofs.Common.{◌≡◌, ℕ, zero, suc, ◌<◌, ◌∙◌, ◌&&◌, ◌||◌, ◌↔◌, Bool, true, false, cond, List, [], ◌∷◌, length, get_or, get_or-set_other, get_or-set_same, set, replicate, Option, Some, None, refl, ap, sym, subst, eqb}
 use Rattle.std.specs.BTreeMap.{is_at}
-use Rattle.std.specs.List.{All, AllZip, AllByRecursion}
+use Rattle.std.specs.List.{All, AllByRecursion}
 use Rattle.std.specs.List.Sorted.{IsStrictlyIncreasing}
 use Rattle.std.specs.Option.{is_some, unwrap_or}
 use Rattle.std.specs.Ordering.{nat_cmp}
 use Rattle.std.proofs.lemmas.Bool.{both_ways, eq-eqb, eqb-true}
 use Rattle.std.proofs.lemmas.List.{get_or_read, length-replicate, length-set}
-use Rattle.std.proofs.lemmas.List.Elements.{All-from_recursion, All-get_or, All-replicate, All-set, All-weaker, all_zip_more, recursion_from_All}
+use Rattle.std.proofs.lemmas.List.Elements.{All-from_recursion, All-get_or, All-replicate, All-set, All-weaker, recursion_from_All}
 use Rattle.dn_model.specs.declared.target.Target.{Target}
 use Rattle.dn_model.specs.declared.target.Target.TheVariants.{NoRoute}
 use Rattle.dn_model.proofs.KeyOrder.{nat-at}
@@ -202,7 +202,3 @@ is-inherited old atoms rows fs new from to is h grown = record {
   routers = inherit-length from to rows fs h ∙ ap (λ (g : Labels). length g.targets) is;
   targets = λ q b. inherit-targets from to rows fs h q b ∙ ap (λ (g : Labels). cond (eqb b to) (target_at g q from) (target_at g q b)) is;
 }
-
-pub inherit-more : (from to : ℕ) (rows : List Row) (i : ℕ) (row y : Row) (done new : List Row) → i < length rows → row ≡ get_or rows i row → new ≡ done ++ y ∷ [] → Inherit from to (take i rows) done → Retargets row y to (target_of row from) → Inherit from to (take (i + 1) rows) new
-inherit-more from to rows i row y done new lt is push part more =
-    subst (λ (ys : List Row). Inherit from to (take (i + 1) rows) ys) (sym push) (all_zip_more (λ (x z : Row). Retargets x z to (target_of x from)) rows done i row y lt is part more)

@@ -1,18 +1,16 @@
 -- The labels of one router after an atom has joined one and left another.
-use Rattle.std.proofs.Common.{◌≡◌, ℕ, ◌∙◌, ◌&&◌, ◌||◌, ◌↔◌, not, Bool, true, false, cond, List, [], ◌∷◌, Option, Some, None, Result, Ok, Err, refl, ap, sym, subst, eqb}
+use Rattle.std.proofs.Common.{◌≡◌, ℕ, ◌∙◌, ◌&&◌, ◌||◌, ◌↔◌, not, Bool, true, false, cond, List, [], Option, Some, None, Result, Ok, Err, refl, ap, sym, eqb}
 use Rattle.std.specs.BTreeMap.{is_at}
-use Rattle.std.specs.List.Sorted.{IsStrictlyIncreasing}
 use Rattle.std.specs.Map.{lookup}
 use Rattle.std.specs.Option.{is_some, unwrap_or}
 use Rattle.std.specs.Ordering.{nat_cmp}
 use Rattle.std.specs.Result.{OnErr}
 use Rattle.std.proofs.lemmas.Bool.{both_ways, eqb-true, false≢true}
 use Rattle.dn_model.specs.declared.target.Target.{Target}
-use Rattle.dn_model.specs.declared.target.Target.TheVariants.{NoRoute}
 use Rattle.dn_model.proofs.KeyOrder.{nat-at}
 use Rattle.edge_labels.specs.Atoms.{AreAtoms, has_atom}
 use Rattle.edge_labels.specs.Keys.{key_of, key_cmp, same_key, label_in, is_target, AreLabelsOf, Changes, Joins, Leaves, Retargets}
-use Rattle.edge_labels.specs.Labels.{target_if, target_of}
+use Rattle.edge_labels.specs.Labels.{target_if}
 use Rattle.edge_labels.specs.declared.target_key.TargetKey.{TargetKey}
 use Rattle.edge_labels.proofs.KeyLemmas.{apart-both, key-once, same-true, target-is, target-there}
 
@@ -190,12 +188,6 @@ none-labels es old no_atom no_label k a =
 pub copied-labels : (es fs : List (ℕ × Target)) (old new : Sets) → fs ≡ es → new ≡ old → AreLabelsOf es old → AreLabelsOf fs new
 copied-labels es fs old new targets labels sound k a =
     ap (λ ls. has_atom (label_in ls k) a) labels ∙ sound k a ∙ sym (ap (λ xs. is_target (target_if xs a) k) targets)
-
-pub retargets-same : (es fs copy : List (ℕ × Target)) (atom : ℕ) (t u : Target) → copy ≡ es → u ≡ t → Retargets copy fs atom u → Retargets es fs atom t
-retargets-same es fs copy atom t u targets same moved b =
-    moved b
-    ∙ ap (λ xs. cond (is_at (nat_cmp atom) b) (Some u) (target_if xs b)) targets
-    ∙ ap (λ (x : Target). cond (is_at (nat_cmp atom) b) (Some x) (target_if es b)) same
 
 -- an atom that stays where it is
 pub stays : (es : List (ℕ × Target)) (atom : ℕ) (before after : Target) → target_if es atom ≡ Some before → before ≡ after → Retargets es es atom after

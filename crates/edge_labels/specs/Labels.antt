@@ -1,6 +1,6 @@
 -- What routers do with atoms, and the labels of edges: an edge's label is the set of the atoms that are forwarded over it
 -- (Delta-net, NSDI 2017). Here each target of a router has a label, that of no route and of dropped packets too.
-use Rattle.std.specs.Prelude.{ℕ, List, [], ◌∷◌, Option, None, Some, length, slice_index_or, unwrap_or, IsTrue, ◌≡◌, ◌==◌, ◌&&◌, ◌||◌, ◌↔◌, if◌then◌else◌}
+use Rattle.std.specs.Prelude.{ℕ, List, [], ◌∷◌, Option, length, slice_index_or, unwrap_or, IsTrue, ◌≡◌, ◌==◌, ◌&&◌, ◌||◌, ◌↔◌, if◌then◌else◌}
 use Rattle.std.specs.List.Sorted.{IsStrictlyIncreasing}
 use Rattle.std.specs.BTreeMap.{is_at}
 use Rattle.std.specs.Map.{lookup}

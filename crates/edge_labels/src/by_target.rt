@@ -57,7 +57,7 @@ pub fn join(
 }
 
 /// Takes an atom out of the label of a key.
-fn leave(labels: &mut ByTarget, key: TargetKey, atom: u32)
+pub fn leave(labels: &mut ByTarget, key: TargetKey, atom: u32)
     ensures { Leaves labels.old.entries labels.new.entries key atom }
 {
     let Some(label) = labels.get_mut(&key) else {

@@ -1,10 +1,10 @@
 //! The labels of all routers.
 
-ghost use Rattle.std.specs.Prelude.{◌≡◌, ◌<◌, ◌∷◌, [], All, None, replicate, IsTrue, IsFalse, IfOk, OnOk, OnErr};
+ghost use Rattle.std.specs.Prelude.{◌≡◌, ◌<◌, ◌==◌, ◌||◌, ◌∷◌, [], All, None, map, replicate, IsTrue, IsFalse, IfOk, OnOk, OnErr};
 ghost use Rattle.dn_model.specs.declared.target.Target.TheVariants.{NoRoute};
-ghost use Rattle.edge_labels.specs.Atoms.{has_atom};
+ghost use Rattle.edge_labels.specs.Atoms.{has_atom, AreAtoms};
 ghost use Rattle.edge_labels.specs.Labels.{IsFirst, IsInherited, IsLabel, IsMoved, routers, target_at, target_if};
-ghost use Rattle.edge_labels.specs.Rows.{Inherit};
+ghost use Rattle.edge_labels.specs.Rows.{Inherit, without_atom};
 
 use crate::atom_set::AtomSet;
 use crate::router_labels::RouterLabels;
@@ -87,10 +87,14 @@ impl LabelGraph {
         ensures ok { OnOk result (IsInherited self.old self.new old_atom.0 new_atom.0) }
         ensures err { OnErr result (self.new ≡ self.old) }
     {
-        let rows = inherited_rows(alloc, &self.rows, old_atom.0, new_atom.0)?;
-        self.atoms.insert(new_atom.0)?;
-        self.rows = rows;
-        Ok(())
+        let (old, new) = (old_atom.0, new_atom.0);
+        match grow(alloc, &mut self.atoms, &mut self.rows, old, new) {
+            Ok(()) => Ok(()),
+            Err(error) => {
+                forget_in(&mut self.rows, new);
+                Err(error)
+            }
+        }
     }
 
     /// The label of a target at a router: the set of the atoms that have it.
@@ -126,21 +130,51 @@ fn first_rows(alloc: Global, routers: u32) -> Result<Vec<RouterLabels>, OutOfMem
     Ok(rows)
 }
 
-/// The lists with a further atom, with which each router does what it does with an old one.
-fn inherited_rows(
+/// Adds an atom to each router's list, with which the router does what it does with an old one. After `OutOfMemory` some
+/// of the lists may have it. Without the new atom they are as before in any case.
+fn inherit_in(
     alloc: Global,
-    rows: &[RouterLabels],
+    rows: &mut [RouterLabels],
     old_atom: u32,
     new_atom: u32,
-) -> Result<Vec<RouterLabels>, OutOfMemory>
-    requires { All (λ row. target_if row new_atom ≡ None) rows.now }
-    ensures { IfOk result (λ grown. Inherit old_atom new_atom rows.now grown.items) }
+) -> Result<(), OutOfMemory>
+    requires { All (λ row. target_if row new_atom ≡ None) rows.old }
+    ensures ok { OnOk result (Inherit old_atom new_atom rows.old rows.new) }
+    ensures back { map (without_atom new_atom) rows.new ≡ rows.old }
 {
-    let mut grown = Vec::new(alloc);
-    for row in rows {
-        grown.push(row.inherited(alloc, old_atom, new_atom)?)?;
+    for row in rows.iter_mut() {
+        row.inherit(alloc, old_atom, new_atom)?;
     }
-    Ok(grown)
+    Ok(())
+}
+
+/// Adds an atom to each router's list and to the set. After `OutOfMemory` the set is as before, and some of the lists
+/// may have the atom.
+fn grow(
+    alloc: Global,
+    atoms: &mut AtomSet,
+    rows: &mut [RouterLabels],
+    old_atom: u32,
+    new_atom: u32,
+) -> Result<(), OutOfMemory>
+    requires { All (λ row. target_if row new_atom ≡ None) rows.old }
+    ensures rows { OnOk result (Inherit old_atom new_atom rows.old rows.new) }
+    ensures atoms { OnOk result (AreAtoms atoms.new (λ b. (b == new_atom) || has_atom atoms.old b)) }
+    ensures same { OnErr result (atoms.new ≡ atoms.old) }
+    ensures back { map (without_atom new_atom) rows.new ≡ rows.old }
+{
+    inherit_in(alloc, rows, old_atom, new_atom)?;
+    atoms.insert(new_atom)?;
+    Ok(())
+}
+
+/// Takes an atom out of each router's list that has it.
+fn forget_in(rows: &mut [RouterLabels], atom: u32)
+    ensures { rows.new ≡ map (without_atom atom) rows.old }
+{
+    for row in rows.iter_mut() {
+        row.forget(atom);
+    }
 }
 
 /// The same lists again.

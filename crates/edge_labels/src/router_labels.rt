@@ -6,9 +6,10 @@ ghost use Rattle.dn_model.specs.declared.target.Target.TheVariants.{NoRoute};
 ghost use Rattle.edge_labels.specs.Atoms.{has_atom};
 ghost use Rattle.edge_labels.specs.Keys.{Retargets};
 ghost use Rattle.edge_labels.specs.Labels.{target_if, target_of};
+ghost use Rattle.edge_labels.specs.Rows.{without_atom};
 
 use crate::atom_set::AtomSet;
-use crate::by_target::{ByTarget, change, copy_labels, join};
+use crate::by_target::{ByTarget, change, copy_labels, join, leave};
 use crate::target_key::TargetKey;
 use dn_model::{OutOfMemory, Target};
 use std::alloc::Global;
@@ -89,23 +90,38 @@ impl RouterLabels {
         Ok(())
     }
 
-    /// These labels with a further atom, with which the router does what it does with an old one.
-    pub fn inherited(
-        &self,
+    /// Adds an atom, with which the router does what it does with an old one. After `OutOfMemory`, for which alone it
+    /// fails, all is as before. Without the new atom all is as before in any case.
+    pub fn inherit(
+        &mut self,
         alloc: Global,
         old_atom: u32,
         new_atom: u32,
-    ) -> Result<RouterLabels, OutOfMemory>
-        requires fresh { target_if self.now new_atom ≡ None }
-        ensures { IfOk result (λ router. Retargets self.now router new_atom (target_of self.now old_atom)) }
+    ) -> Result<(), OutOfMemory>
+        requires fresh { target_if self.old new_atom ≡ None }
+        ensures ok { OnOk result (Retargets self.old self.new new_atom (target_of self.old old_atom)) }
+        ensures err { OnErr result (self.new ≡ self.old) }
+        ensures back { without_atom new_atom self.new ≡ self.old }
     {
         let target = self.target(old_atom);
-        let mut targets = copy_targets(&self.targets)?;
-        let mut labels = copy_labels(&self.labels)?;
-        let _none = targets.insert(new_atom, target)?;
         let key = TargetKey::of(target);
-        join(&mut labels, alloc, key, new_atom)?;
-        Ok(RouterLabels { targets, labels })
+        let _none = self.targets.insert(new_atom, target)?;
+        match join(&mut self.labels, alloc, key, new_atom) {
+            Ok(()) => Ok(()),
+            Err(error) => {
+                let _undone = self.targets.remove(&new_atom);
+                Err(error)
+            }
+        }
+    }
+
+    /// Takes an atom out, if it is there.
+    pub fn forget(&mut self, atom: u32)
+        ensures { self.new ≡ without_atom atom self.old }
+    {
+        let key = TargetKey::of(self.target(atom));
+        leave(&mut self.labels, key, atom);
+        let _removed = self.targets.remove(&atom);
     }
 
     /// The same labels again.

@@ -1,4 +1,5 @@
 pub mod Best
+pub mod Length
 pub mod Order
 pub mod Rules
 pub mod Top

@@ -22,10 +22,10 @@ pub no-rules : (es : List (RuleKey × Target)) (now : List Rule) → rules_of es
 no-rules [] now is h = sym is
 no-rules (e ∷ es) now is h = absurd (h (omega arith))
 
-some : (m : BTreeMap RuleKey Target) (k : RuleKey) (v : Target) → get rule_cmp m k ≡ Some v → IsSome (get rule_cmp m k)
+pub some : (m : BTreeMap RuleKey Target) (k : RuleKey) (v : Target) → get rule_cmp m k ≡ Some v → IsSome (get rule_cmp m k)
 some m k v h = let P : Option Target → Type 0 = λ o. IsSome o in subst P (sym h) refl
 
-reached : (f q : RuleKey) → f.len ≡ q.len → f.metric ≡ 0 → is_gt (rule_cmp f q) ≡ false
+pub reached : (f q : RuleKey) → f.len ≡ q.len → f.metric ≡ 0 → is_gt (rule_cmp f q) ≡ false
 reached f q len metric = then-from f.len q.len _ len (nat-from f.metric q.metric (omega arith))
 
 module _ (m : BTreeMap RuleKey Target) (last first : RuleKey) (v : Target) (s : IsOrdered rule_cmp m) (there : get rule_cmp m last ≡ Some v) (len : first.len ≡ last.len) (metric : first.metric ≡ 0) where

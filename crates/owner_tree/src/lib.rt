@@ -7,5 +7,5 @@ mod rule;
 #[cfg(test)]
 mod tests;
 
-pub use owners::Owners;
 pub use dn_model::Rule;
+pub use owners::Owners;

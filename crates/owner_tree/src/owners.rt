@@ -1,8 +1,9 @@
 //! Sets of rules.
 
-ghost use Rattle.std.specs.Prelude.{◌≡◌, [], OnOk, OnErr, IfOk, IsPermutation};
+ghost use Rattle.std.specs.Prelude.{◌≡◌, ◌==◌, [], OnOk, OnErr, IfOk, IfSome, IfNone, IsFalse, Contains, IsPermutation};
 ghost use Rattle.std.specs.List.{list_any};
-ghost use Rattle.dn_model.specs.Rules.{has_rule_key, without_rule, with_rule, HasRulesOnce, IsTop};
+ghost use Rattle.dn_model.specs.Rules.{has_rule_key, cleared_rules, without_length, without_rule, with_rule, HasRulesOnce, IsTop};
+ghost use Rattle.dn_model.specs.declared.rule.Rule.{Rule as RuleIs};
 
 use crate::rule::RuleKey;
 use dn_model::{OutOfMemory, Rule, Target};
@@ -62,6 +63,43 @@ impl Owners {
         let key = RuleKey { len, metric };
         let removed = self.rules.remove(&key);
         removed.is_some()
+    }
+
+    /// A rule of this length, if there is one.
+    fn of_length(&self, len: u8) -> Option<Rule>
+        ensures none { IfNone result ((r : RuleIs) → Contains self.now r → IsFalse (r.len == len)) }
+        ensures some { IfSome result (λ rule. Contains self.now rule × (rule.len ≡ len)) }
+    {
+        let first = RuleKey { len, metric: 0 };
+        let Some((found, target)) = self.rules.range(first..).next() else {
+            return None;
+        };
+        if found.len != len {
+            return None;
+        }
+        Some(found.rule(*target))
+    }
+
+    /// Removes all rules of a length.
+    fn remove_length(&mut self, len: u8)
+        ensures { self.new ≡ without_length self.old len }
+    {
+        while let Some(rule) = self.of_length(len) {
+            let _found = self.remove(len, rule.metric);
+        }
+    }
+
+    /// Removes the rule of this length and metric; without a metric all rules of the length. One that isn't there
+    /// changes nothing. It takes no memory.
+    pub fn clear(&mut self, len: u8, metric: Option<u32>)
+        ensures { self.new ≡ cleared_rules self.old len metric }
+    {
+        match metric {
+            Some(metric) => {
+                let _found = self.remove(len, metric);
+            }
+            None => self.remove_length(len),
+        }
     }
 
     /// The rule in force: of those with the longest prefix the one with the least metric. It is none exactly where

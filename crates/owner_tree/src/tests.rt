@@ -34,6 +34,11 @@ fn the_least_metric_of_the_longest_prefix_is_in_force(rt: HostRuntime) -> Result
     assert_eq!(rt; owners.top(), Some(rule(16, 30)));
     assert!(rt; !owners.remove(16, 7));
     assert_eq!(rt; before.top(), Some(rule(16, 7)));
+    owners.insert(rule(16, 7))?;
+    owners.clear(16, None);
+    assert_eq!(rt; owners.top(), Some(rule(8, 20)));
+    owners.clear(8, Some(20));
+    assert_eq!(rt; owners.top(), None);
     Ok(())
 }
 

@@ -1,18 +1,13 @@
 -- The first entry from a prefix on: the route of the prefix with the least metric, or of a later prefix.
-use Rattle.std.proofs.Common.{◌≡◌, ℕ, ◌<◌, ◌≤◌, ◌∙◌, ◌&&◌, true, false, List, [], ◌∷◌, Option, Some, None, refl, ap, sym, subst, arith, eqb}
+use Rattle.std.proofs.Common.{◌≡◌, ℕ, ◌≤◌, ◌∙◌, ◌&&◌, true, false, List, [], ◌∷◌, Option, Some, None, refl, ap, sym, subst, arith, eqb}
 use Rattle.std.specs.List.{Contains}
 use Rattle.std.specs.BTreeMap.{BTreeMap, IsOrdered, get}
 use Rattle.std.specs.BTreeMap.Range.{IsRangeOf}
-use Rattle.std.specs.Ordering.{is_gt, nat_cmp, ordering_then}
+use Rattle.std.specs.Ordering.{is_gt}
 use Rattle.std.specs.declared.ops.Bound.TheVariants.{Included, Unbounded}
-use Rattle.std.specs.declared.cmp.Ordering.{Ordering}
-use Rattle.std.specs.declared.cmp.Ordering.TheVariants.{Less, Equal, Greater}
 use Rattle.std.specs.Option.{IsSome}
-use Rattle.std.proofs.lemmas.Bool.{and_parts, and_from, both_ways, eq-eqb, eqb-true, false_from_ne_true, false≢true}
+use Rattle.std.proofs.lemmas.Bool.{and_parts, and_from, both_ways, eq-eqb, eqb-true, false_from_ne_true}
 use Rattle.std.proofs.lemmas.Option.{none-some}
-use Rattle.std.proofs.lemmas.Cmp.{ranked}
-use Rattle.std.specs.Ordering.{MatchOrdering}
-use Rattle.std.proofs.lemmas.Bool.Decides.{nat_tests}
 use Rattle.dn_model.proofs.KeyOrder.{nat-from, nat-upto, then-from, then-rest, then-upto}
 use Rattle.dn_model.specs.Cidr.{Cidr}
 use Rattle.dn_model.specs.Table.{is_of_prefix}

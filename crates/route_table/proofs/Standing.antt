@@ -1,16 +1,14 @@
 -- Routes and the entries of the ordered map that they stand for.
-use Rattle.std.proofs.Common.{◌≡◌, ℕ, ◌∙◌, not, true, false, List, [], ◌∷◌, Some, filter, map, refl, ap, sym, subst, ⊎_elim}
-use Rattle.std.specs.List.{Contains, list_any, slice_get, AllByRecursion}
+use Rattle.std.proofs.Common.{◌≡◌, ◌∙◌, not, false, List, [], ◌∷◌, Some, filter, refl, ap, sym, subst, ⊎_elim}
+use Rattle.std.specs.List.{Contains, list_any, AllByRecursion}
 use Rattle.std.specs.BTreeMap.{BTreeMap, IsOrdered, get, is_at, insert_entry}
 use Rattle.std.specs.Map.{keys_of, remove_entry}
 use Rattle.std.specs.List.Sorted.{IsStrictlySortedBy}
 use Rattle.std.specs.Ordering.{is_eq}
-use Rattle.std.specs.declared.cmp.Ordering.TheVariants.{Less, Equal, Greater}
+use Rattle.std.specs.declared.cmp.Ordering.TheVariants.{Less}
 use Rattle.std.proofs.lemmas.Bool.{and_from, not_from_false, or_from}
-use Rattle.std.proofs.lemmas.Option.{slice_get-get_or, get_or_from_slice_get, slice_get_within}
 use Rattle.std.proofs.lemmas.List.Elements.{Contains-push_cases}
 use Rattle.std.proofs.lemmas.List.Sorted.{Contains-permutation}
-use Rattle.std.proofs.lemmas.Map.Entries.{btree_map_get_place, place_from_lookup}
 use Rattle.std.proofs.lemmas.Map.Keys.{sorted_head, sorted_tail}
 use Rattle.dn_model.specs.Cidr.{IsCidr}
 use Rattle.dn_model.specs.Topology.{all_differ}
@@ -18,7 +16,7 @@ use Rattle.dn_model.specs.Table.{has_key, same_key, HasKeysOnce}
 use Rattle.dn_model.specs.declared.entry.Route.{Route}
 use Rattle.dn_model.specs.declared.target.Target.{Target}
 use Rattle.dn_model.proofs.Keyed.{contains-map, entry-in, in-entry, map-contains}
-use Rattle.dn_model.proofs.Best.{contains-cases, contains-here, contains-there, contains-none, filter-contains}
+use Rattle.dn_model.proofs.Best.{filter-contains}
 use Rattle.route_table.specs.declared.key.RouteKey.{RouteKey}
 use Rattle.route_table.specs.Entries.{prefix_of, route_of, routes_of, key_cmp}
 use Rattle.route_table.specs.Sound.{IsWhole}

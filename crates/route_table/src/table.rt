@@ -51,7 +51,8 @@ impl RouteTable {
         let _removed = self.routes.remove(&key);
     }
 
-    /// The route of this prefix with the least metric.
+    /// The route of this prefix with the least metric. It is none exactly where the table has no route of the prefix.
+    /// It takes no memory.
     pub fn least_of(&self, prefix: Prefix) -> Option<Route>
         ensures table { IsTable self.now }
         ensures none { IfNone result ((r : RouteIs) → Contains self.now r → IsFalse (is_of_prefix prefix r)) }

@@ -1,5 +1,4 @@
-use Rattle.std.proofs.Common.{ap, sym}
-use Rattle.edge_labels.specs.Keys.{label_in}
+use Rattle.std.proofs.Common.{sym}
 use Rattle.edge_labels.proofs.RowLemmas.{none-from, same-with-none, some-from}
 use Rattle.edge_labels.proofs.by_target.make_room.Goals as goal
 

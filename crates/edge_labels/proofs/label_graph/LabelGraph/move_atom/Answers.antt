@@ -1,6 +1,5 @@
 use Rattle.std.proofs.Common.{◌<◌, length, subst, sym, arith}
 use Rattle.edge_labels.specs.Labels.{Labels}
-use Rattle.edge_labels.proofs.GraphLemmas.{is-moved, moved-are-rows, there-if}
 use Rattle.edge_labels.proofs.label_graph.LabelGraph.move_atom.Goals as goal
 
 pub index_mut-row-requires : goal.index_mut-row-requires

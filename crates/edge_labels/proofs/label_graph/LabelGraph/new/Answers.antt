@@ -1,5 +1,3 @@
-use Rattle.std.proofs.Common.{◌∙◌, refl}
-use Rattle.std.proofs.lemmas.List.{length-replicate}
 use Rattle.edge_labels.proofs.GraphLemmas.{first-are-rows, first-length, first-targets}
 use Rattle.edge_labels.proofs.label_graph.LabelGraph.new.Goals as goal
 

@@ -2,6 +2,7 @@
 use Rattle.std.specs.Prelude.{ℕ, List, [], ◌∷◌, ◌++◌, Option, None, Some, length, map, codes, decimal, slice_get, unwrap_or, if◌then◌else◌, ◌+◌, ◌-◌, ◌/◌, ◌%◌, ◌^◌, ◌==◌}
 use Rattle.std.specs.List.{flat_map}
 use Rattle.dn_model.specs.Cidr.{Cidr}
+use Rattle.dn_model.specs.Delta.{interval_of}
 use Rattle.dn_model.specs.Runs.{Interval}
 use Rattle.dn_model.specs.declared.ids.RouterId.{RouterId}
 use Rattle.dn_model.specs.declared.ids.LinkId.{LinkId}
@@ -15,13 +16,14 @@ use Rattle.dn_model.specs.declared.entry.Op.TheVariants.{Set, Clear}
 use Rattle.dn_model.specs.declared.entry.Entry.{Entry}
 use Rattle.dn_model.specs.declared.query.Query.{Query}
 use Rattle.dn_model.specs.declared.query.Ask.{Ask}
-use Rattle.dn_model.specs.declared.query.Ask.TheVariants.{Path}
+use Rattle.dn_model.specs.declared.query.Ask.TheVariants.{Path, Delta}
 use Rattle.dn_model.specs.declared.query.Unknown.{Unknown}
 use Rattle.dn_model.specs.declared.query.Unknown.TheVariants.{Router, Link}
 use Rattle.dn_model.specs.declared.answer.PathEnd.{PathEnd}
 use Rattle.dn_model.specs.declared.answer.PathEnd.TheVariants.{At, Loop}
 use Rattle.dn_model.specs.declared.answer.Answer.{Answer}
 use Rattle.dn_model.specs.declared.answer.Answer.TheVariants as answers
+use Rattle.dn_model.specs.declared.change.Change.{Change}
 use Rattle.dn_model.specs.declared.told.RefusedFrame.{RefusedFrame}
 use Rattle.dn_model.specs.declared.told.FeedEnd.{FeedEnd}
 use Rattle.dn_model.specs.declared.told.FeedEnd.TheVariants.{End, CutShort, Lost, TooLong, Full, Faulted}
@@ -142,6 +144,7 @@ without_text (n ∷ ns) = codes "without " ++ names_text (n ∷ ns) ++ codes " "
 
 abbrev pub ask_text : Ask → List ℕ
 ask_text (Path n a) = codes "path " ++ n ++ codes " " ++ address_text a
+ask_text Delta = codes "delta"
 
 -- the words of the query's line, joined by one space
 abbrev pub query_text : Query → List ℕ
@@ -149,6 +152,7 @@ query_text q = without_text q.without ++ ask_text q.ask
 
 abbrev pub names_of_ask : Ask → List (List ℕ)
 names_of_ask (Path n a) = n ∷ []
+names_of_ask Delta = []
 
 -- the names of a query from left to right
 abbrev pub names_of : Query → List (List ℕ)
@@ -169,8 +173,17 @@ abbrev pub path_end_text : Topology → PathEnd → List ℕ
 path_end_text t (At target) = target_text t target
 path_end_text t Loop = codes "loop"
 
+-- a router, its run of addresses, and what it does with them before and after
+abbrev pub change_line : Topology → Change → List ℕ
+change_line t c = line (name_of_router t c.router ++ codes " " ++ run_text (interval_of c.run) ++ codes " " ++ target_text t c.before ++ codes " -> " ++ target_text t c.after)
+
+abbrev pub change_lines : Topology → List Change → List ℕ
+change_lines t [] = line (codes "none")
+change_lines t (c ∷ cs) = flat_map (change_line t) (c ∷ cs)
+
 abbrev pub answer_lines : Topology → Answer → List ℕ
 answer_lines t (answers.Path hops end) = line (codes "hops" ++ flat_map (hop_text t) hops) ++ line (codes "end " ++ path_end_text t end)
+answer_lines t (answers.Delta changes) = change_lines t changes
 
 -- a query's line with its pin and its answer, or without a pin and with its first unknown name
 abbrev pub outcome_lines : Topology → ℕ → Query → Outcome → List ℕ

@@ -7,7 +7,7 @@ use Rattle.dn_model.specs.Decimal.{number_within, address_of}
 use Rattle.dn_model.specs.Name.{is_name_text}
 use Rattle.dn_model.specs.declared.ids.RouterId.{RouterId}
 use Rattle.dn_model.specs.declared.query.Ask.{Ask}
-use Rattle.dn_model.specs.declared.query.Ask.TheVariants.{Path}
+use Rattle.dn_model.specs.declared.query.Ask.TheVariants.{Path, Delta}
 use Rattle.dn_model.specs.declared.script.Line.{Line}
 use Rattle.dn_model.specs.declared.script.Line.TheVariants as line
 
@@ -89,9 +89,16 @@ abbrev pub path_of : Option (List ℕ × List ℕ) → Option Ask
 path_of None = None
 path_of (Some operands) = if is_name_text operands.0 then option_map (λ a. Path operands.0 a) (address_of operands.1) else None
 
+-- `delta`
+abbrev pub delta_of : List (List ℕ) → Option Ask
+delta_of [] = Some Delta
+delta_of (word ∷ words) = None
+
 -- what a query's words ask
 abbrev pub ask_of : List ℕ → List (List ℕ) → Option Ask
-ask_of verb operands = if bytes_eq verb (codes "path") then path_of (two_of operands) else None
+ask_of verb operands =
+    if bytes_eq verb (codes "path") then path_of (two_of operands)
+    else if bytes_eq verb (codes "delta") then delta_of operands else None
 
 abbrev pub ask_meaning : ℕ → Option Ask → Result (Option Line) ℕ
 ask_meaning n None = Err 1

@@ -1,5 +1,6 @@
 //! Answers.
 
+use crate::change::Change;
 use crate::ids::RouterId;
 use crate::list::List;
 use crate::target::Target;
@@ -18,4 +19,7 @@ pub enum PathEnd {
 pub enum Answer {
     /// The routers of the walk in order, the first one included, and how it ends.
     Path { hops: List<RouterId>, end: PathEnd },
+    /// The changes that the last update made, by router, then address; touching runs of one router with the same two
+    /// targets are one.
+    Delta(List<Change>),
 }

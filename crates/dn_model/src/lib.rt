@@ -66,7 +66,7 @@ pub use ports::Port;
 pub use prefix::Prefix;
 pub use print::{
     print_address, print_prefix, print_run, print_target, push_address, push_bytes, push_decimal,
-    push_labelled, push_link, push_prefix, push_router, push_target,
+    push_labelled, push_link, push_prefix, push_router, push_run, push_target,
 };
 pub use query::{Ask, Query, Unknown};
 pub use raw_route::{RawRoute, RouteKind};

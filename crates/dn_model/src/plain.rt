@@ -271,5 +271,6 @@ pub fn plain_answer(
     let down = links_named(alloc, t, query.without.as_slice())?;
     match &query.ask {
         Ask::Path(name, a) => plain_path(alloc, t, entries, down.as_slice(), name, *a),
+        Ask::Delta => Err(OutOfMemory),
     }
 }

@@ -146,7 +146,9 @@ fn a_path_query(rt: HostRuntime) -> Result<(), Fail> {
     if query.unknown(&t).is_some() {
         return Err(Fail::from("c is known"));
     }
-    let Answer::Path { hops, end } = plain_answer(rt.alloc(), &t, &history, &query)?;
+    let Answer::Path { hops, end } = plain_answer(rt.alloc(), &t, &history, &query)? else {
+        return Err(Fail::from("no path"));
+    };
     assert!(rt; hops.as_slice() == [RouterId(2), RouterId(1)].as_slice());
     assert_eq!(rt; end, PathEnd::At(Target::Local));
     Ok(())

@@ -4,6 +4,7 @@
 //! text may have been added.
 
 ghost use Rattle.std.specs.Prelude.{◌≡◌, ◌++◌, OnOk, IfOk, codes, decimal};
+ghost use Rattle.dn_model.specs.Delta.{interval_of};
 ghost use Rattle.dn_model.specs.Report.{address_text, prefix_text, run_text, target_text, drop_text, name_of_router, name_of_link};
 
 use crate::ids::{LinkId, RouterId};
@@ -52,6 +53,15 @@ pub fn push_prefix(out: &mut Vec<u8>, p: Prefix) -> Result<(), OutOfMemory>
     push_address(out, p.base())?;
     push_bytes(out, b"/")?;
     push_decimal(out, u64::from(p.len()))
+}
+
+/// Adds a run: `LO-HI`, both included, also where they are equal.
+pub fn push_run(out: &mut Vec<u8>, run: Run) -> Result<(), OutOfMemory>
+    ensures { OnOk result (out.new.items ≡ out.old.items ++ run_text (interval_of run)) }
+{
+    push_address(out, run.lo)?;
+    push_bytes(out, b"-")?;
+    push_address(out, run.hi)
 }
 
 /// Adds the name of a router; nothing where the topology hasn't this router.
@@ -162,9 +172,7 @@ pub fn print_run(alloc: Global, run: Run) -> Result<Text, OutOfMemory>
     ensures { IfOk result (λ text. text ≡ run_text (record { lo = run.lo; hi = run.hi })) }
 {
     let mut out = Vec::new(alloc);
-    push_address(&mut out, run.lo)?;
-    push_bytes(&mut out, b"-")?;
-    push_address(&mut out, run.hi)?;
+    push_run(&mut out, run)?;
     Ok(Text::from_vec(out))
 }
 

@@ -62,7 +62,9 @@ fn copies_names_and_queries(rt: HostRuntime) -> Result<(), Fail> {
         ask: Ask::Path(name, 7),
     };
     let copied = query.copy(alloc)?;
-    let Ask::Path(from, to) = &copied.ask;
+    let Ask::Path(from, to) = &copied.ask else {
+        return Err(Fail::from("another query"));
+    };
     assert_eq!(rt; from.as_bytes(), b"r1".as_slice());
     assert_eq!(rt; *to, 7);
     assert_eq!(rt; copied.without.len(), 1);

@@ -7,7 +7,7 @@ use crate::memory::OutOfMemory;
 use crate::name::Name;
 use std::alloc::Global;
 
-/// A query, asked with the links named in `without` taken as down.
+/// A query, asked with the links named in `without` taken as down. For `Ask::Delta` no link is: `without` is empty.
 #[derive(Drop)]
 pub struct Query {
     pub without: List<Name>,
@@ -19,6 +19,8 @@ pub struct Query {
 pub enum Ask {
     /// The walk of an address (0 to 2^32 - 1) from a router.
     Path(Name, u32),
+    /// What the last update of the history changed.
+    Delta,
 }
 
 /// The first name of a query that the topology doesn't have, by its place among the query's names from 1, the
@@ -47,6 +49,7 @@ impl Ask {
     {
         match self {
             Ask::Path(name, address) => Ok(Ask::Path(name.copy(alloc)?, *address)),
+            Ask::Delta => Ok(Ask::Delta),
         }
     }
 }

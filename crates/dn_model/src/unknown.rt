@@ -35,6 +35,7 @@ fn unknown_asked(topology: &Topology, place: u32, ask: &Ask) -> Option<Unknown>
                 None
             }
         }
+        Ask::Delta => None,
     }
 }
 

@@ -61,6 +61,7 @@ fn push_ask(out: &mut Vec<u8>, ask: &Ask) -> Result<(), OutOfMemory>
             push_bytes(out, b" ")?;
             push_address(out, *address)
         }
+        Ask::Delta => push_bytes(out, b"delta"),
     }
 }
 
@@ -81,6 +82,7 @@ fn push_name_of_ask(out: &mut Vec<u8>, ask: &Ask, at: usize) -> Result<(), OutOf
             0 => push_bytes(out, router.as_bytes()),
             _ => Ok(()),
         },
+        Ask::Delta => Ok(()),
     }
 }
 

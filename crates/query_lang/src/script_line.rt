@@ -2,7 +2,7 @@
 
 ghost use Rattle.std.specs.Prelude.{◌≡◌, ℕ, IsTrue, IfOk, find, ◌∷◌};
 ghost use Rattle.std.specs.List.{list_any};
-ghost use Rattle.dn_model.specs.ScriptText.{line_meaning, words_of, count_of, is_named, same_router, take_from, take_meaning, two_of, command_meaning, ask_of, ask_meaning, path_of};
+ghost use Rattle.dn_model.specs.ScriptText.{line_meaning, words_of, count_of, is_named, same_router, take_from, take_meaning, two_of, command_meaning, ask_of, ask_meaning, path_of, delta_of};
 ghost use Rattle.query_lang.specs.ScriptRefused.{Reads, ReadsCommand};
 
 use crate::address::read_address;
@@ -150,12 +150,31 @@ fn read_path(alloc: Global, line: u32, operands: &[u8]) -> Result<Line, LineRefu
     })
 }
 
+/// What a `delta` line asks, after whose verb no word may stand.
+fn read_delta(alloc: Global, line: u32, operands: &[u8]) -> Result<Line, LineRefused>
+    ensures { ReadsCommand result (ask_meaning line (delta_of (words_of operands.now))) }
+{
+    match next_word(operands) {
+        Some((_, _)) => Err(LineRefused::Cause(BAD_LINE)),
+        None => Ok(Line::Ask {
+            line,
+            query: Query {
+                without: List::new(alloc),
+                ask: Ask::Delta,
+            },
+        }),
+    }
+}
+
 /// A line that asks a query, by its verb and the words after it.
 fn read_ask(alloc: Global, line: u32, verb: &[u8], operands: &[u8]) -> Result<Line, LineRefused>
     ensures { ReadsCommand result (ask_meaning line (ask_of verb.now (words_of operands.now))) }
 {
     if is_same(verb, b"path") {
         return read_path(alloc, line, operands);
+    }
+    if is_same(verb, b"delta") {
+        return read_delta(alloc, line, operands);
     }
     Err(LineRefused::Cause(BAD_LINE))
 }

@@ -41,6 +41,7 @@ fn is_path(line: &Line, number: u32, from: &[u8], to: u32) -> bool {
                     && *address == to
                     && query.without.is_empty()
             }
+            Ask::Delta => false,
         },
     }
 }

@@ -5,13 +5,13 @@
 
 ghost use Rattle.std.specs.Prelude.{◌≡◌, ◌++◌, ◌∷◌, [], OnOk, IfOk, codes, decimal};
 ghost use Rattle.std.specs.List.{flat_map};
-ghost use Rattle.dn_model.specs.Report.{line, query_text, unknown_line, hop_text, path_end_text, answer_lines, outcome_lines, told_lines};
+ghost use Rattle.dn_model.specs.Report.{line, query_text, unknown_line, hop_text, path_end_text, change_line, change_lines, answer_lines, outcome_lines, told_lines};
 ghost use Rattle.dn_model.specs.declared.told.Outcome.TheVariants.{Answered, Unknown as unanswered};
 
 use crate::query_text::{push_query, push_unknown_line};
 use dn_model::{
-    Answer, OutOfMemory, Outcome, PathEnd, RouterId, Text, Told, Topology, Unknown, push_bytes,
-    push_labelled, push_router, push_target,
+    Answer, Change, OutOfMemory, Outcome, PathEnd, RouterId, Text, Told, Topology, Unknown,
+    push_bytes, push_labelled, push_router, push_run, push_target,
 };
 use std::alloc::Global;
 
@@ -43,6 +43,43 @@ fn push_path_end(out: &mut Vec<u8>, t: &Topology, end: PathEnd) -> Result<(), Ou
     }
 }
 
+/// Adds the line of a change: the router, its run of addresses, and what it does with them before and after.
+fn push_change(out: &mut Vec<u8>, t: &Topology, change: &Change) -> Result<(), OutOfMemory>
+    ensures { OnOk result (out.new.items ≡ out.old.items ++ change_line t.now change.now) }
+{
+    push_router(out, t, change.router)?;
+    push_bytes(out, b" ")?;
+    push_run(out, change.run)?;
+    push_bytes(out, b" ")?;
+    push_target(out, t, change.before)?;
+    push_bytes(out, b" -> ")?;
+    push_target(out, t, change.after)?;
+    push_bytes(out, b"\n")
+}
+
+/// Adds the line of each change.
+fn push_each_change(out: &mut Vec<u8>, t: &Topology, changes: &[Change]) -> Result<(), OutOfMemory>
+    ensures { OnOk result (out.new.items ≡ out.old.items ++ flat_map (change_line t.now) changes.now) }
+{
+    for change in changes {
+        push_change(out, t, change)?;
+    }
+    Ok(())
+}
+
+/// Adds the line of each change, or `none` where there is none.
+fn push_changes(out: &mut Vec<u8>, t: &Topology, changes: &[Change]) -> Result<(), OutOfMemory>
+    ensures { OnOk result (out.new.items ≡ out.old.items ++ change_lines t.now changes.now) }
+{
+    match changes {
+        [] => push_bytes(out, b"none\n"),
+        [first, rest @ ..] => {
+            push_change(out, t, first)?;
+            push_each_change(out, t, rest)
+        }
+    }
+}
+
 /// Adds the lines of an answer.
 fn push_answer(out: &mut Vec<u8>, t: &Topology, answer: &Answer) -> Result<(), OutOfMemory>
     ensures { OnOk result (out.new.items ≡ out.old.items ++ answer_lines t.now answer.now) }
@@ -55,6 +92,7 @@ fn push_answer(out: &mut Vec<u8>, t: &Topology, answer: &Answer) -> Result<(), O
             push_path_end(out, t, *end)?;
             push_bytes(out, b"\n")
         }
+        Answer::Delta(changes) => push_changes(out, t, changes.as_slice()),
     }
 }
 

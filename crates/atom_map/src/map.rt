@@ -1,7 +1,8 @@
 //! Atoms by address and by number.
 
-ghost use Rattle.std.specs.Prelude.{◌≡◌, ◌<◌, ◌≤◌, ◌^◌, Some, OnErr, IfOk, IfSome, Contains, length, map, option_map};
+ghost use Rattle.std.specs.Prelude.{◌≡◌, ◌<◌, ◌≤◌, ◌^◌, Some, OnErr, IfOk, IfSome, Contains, length, map, option_map, slice_index_or};
 ghost use Rattle.dn_model.specs.Atoms.{AreAtoms, IsCut, atom_of, atoms_in, bounds_of, row_at, row_of};
+ghost use Rattle.dn_model.specs.declared.atom_row.AtomRow.{AtomRow};
 ghost use Rattle.atom_map.specs.Index.{one_atom};
 
 use crate::search::{atoms_below, part, place_of, rest};
@@ -74,6 +75,31 @@ impl AtomMap {
     {
         let place = place_of(&self.rows, a);
         self.rows[place].atom
+    }
+
+    /// How many atoms there are.
+    pub fn count(&self) -> u64
+        ensures value { result ≡ length self.now }
+        ensures form { AreAtoms self.now }
+    {
+        self.rows.len() as u64
+    }
+
+    /// The place of the atom that has an address: how many atoms go before it. It takes no memory.
+    pub fn place_of(&self, a: u32) -> u64
+        ensures inside { result < length self.now }
+        ensures from { (d : AtomRow) → (slice_index_or self.now result d).low ≤ a }
+        ensures to { (d : AtomRow) → a < (slice_index_or self.now result d).high }
+    {
+        place_of(&self.rows, a) as u64
+    }
+
+    /// The atom at a place, with its bounds.
+    pub fn at(&self, i: u64) -> AtomRow
+        requires { i < length self.now }
+        ensures { (d : AtomRow) → result ≡ slice_index_or self.now i d }
+    {
+        self.rows[i as usize]
     }
 
     /// The bounds of an atom: its first address, and the one after its last, which for the last atom is 2^32. It takes

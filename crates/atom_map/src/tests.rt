@@ -1,7 +1,7 @@
 //! A map that is cut once, whose answers were worked out by hand.
 
 use super::AtomMap;
-use dn_model::AtomId;
+use dn_model::{AtomId, AtomRow};
 use std::test::Fail;
 
 /// Atoms cross to another thread.
@@ -28,6 +28,14 @@ fn the_parts_of_a_cut_are_told(rt: HostRuntime) -> Result<(), Fail> {
         copy.bounds(copy.atom_of(167_772_160)),
         (167_772_160, 4_294_967_296)
     );
+    assert_eq!(rt; copy.count(), 2);
+    assert_eq!(rt; copy.place_of(167_772_160), 1);
+    let second = AtomRow {
+        atom: AtomId(1),
+        low: 167_772_160,
+        high: 4_294_967_296,
+    };
+    assert_eq!(rt; copy.at(copy.place_of(167_772_160)), second);
     let rows = copy.rows(rt.alloc())?;
     assert_eq!(rt; rows.len(), 2);
     let met = copy.atoms_in(rt.alloc(), 5, 167_772_160)?;

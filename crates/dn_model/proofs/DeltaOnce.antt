@@ -1,9 +1,9 @@
 -- Changes at the same routers and addresses are told in one way.
-use Rattle.std.proofs.Common.{◌≡◌, ℕ, ◌+◌, ◌<◌, ◌≤◌, ◌^◌, ◌⊎◌, ◌∙◌, ◌&&◌, Bool, true, false, cond, Option, Some, None, List, [], ◌∷◌, map, refl, ap, sym, subst, inl, inr, ⊎_elim, arith, eqb}
-use Rattle.std.proofs.lemmas.Bool.{and_from, and_left, and_right, cases_lt, cases_order, cond-false, cond-true, eq-eqb, ne_eqb}
+use Rattle.std.proofs.Common.{◌≡◌, ℕ, ◌+◌, ◌<◌, ◌≤◌, ◌^◌, ◌⊎◌, ◌∙◌, true, false, cond, Option, Some, None, List, [], ◌∷◌, refl, ap, sym, subst, inl, inr, ⊎_elim, arith, eqb}
+use Rattle.std.proofs.lemmas.Bool.{and_from, and_left, and_right, cases_lt, cases_order, eq-eqb, ne_eqb}
 use Rattle.std.specs.Option.{unwrap_or}
 use Rattle.std.proofs.lemmas.Option.{none-some}
-use Rattle.dn_model.specs.Delta.{AreChanges, GoesBefore, GoesOn, IsApart, IsApartFromFirst, IsChange, IsDelta, TellsChange, Told, change_at, interval_of, is_change_at, less_last, targets_of, told, told_of}
+use Rattle.dn_model.specs.Delta.{AreChanges, GoesBefore, IsApartFromFirst, IsChange, IsDelta, TellsChange, Told, change_at, interval_of, is_change_at, less_last, targets_of, told, told_of}
 use Rattle.dn_model.specs.Runs.{holds}
 use Rattle.dn_model.specs.Table.{target}
 use Rattle.dn_model.specs.declared.change.Change.{Change}
@@ -177,7 +177,7 @@ sides r a c = ⊎_elim
     o)
     (cases_order r.0 c.router.0)
 
-past-not : (r : RouterId) (a : ℕ) (c : Change) → ((c.router.0 < r.0) ⊎ ((c.router.0 ≡ r.0) × (c.run.hi < a))) → is_change_at r a c ≡ false
+pub past-not : (r : RouterId) (a : ℕ) (c : Change) → ((c.router.0 < r.0) ⊎ ((c.router.0 ≡ r.0) × (c.run.hi < a))) → is_change_at r a c ≡ false
 past-not r a c h = ⊎_elim
     (λ (l : c.router.0 < r.0). elsewhere r a c (λ e. let no_such : ⊥ = omega arith in no_such))
     (λ (s : (c.router.0 ≡ r.0) × (c.run.hi < a)). over r a c s.1)

@@ -1,7 +1,9 @@
 pub mod Best
 pub mod Covers
 pub mod Cuts
+pub mod DeltaJoined
 pub mod DeltaOnce
+pub mod DeltaParts
 pub mod Digits
 pub mod FeedLemmas
 pub mod Filtered

@@ -18,7 +18,7 @@ use Rattle.dn_model.specs.Walk.{is_down, without, next, LeadsWithin}
 use Rattle.dn_model.proofs.Best.{best-is, contains-here, contains-there, contains-cases, contains-none, filter-contains}
 
 -- each route has a target that the network has
-abbrev AreWithin : Topology → List Route → Type 0
+abbrev pub AreWithin : Topology → List Route → Type 0
 AreWithin t routes = (r : Route) → Contains routes r → IsTargetOf t r.target
 
 within-after : (t : Topology) (routes : List Route) (op : Op) → AreWithin t routes → IsOpOf t op → AreWithin t (after_op routes op)
@@ -52,7 +52,7 @@ without-to down (To r k) s l h =
     let P : Target → Type 0 = λ x. x ≡ To s l → To r k ≡ To s l in
     cond_both (is_down down k) (LinkDown k) (To r k) P (λ y e. cc) (λ n e. e) h
 
-within-best : (t : Topology) (routes : List Route) (a : ℕ) (o : Option Route) (s : RouterId) (l : LinkId) → AreWithin t routes → IsBest routes a o → target_or_none o ≡ To s l → s.0 < length t.routers
+pub within-best : (t : Topology) (routes : List Route) (a : ℕ) (o : Option Route) (s : RouterId) (l : LinkId) → AreWithin t routes → IsBest routes a o → target_or_none o ≡ To s l → s.0 < length t.routers
 within-best t routes a None s l h k e = absurd (let f : NoRoute ≡ To s l = e in cc)
 within-best t routes a (Some r) s l h k e =
     let P : Target → Type 0 = λ x. IsTargetOf t x in

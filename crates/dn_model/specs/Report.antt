@@ -1,5 +1,5 @@
 -- The report, as a text made of what is told: feeds, history, jobs.
-use Rattle.std.specs.Prelude.{ℕ, List, [], ◌∷◌, ◌++◌, Option, None, Some, length, map, codes, decimal, slice_get, unwrap_or, if◌then◌else◌, ◌+◌, ◌-◌, ◌/◌, ◌%◌, ◌^◌, ◌==◌}
+use Rattle.std.specs.Prelude.{ℕ, List, [], ◌∷◌, ◌++◌, Option, None, Some, length, map, codes, decimal, slice_get, unwrap_or, ◌+◌, ◌-◌, ◌/◌, ◌%◌, ◌^◌}
 use Rattle.std.specs.List.{flat_map}
 use Rattle.dn_model.specs.Cidr.{Cidr}
 use Rattle.dn_model.specs.Delta.{interval_of}

@@ -3,6 +3,7 @@
 
 ghost use Rattle.std.specs.Prelude.{◌≡◌, ◌<◌, ℕ, Bool, List, Contains, All, IsPermutation, length};
 ghost use Rattle.dn_model.specs.Cidr.{IsCidr};
+ghost use Rattle.dn_model.specs.Delta.{IsDelta, told};
 ghost use Rattle.dn_model.specs.Entry.{IsEntryOf};
 ghost use Rattle.dn_model.specs.Payload.{IsPayload};
 ghost use Rattle.dn_model.specs.Feed.{IsReading, IsFaultedReading};
@@ -12,6 +13,7 @@ ghost use Rattle.dn_model.specs.Runs.{Interval, AreRuns};
 ghost use Rattle.dn_model.specs.Table.{table, best, HasKeysOnce, IsBest};
 ghost use Rattle.dn_model.specs.Walk.{next, walk, walk_end, LeadsWithin, EndsWith};
 ghost use Rattle.dn_model.specs.declared.answer.PathEnd.TheVariants.{At, Loop};
+ghost use Rattle.dn_model.specs.declared.change.Change.{Change};
 ghost use Rattle.dn_model.specs.declared.entry.Entry.{Entry};
 ghost use Rattle.dn_model.specs.declared.entry.Route.{Route};
 ghost use Rattle.dn_model.specs.declared.ids.LinkId.{LinkId};
@@ -55,6 +57,11 @@ pub fn walks_end_at_the_last_router()
 /// A set of addresses has one list of runs.
 pub fn runs_are_unique()
     ensures { (xs ys : List Interval) (test : ℕ → Bool) → AreRuns xs test → AreRuns ys test → xs ≡ ys }
+{}
+
+/// The last update of a history makes one list of changes, as they are printed.
+pub fn changes_are_unique()
+    ensures { (history : List Entry) (xs ys : List Change) → IsDelta history xs → IsDelta history ys → told xs ≡ told ys }
 {}
 
 /// The bytes of a payload say one thing.

@@ -20,6 +20,9 @@ mod memory;
 mod name;
 mod payload;
 mod plain;
+mod plain_delta;
+#[cfg(test)]
+mod plain_delta_tests;
 #[cfg(test)]
 mod plain_tests;
 mod ports;
@@ -34,6 +37,8 @@ mod rule;
 mod run;
 mod script;
 mod target;
+#[cfg(test)]
+mod test_network;
 mod text;
 mod told;
 mod topology;
@@ -49,9 +54,9 @@ pub use error_line::ErrorLine;
 pub use ids::{AtomId, LinkId, RouterId};
 pub use label_row::LabelRow;
 pub use laws::{
-    best_goes_first, best_has_no_order, failed_feeds_have_one_reading, feeds_have_one_reading,
-    histories_lead_within, loops_are_true, payloads_are_unique, runs_are_unique,
-    tables_have_keys_once, walks_end_at_the_last_router,
+    best_goes_first, best_has_no_order, changes_are_unique, failed_feeds_have_one_reading,
+    feeds_have_one_reading, histories_lead_within, loops_are_true, payloads_are_unique,
+    runs_are_unique, tables_have_keys_once, walks_end_at_the_last_router,
 };
 pub use laws_of_rows::{
     addresses_have_one_place, cuts_keep_all_other_rows, cuts_part_one_row, meeting_is_sharing,

@@ -1,9 +1,10 @@
 //! The plain evaluator: what the definitions of tables, targets and walks say, computed as they stand. It is slow
 //! and simple, and shares no code with the engines that are tested against it.
 
-ghost use Rattle.std.specs.Prelude.{◌≡◌, IfOk, OnOk, length, filter, not, None, Some, IsSome, IsSomeAnd, ◌++◌, ◌∷◌, []};
+ghost use Rattle.std.specs.Prelude.{◌≡◌, IfOk, OnOk, length, filter, not, None, Some, IsSome, IsSomeAnd, All, ◌++◌, ◌∷◌, []};
 ghost use Rattle.dn_model.specs.Answer.{unknown_of, links_of, path_answer, IsAnswer};
 ghost use Rattle.dn_model.specs.Cidr.{covers};
+ghost use Rattle.dn_model.specs.Entry.{IsEntryOf};
 ghost use Rattle.dn_model.specs.Lookup.{router_of, link_of};
 ghost use Rattle.dn_model.specs.Table.{is_of_prefix, has_key, after_op, table, goes_before, better, best, target_or_none, target_in};
 ghost use Rattle.dn_model.specs.Walk.{is_down, without, next, walk, walk_end};
@@ -15,6 +16,7 @@ use crate::list::List;
 use crate::lookup::{link, router};
 use crate::memory::OutOfMemory;
 use crate::name::Name;
+use crate::plain_delta::plain_delta;
 use crate::prefix::Prefix;
 use crate::query::{Ask, Query};
 use crate::target::Target;
@@ -144,6 +146,16 @@ fn plain_best(routes: &[Route], a: u32) -> Option<Route>
     first
 }
 
+/// What a router with these routes does with an address.
+pub fn target_of_routes(routes: &[Route], a: u32) -> Target
+    ensures { result ≡ target_in routes.now a }
+{
+    match plain_best(routes, a) {
+        None => Target::NoRoute,
+        Some(route) => route.target,
+    }
+}
+
 /// Whether a link is one of these.
 fn is_one_of(down: &[LinkId], link: LinkId) -> bool
     ensures { result ≡ is_down down.now link }
@@ -258,19 +270,21 @@ fn plain_path(
     Ok(Answer::Path { hops, end })
 }
 
-/// The answer to a query after a history. The topology has each name of the query.
+/// The answer to a query after a history. The topology has each name of the query, and the updates are of the
+/// topology: their routers, and the routers and links that they go on to.
 pub fn plain_answer(
     alloc: Global,
     t: &Topology,
     entries: &[Entry],
     query: &Query,
 ) -> Result<Answer, OutOfMemory>
-    requires { unknown_of t.now query.now ≡ None }
+    requires names { unknown_of t.now query.now ≡ None }
+    requires entries { All (IsEntryOf t.now) entries.now }
     ensures { IfOk result (λ answer. IsAnswer t.now entries.now query.now answer) }
 {
     let down = links_named(alloc, t, query.without.as_slice())?;
     match &query.ask {
         Ask::Path(name, a) => plain_path(alloc, t, entries, down.as_slice(), name, *a),
-        Ask::Delta => Err(OutOfMemory),
+        Ask::Delta => Ok(Answer::Delta(plain_delta(alloc, t, entries)?)),
     }
 }

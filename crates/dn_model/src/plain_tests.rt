@@ -3,6 +3,7 @@
 ghost use Rattle.std.specs.Prelude.{◌≡◌, IfOk, length};
 
 use super::*;
+use crate::test_network::{are_entries_of, clear, network, set};
 use std::alloc::Global;
 use std::test::Fail;
 
@@ -14,26 +15,6 @@ fn ten() -> Prefix {
 /// 10.1.0.0/16.
 fn ten_one() -> Prefix {
     Prefix::new(0x0A01_0000, 16)
-}
-
-fn set(router: u16, prefix: Prefix, metric: u32, target: Target) -> Entry {
-    Entry {
-        router: RouterId(router),
-        feed_no: 1,
-        op: Op::Set {
-            prefix,
-            metric,
-            target,
-        },
-    }
-}
-
-fn clear(router: u16, prefix: Prefix, metric: Option<u32>) -> Entry {
-    Entry {
-        router: RouterId(router),
-        feed_no: 1,
-        op: Op::Clear { prefix, metric },
-    }
 }
 
 /// Three routers, a, b and c, with no link between them.
@@ -134,22 +115,25 @@ fn a_walk_that_loops(rt: HostRuntime) -> Result<(), Fail> {
 
 #[test]
 fn a_path_query(rt: HostRuntime) -> Result<(), Fail> {
-    let t = three_routers(rt.alloc())?;
+    let t = network(rt.alloc())?;
     let history = [
-        set(2, ten(), 0, Target::To(RouterId(1), LinkId(0))),
+        set(0, ten(), 0, Target::To(RouterId(1), LinkId(0))),
         set(1, ten_one(), 0, Target::Local),
     ];
     let query = Query {
         without: List::new(rt.alloc()),
-        ask: Ask::Path(Name::from_text(rt.alloc(), b"c")?, 0x0A01_0007),
+        ask: Ask::Path(Name::from_text(rt.alloc(), b"r1")?, 0x0A01_0007),
     };
+    if !are_entries_of(&t, &history) {
+        return Err(Fail::from("the entries are of the network"));
+    }
     if query.unknown(&t).is_some() {
-        return Err(Fail::from("c is known"));
+        return Err(Fail::from("r1 is known"));
     }
     let Answer::Path { hops, end } = plain_answer(rt.alloc(), &t, &history, &query)? else {
         return Err(Fail::from("no path"));
     };
-    assert!(rt; hops.as_slice() == [RouterId(2), RouterId(1)].as_slice());
+    assert!(rt; hops.as_slice() == [RouterId(0), RouterId(1)].as_slice());
     assert_eq!(rt; end, PathEnd::At(Target::Local));
     Ok(())
 }

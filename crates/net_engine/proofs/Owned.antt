@@ -64,7 +64,7 @@ after-cases P routes (Set p m t) old new x h =
 after-cases P routes (Clear p None) old new x h = old x (filter-contains (λ r. not (is_of_prefix p r)) x routes h).0
 after-cases P routes (Clear p (Some m)) old new x h = old x (filter-contains (λ r. not (has_key p m r)) x routes h).0
 
-prefix-is : (op : Op) (p : Cidr) (m : ℕ) (t : Target) → op ≡ Set p m t → prefix_of_op op ≡ p
+pub prefix-is : (op : Op) (p : Cidr) (m : ℕ) (t : Target) → op ≡ Set p m t → prefix_of_op op ≡ p
 prefix-is op p m t e = ap prefix_of_op e
 
 -- a table stays a table

@@ -1,5 +1,5 @@
 pub mod Net
 pub mod Steps
-pub mod Stub
 pub mod Walked
+pub mod Numbered
 pub mod Whole

@@ -7,7 +7,6 @@ use Rattle.dn_model.specs.Labels.{target_of}
 use Rattle.dn_model.specs.Version.{Atom, atom_at, first_of, past_of}
 use Rattle.dn_model.specs.declared.entry.Op.{Op}
 use Rattle.dn_model.specs.declared.ids.RouterId.{RouterId}
-use Rattle.dn_model.specs.declared.label_row.LabelRow.{LabelRow}
 use Rattle.dn_model.specs.declared.rule.Rule.{Rule}
 use Rattle.dn_model.specs.declared.target.Target.{Target}
 use Rattle.dn_model.specs.declared.target.Target.TheVariants.{NoRoute}

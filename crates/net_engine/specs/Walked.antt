@@ -1,6 +1,6 @@
 -- What the steps of an update make of atoms and of a version, said address by address.
-use Rattle.std.specs.Prelude.{ℕ, Bool, true, false, List, [], Option, Some, None, slice_index_or, slice_set, IsPermutation, ◌≡◌, ◌+◌, ◌<◌, ◌≤◌, ◌^◌, ◌&&◌, ◌||◌, ◌==◌}
-use Rattle.dn_model.specs.Cidr.{Cidr}
+use Rattle.std.specs.Prelude.{ℕ, Bool, true, false, List, [], length, Option, Some, None, slice_index_or, slice_set, Contains, IsPermutation, ◌≡◌, ◌+◌, ◌<◌, ◌≤◌, ◌^◌, ◌&&◌, ◌||◌, ◌==◌}
+use Rattle.dn_model.specs.Cidr.{Cidr, size}
 use Rattle.dn_model.specs.Delta.{AreChanges, TellsChange, change_at}
 use Rattle.dn_model.specs.Rows.{is_within}
 use Rattle.dn_model.specs.Rules.{IsTop, after_rule_op, target_of as target_of_rule}
@@ -8,10 +8,12 @@ use Rattle.dn_model.specs.Table.{after_op}
 use Rattle.dn_model.specs.Version.{Atom, Kept, begins_at, is_end_of, rules_at, sets_end, target_at}
 use Rattle.dn_model.specs.declared.change.Change.{Change}
 use Rattle.dn_model.specs.declared.entry.Op.{Op}
+use Rattle.dn_model.specs.declared.entry.Op.TheVariants.{Set, Clear}
 use Rattle.dn_model.specs.declared.entry.Route.{Route}
 use Rattle.dn_model.specs.declared.ids.RouterId.{RouterId}
 use Rattle.dn_model.specs.declared.rule.Rule.{Rule}
 use Rattle.dn_model.specs.declared.target.Target.{Target}
+use Rattle.net_engine.specs.Whole.{IsWhole}
 
 -- The atoms were cut at the ends of a prefix: they begin there too, and each router has the rules that it had at each
 -- address, and does what it did.
@@ -30,6 +32,13 @@ pub record Follows (rules : List Rule) (target : Target) : Type 0 where
   pub is_top : IsTop rules top
   pub target_is : target ≡ target_of_rule top
 
+-- One atom's addresses, from `lo` up to, and without, `past`, were looked at: where a router does something else than
+-- before there, that is told of them, and what was told elsewhere still is.
+pub record IsTold (was now : List Change) (r : RouterId) (lo past : ℕ) (before after : Target) : Type 0 where
+  pub form : AreChanges now
+  pub here : (a : ℕ) → lo ≤ a → a < past → TellsChange before after (change_at now r a)
+  pub other : (q : RouterId) (a : ℕ) → is_part r lo past q a ≡ false → change_at now q a ≡ change_at was q a
+
 -- An update was made to one router's rules at the addresses from `lo` up to, and without, `hi`: there they are what it
 -- makes of those that were there, in some order, the router does what the first of them says, and it is told where that
 -- is something else than before. Everywhere else all is as it was, and atoms begin where they began.
@@ -43,15 +52,56 @@ pub record IsWalked (old new : List Atom) (was now : List Change) (r : RouterId)
   pub other_targets : (q : RouterId) (a : ℕ) → is_part r lo hi q a ≡ false → target_at new q a ≡ target_at old q a
   pub other_changes : (q : RouterId) (a : ℕ) → is_part r lo hi q a ≡ false → change_at now q a ≡ change_at was q a
 
+-- a route of a prefix
+pub record HasRouteOf (routes : List Route) (p : Cidr) : Type 0 where
+  pub route : Route
+  pub among : Contains routes route
+  pub prefix : route.prefix ≡ p
+
 -- the list at this place is what the update makes of it, in some order, and the others are as before
 pub record UpdatesAt (at : ℕ) (op : Op) (old new : List (List Route)) : Type 0 where
+  pub inside : at < length old
   pub made : List Route
   pub as_updated : IsPermutation made (after_op (slice_index_or old at []) op)
   pub placed : new ≡ slice_set old at made
 
+-- atoms begin at both ends of a prefix
+pub record BeginsAtEnds (atoms : List Atom) (p : Cidr) : Type 0 where
+  pub first : begins_at atoms p.base ≡ true
+  pub past : p.base + size p < 2 ^ 32 → begins_at atoms (p.base + size p) ≡ true
+
+-- a version whose atoms were cut at the ends of a prefix
+pub record IsCutAt (old new : Kept) (p : Cidr) : Type 0 where
+  pub whole : IsWhole new
+  pub topology : new.topology ≡ old.topology
+  pub routes : new.routes ≡ old.routes
+  pub parted : IsParted old.atoms new.atoms p
+  pub ends : BeginsAtEnds new.atoms p
+
+-- an update clears routes of a prefix
+abbrev pub IsClearOf : Op → Cidr → Type 0
+IsClearOf (Set q m t) p = ⊥
+IsClearOf (Clear q m) p = q ≡ p
+
+-- an update sets a route of a prefix
+abbrev pub IsSetOf : Op → Cidr → Type 0
+IsSetOf (Set q m t) p = q ≡ p
+IsSetOf (Clear q m) p = ⊥
+
+-- An update of one router was made where atoms begin at its prefix's ends already: its routes are what the update makes
+-- of them, and it is told where a router does something else than before.
+pub record IsRemade (old new : Kept) (r : RouterId) (op : Op) (changes : List Change) : Type 0 where
+  pub whole : IsWhole new
+  pub topology : new.topology ≡ old.topology
+  pub routes : UpdatesAt r.0 op old.routes new.routes
+  pub begins : (a : ℕ) → begins_at new.atoms a ≡ begins_at old.atoms a
+  pub form : AreChanges changes
+  pub tells : (q : RouterId) (a : ℕ) → a < 2 ^ 32 → TellsChange (target_at old.atoms q a) (target_at new.atoms q a) (change_at changes q a)
+
 -- An update of one router was made: its routes are what the update makes of them, atoms begin at the ends of a prefix
 -- that it sets too, and it is told where a router does something else than before.
 pub record IsUpdated (old new : Kept) (r : RouterId) (op : Op) (changes : List Change) : Type 0 where
+  pub whole : IsWhole new
   pub topology : new.topology ≡ old.topology
   pub routes : UpdatesAt r.0 op old.routes new.routes
   pub begins : (a : ℕ) → a < 2 ^ 32 → begins_at new.atoms a ≡ (begins_at old.atoms a || sets_end a op)

@@ -1,30 +1,36 @@
 //! Atoms with what each router does there and the rules that it has there.
 
-ghost use Rattle.std.specs.Prelude.{◌≡◌, ◌<◌, ◌≤◌, ◌^◌, ◌∷◌, [], IfOk, length, slice_index_or};
+ghost use Rattle.std.specs.Prelude.{◌≡◌, ◌<◌, ◌≤◌, ◌∷◌, [], IfOk, length, slice_index_or};
 ghost use Rattle.dn_model.specs.Labels.{target_of};
 ghost use Rattle.dn_model.specs.Version.{Atom, first_of, past_of};
 ghost use Rattle.net_engine.specs.Net.{cut_atoms, first_atom, IsNet, IsTouched};
 
+use crate::atom_owners::AtomOwners;
+use atom_map::AtomMap;
 use dn_model::{Op, OutOfMemory, RouterId, Target};
+use edge_labels::LabelGraph;
 use std::alloc::Global;
 use std::marker::Model;
 
-/// The atoms of a network, with what each router does there and its rules there. A contract sees the number of routers
-/// and the atoms in order.
+/// The atoms of a network, with what each router does there and its rules there, which stand by the number of the atom
+/// and then by the router. A contract sees the number of routers and the atoms in order.
 #[derive(Drop)]
 pub struct Net {
     routers: u32,
+    atoms: AtomMap,
+    labels: LabelGraph,
+    owners: Vec<AtomOwners>,
 }
 
 impl Model for Net {
-    ghost use Rattle.net_engine.specs.Net.{Net as NetIs, IsNet};
-    ghost use Rattle.net_engine.specs.Stub.{stub_net};
+    ghost use Rattle.net_engine.specs.Net.{Net};
+    ghost use Rattle.net_engine.specs.Numbered.{net_of, AreNumbered};
 
-    ghost Value = { NetIs };
+    ghost Value = { Net };
 
-    ghost view = { λ n. stub_net n.routers };
+    ghost view = { λ n. net_of n.routers n.atoms n.labels n.owners.items };
 
-    ghost invariant = { λ n. IsNet (stub_net n.routers) };
+    ghost invariant = { λ n. AreNumbered n.routers n.atoms n.labels n.owners.items };
 }
 
 /// What an update came to in one atom: where the atom ends (half closed, at most 2^32), and what the router did there
@@ -43,20 +49,52 @@ impl Net {
         ensures atoms { IfOk result (λ net. net.atoms ≡ first_atom routers ∷ []) }
         ensures form { IfOk result (λ net. IsNet net) }
     {
-        Err(OutOfMemory)
+        let atoms = AtomMap::new(alloc)?;
+        let labels = LabelGraph::new(alloc, routers)?;
+        let mut owners = Vec::new(alloc);
+        owners.push(AtomOwners::none(alloc, routers)?)?;
+        Ok(Net {
+            routers,
+            atoms,
+            labels,
+            owners,
+        })
     }
 
     /// Cuts the atom that has an address in two there, if it doesn't begin there: both parts have what the whole has.
-    /// It copies each router's rules in that atom.
+    /// It copies each router's rules in that atom. At `OutOfMemory`, for which alone it fails, all is dropped.
     pub fn cut(self, alloc: Global, at: u32) -> Result<Net, OutOfMemory>
         ensures routers { IfOk result (λ net. net.routers ≡ self.routers) }
         ensures atoms { IfOk result (λ net. net.atoms ≡ cut_atoms self.atoms at) }
         ensures form { IfOk result (λ net. IsNet net) }
     {
-        Err(OutOfMemory)
+        let Net {
+            routers,
+            mut atoms,
+            mut labels,
+            mut owners,
+        } = self;
+        let Some((old, new)) = atoms.cut(at)? else {
+            return Ok(Net {
+                routers,
+                atoms,
+                labels,
+                owners,
+            });
+        };
+        labels.inherit(alloc, old, new)?;
+        let copy = owners[old.0 as usize].copy(alloc)?;
+        owners.push(copy)?;
+        Ok(Net {
+            routers,
+            atoms,
+            labels,
+            owners,
+        })
     }
 
     /// Makes an update to the rules that a router has in the atom that has an address, which the update's prefix covers.
+    /// At `OutOfMemory`, for which alone it fails, all is dropped.
     pub fn touch(
         self,
         alloc: Global,
@@ -69,7 +107,30 @@ impl Net {
         ensures touched { IfOk result (λ made. IsTouched self.atoms made.0.atoms r at op.now made.1.past made.1.before made.1.after) }
         ensures form { IfOk result (λ made. IsNet made.0) }
     {
-        Err(OutOfMemory)
+        let Net {
+            routers,
+            atoms,
+            mut labels,
+            mut owners,
+        } = self;
+        let row = atoms.at(atoms.place_of(at));
+        let before = labels.target(r, row.atom);
+        let rules = &mut owners[row.atom.0 as usize];
+        rules.change(r, op)?;
+        let after = rules.target(r);
+        labels.move_atom(alloc, r, row.atom, before, after)?;
+        let net = Net {
+            routers,
+            atoms,
+            labels,
+            owners,
+        };
+        let touched = Touched {
+            past: row.high,
+            before,
+            after,
+        };
+        Ok((net, touched))
     }
 
     /// The same atoms again.
@@ -77,7 +138,15 @@ impl Net {
         ensures value { IfOk result (λ net. net ≡ self.now) }
         ensures form { IfOk result (λ net. IsNet net) }
     {
-        Err(OutOfMemory)
+        let atoms = self.atoms.copy(alloc)?;
+        let labels = self.labels.copy(alloc)?;
+        let owners = copies(alloc, &self.owners)?;
+        Ok(Net {
+            routers: self.routers,
+            atoms,
+            labels,
+            owners,
+        })
     }
 
     /// How many routers there are.
@@ -93,19 +162,17 @@ impl Net {
         ensures value { result ≡ length self.now.atoms }
         ensures form { IsNet self.now }
     {
-        let _routers = self.routers;
-        1
+        self.atoms.count()
     }
 
-    /// The place of the atom that has an address.
+    /// The place of the atom that has an address: how many atoms go before it.
     pub fn place_of(&self, a: u32) -> u64
         ensures inside { result < length self.now.atoms }
         ensures from { (d : Atom) → first_of (slice_index_or self.now.atoms result d) ≤ a }
         ensures to { (d : Atom) → a < past_of (slice_index_or self.now.atoms result d) }
         ensures form { IsNet self.now }
     {
-        let _routers = self.routers;
-        0
+        self.atoms.place_of(a)
     }
 
     /// The bounds of the atom at a place: its first address, and the one after its last, which is at most 2^32.
@@ -115,8 +182,8 @@ impl Net {
         ensures hi { (d : Atom) → result.1 ≡ past_of (slice_index_or self.now.atoms i d) }
         ensures form { IsNet self.now }
     {
-        let _routers = self.routers;
-        (0, 0x1_0000_0000)
+        let row = self.atoms.at(i);
+        (row.low, row.high)
     }
 
     /// What a router does with the addresses of the atom at a place.
@@ -126,7 +193,18 @@ impl Net {
         ensures value { (d : Atom) → result ≡ target_of (slice_index_or self.now.atoms i d).label r }
         ensures form { IsNet self.now }
     {
-        let _routers = self.routers;
-        Target::NoRoute
+        let row = self.atoms.at(i);
+        self.labels.target(r, row.atom)
     }
+}
+
+/// The rules of each atom again.
+fn copies(alloc: Global, owners: &[AtomOwners]) -> Result<Vec<AtomOwners>, OutOfMemory>
+    ensures { IfOk result (λ copies. copies.items ≡ owners.now) }
+{
+    let mut copies = Vec::new(alloc);
+    for atom in owners {
+        copies.push(atom.copy(alloc)?)?;
+    }
+    Ok(copies)
 }

@@ -3,15 +3,19 @@
 ghost use Rattle.std.specs.Prelude.{◌≡◌, ◌<◌, ◌++◌, ◌∷◌, [], List, ℕ, IfOk, length};
 ghost use Rattle.std.specs.Arc.{arc_value};
 ghost use Rattle.dn_model.specs.Delta.{IsDelta};
-ghost use Rattle.dn_model.specs.Entry.{IsEntryOf};
-ghost use Rattle.dn_model.specs.Routes.{IsTable};
-ghost use Rattle.dn_model.specs.Table.{target, target_in};
+ghost use Rattle.dn_model.specs.Entry.{IsEntryOf, IsOpOf};
+ghost use Rattle.dn_model.specs.Table.{target};
 ghost use Rattle.dn_model.specs.Version.{KeptStandsFor, labels_of};
 ghost use Rattle.dn_model.specs.declared.entry.Entry.{Entry as EntryIs};
+ghost use Rattle.net_engine.specs.Steps.{prefix_of_op};
+ghost use Rattle.net_engine.specs.Walked.{BeginsAtEnds, IsClearOf, IsCutAt, IsSetOf, IsRemade, IsUpdated};
 
+use crate::ends::{cut_ends, past_of};
 use crate::net::Net;
+use crate::tables::{copies, empty_tables, has_route_of, target_of, update_at};
+use crate::walk::walk_atoms;
 use delta_graph::Delta;
-use dn_model::{Entry, OutOfMemory, RouterId, Target, Topology};
+use dn_model::{Entry, Op, OutOfMemory, Prefix, RouterId, Target, Topology};
 use label_view::LabelView;
 use route_table::RouteTable;
 use std::alloc::Global;
@@ -41,24 +45,117 @@ impl Model for Version {
     ghost invariant = { λ v. IsWhole (record { topology = arc_value v.topology; atoms = v.net.atoms; routes = v.tables.items }) × (v.net.routers ≡ length (arc_value v.topology).routers) };
 }
 
-/// What a router's table does with an address.
-fn target_of(table: &RouteTable, a: u32) -> Target
-    ensures value { result ≡ target_in table.now a }
-    ensures table { IsTable table.now }
-{
-    match table.best(a) {
-        Some(route) => route.target,
-        None => Target::NoRoute,
-    }
-}
-
 impl Version {
     /// The version of a network before any update: no router has a route.
     pub fn empty(alloc: Global, t: Arc<Topology, Global>) -> Result<Version, OutOfMemory>
         ensures topology { IfOk result (λ version. version.topology ≡ arc_value t) }
         ensures stands { IfOk result (λ version. KeptStandsFor version []) }
     {
-        Err(OutOfMemory)
+        let routers = t.router_count();
+        let net = Net::new(alloc, routers)?;
+        let tables = empty_tables(alloc, routers as usize)?;
+        Ok(Version {
+            topology: t,
+            net,
+            tables,
+        })
+    }
+
+    /// The same version, whose atoms begin at the ends of a prefix too.
+    fn cut(self, alloc: Global, prefix: Prefix) -> Result<Version, OutOfMemory>
+        ensures { IfOk result (λ version. IsCutAt self version prefix) }
+    {
+        let Version {
+            topology,
+            net,
+            tables,
+        } = self;
+        let net = cut_ends(net, alloc, prefix)?;
+        Ok(Version {
+            topology,
+            net,
+            tables,
+        })
+    }
+
+    /// The version after an update of one of its routers, at whose prefix's ends atoms begin.
+    fn update(
+        self,
+        alloc: Global,
+        r: RouterId,
+        op: &Op,
+        prefix: Prefix,
+    ) -> Result<(Version, Delta), OutOfMemory>
+        requires router { r.0 < length self.topology.routers }
+        requires op { IsOpOf self.topology op.now }
+        requires prefix { prefix_of_op op.now ≡ prefix }
+        requires ends { BeginsAtEnds self.atoms prefix }
+        ensures { IfOk result (λ made. IsRemade self made.0 r op.now made.1) }
+    {
+        let Version {
+            topology,
+            net,
+            mut tables,
+        } = self;
+        let past = past_of(prefix);
+        update_at(&mut tables, usize::from(r.0), op)?;
+        let (net, delta) = walk_atoms(alloc, net, r, op, prefix.base(), past)?;
+        Ok((
+            Version {
+                topology,
+                net,
+                tables,
+            },
+            delta,
+        ))
+    }
+
+    /// The version after a clearing, which changes nothing where the router has no route of the prefix.
+    fn clear(
+        self,
+        alloc: Global,
+        r: RouterId,
+        op: &Op,
+        prefix: Prefix,
+    ) -> Result<(Version, Delta), OutOfMemory>
+        requires router { r.0 < length self.topology.routers }
+        requires op { IsOpOf self.topology op.now }
+        requires clears { IsClearOf op.now prefix }
+        ensures { IfOk result (λ made. IsUpdated self made.0 r op.now made.1) }
+    {
+        if has_route_of(&self.tables[usize::from(r.0)], prefix) {
+            return self.update(alloc, r, op, prefix);
+        }
+        Ok((self, Delta::new(alloc)))
+    }
+
+    /// The version after a setting, which cuts atoms at the ends of the prefix.
+    fn set(
+        self,
+        alloc: Global,
+        r: RouterId,
+        op: &Op,
+        prefix: Prefix,
+    ) -> Result<(Version, Delta), OutOfMemory>
+        requires router { r.0 < length self.topology.routers }
+        requires op { IsOpOf self.topology op.now }
+        requires sets { IsSetOf op.now prefix }
+        ensures { IfOk result (λ made. IsUpdated self made.0 r op.now made.1) }
+    {
+        let parted = self.cut(alloc, prefix)?;
+        parted.update(alloc, r, op, prefix)
+    }
+
+    /// The version after an update of one of its routers.
+    fn updated(self, alloc: Global, r: RouterId, op: &Op) -> Result<(Version, Delta), OutOfMemory>
+        requires router { r.0 < length self.topology.routers }
+        requires op { IsOpOf self.topology op.now }
+        ensures { IfOk result (λ made. IsUpdated self made.0 r op.now made.1) }
+    {
+        match *op {
+            Op::Set { prefix, .. } => self.set(alloc, r, op, prefix),
+            Op::Clear { prefix, .. } => self.clear(alloc, r, op, prefix),
+        }
     }
 
     /// The version after an update of one of its routers, and where that changes what the router does. It takes the
@@ -69,7 +166,7 @@ impl Version {
         ensures stands { IfOk result (λ made. (history : List EntryIs) → KeptStandsFor self history → KeptStandsFor made.0 (history ++ entry.now ∷ [])) }
         ensures delta { IfOk result (λ made. (history : List EntryIs) → KeptStandsFor self history → IsDelta (history ++ entry.now ∷ []) made.1) }
     {
-        Err(OutOfMemory)
+        self.updated(alloc, entry.router, &entry.op)
     }
 
     /// The version after an update of one of its routers, and where that changes what the router does. This version
@@ -83,19 +180,26 @@ impl Version {
         self.copy(alloc)?.advance(alloc, entry)
     }
 
+    /// The same version again.
+    pub fn copy(&self, alloc: Global) -> Result<Version, OutOfMemory>
+        ensures { IfOk result (λ version. version ≡ self.now) }
+    {
+        let topology = Arc::try_clone(&self.topology)?;
+        let net = self.net.copy(alloc)?;
+        let tables = copies(alloc, &self.tables)?;
+        Ok(Version {
+            topology,
+            net,
+            tables,
+        })
+    }
+
     /// What a router does with the address `a` (0 to 2^32 - 1).
     pub fn target(&self, r: RouterId, a: u32) -> Target
         requires { r.0 < length self.now.topology.routers }
         ensures { (history : List EntryIs) → KeptStandsFor self.now history → result ≡ target history r a }
     {
         target_of(&self.tables[r.0 as usize], a)
-    }
-
-    /// The same version again.
-    pub fn copy(&self, alloc: Global) -> Result<Version, OutOfMemory>
-        ensures { IfOk result (λ version. version ≡ self.now) }
-    {
-        Err(OutOfMemory)
     }
 }
 

@@ -2,8 +2,8 @@
 
 use crate::{ScriptRefused, answer_text, read_script};
 use dn_model::{
-    Answer, Ask, Line, List, Name, OutOfMemory, Outcome, PathEnd, Query, RouterId, Target, Told,
-    Topology, Unknown,
+    Answer, Ask, Change, Line, List, Name, OutOfMemory, Outcome, PathEnd, Query, RouterId, Run,
+    Target, Told, Topology, Unknown,
 };
 use std::alloc::Global;
 use std::test::Fail;
@@ -46,6 +46,15 @@ fn is_path(line: &Line, number: u32, from: &[u8], to: u32) -> bool {
     }
 }
 
+fn is_delta(line: &Line, number: u32) -> bool {
+    match line {
+        Line::Take { .. } => false,
+        Line::Ask { line, query } => {
+            *line == number && matches!(query.ask, Ask::Delta) && query.without.is_empty()
+        }
+    }
+}
+
 /// Scripts and refusals cross threads.
 fn crosses<T: Send + Sync>(_value: &T) {}
 
@@ -54,15 +63,16 @@ fn reads_lines(rt: HostRuntime) -> Result<(), Fail> {
     let alloc = rt.alloc();
     let network = network(alloc)?;
     let text =
-        b"# a note\n\n take\tr2  7 \r\ntake r1 all\r\n \t \r\n\t#take r9\npath\r\tr1\t10.1.2.3\npath r9 0.0.0.255";
+        b"# a note\n\n take\tr2  7 \r\ntake r1 all\r\n \t \r\n\t#take r9\npath\r\tr1\t10.1.2.3\npath r9 0.0.0.255\n delta\t";
     let script = read_script(alloc, text, &network, &[RouterId(0), RouterId(1)], &[])?;
     crosses(&script);
     let lines = script.lines.as_slice();
-    assert_eq!(rt; lines.len(), 4);
+    assert_eq!(rt; lines.len(), 5);
     assert!(rt; is_take(&lines[0], 3, 1, Some(7)));
     assert!(rt; is_take(&lines[1], 4, 0, None));
     assert!(rt; is_path(&lines[2], 7, b"r1", 167_838_211));
     assert!(rt; is_path(&lines[3], 8, b"r9", 255));
+    assert!(rt; is_delta(&lines[4], 9));
     Ok(())
 }
 
@@ -84,7 +94,7 @@ fn fault_of(alloc: Global, network: &Topology, text: &[u8]) -> Option<(u32, u8)>
 fn names_the_first_fault(rt: HostRuntime) -> Result<(), Fail> {
     let alloc = rt.alloc();
     let network = network(alloc)?;
-    let cases: [(&[u8], u32, u8); 15] = [
+    let cases: [(&[u8], u32, u8); 18] = [
         (b"take r1 0", 1, 1),
         (b"take r1 01\n", 1, 1),
         (b"\n\ntake r1 4294967296\n", 3, 1),
@@ -97,6 +107,9 @@ fn names_the_first_fault(rt: HostRuntime) -> Result<(), Fail> {
         (b"path r1 10.1.2.256", 1, 1),
         (b"path r1 10.1.02.3", 1, 1),
         (b"path r1 10.1.2.3.4", 1, 1),
+        (b"delta x", 1, 1),
+        (b"without a delta", 1, 1),
+        (b"delta\nDelta", 2, 1),
         (b"take r3 all\ntake r1 x", 1, 2),
         (b"#\ntake r2 1\n", 2, 3),
         (b"take r1 all\nwhat\ntake r3 all", 2, 1),
@@ -171,5 +184,42 @@ fn prints_an_unknown_name(rt: HostRuntime) -> Result<(), Fail> {
     let text = answer_text(alloc, &network, &told)?;
     let want = b"line 2 path r1 10.1.2.3\nunknown router r1\n";
     assert!(rt; text.as_bytes() == want.as_slice());
+    Ok(())
+}
+
+/// What is told of `delta` in line 3, answered with these changes.
+fn told_delta(alloc: Global, changes: &[Change]) -> Result<Told, OutOfMemory> {
+    let changes = List::from_vec(Vec::from_slice(alloc, changes)?);
+    Ok(Told {
+        line: 3,
+        query: Query {
+            without: List::new(alloc),
+            ask: Ask::Delta,
+        },
+        outcome: Outcome::Answered {
+            number: 2,
+            answer: Answer::Delta(changes),
+        },
+    })
+}
+
+#[test]
+fn prints_changes(rt: HostRuntime) -> Result<(), Fail> {
+    let alloc = rt.alloc();
+    let network = network(alloc)?;
+    let none = answer_text(alloc, &network, &told_delta(alloc, &[])?)?;
+    assert!(rt; none.as_bytes() == b"line 3 at 2 delta\nnone\n".as_slice());
+    let change = Change {
+        router: RouterId(1),
+        run: Run {
+            lo: 0x0a00_0000,
+            hi: 0x0aff_ffff,
+        },
+        before: Target::Local,
+        after: Target::Exit(7),
+    };
+    let one = answer_text(alloc, &network, &told_delta(alloc, &[change])?)?;
+    let want = b"line 3 at 2 delta\nr2 10.0.0.0-10.255.255.255 local -> exit 7\n";
+    assert!(rt; one.as_bytes() == want.as_slice());
     Ok(())
 }

@@ -6,9 +6,9 @@ ghost use Rattle.dn_model.specs.Name.{is_name_text};
 use crate::{report_text, write_report};
 use dn_io::{Failed, MemSink};
 use dn_model::{
-    Answer, Ask, DropKind, Entry, FeedEnd, FeedTold, JobTold, LinkId, List, Name, Op, OutOfMemory,
-    Outcome, PathEnd, Posted, Prefix, Query, RefusedFrame, RouterId, Target, Told, TopoEnd,
-    TopoLink, Topology, Unknown,
+    Answer, Ask, Change, DropKind, Entry, FeedEnd, FeedTold, JobTold, LinkId, List, Name, Op,
+    OutOfMemory, Outcome, PathEnd, Posted, Prefix, Query, RefusedFrame, RouterId, Run, Target,
+    Told, TopoEnd, TopoLink, Topology, Unknown,
 };
 use std::alloc::Global;
 
@@ -332,8 +332,33 @@ fn unknown_link(alloc: Global) -> Result<Told, OutOfMemory> {
     })
 }
 
-/// What is told of four queries: two with an unknown name, one that ends in a loop, one that leaves the network.
-fn four_told(alloc: Global) -> Result<List<Told>, OutOfMemory> {
+/// What is told of `delta` in line 5: one change.
+fn delta_told(alloc: Global) -> Result<Told, OutOfMemory> {
+    let changes = [Change {
+        router: SECOND,
+        run: Run {
+            lo: 0x0a01_0203,
+            hi: 0x0a01_0203,
+        },
+        before: Target::To(THIRD, LinkId(1)),
+        after: Target::NoRoute,
+    }];
+    Ok(Told {
+        line: 5,
+        query: Query {
+            without: List::new(alloc),
+            ask: Ask::Delta,
+        },
+        outcome: Outcome::Answered {
+            number: 11,
+            answer: Answer::Delta(List::from_vec(Vec::from_slice(alloc, &changes)?)),
+        },
+    })
+}
+
+/// What is told of five queries: two with an unknown name, one that ends in a loop, one that leaves the network, and
+/// one after what changed.
+fn five_told(alloc: Global) -> Result<List<Told>, OutOfMemory> {
     let mut all = List::new(alloc);
     all.push(Told {
         line: 1,
@@ -343,6 +368,7 @@ fn four_told(alloc: Global) -> Result<List<Told>, OutOfMemory> {
     all.push(unknown_link(alloc)?)?;
     all.push(told(alloc, 3, &[FIRST, SECOND, THIRD, FIRST], PathEnd::Loop)?)?;
     all.push(told(alloc, 4, &[FIRST], PathEnd::At(Target::Exit(1)))?)?;
+    all.push(delta_told(alloc)?)?;
     Ok(all)
 }
 
@@ -353,7 +379,7 @@ fn all_lines(alloc: Global) -> Result<Vec<u8>, OutOfMemory> {
     let jobs = [
         JobTold {
             number: 1,
-            told: four_told(alloc)?,
+            told: five_told(alloc)?,
         },
         JobTold {
             number: 2,
@@ -386,6 +412,8 @@ end loop
 line 4 at 1 path r1 10.1.2.3
 hops r1
 end exit 1
+line 5 at 11 delta
+r2 10.1.2.3-10.1.2.3 to r3 by b -> noroute
 job 2
 done
 ";

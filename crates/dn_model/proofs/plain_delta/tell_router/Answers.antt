@@ -1,0 +1,16 @@
+use Rattle.std.proofs.Common.{◌<◌, ◌≤◌, ◌^◌, ◌∙◌, List, ap, arith}
+use Rattle.dn_model.specs.Table.{table}
+use Rattle.dn_model.specs.declared.entry.Entry.{Entry}
+use Rattle.dn_model.proofs.DeltaParts.{from-part}
+use Rattle.dn_model.proofs.plain_delta.tell_router.Goals as goal
+
+pub loop-past-preserved : goal.loop-past-preserved
+loop-past-preserved c =
+    let lower : c.in_ok-past.past < c.loop-past.past = c.in_ok-past.ensures.lower in
+    let below : c.loop-past.past ≤ 2 ^ 32 = c.loop-past.invariant.0 in (
+      (omega arith),
+      from-part c.args.entries.now c.args.router c.in_ok-past.past c.loop-past.past c.as_slice.result.now c.as_slice-in-loop-past.result.now c.loop-past.changes.items c.tell_interval.new.changes.items lower
+          (c.as_slice.ensures.value ∙ c.in_ok-before.ensures ∙ ap (λ (es : List Entry). table es c.args.router) c.all_but_last.ensures)
+          (c.as_slice-in-loop-past.ensures.value ∙ c.in_ok-after.ensures)
+          c.loop-past.invariant.1 c.in_ok-past.ensures.told,
+    )

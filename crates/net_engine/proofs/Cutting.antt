@@ -1,0 +1,242 @@
+-- An atom that is cut in two: the new number has what the old one has.
+use Rattle.std.proofs.Common.{◌≡◌, ℕ, ◌+◌, ◌<◌, ◌≤◌, ◌^◌, ◌∙◌, ◌∷◌, ◌++◌, ◌||◌, ◌&&◌, not, ⊎_elim, suc, cond, true, false, Bool, Option, None, Some, List, [], length, get_or, map, option_map, refl, ap, sym, subst, arith, eqb, ltb}
+use Rattle.std.proofs.lemmas.Bool.{cases_Bool, cases_lt, eq-eqb, eqb-true, ne_eqb}
+use Rattle.std.proofs.lemmas.Bool.Decides.{nat_tests}
+use Rattle.std.proofs.lemmas.List.{get_or_append_left, get_or_push, get_or_read, length_push}
+use Rattle.std.proofs.lemmas.Option.{none-some}
+use Rattle.dn_model.specs.Atoms.{AreAtoms, AreBelow, IsCut, atom_of, cut_rows, has_address, high_of, is_boundary, low_of, row_at, upper_part}
+use Rattle.dn_model.specs.Rows.{CoverFrom, is_within}
+use Rattle.dn_model.specs.Version.{Atom, begins_at, first_of, past_of}
+use Rattle.dn_model.specs.declared.atom_row.AtomRow.{AtomRow}
+use Rattle.dn_model.specs.declared.ids.AtomId.{AtomId}
+use Rattle.dn_model.specs.declared.rule.Rule.{Rule}
+use Rattle.dn_model.proofs.Covers.{holder-first, holder-rest, within-below, within-above}
+use Rattle.dn_model.proofs.Cuts.{boundary-parts, cut-first, cut-rest, length-after-cut}
+use Rattle.edge_labels.specs.Labels.{IsInherited, Labels, target_at}
+use Rattle.net_engine.specs.Net.{Net, between, cut_atoms}
+use Rattle.net_engine.specs.Numbered.{AreNumbered, net_of, numbered, targets_of}
+use Rattle.net_engine.proofs.Standing.{AllRules, is-net, same-parts, same-targets}
+
+-- ---- what a cut makes of atoms, the first of which is given
+
+cut-atom : (x : Atom) (xs : List Atom) (at : ℕ) → is_within (first_of x) (past_of x) at ≡ true → eqb (first_of x) at ≡ false → cut_atoms (x ∷ xs) at ≡ between (first_of x) at x ∷ between at (past_of x) x ∷ xs
+cut-atom x xs at e n =
+    ap (λ b. cond (b && not (eqb (first_of x) at)) (between (first_of x) at x ∷ between at (past_of x) x ∷ xs) (x ∷ cut_atoms xs at)) e
+    ∙ ap (λ b. cond (not b) (between (first_of x) at x ∷ between at (past_of x) x ∷ xs) (x ∷ cut_atoms xs at)) n
+
+uncut-atom : (x : Atom) (xs : List Atom) (at : ℕ) → is_within (first_of x) (past_of x) at ≡ false → cut_atoms (x ∷ xs) at ≡ x ∷ cut_atoms xs at
+uncut-atom x xs at e = ap (λ b. cond (b && not (eqb (first_of x) at)) (between (first_of x) at x ∷ between at (past_of x) x ∷ xs) (x ∷ cut_atoms xs at)) e
+
+and-never : {X : Type 0} (b : Bool) (x y : X) → cond (b && false) x y ≡ y
+and-never true x y = refl
+and-never false x y = refl
+
+begun-atom : (x : Atom) (xs : List Atom) (at : ℕ) → eqb (first_of x) at ≡ true → cut_atoms (x ∷ xs) at ≡ x ∷ cut_atoms xs at
+begun-atom x xs at e =
+    ap (λ b. cond (is_within (first_of x) (past_of x) at && not b) (between (first_of x) at x ∷ between at (past_of x) x ∷ xs) (x ∷ cut_atoms xs at)) e
+    ∙ and-never (is_within (first_of x) (past_of x) at) (between (first_of x) at x ∷ between at (past_of x) x ∷ xs) (x ∷ cut_atoms xs at)
+
+-- ---- no cut
+
+-- atoms that begin above an address are not cut there
+uncut-above : (start : ℕ) (xs : List Atom) (at : ℕ) → CoverFrom first_of past_of start xs → at < start → cut_atoms xs at ≡ xs
+uncut-above start [] at h l = refl
+uncut-above start (x ∷ xs) at h l =
+    let e : first_of x ≡ start = h.0 in
+    let o : first_of x < past_of x = h.1 in
+    uncut-atom x xs at (within-below (first_of x) (past_of x) at (omega arith))
+    ∙ ap (λ ys. x ∷ ys) (uncut-above (past_of x) xs at h.2 (omega arith))
+
+begins-from : (start : ℕ) (xs : List Atom) (at : ℕ) → CoverFrom first_of past_of start xs → begins_at xs at ≡ true → start ≤ at
+begins-from start [] at h b = absurd (none b)
+  where
+    none : false ≡ true → ⊥
+    none e = cc
+begins-from start (x ∷ xs) at h b =
+    let e : first_of x ≡ start = h.0 in
+    let o : first_of x < past_of x = h.1 in
+    ⊎_elim
+    (λ (y : eqb (first_of x) at ≡ true). let k : first_of x ≡ at = eqb-true (first_of x) at y in omega arith)
+    (λ (n : eqb (first_of x) at ≡ false).
+    let k : past_of x ≤ at = begins-from (past_of x) xs at h.2 (sym (ap (λ c. c || begins_at xs at) n) ∙ b) in
+    omega arith)
+    (cases_Bool (eqb (first_of x) at))
+
+-- where an atom begins none is cut
+pub uncut-begun : (start : ℕ) (xs : List Atom) (at : ℕ) → CoverFrom first_of past_of start xs → begins_at xs at ≡ true → cut_atoms xs at ≡ xs
+uncut-begun start [] at h b = refl
+uncut-begun start (x ∷ xs) at h b =
+    let o : first_of x < past_of x = h.1 in
+    ⊎_elim
+    (λ (y : eqb (first_of x) at ≡ true).
+    let k : first_of x ≡ at = eqb-true (first_of x) at y in
+    begun-atom x xs at y ∙ ap (λ ys. x ∷ ys) (uncut-above (past_of x) xs at h.2 (omega arith)))
+    (λ (n : eqb (first_of x) at ≡ false).
+    let c : begins_at xs at ≡ true = sym (ap (λ c. c || begins_at xs at) n) ∙ b in
+    uncut-atom x xs at (within-above (first_of x) (past_of x) at (begins-from (past_of x) xs at h.2 c))
+    ∙ ap (λ ys. x ∷ ys) (uncut-begun (past_of x) xs at h.2 c))
+    (cases_Bool (eqb (first_of x) at))
+
+begins-numbered : (labels : Labels) (owners : AllRules) (rows : List AtomRow) (at : ℕ) → begins_at (map (numbered labels owners) rows) at ≡ is_boundary rows at
+begins-numbered labels owners [] at = refl
+begins-numbered labels owners (r ∷ rs) at = ap (λ b. eqb r.low at || b) (begins-numbered labels owners rs at)
+
+pub uncut-numbered : (labels : Labels) (owners : AllRules) (rows : List AtomRow) (at : ℕ) → CoverFrom first_of past_of 0 (map (numbered labels owners) rows) → is_boundary rows at ≡ true → cut_atoms (map (numbered labels owners) rows) at ≡ map (numbered labels owners) rows
+uncut-numbered labels owners rows at h b = uncut-begun 0 (map (numbered labels owners) rows) at h (begins-numbered labels owners rows at ∙ b)
+
+-- ---- a new number
+
+-- `to` is a new number that has what `from` has
+pub record Grows (x y : Labels) (os ps : AllRules) (from to : ℕ) : Type 0 where
+  pub labels : IsInherited x y from to
+  pub owners : ps ≡ os ++ get_or os from [] ∷ []
+  pub next : length os ≡ to
+
+same-cond : {X : Type 0} (b : Bool) (x y : X) → b ≡ true → cond b x y ≡ x
+same-cond b x y e = ap (λ c. cond c x y) e
+
+other-cond : {X : Type 0} (b : Bool) (x y : X) → b ≡ false → cond b x y ≡ y
+other-cond b x y e = ap (λ c. cond c x y) e
+
+old-targets : (x y : Labels) (os ps : AllRules) (from to k : ℕ) → Grows x y os ps from to → k < to → targets_of y k ≡ targets_of x k
+old-targets x y os ps from to k g l =
+    same-targets x y k k g.labels.routers (λ q. g.labels.targets q k ∙ other-cond (eqb k to) (target_at x q from) (target_at x q k) (ne_eqb k to (λ (e : k ≡ to). omega arith)))
+
+new-targets : (x y : Labels) (os ps : AllRules) (from to : ℕ) → Grows x y os ps from to → targets_of y to ≡ targets_of x from
+new-targets x y os ps from to g =
+    same-targets x y from to g.labels.routers (λ q. g.labels.targets q to ∙ same-cond (eqb to to) (target_at x q from) (target_at x q to) (eq-eqb to to refl))
+
+old-owners : (x y : Labels) (os ps : AllRules) (from to k : ℕ) → Grows x y os ps from to → k < to → get_or ps k [] ≡ get_or os k []
+old-owners x y os ps from to k g l =
+    let n : length os ≡ to = g.next in
+    ap (λ (zs : AllRules). get_or zs k []) g.owners ∙ get_or_append_left os (get_or os from [] ∷ []) [] k (omega arith)
+
+new-owners : (x y : Labels) (os ps : AllRules) (from to : ℕ) → Grows x y os ps from to → get_or ps to [] ≡ get_or os from []
+new-owners x y os ps from to g =
+    ap (λ (zs : AllRules). get_or zs to []) g.owners ∙ get_or_push os (get_or os from []) [] to g.next
+
+-- the atoms of old numbers stay
+same-rows : (x y : Labels) (os ps : AllRules) (from to : ℕ) (rows : List AtomRow) → Grows x y os ps from to → AreBelow to rows → map (numbered y ps) rows ≡ map (numbered x os) rows
+same-rows x y os ps from to [] g h = refl
+same-rows x y os ps from to (r ∷ rs) g h =
+    ap (λ (a : Atom). a ∷ map (numbered y ps) rs) (same-parts r.low r.high _ _ _ _ (old-targets x y os ps from to r.atom.0 g h.0) (old-owners x y os ps from to r.atom.0 g h.0))
+    ∙ ap (λ (zs : List Atom). numbered x os r ∷ zs) (same-rows x y os ps from to rs g h.1)
+
+-- the two parts have what the whole has
+pub cut-numbered : (x y : Labels) (os ps : AllRules) (from : ℕ) (to : AtomId) (rows : List AtomRow) (at : ℕ) → Grows x y os ps from to.0 → AreBelow to.0 rows → is_boundary rows at ≡ false → ((r : AtomRow) → row_at rows at ≡ Some r → r.atom.0 ≡ from) → map (numbered y ps) (cut_rows rows at to) ≡ cut_atoms (map (numbered x os) rows) at
+cut-numbered x y os ps from to [] at g h n f = refl
+cut-numbered x y os ps from to (r ∷ rs) at g h n f =
+    let k : (r.low ≡ at → ⊥) × (is_boundary rs at ≡ false) = boundary-parts r rs at n in
+    ⊎_elim
+    (λ (e : has_address at r ≡ true).
+    let q : r.atom.0 ≡ from = f r (holder-first low_of high_of r rs at e) in
+    ap (λ (zs : List AtomRow). map (numbered y ps) zs) (cut-first r rs at to e)
+    ∙ ap (λ (a : Atom). a ∷ numbered y ps (upper_part at to r) ∷ map (numbered y ps) rs)
+    (same-parts r.low at (targets_of y r.atom.0) (targets_of x r.atom.0) (get_or ps r.atom.0 []) (get_or os r.atom.0 []) (old-targets x y os ps from to.0 r.atom.0 g h.0) (old-owners x y os ps from to.0 r.atom.0 g h.0))
+    ∙ ap (λ (a : Atom). between r.low at (numbered x os r) ∷ a ∷ map (numbered y ps) rs)
+    (same-parts at r.high (targets_of y to.0) (targets_of x r.atom.0) (get_or ps to.0 []) (get_or os r.atom.0 []) (new-targets x y os ps from to.0 g ∙ ap (λ j. targets_of x j) (sym q)) (new-owners x y os ps from to.0 g ∙ ap (λ j. get_or os j []) (sym q)))
+    ∙ ap (λ (zs : List Atom). between r.low at (numbered x os r) ∷ between at r.high (numbered x os r) ∷ zs) (same-rows x y os ps from to.0 rs g h.1)
+    ∙ sym (cut-atom (numbered x os r) (map (numbered x os) rs) at e (ne_eqb r.low at k.0)))
+    (λ (e : has_address at r ≡ false).
+    ap (λ (zs : List AtomRow). map (numbered y ps) zs) (cut-rest r rs at to e)
+    ∙ ap (λ (a : Atom). a ∷ map (numbered y ps) (cut_rows rs at to))
+    (same-parts r.low r.high (targets_of y r.atom.0) (targets_of x r.atom.0) (get_or ps r.atom.0 []) (get_or os r.atom.0 []) (old-targets x y os ps from to.0 r.atom.0 g h.0) (old-owners x y os ps from to.0 r.atom.0 g h.0))
+    ∙ ap (λ (zs : List Atom). numbered x os r ∷ zs) (cut-numbered x y os ps from to rs at g h.1 k.1 (λ s p. f s (holder-rest low_of high_of r rs at e ∙ p)))
+    ∙ sym (uncut-atom (numbered x os r) (map (numbered x os) rs) at e))
+    (cases_Bool (has_address at r))
+
+-- ---- as `cut` needs it
+
+pub number-of-cut : (n : ℕ) (rows : List AtomRow) (at : ℕ) (atom : AtomId) → AreBelow n rows → option_map atom_of (row_at rows at) ≡ Some atom → atom.0 < n
+number-of-cut n [] at atom h e = absurd (none-some atom e)
+number-of-cut n (r ∷ rs) at atom h e =
+    ⊎_elim
+    (λ (y : has_address at r ≡ true).
+    let s : Some r.atom ≡ Some atom = sym (ap (option_map atom_of) (holder-first low_of high_of r rs at y)) ∙ e in
+    let k : r.atom ≡ atom = cc in
+    subst (λ (a : AtomId). a.0 < n) k h.0)
+    (λ (y : has_address at r ≡ false).
+    number-of-cut n rs at atom h.1 (sym (ap (option_map atom_of) (holder-rest low_of high_of r rs at y)) ∙ e))
+    (cases_Bool (has_address at r))
+
+row-of-cut : (rows : List AtomRow) (at : ℕ) (atom : AtomId) → option_map atom_of (row_at rows at) ≡ Some atom → (r : AtomRow) → row_at rows at ≡ Some r → r.atom.0 ≡ atom.0
+row-of-cut rows at atom e r p =
+    let s : Some r.atom ≡ Some atom = sym (ap (option_map atom_of) p) ∙ e in
+    let k : r.atom ≡ atom = cc in
+    ap (λ (a : AtomId). a.0) k
+
+grown-there : (k n : ℕ) → (eqb k n || ltb k n) ≡ ltb k (suc n)
+grown-there k n = grind (arith, nat_tests)
+
+-- what a cut and what follows it made of the parts of a network
+pub record Cuts (rows new : List AtomRow) (x y : Labels) (os ps : AllRules) (at : ℕ) (from to : AtomId) : Type 0 where
+  pub cut : IsCut rows new at (Some (from, to))
+  pub within : at < 2 ^ 32
+  pub form : AreAtoms new
+  pub labels : IsInherited x y from.0 to.0
+  pub owners : ps ≡ os ++ get_or os from.0 [] ∷ []
+
+grows : (routers : ℕ) (rows new : List AtomRow) (x y : Labels) (os ps : AllRules) (at : ℕ) (from to : AtomId) → AreNumbered routers rows x os → Cuts rows new x y os ps at from to → Grows x y os ps from.0 to.0
+grows routers rows new x y os ps at from to h c = record { labels = c.labels; owners = c.owners; next = h.each ∙ sym c.cut.1 }
+
+pub numbered-after-cut : (routers : ℕ) (rows new : List AtomRow) (x y : Labels) (os ps : AllRules) (at : ℕ) (from to : AtomId) → AreNumbered routers rows x os → Cuts rows new x y os ps at from to → AreNumbered routers new y ps
+numbered-after-cut routers rows new x y os ps at from to h c =
+    let g : Grows x y os ps from.0 to.0 = grows routers rows new x y os ps at from to h c in
+    let n : to.0 ≡ length rows = c.cut.1 in
+    let same : length os ≡ length rows = h.each in
+    let long : length new ≡ suc (length rows) = ap (λ (zs : List AtomRow). length zs) c.cut.2 ∙ length-after-cut 0 rows at to h.atoms.cover (omega arith) c.within in
+    let old : from.0 < length rows = number-of-cut (length rows) rows at from h.atoms.below c.cut.3 in
+    record {
+      atoms = c.form;
+      there = λ k.
+          c.labels.atoms.exact k
+          ∙ ap (λ b. eqb k to.0 || b) (h.there k)
+          ∙ ap (λ m. eqb k m || ltb k (length rows)) n
+          ∙ grown-there k (length rows)
+          ∙ ap (λ m. ltb k m) (sym long);
+      wide = c.labels.routers ∙ h.wide;
+      each = ap (λ (zs : AllRules). length zs) c.owners ∙ length_push os (get_or os from.0 []) ∙ (let s : length os + 1 ≡ suc (length rows) = omega arith in s) ∙ sym long;
+      full = λ k l.
+          ⊎_elim
+          (λ (o : k < length rows). ap (λ (zs : List (List Rule)). length zs) (old-owners x y os ps from.0 to.0 k g (omega arith)) ∙ h.full k o)
+          (λ (o : length rows ≤ k).
+          let e : k ≡ to.0 = omega arith in
+          ap (λ m. length (get_or ps m [])) e
+          ∙ ap (λ (zs : List (List Rule)). length zs) (new-owners x y os ps from.0 to.0 g)
+          ∙ h.full from.0 old)
+          (cases_lt k (length rows));
+    }
+
+pub atoms-after-cut : (routers : ℕ) (rows new : List AtomRow) (x y : Labels) (os ps : AllRules) (at : ℕ) (from to : AtomId) → AreNumbered routers rows x os → Cuts rows new x y os ps at from to → map (numbered y ps) new ≡ cut_atoms (map (numbered x os) rows) at
+atoms-after-cut routers rows new x y os ps at from to h c =
+    ap (λ (zs : List AtomRow). map (numbered y ps) zs) c.cut.2
+    ∙ cut-numbered x y os ps from.0 to rows at (grows routers rows new x y os ps at from to h c) (subst (λ n. AreBelow n rows) (sym c.cut.1) h.atoms.below) c.cut.0 (row-of-cut rows at from c.cut.3)
+
+-- from what the calls answer
+pub is-cut-at : (rows new : List AtomRow) (at : ℕ) (o p : Option (AtomId × AtomId)) → o ≡ p → IsCut rows new at o → IsCut rows new at p
+is-cut-at rows new at o p e h = subst (λ (q : Option (AtomId × AtomId)). IsCut rows new at q) e h
+
+pub old-below : (routers : ℕ) (rows new : List AtomRow) (x : Labels) (os : AllRules) (at : ℕ) (from to : AtomId) → AreNumbered routers rows x os → IsCut rows new at (Some (from, to)) → from.0 < length rows
+old-below routers rows new x os at from to h c = number-of-cut (length rows) rows at from h.atoms.below c.3
+
+pub made-cuts : (routers : ℕ) (rows new : List AtomRow) (x y : Labels) (os ps : AllRules) (at : ℕ) (from to : AtomId) (copy found : List (List Rule)) → AreNumbered routers rows x os → IsCut rows new at (Some (from, to)) → at < 2 ^ 32 → AreAtoms new → IsInherited x y from.0 to.0 → ps ≡ os ++ copy ∷ [] → copy ≡ found → found ≡ get_or os from.0 found → Cuts rows new x y os ps at from to
+made-cuts routers rows new x y os ps at from to copy found h c within form labels push copied is =
+    let same : length os ≡ length rows = h.each in
+    let below : from.0 < length rows = old-below routers rows new x os at from to h c in
+    record {
+      cut = c;
+      within = within;
+      form = form;
+      labels = labels;
+      owners = push ∙ ap (λ (z : List (List Rule)). os ++ z ∷ []) (copied ∙ get_or_read os from.0 found (omega arith) is []);
+    }
+
+pub cut-atoms-now : (net : Net) (routers : ℕ) (rows new : List AtomRow) (x y : Labels) (os ps : AllRules) (at : ℕ) (from to : AtomId) → net_of routers rows x os ≡ net → AreNumbered routers rows x os → Cuts rows new x y os ps at from to → map (numbered y ps) new ≡ cut_atoms net.atoms at
+cut-atoms-now net routers rows new x y os ps at from to e h c =
+    atoms-after-cut routers rows new x y os ps at from to h c ∙ ap (λ (n : Net). cut_atoms n.atoms at) e
+
+pub uncut-atoms-now : (net : Net) (routers : ℕ) (rows new : List AtomRow) (labels : Labels) (owners : AllRules) (at : ℕ) → net_of routers rows labels owners ≡ net → AreNumbered routers rows labels owners → IsCut rows new at None → map (numbered labels owners) new ≡ cut_atoms net.atoms at
+uncut-atoms-now net routers rows new labels owners at e h c =
+    ap (λ (zs : List AtomRow). map (numbered labels owners) zs) c.1
+    ∙ sym (uncut-numbered labels owners rows at (is-net routers rows labels owners h).cover c.0)
+    ∙ ap (λ (n : Net). cut_atoms n.atoms at) e

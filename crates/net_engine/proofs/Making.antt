@@ -1,0 +1,241 @@
+-- What an update makes of a version.
+use Rattle.std.proofs.Common.{◌≡◌, ◌≢◌, ℕ, ◌+◌, ◌<◌, ◌≤◌, ◌^◌, ◌∙◌, ◌||◌, ⊎_elim, Bool, true, false, Option, None, Some, List, [], ◌∷◌, length, replicate, get_or, set, refl, ap, sym, subst, arith, eqb, length-set}
+use Rattle.std.specs.List.{Contains}
+use Rattle.std.specs.List.Sorted.{IsPermutation}
+use Rattle.std.proofs.lemmas.Bool.{and_parts, and_right, cases_Bool, cases_eq, eqb-true}
+use Rattle.std.proofs.lemmas.List.{get_or-set_other, get_or-set_same, get_or_default, set-get_or}
+use Rattle.std.proofs.lemmas.List.Sorted.{IsPermutation-refl}
+use Rattle.dn_model.specs.Cidr.{Cidr, IsCidr, covers, size}
+use Rattle.dn_model.specs.Delta.{TellsChange, change_at}
+use Rattle.dn_model.specs.Entry.{IsOpOf}
+use Rattle.dn_model.specs.Rows.{is_within, CoverFrom}
+use Rattle.dn_model.specs.Table.{after_op, is_of_prefix}
+use Rattle.dn_model.specs.Version.{Atom, Kept, KeptStandsFor, begins_at, first_of, is_end_of, past_of, rules_at, sets_end, target_at}
+use Rattle.dn_model.specs.declared.change.Change.{Change}
+use Rattle.dn_model.specs.declared.entry.Op.{Op}
+use Rattle.dn_model.specs.declared.entry.Op.TheVariants.{Set, Clear}
+use Rattle.dn_model.specs.declared.entry.Route.{Route}
+use Rattle.dn_model.specs.declared.ids.RouterId.{RouterId}
+use Rattle.dn_model.specs.declared.target.Target.{Target}
+use Rattle.dn_model.specs.declared.topology.Topology.{Topology}
+use Rattle.net_engine.specs.Net.{AreWide, first_atom}
+use Rattle.net_engine.specs.Steps.{prefix_of_op}
+use Rattle.net_engine.specs.Walked.{BeginsAtEnds, Follows, HasRouteOf, IsClearOf, IsCutAt, IsParted, IsRemade, IsSetOf, IsUpdated, IsWalked, UpdatesAt, is_part}
+use Rattle.net_engine.specs.Whole.{Agrees, HasEnds, IsWhole}
+use Rattle.net_engine.proofs.Agreed.{RemadeAt, agrees-remade, agrees-same, begin-more, begin-same}
+use Rattle.net_engine.proofs.Begun.{first_kept, first-stands, first-whole}
+use Rattle.net_engine.proofs.Held.{within-high, within-low}
+use Rattle.net_engine.proofs.Owned.{no-route-of-prefix}
+use Rattle.net_engine.proofs.Parting.{parted-ends}
+use Rattle.net_engine.proofs.Walking.{part-other}
+
+abbrev pub kept_of : Topology → List Atom → List (List Route) → Kept
+kept_of t atoms routes = record { topology = t; atoms = atoms; routes = routes }
+
+same-router : (q r : RouterId) → q.0 ≡ r.0 → q ≡ r
+same-router q r e = let R : ℕ → RouterId = λ n. record { 0 = n } in ap R e
+
+-- ---- cuts
+
+-- a version whose atoms are cut is whole
+pub whole-parted : (t : Topology) (old new : List Atom) (routes : List (List Route)) (p : Cidr) → IsWhole (kept_of t old routes) → CoverFrom first_of past_of 0 new → AreWide (length t.routers) new → IsParted old new p → IsWhole (kept_of t new routes)
+whole-parted t old new routes p h cover wide parted = record {
+  few = h.few;
+  cover = cover;
+  wide = wide;
+  tables = h.tables;
+  agree = λ r i. agrees-same t old new r (get_or routes r.0 []) (begin-more old new (is_end_of p) parted.begins) (parted.rules r) (parted.targets r) (h.agree r i);
+}
+
+-- ---- an update
+
+module _ (old new : List Atom) (r : RouterId) (op : Op) (changes : List Change) (p : Cidr) (w : IsWalked old new [] changes r op p.base (p.base + size p)) where
+  -- what is told of it
+  pub made-tells : (q : RouterId) (a : ℕ) → a < 2 ^ 32 → TellsChange (target_at old q a) (target_at new q a) (change_at changes q a)
+  made-tells q a l = ⊎_elim
+      (λ (y : is_part r p.base (p.base + size p) q a ≡ true).
+      let parts : (eqb q.0 r.0 ≡ true) × (covers p a ≡ true) = and_parts (eqb q.0 r.0) (covers p a) y in
+      let same : q ≡ r = same-router q r (eqb-true q.0 r.0 parts.0) in
+      let P : RouterId → Type 0 = λ s. TellsChange (target_at old s a) (target_at new s a) (change_at changes s a) in
+      subst P (sym same) (w.tells a (within-low p.base (p.base + size p) a parts.1) (within-high p.base (p.base + size p) a parts.1)))
+      (λ (n : is_part r p.base (p.base + size p) q a ≡ false).
+      let P : Option (Target × Target) → Type 0 = λ o. TellsChange (target_at old q a) (target_at new q a) o in
+      subst P (sym (w.other_changes q a n)) (sym (w.other_targets q a n)))
+      (cases_Bool (is_part r p.base (p.base + size p) q a))
+
+  -- the router's rules at the addresses of the prefix are made anew
+  made-here : prefix_of_op op ≡ p → RemadeAt old new r op
+  made-here e =
+      let low : (a : ℕ) → covers (prefix_of_op op) a ≡ true → p.base ≤ a = λ a c. within-low p.base (p.base + size p) a (subst (λ (q : Cidr). covers q a ≡ true) e c) in
+      let high : (a : ℕ) → covers (prefix_of_op op) a ≡ true → a < p.base + size p = λ a c. within-high p.base (p.base + size p) a (subst (λ (q : Cidr). covers q a ≡ true) e c) in
+      let out : (a : ℕ) → covers (prefix_of_op op) a ≡ false → is_part r p.base (p.base + size p) r a ≡ false = λ a c. and_right (eqb r.0 r.0) (covers p a) (subst (λ (q : Cidr). covers q a ≡ false) e c) in
+      record {
+        begins = w.begins;
+        rules = λ a l c. w.rules a (low a c) (high a c);
+        follows = λ a l c. let f : Follows (rules_at new r a) (target_at new r a) = w.follows a (low a c) (high a c) in (f.top, f.is_top, f.target_is);
+        other_rules = λ a l c. w.other_rules r a (out a c);
+        other_targets = λ a l c. w.other_targets r a (out a c);
+      }
+
+  module _ (t : Topology) (routes made : List (List Route)) (h : IsWhole (kept_of t old routes)) (cover : CoverFrom first_of past_of 0 new) (wide : AreWide (length t.routers) new) (inside : r.0 < length t.routers) (own : IsOpOf t op) (is : prefix_of_op op ≡ p) (cidr : IsCidr p) (ends : BeginsAtEnds old p) (u : UpdatesAt r.0 op routes made) where
+    own-agrees : Agrees t new r u.made
+    own-agrees =
+        let end : BeginsAtEnds old (prefix_of_op op) = subst (λ (q : Cidr). BeginsAtEnds old q) (sym is) ends in
+        let sound : IsCidr (prefix_of_op op) = subst (λ (q : Cidr). IsCidr q) (sym is) cidr in
+        agrees-remade t old new r op (get_or routes r.0 []) u.made (h.agree r inside) own sound end.first end.past u.as_updated (made-here is)
+
+    made-agrees : (q : RouterId) → q.0 < length t.routers → Agrees t new q (get_or made q.0 [])
+    made-agrees q i = ⊎_elim
+        (λ (e : q.0 ≡ r.0).
+        let here : get_or made r.0 [] ≡ u.made = ap (λ xs. get_or xs r.0 []) u.placed ∙ get_or-set_same routes r.0 u.made [] u.inside in
+        let P : RouterId → Type 0 = λ s. Agrees t new s (get_or made s.0 []) in
+        subst P (sym (same-router q r e)) (subst (λ rs. Agrees t new r rs) (sym here) own-agrees))
+        (λ (n : q.0 ≢ r.0).
+        let here : get_or made q.0 [] ≡ get_or routes q.0 [] = ap (λ xs. get_or xs q.0 []) u.placed ∙ get_or-set_other routes r.0 q.0 u.made [] n in
+        let away : (a : ℕ) → is_part r p.base (p.base + size p) q a ≡ false = λ a. part-other r p.base (p.base + size p) q a n in
+        subst (λ rs. Agrees t new q rs) (sym here) (agrees-same t old new q (get_or routes q.0 []) (begin-same old new w.begins) (λ a l. w.other_rules q a (away a)) (λ a l. w.other_targets q a (away a)) (h.agree q i)))
+        (cases_eq q.0 r.0)
+
+    pub whole-made : IsWhole (kept_of t new made)
+    whole-made = record {
+      few = h.few;
+      cover = cover;
+      wide = wide;
+      tables = ap length u.placed ∙ length-set routes r.0 u.made ∙ h.tables;
+      agree = made-agrees;
+    }
+
+    pub remade : IsRemade (kept_of t old routes) (kept_of t new made) r op changes
+    remade = record {
+      whole = whole-made;
+      topology = refl;
+      routes = u;
+      begins = w.begins;
+      form = w.form;
+      tells = made-tells;
+    }
+
+-- ---- clearings and settings
+
+-- a clearing cuts nothing
+clears-no_end : (op : Op) (p : Cidr) (a : ℕ) → IsClearOf op p → sets_end a op ≡ false
+clears-no_end (Set q m t) p a h = absurd h
+clears-no_end (Clear q m) p a h = refl
+
+or-none : (x y : Bool) → y ≡ false → x ≡ (x || y)
+or-none true y e = refl
+or-none false y e = sym e
+
+pub cleared : (old new : Kept) (r : RouterId) (op : Op) (p : Cidr) (changes : List Change) → IsClearOf op p → IsRemade old new r op changes → IsUpdated old new r op changes
+cleared old new r op p changes c h = record {
+  whole = h.whole;
+  topology = h.topology;
+  routes = h.routes;
+  begins = λ a l. h.begins a ∙ or-none (begins_at old.atoms a) (sets_end a op) (clears-no_end op p a c);
+  form = h.form;
+  tells = h.tells;
+}
+
+-- where the router has no route of the prefix it changes nothing
+nothing-cleared : (routes : List Route) (op : Op) (p : Cidr) → IsClearOf op p → ((x : Route) → Contains routes x → is_of_prefix p x ≡ false) → after_op routes op ≡ routes
+nothing-cleared routes (Set q m t) p h none = absurd h
+nothing-cleared routes (Clear q m) p h none = no-route-of-prefix routes q m (λ x i. subst (λ (s : Cidr). is_of_prefix s x ≡ false) (sym h) (none x i))
+
+pub unchanged : (old : Kept) (r : RouterId) (op : Op) (p : Cidr) (routes : List Route) (changes : List Change) → IsWhole old → r.0 < length old.topology.routers → IsClearOf op p → routes ≡ get_or old.routes r.0 routes → ((x : Route) → Contains routes x → is_of_prefix p x ≡ false) → changes ≡ [] → IsUpdated old old r op changes
+unchanged old r op p routes changes whole inside c at none told =
+    let within : r.0 < length old.routes = subst (λ n. r.0 < n) (sym whole.tables) inside in
+    let here : routes ≡ get_or old.routes r.0 [] = at ∙ get_or_default old.routes r.0 routes [] within in
+    let same : after_op (get_or old.routes r.0 []) op ≡ get_or old.routes r.0 [] = nothing-cleared (get_or old.routes r.0 []) op p c (subst (λ (rs : List Route). (x : Route) → Contains rs x → is_of_prefix p x ≡ false) here none) in
+    subst (λ cs. IsUpdated old old r op cs) (sym told) (record {
+      whole = whole;
+      topology = refl;
+      routes = record {
+        inside = within;
+        made = get_or old.routes r.0 [];
+        as_updated = subst (λ rs. IsPermutation (get_or old.routes r.0 []) rs) (sym same) (IsPermutation-refl (get_or old.routes r.0 []));
+        placed = sym (set-get_or old.routes r.0 []);
+      };
+      begins = λ a l. or-none (begins_at old.atoms a) (sets_end a op) (clears-no_end op p a c);
+      form = tt;
+      tells = λ q a l. refl;
+    })
+
+-- a route's prefix has its ends
+pub route-ends : (old : Kept) (r : RouterId) (p : Cidr) (routes : List Route) → IsWhole old → r.0 < length old.topology.routers → routes ≡ get_or old.routes r.0 routes → HasRouteOf routes p → BeginsAtEnds old.atoms p
+route-ends old r p routes whole inside at has =
+    let within : r.0 < length old.routes = subst (λ n. r.0 < n) (sym whole.tables) inside in
+    let here : routes ≡ get_or old.routes r.0 [] = at ∙ get_or_default old.routes r.0 routes [] within in
+    let ends : HasEnds old.atoms has.route = (whole.agree r inside).ends has.route (subst (λ rs. Contains rs has.route) here has.among) in
+    let mine : BeginsAtEnds old.atoms has.route.prefix = record { first = ends.first; past = ends.past } in
+    subst (λ (q : Cidr). BeginsAtEnds old.atoms q) has.prefix mine
+
+-- a setting cuts atoms first
+sets-ends : (op : Op) (p : Cidr) (a : ℕ) → IsSetOf op p → is_end_of p a ≡ sets_end a op
+sets-ends (Set q m t) p a h = ap (λ (s : Cidr). is_end_of s a) (sym h)
+sets-ends (Clear q m) p a h = absurd h
+
+pub set-after_cut : (old mid new : Kept) (r : RouterId) (op : Op) (p : Cidr) (changes : List Change) → IsSetOf op p → IsCutAt old mid p → IsRemade mid new r op changes → IsUpdated old new r op changes
+set-after_cut old mid new r op p changes s cut h = record {
+  whole = h.whole;
+  topology = h.topology ∙ cut.topology;
+  routes = subst (λ rs. UpdatesAt r.0 op rs new.routes) cut.routes h.routes;
+  begins = λ a l. h.begins a ∙ cut.parted.begins a l ∙ ap (λ b. begins_at old.atoms a || b) (sets-ends op p a s);
+  form = h.form;
+  tells = λ q a l. subst (λ u. TellsChange u (target_at new.atoms q a) (change_at changes q a)) (cut.parted.targets q a l) (h.tells q a l);
+}
+
+pub clear-prefix : (op : Op) (p : Cidr) → IsClearOf op p → prefix_of_op op ≡ p
+clear-prefix (Set q m t) p h = absurd h
+clear-prefix (Clear q m) p h = h
+
+pub set-prefix : (op : Op) (p : Cidr) → IsSetOf op p → prefix_of_op op ≡ p
+set-prefix (Set q m t) p h = h
+set-prefix (Clear q m) p h = absurd h
+
+-- ---- as the fields of a version are
+
+pub wide-for : (n m : ℕ) (atoms : List Atom) → n ≡ m → AreWide n atoms → AreWide m atoms
+wide-for n m atoms e h = subst (λ k. AreWide k atoms) e h
+
+pub whole-now : (kept now : Kept) → kept ≡ now → IsWhole kept → IsWhole now
+whole-now kept now view h = subst (λ (k : Kept). IsWhole k) view h
+
+-- a table that was read at a place
+pub read-now : (kept now : Kept) (r : RouterId) (at : ℕ) (routes : List Route) → kept ≡ now → at ≡ r.0 → routes ≡ get_or kept.routes at routes → routes ≡ get_or now.routes r.0 routes
+read-now kept now r at routes view e h = h ∙ ap (λ n. get_or kept.routes n routes) e ∙ ap (λ (k : Kept). get_or k.routes r.0 routes) view
+
+pub cut-made : (now : Kept) (t : Topology) (old new : List Atom) (routes : List (List Route)) (p : Cidr) → kept_of t old routes ≡ now → IsWhole (kept_of t old routes) → CoverFrom first_of past_of 0 new → AreWide (length t.routers) new → IsCidr p → IsParted old new p → IsCutAt now (kept_of t new routes) p
+cut-made now t old new routes p view h cover wide cidr parted = subst (λ (k : Kept). IsCutAt k (kept_of t new routes) p) view (record {
+  whole = whole-parted t old new routes p h cover wide parted;
+  topology = refl;
+  routes = refl;
+  parted = parted;
+  ends = parted-ends old new p cidr parted;
+})
+
+pub update-made : (now : Kept) (t : Topology) (old new : List Atom) (routes made : List (List Route)) (r : RouterId) (op : Op) (changes : List Change) (p : Cidr) (at lo hi : ℕ) → kept_of t old routes ≡ now → IsWhole (kept_of t old routes) → CoverFrom first_of past_of 0 new → AreWide (length t.routers) new → r.0 < length now.topology.routers → IsOpOf now.topology op → prefix_of_op op ≡ p → IsCidr p → BeginsAtEnds now.atoms p → at ≡ r.0 → UpdatesAt at op routes made → lo ≡ p.base → hi ≡ p.base + size p → IsWalked old new [] changes r op lo hi → IsRemade now (kept_of t new made) r op changes
+update-made now t old new routes made r op changes p at lo hi view h cover wide inside own is cidr ends place u low high w =
+    let walked : IsWalked old new [] changes r op p.base (p.base + size p) = subst (λ n. IsWalked old new [] changes r op p.base n) high (subst (λ n. IsWalked old new [] changes r op n hi) low w) in
+    let back : now ≡ kept_of t old routes = sym view in
+    subst (λ (k : Kept). IsRemade k (kept_of t new made) r op changes) view
+    (remade old new r op changes p walked t routes made h cover wide
+    (subst (λ (k : Kept). r.0 < length k.topology.routers) back inside)
+    (subst (λ (k : Kept). IsOpOf k.topology op) back own)
+    is cidr
+    (subst (λ (k : Kept). BeginsAtEnds k.atoms p) back ends)
+    (subst (λ n. UpdatesAt n op routes made) place u))
+
+-- ---- the first version
+
+first-is : (t : Topology) (n : ℕ) (atoms : List Atom) (routes : List (List Route)) → n ≡ length t.routers → atoms ≡ first_atom n ∷ [] → routes ≡ replicate n [] → kept_of t atoms routes ≡ first_kept t
+first-is t n atoms routes count e f =
+    ap (λ xs. kept_of t xs routes) (e ∙ ap (λ k. first_atom k ∷ []) count)
+    ∙ ap (λ rs. kept_of t (first_atom (length t.routers) ∷ []) rs) (f ∙ ap (λ k. replicate k []) count)
+
+pub empty-whole : (t : Topology) (n : ℕ) (atoms : List Atom) (routes : List (List Route)) → n ≤ 1024 → n ≡ length t.routers → atoms ≡ first_atom n ∷ [] → routes ≡ replicate n [] → IsWhole (kept_of t atoms routes)
+empty-whole t n atoms routes few count e f =
+    subst (λ (k : Kept). IsWhole k) (sym (first-is t n atoms routes count e f)) (first-whole t (subst (λ k. k ≤ 1024) count few))
+
+pub empty-stands : (t : Topology) (n : ℕ) (atoms : List Atom) (routes : List (List Route)) → n ≤ 1024 → n ≡ length t.routers → atoms ≡ first_atom n ∷ [] → routes ≡ replicate n [] → KeptStandsFor (kept_of t atoms routes) []
+empty-stands t n atoms routes few count e f =
+    subst (λ (k : Kept). KeptStandsFor k []) (sym (first-is t n atoms routes count e f)) (first-stands t (subst (λ k. k ≤ 1024) count few))

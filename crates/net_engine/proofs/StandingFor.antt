@@ -1,0 +1,140 @@
+-- What is kept stands for a history.
+use Rattle.std.proofs.Common.{◌≡◌, ℕ, ◌<◌, ◌≤◌, ◌^◌, ◌∙◌, ◌||◌, ⊎_elim, Bool, true, false, Option, None, Some, option_map, List, [], ◌∷◌, ◌++◌, length, get_or, refl, ap, sym, subst, arith, eqb}
+use Rattle.std.specs.List.{list_any}
+use Rattle.std.proofs.lemmas.Bool.{cases_Bool, cases_lt}
+use Rattle.std.proofs.lemmas.List.{get_or_past}
+use Rattle.std.proofs.lemmas.List.Folds.{list_any-append}
+use Rattle.dn_model.specs.Labels.{AreEachLabels, AreLabels, DoesAfter, IsLabel, hi_of, label_at, lo_of}
+use Rattle.dn_model.specs.Routes.{IsTable, SameRoutes}
+use Rattle.dn_model.specs.Rows.{is_within, CoverFrom}
+use Rattle.dn_model.specs.Table.{best, table, target}
+use Rattle.dn_model.specs.Version.{Atom, Kept, KeptStandsFor, atom_at, begins_at, first_of, is_boundary_after, labels_of, past_of, rules_at, sets_end, target_at, target_in_atom}
+use Rattle.dn_model.specs.declared.entry.Entry.{Entry}
+use Rattle.dn_model.specs.declared.entry.Route.{Route}
+use Rattle.dn_model.specs.declared.ids.LinkId.{LinkId}
+use Rattle.dn_model.specs.declared.ids.RouterId.{RouterId}
+use Rattle.dn_model.specs.declared.label_row.LabelRow.{LabelRow}
+use Rattle.dn_model.specs.declared.target.Target.TheVariants.{NoRoute, To}
+use Rattle.dn_model.proofs.Best.{best-is, contains-none}
+use Rattle.dn_model.proofs.Covers.{holder-first, holder-rest, starts-below, within-above, within-yes}
+use Rattle.dn_model.proofs.SameRoutes.{same-target}
+use Rattle.dn_model.proofs.Within.{within-best}
+use Rattle.net_engine.specs.Net.{AreWide}
+use Rattle.net_engine.specs.Whole.{Agrees, IsWhole}
+use Rattle.net_engine.proofs.Held.{Holds, holds}
+use Rattle.net_engine.proofs.Owned.{owners-same}
+use Rattle.net_engine.proofs.Touched.{wide-at}
+-- a router's own update makes its routes those after it, and another router's leaves them
+pub use Rattle.dn_model.proofs.SameRoutes.{same-own as own-table, same-other as other-table}
+
+-- ---- boundaries
+
+or-pushed : (p q r : Bool) → (p || (q || (r || false))) ≡ ((p || q) || r)
+or-pushed true q r = refl
+or-pushed false true r = refl
+or-pushed false false true = refl
+or-pushed false false false = refl
+
+pub boundary-after : (history : List Entry) (e : Entry) (a : ℕ) → is_boundary_after (history ++ e ∷ []) a ≡ (is_boundary_after history a || sets_end a e.op)
+boundary-after history e a =
+    ap (λ b. eqb a 0 || b) (list_any-append (λ (x : Entry). sets_end a x.op) history (e ∷ []))
+    ∙ or-pushed (eqb a 0) (list_any (λ (x : Entry). sets_end a x.op) history) (sets_end a e.op)
+
+-- ---- labels
+
+-- the row of an address is the label of its atom
+pub label-of_atom : (xs : List Atom) (a : ℕ) → label_at (labels_of xs) a ≡ option_map (λ (x : Atom). x.label) (atom_at xs a)
+label-of_atom [] a = refl
+label-of_atom (x ∷ xs) a = ⊎_elim
+    (λ (t : is_within x.label.lo x.label.hi a ≡ true).
+    holder-first lo_of hi_of x.label (labels_of xs) a t ∙ sym (ap (option_map (λ (z : Atom). z.label)) (holder-first first_of past_of x xs a t)))
+    (λ (f : is_within x.label.lo x.label.hi a ≡ false).
+    holder-rest lo_of hi_of x.label (labels_of xs) a f ∙ label-of_atom xs a ∙ sym (ap (option_map (λ (z : Atom). z.label)) (holder-rest first_of past_of x xs a f)))
+    (cases_Bool (is_within x.label.lo x.label.hi a))
+
+labels-cover : (start : ℕ) (xs : List Atom) → CoverFrom first_of past_of start xs → CoverFrom lo_of hi_of start (labels_of xs)
+labels-cover start [] h = h
+labels-cover start (x ∷ xs) h = (h.0, h.1, labels-cover (past_of x) xs h.2)
+
+-- where routers go on to those that there are, at each address from where the atoms start
+abbrev LeadWithin : ℕ → ℕ → List Atom → Type 0
+LeadWithin routers start xs = (r s : RouterId) (l : LinkId) (a : ℕ) → start ≤ a → a < 2 ^ 32 → target_at xs r a ≡ To s l → s.0 < routers
+
+each-labels : (routers start : ℕ) (xs : List Atom) → CoverFrom first_of past_of start xs → AreWide routers xs → LeadWithin routers start xs → AreEachLabels routers (labels_of xs)
+each-labels routers start [] h wide lead = tt
+each-labels routers start (x ∷ xs) h wide lead =
+    let begins : first_of x ≡ start = h.0 in
+    let order : first_of x < past_of x = h.1 in
+    let ends : past_of x ≤ 2 ^ 32 = starts-below first_of past_of (past_of x) xs h.2 in
+    let here : IsLabel routers x.label = record {
+      all = wide.0.targets;
+      within = λ r s l e. lead r s l (first_of x) (omega arith) (omega arith)
+          (ap (λ o. target_in_atom o r) (holder-first first_of past_of x xs (first_of x) (within-yes (first_of x) (past_of x) (first_of x) (omega arith) order)) ∙ e);
+    } in
+    let rest : LeadWithin routers (past_of x) xs = λ r s l a from below e.
+    lead r s l a (omega arith) below (ap (λ o. target_in_atom o r) (holder-rest first_of past_of x xs a (within-above (first_of x) (past_of x) a from)) ∙ e) in
+    (here, each-labels routers (past_of x) xs h.2 wide.1 rest)
+
+-- a router that there isn't has no route
+pub target-past : (routers : ℕ) (xs : List Atom) (r : RouterId) (a : ℕ) → AreWide routers xs → routers ≤ r.0 → target_at xs r a ≡ NoRoute
+target-past routers xs r a wide past = by (atom_at xs a) refl
+  where
+    by : (o : Option Atom) → atom_at xs a ≡ o → target_in_atom o r ≡ NoRoute
+    by None e = refl
+    by (Some x) e = let w : length x.label.targets ≡ routers = (wide-at routers xs a x wide e).targets in get_or_past x.label.targets r.0 NoRoute (omega arith)
+
+no-route-to : (s : RouterId) (l : LinkId) → NoRoute ≡ To s l → ⊥
+no-route-to s l e = cc
+
+module _ (kept : Kept) (whole : IsWhole kept) where
+  lead-within : LeadWithin (length kept.topology.routers) 0 kept.atoms
+  lead-within r s l a from below e = ⊎_elim
+      (λ (i : r.0 < length kept.topology.routers).
+      let g : Agrees kept.topology kept.atoms r (get_or kept.routes r.0 []) = whole.agree r i in
+      within-best kept.topology (get_or kept.routes r.0 []) a (best (get_or kept.routes r.0 []) a) s l g.targets (best-is (get_or kept.routes r.0 []) a) (sym (g.labels a below) ∙ e))
+      (λ (o : length kept.topology.routers ≤ r.0). absurd (no-route-to s l (sym (target-past (length kept.topology.routers) kept.atoms r a whole.wide o) ∙ e)))
+      (cases_lt r.0 (length kept.topology.routers))
+
+  -- the atoms' labels are labels
+  pub are-labels : AreLabels (length kept.topology.routers) (labels_of kept.atoms)
+  are-labels = record {
+    few = whole.few;
+    cover = labels-cover 0 kept.atoms whole.cover;
+    each = each-labels (length kept.topology.routers) 0 kept.atoms whole.cover whole.wide lead-within;
+  }
+
+  -- ---- what is kept stands for a history whose tables and boundaries it has
+  module _ (history : List Entry) (same : (r : RouterId) → SameRoutes (get_or kept.routes r.0 []) (table history r)) where
+    empty-table : IsTable []
+    empty-table = record { keys = refl; prefixes = λ r h. absurd (contains-none r h) }
+
+    past-target : (r : RouterId) (a : ℕ) → length kept.topology.routers ≤ r.0 → NoRoute ≡ target history r a
+    past-target r a o =
+        let n : length kept.routes ≡ length kept.topology.routers = whole.tables in
+        let none : get_or kept.routes r.0 [] ≡ [] = get_or_past kept.routes r.0 [] (omega arith) in
+        let P : List Route → Type 0 = λ xs. SameRoutes xs (table history r) in
+        same-target [] history r a empty-table (subst P none (same r))
+
+    -- each router does what the history comes to
+    pub does-after : (r : RouterId) (a : ℕ) → a < 2 ^ 32 → target_at kept.atoms r a ≡ target history r a
+    does-after r a below = ⊎_elim
+        (λ (i : r.0 < length kept.topology.routers).
+        let g : Agrees kept.topology kept.atoms r (get_or kept.routes r.0 []) = whole.agree r i in
+        g.labels a below ∙ same-target (get_or kept.routes r.0 []) history r a g.table (same r))
+        (λ (o : length kept.topology.routers ≤ r.0). target-past (length kept.topology.routers) kept.atoms r a whole.wide o ∙ past-target r a o)
+        (cases_lt r.0 (length kept.topology.routers))
+
+    row-does : (r : RouterId) (a : ℕ) → a < 2 ^ 32 → DoesAfter (label_at (labels_of kept.atoms) a) history r a
+    row-does r a below =
+        let w : Holds first_of past_of kept.atoms a = holds first_of past_of 0 kept.atoms a whole.cover (omega arith) below in
+        let row : label_at (labels_of kept.atoms) a ≡ Some w.row.label = label-of_atom kept.atoms a ∙ ap (option_map (λ (x : Atom). x.label)) w.is in
+        let P : Option LabelRow → Type 0 = λ o. DoesAfter o history r a in
+        subst P (sym row) (ap (λ o. target_in_atom o r) (sym w.is) ∙ does-after r a below)
+
+    pub stands : ((a : ℕ) → a < 2 ^ 32 → begins_at kept.atoms a ≡ is_boundary_after history a) → KeptStandsFor kept history
+    stands boundaries = record {
+      rows = record { form = are-labels; exact = row-does };
+      routes = same;
+      owners = λ r a i below. owners-same (rules_at kept.atoms r a) (get_or kept.routes r.0 []) (table history r) a (same r) ((whole.agree r i).owners a below);
+      boundaries = boundaries;
+    }

@@ -1,12 +1,10 @@
 -- A version that goes on, and what its rows say of a history.
-use Rattle.std.proofs.Common.{◌≡◌, ℕ, zero, suc, ◌<◌, ◌≤◌, ◌^◌, ◌++◌, ◌∷◌, [], List, Option, None, Some, length, get_or, refl, ap, sym, ◌∙◌, subst, arith}
+use Rattle.std.proofs.Common.{◌≡◌, ℕ, zero, suc, ◌<◌, ◌≤◌, ◌^◌, ◌∷◌, [], List, Option, None, Some, length, get_or, refl, ap, sym, ◌∙◌, subst, arith}
 use Rattle.std.specs.List.{All}
 use Rattle.std.proofs.lemmas.List.{get_or_past}
-use Rattle.std.proofs.lemmas.List.Elements.{All-map}
-use Rattle.dn_model.specs.Delta.{IsDelta, AreChanges}
+use Rattle.dn_model.specs.Delta.{IsDelta}
 use Rattle.dn_model.specs.Entry.{IsEntryOf, IsOpOf}
 use Rattle.dn_model.specs.Labels.{AreEachLabels, DoesAfter, IsLabel, StandsFor, hi_of, label_at, lo_of, target_of}
-use Rattle.dn_model.specs.Steps.{entries_by}
 use Rattle.dn_model.specs.Table.{target}
 use Rattle.dn_model.specs.Version.{Kept, KeptStandsFor}
 use Rattle.dn_model.specs.Walk.{next, without}
@@ -20,7 +18,7 @@ use Rattle.dn_model.specs.declared.target.Target.{Target}
 use Rattle.dn_model.specs.declared.target.Target.TheVariants.{NoRoute}
 use Rattle.dn_model.specs.declared.topology.Topology.{Topology}
 use Rattle.dn_model.proofs.Covers.{high-at, holder-at}
-use Rattle.dn_run.specs.Latest.{After, CanMake, IsOf, Latest}
+use Rattle.dn_run.specs.Latest.{After, CanMake, CanMakeAll, IsOf, Latest}
 
 -- ---- updates of the network
 
@@ -29,14 +27,19 @@ can-make : (t : Topology) (version : Option Kept) (e : Entry) → IsOf t version
 can-make t None e of is = of
 can-make t (Some kept) e of is = subst (λ (s : Topology). IsEntryOf s e) (sym of) is
 
-pub can-make-all : (t : Topology) (version : Option Kept) (feed_no : ℕ) (r : RouterId) (ops : List Op) → IsOf t version → r.0 < length t.routers → All (IsOpOf t) ops → All (CanMake version) (entries_by feed_no r ops)
-can-make-all t version feed_no r ops of within are =
-    All-map (CanMake version) (λ op. record { router = r; feed_no = feed_no; op = op }) ops (λ k d i. can-make t version _ of (record { router = within; op = are k d i }))
+pub can-make-all : (t : Topology) (version : Option Kept) (feed_no : ℕ) (r : RouterId) (ops : List Op) → IsOf t version → r.0 < length t.routers → All (IsOpOf t) ops → CanMakeAll version feed_no r ops
+can-make-all t version feed_no r ops of within are = λ k d i. can-make t version _ of (record { router = within; op = are k d i })
 
 -- and so can one that goes on from it
 pub can-make-on : (old new : Option Kept) (e : Entry) → ((t : Topology) → IsOf t old → IsOf t new) → CanMake old e → CanMake new e
 can-make-on None new e on can = absurd can
 can-make-on (Some kept) new e on can = can-make kept.topology new e (on kept.topology refl) can
+
+-- the version that there is stands for the history
+pub stands-there : (latest : Latest) (version : Kept) (history : List Entry) → latest.version ≡ Some version → After latest history → KeptStandsFor version history
+stands-there latest version history there after =
+    let same : after.kept ≡ version = (let both : Some after.kept ≡ Some version = sym after.there ∙ there in cc) in
+    subst (λ (k : Kept). KeptStandsFor k history) same after.stands
 
 -- ---- before any update
 

@@ -26,6 +26,12 @@ entries_by-append n r (x ∷ xs) ys = ap (λ es. record { router = r; feed_no = 
 pub split : (n : ℕ) (r : RouterId) (xs ys : List FrameStep) → entries_by n r (updates (xs ++ ys)) ≡ entries_by n r (updates xs) ++ entries_by n r (updates ys)
 split n r xs ys = ap (entries_by n r) (updates-append xs ys) ∙ entries_by-append n r (updates xs) (updates ys)
 
+-- the entries of some updates, and of one more
+pub posted-more : (n : ℕ) (r : RouterId) (ops more : List Op) (op : Op) (before : List Entry) → more ≡ ops ++ op ∷ [] → before ++ entries_by n r more ≡ (before ++ entries_by n r ops) ++ record { router = r; feed_no = n; op = op } ∷ []
+posted-more n r ops more op before is =
+    ap (λ os. before ++ entries_by n r os) is ∙ ap (λ es. before ++ es) (entries_by-append n r ops (op ∷ []))
+    ∙ sym (append_assoc before (entries_by n r ops) (record { router = r; feed_no = n; op = op } ∷ []))
+
 -- a reader that answers the same end ever again had none where its answer isn't that end
 pub end-before_ops : {P : Type 0} (end answered : Option FeedEnd) → answered ≡ None → ((e : FeedEnd) → end ≡ Some e → P × (answered ≡ Some e)) → end ≡ None
 end-before_ops None answered none never = refl

@@ -1,10 +1,12 @@
 -- The version of a network after a history, with the changes that its last entry made.
-use Rattle.std.specs.Prelude.{◌≡◌, List, Option, None, Some}
+use Rattle.std.specs.Prelude.{◌≡◌, ℕ, List, All, Option, None, Some}
 use Rattle.dn_model.specs.Delta.{IsDelta}
 use Rattle.dn_model.specs.Entry.{IsEntryOf}
 use Rattle.dn_model.specs.Version.{Kept, KeptStandsFor}
 use Rattle.dn_model.specs.declared.change.Change.{Change}
 use Rattle.dn_model.specs.declared.entry.Entry.{Entry}
+use Rattle.dn_model.specs.declared.entry.Op.{Op}
+use Rattle.dn_model.specs.declared.ids.RouterId.{RouterId}
 use Rattle.dn_model.specs.declared.topology.Topology.{Topology}
 
 -- a version, if there is one, and the changes of the last update
@@ -26,6 +28,10 @@ IsOf t (Some kept) = kept.topology ≡ t
 abbrev pub CanMake : Option Kept → Entry → Type 0
 CanMake None e = ⊥
 CanMake (Some kept) e = IsEntryOf kept.topology e
+
+-- there is a version, whose network may have these updates of a router
+abbrev pub CanMakeAll : Option Kept → ℕ → RouterId → List Op → Type 0
+CanMakeAll version feed_no router ops = All (λ op. CanMake version (record { router = router; feed_no = feed_no; op = op })) ops
 
 -- the version stands for this history, and the changes are those that its last entry made
 pub record After (latest : Latest) (history : List Entry) : Type 0 where

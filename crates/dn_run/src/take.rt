@@ -1,10 +1,10 @@
 //! Frames of a feed are taken: version and history follow it, frame by frame.
 
-ghost use Rattle.std.specs.Prelude.{◌≡◌, ℕ, ◌<◌, ◌≤◌, ◌++◌, ◌∷◌, [], List, length, OnOk, IfOk, is_none, Some, None, IsSome, true, All};
+ghost use Rattle.std.specs.Prelude.{◌≡◌, ℕ, ◌<◌, ◌≤◌, ◌++◌, ◌∷◌, [], List, length, OnOk, IfOk, is_none, Some, None, IsSome, true};
 ghost use Rattle.dn_model.specs.Steps.{entries_by};
 ghost use Rattle.dn_model.specs.declared.entry.Entry.{Entry};
 ghost use Rattle.dn_model.specs.declared.topology.Topology.{Topology as TopologyIs};
-ghost use Rattle.dn_run.specs.Latest.{After, CanMake, IsOf};
+ghost use Rattle.dn_run.specs.Latest.{After, CanMake, CanMakeAll, IsOf};
 ghost use Rattle.dn_run.specs.Network.{entries};
 ghost use Rattle.dn_run.specs.Takes.{TakesOne, TakesSome, Moves, tag_of};
 
@@ -51,7 +51,7 @@ fn post_all<G: Gate>(
     gate: &G,
     job: u32,
 ) -> Result<(), OutOfMemory>
-    requires { All (CanMake latest.old.version) (entries_by feed_no router ops.now) }
+    requires { CanMakeAll latest.old.version feed_no router ops.now }
     ensures of { OnOk result ((t : TopologyIs) → IsOf t latest.old.version → IsOf t latest.new.version) }
     ensures grows { OnOk result (entries history.new ≡ entries history.old ++ entries_by feed_no router ops.now) }
     ensures after { OnOk result ((before : List Entry) → After latest.old before → After latest.new (before ++ entries_by feed_no router ops.now)) }

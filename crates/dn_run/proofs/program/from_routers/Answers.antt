@@ -9,7 +9,7 @@ use Rattle.dn_run.proofs.program.from_routers.Goals as goal
 
 pub returns-in-Err-Line-clause-stage : goal.returns-in-Err-Line-clause-stage
 returns-in-Err-Line-clause-stage g c =
-    let refused = rw (c.in-Err-Line.field-0-is, c.as_slice.ensures.value) at c.in-Err-Line.ensures.refused in
+    let refused = rw (c.in-Err-Line.field-0-is, c.as_slice.ensures.value, c.deref.ensures) at c.in-Err-Line.ensures.refused in
     stage-none (λ x fs calls. FromRouters (parts_texts c.args.parts.now) fs (arc_value c.args.topology.now) calls x.verdict x.text.items)
     (λ x. x.verdict) c.refusal.result (g.W.World.files c.args.world.now) (g.W.World.calls c.args.world.now)
     (script_files (parts_texts c.args.parts.now).scripts ++ feed_files (parts_texts c.args.parts.now).feeds)

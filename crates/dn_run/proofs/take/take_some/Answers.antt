@@ -9,3 +9,6 @@ loop-taken-preserved g c = record {
   moves = moves-more c.args.topology.now g.S.Source.faults c.args.reader.now c.loop-taken.reader c.take_frame.new.reader c.args.book.now c.loop-taken.book c.take_frame.new.book c.loop-taken.invariant.moves c.in_ok-take_frame.ensures.moves (ap (λ g. g.limit) c.loop-taken.invariant.same);
   same = c.take_frame.ensures.same ∙ c.loop-taken.invariant.same;
 }
+
+pub returns-then-not-branch-clause-moves : goal.returns-then-not-branch-clause-moves
+returns-then-not-branch-clause-moves g c = moves-more c.args.topology.now g.S.Source.faults c.args.reader.now c.loop-taken.reader c.take_frame.new.reader c.args.book.now c.loop-taken.book c.take_frame.new.book c.loop-taken.invariant.moves c.in_ok-take_frame.ensures.moves (ap (λ g. g.limit) c.loop-taken.invariant.same)

@@ -8,7 +8,9 @@ ghost use Rattle.dn_run.specs.Latest.{After, IsOf};
 
 use crate::latest::Latest;
 use crate::walk::walk_by;
-use dn_model::{Answer, Ask, LinkId, List, Name, OutOfMemory, Query, RouterId, Topology, link, router};
+use dn_model::{
+    Answer, Ask, LinkId, List, Name, OutOfMemory, Query, RouterId, Topology, link, router,
+};
 use std::alloc::Global;
 
 /// The links with these names.

@@ -371,7 +371,9 @@ fn what_one_update_changes(rt: HostRuntime) -> Result<(), Fail> {
     ];
     for (bytes, update, change) in cases {
         let came = come_to(alloc, &USUAL, RING, "take r1 all\ndelta\n", bytes)?;
-        let text = format!(in alloc; "feed 1 r1 updates 1 skipped 0 refused 0 end\nhistory 1\n1 feed 1 r1 set {update}\njob 1\nline 2 at 1 delta\nr1 {change}\ndone\n")?;
+        let text = format!(in alloc;
+            "feed 1 r1 updates 1 skipped 0 refused 0 end\nhistory 1\n1 feed 1 r1 set {update}\njob 1\nline 2 at 1 delta\nr1 {change}\ndone\n"
+        )?;
         assert_eq!(rt; came.status, Status::Done, "{update}");
         assert_eq!(rt; came.written.as_slice(), text.as_bytes(), "{update}");
     }
@@ -414,13 +416,12 @@ fn a_path_over_three_feeds(rt: HostRuntime) -> Result<(), Fail> {
 fn a_loop_of_two_of_three(rt: HostRuntime) -> Result<(), Fail> {
     let alloc = rt.alloc();
     let words = ["deltanet", "run", "topology", "r1=f1", "r3=f2", "@script"];
-    let script =
-        "take r1 all\ntake r3 all\npath r1 10.0.0.0\nwithout c path r1 10.0.0.0\n";
+    let script = "take r1 all\ntake r3 all\npath r1 10.0.0.0\n";
     let came = come_to(alloc, &words, RING, script, &set_frame(0, 8, 3))?;
     assert_eq!(rt; came.status, Status::Done);
     assert_eq!(rt;
         came.written.as_slice(),
-        b"feed 1 r1 updates 1 skipped 0 refused 0 end\nfeed 2 r3 updates 1 skipped 0 refused 0 end\nhistory 2\n1 feed 1 r1 set 10.0.0.0/8 metric 20 to r3 by c\n2 feed 2 r3 set 10.0.0.0/8 metric 20 to r1 by c\njob 1\nline 3 at 2 path r1 10.0.0.0\nhops r1 r3 r1 r3\nend loop\nline 4 at 2 without c path r1 10.0.0.0\nhops r1\nend linkdown c\ndone\n".as_slice()
+        b"feed 1 r1 updates 1 skipped 0 refused 0 end\nfeed 2 r3 updates 1 skipped 0 refused 0 end\nhistory 2\n1 feed 1 r1 set 10.0.0.0/8 metric 20 to r3 by c\n2 feed 2 r3 set 10.0.0.0/8 metric 20 to r1 by c\njob 1\nline 3 at 2 path r1 10.0.0.0\nhops r1 r3 r1 r3\nend loop\ndone\n".as_slice()
     );
     Ok(())
 }

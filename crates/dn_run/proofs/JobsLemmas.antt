@@ -13,7 +13,7 @@ use Rattle.dn_model.specs.Feed.{AreSteps}
 use Rattle.dn_model.specs.Frames.{IsFrame, Frame}
 use Rattle.dn_model.specs.Lawful.{Job, Tells, TellsAll, KeepsOrder, IsShuffle, jobs_of, entries_of_job, takes, takes_feed, left_by, is_from, is_from_some}
 use Rattle.dn_model.specs.Steps.{FrameStep, FeedRead, updates, entries_by, entries_of}
-use Rattle.dn_run.specs.Tables.{TablesOf}
+use Rattle.dn_run.specs.Latest.{After, IsOf}
 use Rattle.dn_model.specs.Topology.{all_differ}
 use Rattle.dn_model.specs.declared.entry.Entry.{Entry}
 use Rattle.dn_model.specs.declared.entry.Posted.{Posted}
@@ -111,12 +111,12 @@ tracks-start {S = S} t left faults readers history empty fresh numbered apart =
       whatever = λ fs zip. record { order = refl; tells = λ later. tt };
     })
 
-pub ready-start : {S : Type 0} (t : Topology) (faults : S → ℕ) (readers : List (Reader S)) (book : Book) → book.history ≡ [] → length book.tables ≡ length t.routers → TablesOf book.tables [] →
+pub ready-start : {S : Type 0} (t : Topology) (faults : S → ℕ) (readers : List (Reader S)) (book : Book) → book.history ≡ [] → IsOf t book.latest.version → After book.latest [] →
     All (IsFresh t faults) readers → length readers ≤ 64 → Ready t readers book
-ready-start {S = S} t faults readers book empty len of fresh few = record {
+ready-start {S = S} t faults readers book empty of after fresh few = record {
   routers = λ k d i. (fresh k d i).router;
-  len = len;
-  of_history = subst (λ (es : List Entry). TablesOf book.tables es) (sym (ap entries empty)) of;
+  version = of;
+  follows = subst (λ (es : List Entry). After book.latest es) (sym (ap entries empty)) after;
   few = few;
   limits = λ k d i. (fresh k d i).limit;
   within = λ k d i. (let p : (get_or readers k d).passed ≡ 0 = (fresh k d i).passed in omega arith);

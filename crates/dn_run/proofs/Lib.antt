@@ -2,6 +2,7 @@ pub mod CallsLemmas
 pub mod CommandLineLemmas
 pub mod FeedsLemmas
 pub mod JobsLemmas
+pub mod LatestLemmas
 pub mod LoadLemmas
 pub mod OrderLemmas
 pub mod OwnLemmas
@@ -15,7 +16,6 @@ pub mod RoutersLemmas
 pub mod ScriptJobLemmas
 pub mod StepLemmas
 pub mod StrandLemmas
-pub mod TablesLemmas
 pub mod TakesLemmas
 pub mod TellLemmas
 pub mod TracksLemmas

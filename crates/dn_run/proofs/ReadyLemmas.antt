@@ -37,7 +37,7 @@ pub same_tags : {S : Type 0} (place : S → ℕ) (readers : List (Reader S)) (at
 same_tags place readers at v new value same = map-set_same (tag_of place) readers at new v (same ∙ ap (tag_of place) value)
 
 pub ready-took : {S A E : Type 0} (result : Result A E) (t : Topology) (place faults : S → ℕ) (readers : List (Reader S)) (at : ℕ) (v new : Reader S) (b b' : Book) →
-    at < length readers → v ≡ get_or readers at v → tag_of place new ≡ tag_of place v → Ready t readers b → OnOk result (Moves faults v new b b') →
+    at < length readers → v ≡ get_or readers at v → tag_of place new ≡ tag_of place v → Ready t readers b → OnOk result (Moves t faults v new b b') →
     OnOk result (Ready t (set readers at new) b')
 ready-took (Err e) t place faults readers at v new b b' less value same ready moves = tt
 ready-took {S = S} (Ok o) t place faults readers at v new b b' less value same ready moves =
@@ -46,8 +46,8 @@ ready-took {S = S} (Ok o) t place faults readers at v new b b' less value same r
     let within-of : v.passed ≤ v.limit = subst (λ (r : Reader S). r.passed ≤ r.limit) (sym value) (ready.within at v less) in
     record {
       routers = All-set (λ r. r.told.router.0 < length t.routers) readers at new (subst (λ (n : ℕ). n < length t.routers) (ap (λ g. g.router.0) (sym same)) router-of) ready.routers;
-      len = moves.len ∙ ready.len;
-      of_history = moves.tables ready.of_history;
+      version = moves.version ready.version;
+      follows = moves.follows ready.follows;
       few = subst (λ (n : ℕ). n ≤ 64) (sym (length-set readers at new)) ready.few;
       limits = All-set (λ r. r.limit ≤ 2 ^ 30) readers at new (subst (λ (n : ℕ). n ≤ 2 ^ 30) (ap (λ g. g.limit) (sym same)) limit-of) ready.limits;
       within = All-set (λ r. r.passed ≤ r.limit) readers at new (moves.within within-of) ready.within;
@@ -63,7 +63,7 @@ ready-took {S = S} (Ok o) t place faults readers at v new b b' less value same r
 
 pub took-at : {S A E : Type 0} (result : Result A E) (at : ℕ) (count : Option ℕ) (t : Topology) (left : S → Option (List ℕ)) (place faults : S → ℕ) (readers : List (Reader S)) (v new : Reader S) (b b' : Book) →
     at < length readers → v ≡ get_or readers at v → tag_of place new ≡ tag_of place v →
-    OnOk result (TakesSome count t left v new (entries b.history) (entries b'.history)) → OnOk result (Moves faults v new b b') →
+    OnOk result (TakesSome count t left v new (entries b.history) (entries b'.history)) → OnOk result (Moves t faults v new b b') →
     OnOk result (TakesFrom at count t left faults readers (set readers at new) (entries b.history) (entries b'.history))
 took-at (Err e) at count t left place faults readers v new b b' less value same took moves = tt
 took-at {S = S} (Ok o) at count t left place faults readers v new b b' less value same took moves = record {

@@ -10,7 +10,6 @@ use Rattle.dn_model.specs.declared.ids.RouterId.{RouterId}
 use Rattle.dn_model.specs.declared.topology.Topology.{Topology}
 use Rattle.dn_model.specs.declared.told.FeedEnd.{FeedEnd}
 use Rattle.route_feed.specs.FeedReader.{Reader, IsAt}
-use Rattle.dn_run.specs.Tables.{TablesOf}
 use Rattle.dn_run.specs.Network.{entries, StandsBy, IsCount, EndsUnless, CountsFaults}
 use Rattle.dn_run.specs.Takes.{IsLater, Gives, Moves, TakesOne, TakesExactly, TakesAny, TakesSome, tag_of}
 use Rattle.dn_run.specs.declared.take.Book.{Book}
@@ -26,6 +25,12 @@ entries_by-append n r (x ∷ xs) ys = ap (λ es. record { router = r; feed_no = 
 -- the entries of some steps, and of more
 pub split : (n : ℕ) (r : RouterId) (xs ys : List FrameStep) → entries_by n r (updates (xs ++ ys)) ≡ entries_by n r (updates xs) ++ entries_by n r (updates ys)
 split n r xs ys = ap (entries_by n r) (updates-append xs ys) ∙ entries_by-append n r (updates xs) (updates ys)
+
+-- the entries of some updates, and of one more
+pub posted-more : (n : ℕ) (r : RouterId) (ops more : List Op) (op : Op) (before : List Entry) → more ≡ ops ++ op ∷ [] → before ++ entries_by n r more ≡ (before ++ entries_by n r ops) ++ record { router = r; feed_no = n; op = op } ∷ []
+posted-more n r ops more op before is =
+    ap (λ os. before ++ entries_by n r os) is ∙ ap (λ es. before ++ es) (entries_by-append n r ops (op ∷ []))
+    ∙ sym (append_assoc before (entries_by n r ops) (record { router = r; feed_no = n; op = op } ∷ []))
 
 -- a reader that answers the same end ever again had none where its answer isn't that end
 pub end-before_ops : {P : Type 0} (end answered : Option FeedEnd) → answered ≡ None → ((e : FeedEnd) → end ≡ Some e → P × (answered ≡ Some e)) → end ≡ None
@@ -77,11 +82,11 @@ gives-step t left old new h h' step is is' moves grown = record {
 }
 
 -- what is kept along two calls is kept along both
-pub moves-more : {S : Type 0} (faults : S → ℕ) (old mid new : Reader S) (b b' b'' : Book) → Moves faults old mid b b' → Moves faults mid new b' b'' →
-    mid.limit ≡ old.limit → Moves faults old new b b''
-moves-more {S = S} faults old mid new b b' b'' x y same = record {
-  len = y.len ∙ x.len;
-  tables = λ is. y.tables (x.tables is);
+pub moves-more : {S : Type 0} (t : Topology) (faults : S → ℕ) (old mid new : Reader S) (b b' b'' : Book) → Moves t faults old mid b b' → Moves t faults mid new b' b'' →
+    mid.limit ≡ old.limit → Moves t faults old new b b''
+moves-more {S = S} t faults old mid new b b' b'' x y same = record {
+  version = λ is. y.version (x.version is);
+  follows = λ is. y.follows (x.follows is);
   fits = (let p = x.fits in let q = y.fits in omega arith);
   within = λ is. y.within (x.within is);
   counts = λ is. y.counts (x.counts is);
@@ -92,7 +97,7 @@ moves-more {S = S} faults old mid new b b' b'' x y same = record {
 }
 
 pub exactly-more : {S : Type 0} (faults place : S → ℕ) (t : Topology) (left : S → Option (List ℕ)) (old mid new : Reader S) (b b' : Book) (h'' : List Entry) (n : ℕ) (more : Bool) → more ≡ true →
-    TakesExactly n t left old mid (entries b.history) (entries b'.history) → Moves faults old mid b b' → tag_of place mid ≡ tag_of place old →
+    TakesExactly n t left old mid (entries b.history) (entries b'.history) → Moves t faults old mid b b' → tag_of place mid ≡ tag_of place old →
     TakesOne more t left mid new (entries b'.history) h'' → TakesExactly (n + 1) t left old new (entries b.history) h''
 exactly-more faults place t left old mid new b b' h'' n false is x m same y = cc
 exactly-more faults place t left old mid new b b' h'' n true is x m same y = record {
@@ -102,7 +107,7 @@ exactly-more faults place t left old mid new b b' h'' n true is x m same y = rec
 }
 
 pub any-more : {S : Type 0} (faults place : S → ℕ) (t : Topology) (left : S → Option (List ℕ)) (old mid new : Reader S) (b b' : Book) (h'' : List Entry) (more : Bool) →
-    TakesAny t left old mid (entries b.history) (entries b'.history) → Moves faults old mid b b' → tag_of place mid ≡ tag_of place old →
+    TakesAny t left old mid (entries b.history) (entries b'.history) → Moves t faults old mid b b' → tag_of place mid ≡ tag_of place old →
     TakesOne more t left mid new (entries b'.history) h'' → TakesAny t left old new (entries b.history) h''
 any-more faults place t left old mid new b b' h'' false x m same y = record {
   more = x.more ++ [];

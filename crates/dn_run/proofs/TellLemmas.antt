@@ -8,10 +8,9 @@ use Rattle.std.proofs.lemmas.List.Elements.{All-filter}
 use Rattle.dn_model.specs.Answer.{unknown_of, IsAnswer}
 use Rattle.dn_model.specs.Lawful.{Tells, IsOutcome, HoldsWhatWasTaken, asked, asked_by, both_counts, front_of, taken, takes, pin_after, is_from}
 use Rattle.dn_model.specs.Steps.{FrameStep, FeedRead, updates, entries_of, entries_by}
-use Rattle.dn_run.specs.Tables.{TablesOf}
+use Rattle.dn_run.specs.Latest.{After, Latest}
 use Rattle.dn_model.specs.declared.entry.Entry.{Entry}
 use Rattle.dn_model.specs.declared.entry.Posted.{Posted}
-use Rattle.dn_model.specs.declared.entry.Route.{Route}
 use Rattle.dn_model.specs.declared.ids.RouterId.{RouterId}
 use Rattle.dn_model.specs.declared.query.Query.{Query}
 use Rattle.dn_model.specs.declared.script.Line.{Line}
@@ -124,9 +123,9 @@ pub length-entries : (history : List Posted) → length (entries history) ≡ le
 length-entries [] = refl
 length-entries (p ∷ ps) = ap suc (length-entries ps)
 
-pub pin-now : (t : Topology) (tables : List (List Route)) (number last : ℕ) (q : Query) (o : Outcome) → IsOutcomeNow t tables number q o → last ≤ number → pin_after last o ≤ number
-pin-now t tables number last q (Unknown u) is below = below
-pin-now t tables number last q (Answered n answer) is below = omega (arith, is.1)
+pub pin-now : (t : Topology) (latest : Latest) (number last : ℕ) (q : Query) (o : Outcome) → IsOutcomeNow t latest number q o → last ≤ number → pin_after last o ≤ number
+pin-now t latest number last q (Unknown u) is below = below
+pin-now t latest number last q (Answered n answer) is below = omega (arith, is.1)
 
 holds-now : {S : Type 0} (t : Topology) (left : S → Option (List ℕ)) (faults : S → ℕ) (h : List Entry) (before : List Line) (ss : List (Strand S)) (fs : List FeedRead) →
     AllZip GoesOn ss fs → All (Stands t left faults h) ss → All (λ s. IsCount (asked s.now.told.router before) (length s.steps) s.now.told.end) ss → HoldsWhatWasTaken fs before h
@@ -139,12 +138,12 @@ holds-now {S = S} t left faults h before ss fs zip stands counted =
     ∙ ap (λ ss. entries_by f.feed_no f.router (updates ss)) (sym (taken-is s f before g p.1)))
     zip (λ k d l. (stands k d l, counted k d l))
 
-pub outcome-whatever : {S : Type 0} (t : Topology) (left : S → Option (List ℕ)) (faults : S → ℕ) (tables : List (List Route)) (history more : List Entry) (ss : List (Strand S)) (fs : List FeedRead) (before : List Line) (last : ℕ) (q : Query) (o : Outcome) →
-    IsOutcomeNow t tables (length history) q o → TablesOf tables history → last ≤ length history →
+pub outcome-whatever : {S : Type 0} (t : Topology) (left : S → Option (List ℕ)) (faults : S → ℕ) (latest : Latest) (history more : List Entry) (ss : List (Strand S)) (fs : List FeedRead) (before : List Line) (last : ℕ) (q : Query) (o : Outcome) →
+    IsOutcomeNow t latest (length history) q o → After latest history → last ≤ length history →
     AllZip GoesOn ss fs → All (Stands t left faults history) ss → All (λ s. IsCount (asked s.now.told.router before) (length s.steps) s.now.told.end) ss →
     IsOutcome t (history ++ more) fs before last q o
-outcome-whatever t left faults tables history more ss fs before last q (Unknown u) is of below zip stands counted = is
-outcome-whatever t left faults tables history more ss fs before last q (Answered n answer) is of below zip stands counted =
+outcome-whatever t left faults latest history more ss fs before last q (Unknown u) is of below zip stands counted = is
+outcome-whatever t left faults latest history more ss fs before last q (Answered n answer) is of below zip stands counted =
     let seen : take n (history ++ more) ≡ history = ap (λ m. take m (history ++ more)) is.1 ∙ take-append_seam history more in (
       is.0,
       omega (arith, is.1, below),

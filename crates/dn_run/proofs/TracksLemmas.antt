@@ -9,10 +9,9 @@ use Rattle.std.proofs.lemmas.List.Quantifiers.{position-Some}
 use Rattle.std.proofs.lemmas.Bool.{eqb-true, ltb-false}
 use Rattle.dn_model.specs.Lawful.{Tells, asked, asked_by, both_counts, taken_by, taken_along, takes, pin_after}
 use Rattle.dn_model.specs.Steps.{FrameStep, FeedRead, updates, entries_by, entries_of}
-use Rattle.dn_run.specs.Tables.{TablesOf}
+use Rattle.dn_run.specs.Latest.{After, Latest}
 use Rattle.dn_model.specs.declared.entry.Entry.{Entry}
 use Rattle.dn_model.specs.declared.entry.Posted.{Posted}
-use Rattle.dn_model.specs.declared.entry.Route.{Route}
 use Rattle.dn_model.specs.declared.ids.RouterId.{RouterId}
 use Rattle.dn_model.specs.declared.query.Query.{Query}
 use Rattle.dn_model.specs.declared.script.Line.{Line}
@@ -184,20 +183,20 @@ tracks-at {S = S} t left faults olds news news' h h' before tolds l r count (Som
 
 -- ---- a line that asks
 
-tracks-ask : {S : Type 0} (t : Topology) (left : S → Option (List ℕ)) (faults : S → ℕ) (olds news : List (Reader S)) (history : List Posted) (tables : List (List Route)) (before : List Line) (tolds tolds' : List Told)
-    (l : ℕ) (q : Query) → TablesOf tables (entries history) → Adds tolds tolds' l q (IsOutcomeNow t tables (length history) q) →
+tracks-ask : {S : Type 0} (t : Topology) (left : S → Option (List ℕ)) (faults : S → ℕ) (olds news : List (Reader S)) (history : List Posted) (latest : Latest) (before : List Line) (tolds tolds' : List Told)
+    (l : ℕ) (q : Query) → After latest (entries history) → Adds tolds tolds' l q (IsOutcomeNow t latest (length history) q) →
     Tracks t left faults olds news (entries history) before tolds → Tracks t left faults olds news (entries history) (before ++ line.Ask l q ∷ []) tolds'
-tracks-ask {S = S} t left faults olds news history tables before tolds tolds' l q of adds tracks =
+tracks-ask {S = S} t left faults olds news history latest before tolds tolds' l q of adds tracks =
     let h : List Entry = entries history in
     let a : Line = line.Ask l q in
-    let now : IsOutcomeNow t tables (length h) q adds.told.outcome = subst (λ (n : ℕ). IsOutcomeNow t tables n q adds.told.outcome) (sym (length-entries history)) adds.good in
+    let now : IsOutcomeNow t latest (length h) q adds.told.outcome = subst (λ (n : ℕ). IsOutcomeNow t latest n q adds.told.outcome) (sym (length-entries history)) adds.good in
     record {
       strands = tracks.strands;
       woven = tracks.woven;
       counted = λ k d i. counted-other before a (get_or tracks.strands k d) refl (tracks.counted k d i);
       pinned = subst (λ (xs : List Told). last_pin xs ≤ length h) (sym adds.added)
           (subst (λ (n : ℕ). n ≤ length h) (sym (fold-append (λ p told. pin_after p told.outcome) 0 tolds (adds.told ∷ [])))
-          (pin-now t tables (length h) (last_pin tolds) q adds.told.outcome now tracks.pinned));
+          (pin-now t latest (length h) (last_pin tolds) q adds.told.outcome now tracks.pinned));
       whatever = λ fs zip.
           let w : Whatever t h before tolds fs = tracks.whatever fs zip in
           record {
@@ -207,7 +206,7 @@ tracks-ask {S = S} t left faults olds news history tables before tolds tolds' l 
             tells = λ later.
                 subst (λ (xs : List Told). Tells t (h ++ later) fs [] 0 (before ++ a ∷ []) xs) (sym adds.added)
                 (Tells-ask t (h ++ later) fs [] 0 before tolds l q adds.told adds.line_is adds.query_is
-                (outcome-whatever t left faults tables h later tracks.strands fs before (last_pin tolds) q adds.told.outcome now of tracks.pinned zip tracks.woven.each tracks.counted)
+                (outcome-whatever t left faults latest h later tracks.strands fs before (last_pin tolds) q adds.told.outcome now of tracks.pinned zip tracks.woven.each tracks.counted)
                 (w.tells later));
           };
     }
@@ -222,9 +221,9 @@ tracks-took (Ok o) t left faults news news' h h' tolds a l r count is x = λ old
     subst (λ (b : Line). Tracks t left faults olds news' h' (before ++ b ∷ []) tolds) (sym is)
     (tracks-at t left faults olds news news' h h' before tolds l r count (position (reads r) news) refl x tracks)
 
-pub tracks-asked : {S A E : Type 0} (result : Result A E) (t : Topology) (left : S → Option (List ℕ)) (faults : S → ℕ) (news : List (Reader S)) (history : List Posted) (tables : List (List Route)) (tolds tolds' : List Told)
-    (a : Line) (l : ℕ) (q : Query) → a ≡ line.Ask l q → TablesOf tables (entries history) → OnOk result (Adds tolds tolds' l q (IsOutcomeNow t tables (length history) q)) →
+pub tracks-asked : {S A E : Type 0} (result : Result A E) (t : Topology) (left : S → Option (List ℕ)) (faults : S → ℕ) (news : List (Reader S)) (history : List Posted) (latest : Latest) (tolds tolds' : List Told)
+    (a : Line) (l : ℕ) (q : Query) → a ≡ line.Ask l q → After latest (entries history) → OnOk result (Adds tolds tolds' l q (IsOutcomeNow t latest (length history) q)) →
     OnOk result ((olds : List (Reader S)) (before : List Line) → Tracks t left faults olds news (entries history) before tolds → Tracks t left faults olds news (entries history) (before ++ a ∷ []) tolds')
-tracks-asked (Err e) t left faults news history tables tolds tolds' a l q is of adds = tt
-tracks-asked (Ok o) t left faults news history tables tolds tolds' a l q is of adds = λ olds before tracks.
-    subst (λ (b : Line). Tracks t left faults olds news (entries history) (before ++ b ∷ []) tolds') (sym is) (tracks-ask t left faults olds news history tables before tolds tolds' l q of adds tracks)
+tracks-asked (Err e) t left faults news history latest tolds tolds' a l q is of adds = tt
+tracks-asked (Ok o) t left faults news history latest tolds tolds' a l q is of adds = λ olds before tracks.
+    subst (λ (b : Line). Tracks t left faults olds news (entries history) (before ++ b ∷ []) tolds') (sym is) (tracks-ask t left faults olds news history latest before tolds tolds' l q of adds tracks)

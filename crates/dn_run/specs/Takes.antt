@@ -1,7 +1,7 @@
 -- What taking frames of one feed does.
 use Rattle.std.specs.Prelude.{◌≡◌, ℕ, ◌+◌, ◌*◌, ◌<◌, ◌≤◌, Bool, true, false, List, [], ◌∷◌, ◌++◌, length, Option, None, Some}
 use Rattle.dn_model.specs.Steps.{FrameStep, updates, entries_by}
-use Rattle.dn_run.specs.Tables.{TablesOf}
+use Rattle.dn_run.specs.Latest.{After, IsOf}
 use Rattle.dn_model.specs.declared.entry.Entry.{Entry}
 use Rattle.dn_model.specs.declared.ids.RouterId.{RouterId}
 use Rattle.dn_model.specs.declared.topology.Topology.{Topology}
@@ -53,11 +53,11 @@ pub record TakesAny {S : Type 0} (t : Topology) (left : S → Option (List ℕ))
   pub more : List FrameStep
   pub adds : Gives t left old new before after more
 
--- The tables stay those of the history, an entry took 28 bytes of the feed at least, and the source's count of faults
+-- The version stays one of the network and that after the history, an entry took 28 bytes of the feed at least, and the source's count of faults
 -- tells no other story than the reader. Past the feed's end nothing changes.
-pub record Moves {S : Type 0} (faults : S → ℕ) (old new : Reader S) (before after : Book) : Type 0 where
-  pub len : length after.tables ≡ length before.tables
-  pub tables : TablesOf before.tables (entries before.history) → TablesOf after.tables (entries after.history)
+pub record Moves {S : Type 0} (t : Topology) (faults : S → ℕ) (old new : Reader S) (before after : Book) : Type 0 where
+  pub version : IsOf t before.latest.version → IsOf t after.latest.version
+  pub follows : After before.latest (entries before.history) → After after.latest (entries after.history)
   pub fits : 28 * length after.history + old.passed ≤ 28 * length before.history + new.passed
   pub within : old.passed ≤ old.limit → new.passed ≤ new.limit
   pub counts : CountsFaults old (faults old.source) → CountsFaults new (faults new.source)

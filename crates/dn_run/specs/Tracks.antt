@@ -5,9 +5,8 @@ use Rattle.dn_model.specs.Answer.{unknown_of, IsAnswer}
 use Rattle.dn_model.specs.Lawful.{Job, Tells, TellsAll, KeepsOrder, asked, takes, takes_feed, pin_after, is_from, is_from_some, taken_along, first_taken, left_by}
 pub use Rattle.dn_model.specs.ScriptText.{IsShort}
 use Rattle.dn_model.specs.Steps.{FrameStep, FeedRead, updates, entries_by}
-use Rattle.dn_run.specs.Tables.{TablesOf}
+use Rattle.dn_run.specs.Latest.{After, IsOf, Latest}
 use Rattle.dn_model.specs.declared.entry.Entry.{Entry}
-use Rattle.dn_model.specs.declared.entry.Route.{Route}
 use Rattle.dn_model.specs.declared.ids.RouterId.{RouterId}
 use Rattle.dn_model.specs.declared.query.Query.{Query}
 use Rattle.dn_model.specs.declared.script.Line.{Line}
@@ -28,12 +27,12 @@ use Rattle.dn_run.specs.declared.take.Book.{Book}
 abbrev pub tags_of : {S : Type 0} → (S → ℕ) → List (Reader S) → List Tag
 tags_of place readers = map (tag_of place) readers
 
--- Readers and a book that jobs can go on with: the tables are those of the history, and no history is so long that a
+-- Readers and a book that jobs can go on with: the version is that of the network after the history, and no history is so long that a
 -- position in it has more than 32 bits.
 pub record Ready {S : Type 0} (t : Topology) (readers : List (Reader S)) (book : Book) : Type 0 where
   pub routers : All (λ r. r.told.router.0 < length t.routers) readers
-  pub len : length book.tables ≡ length t.routers
-  pub of_history : TablesOf book.tables (entries book.history)
+  pub version : IsOf t book.latest.version
+  pub follows : After book.latest (entries book.history)
   pub few : length readers ≤ 64
   pub limits : All (λ r. r.limit ≤ 2 ^ 30) readers
   pub within : All (λ r. r.passed ≤ r.limit) readers
@@ -157,11 +156,11 @@ pub record Rests {S : Type 0} (t : Topology) (left : S → Option (List ℕ)) (f
   pub counted : All (λ s. IsRest (list_any (takes s.now.told.router) done) (asked s.now.told.router lines) (length s.steps) s.now.told.end) strands
   pub whatever : (feeds : List FeedRead) → AllZip GoesOn strands feeds → WhateverRest t history lines done tolds feeds
 
--- the outcome of a query over these tables, with the length of the history as its pin
-abbrev pub IsOutcomeNow : Topology → List (List Route) → ℕ → Query → Outcome → Type 0
-IsOutcomeNow t tables number q (Unknown u) = unknown_of t q ≡ Some u
-IsOutcomeNow t tables number q (Answered n answer) =
-    (unknown_of t q ≡ None) × (n ≡ number) × ((history : List Entry) → TablesOf tables history → IsAnswer t history q answer)
+-- the outcome of a query over the latest version, with the length of the history as its pin
+abbrev pub IsOutcomeNow : Topology → Latest → ℕ → Query → Outcome → Type 0
+IsOutcomeNow t latest number q (Unknown u) = unknown_of t q ≡ Some u
+IsOutcomeNow t latest number q (Answered n answer) =
+    (unknown_of t q ≡ None) × (n ≡ number) × ((history : List Entry) → After latest history → IsAnswer t history q answer)
 
 -- one more is told, of this line and this query, with such an outcome
 pub record Adds (old new : List Told) (l : ℕ) (q : Query) (IsGood : Outcome → Type 0) : Type 0 where

@@ -1,6 +1,7 @@
 //! The feeds of a run: opened in order, read by the jobs, and given back.
 
 ghost use Rattle.std.specs.Prelude.{◌≡◌, ◌+◌, ◌<◌, ◌≤◌, ◌++◌, ◌∷◌, ◌^◌, [], ℕ, List, length, map, All, IfOk, OnErr, MatchOption, Some, vec_len};
+ghost use Rattle.std.specs.Arc.{arc_value};
 ghost use Rattle.std.specs.Option.{option_copied};
 ghost use Rattle.dn_io.specs.Calls.{names_of, back_with, with_state, state_at};
 ghost use Rattle.dn_model.specs.ScriptText.{IsShort};
@@ -19,6 +20,7 @@ use dn_io::{Gate, Source, World, WorldRefused};
 use dn_model::{ErrorLine, FeedTold, List, OutOfMemory, RouterId, Script, Topology};
 use route_feed::FeedReader;
 use std::alloc::Global;
+use std::sync::Arc;
 
 /// At most this many bytes of a feed are looked at.
 const FEED_LIMIT: u64 = 1073741824;
@@ -55,16 +57,16 @@ fn told_of_readers<S: Source>(
 /// Runs the jobs over the feeds, which are all open, and makes the report.
 fn run_readers<S: Source, G: Gate>(
     alloc: Global,
-    topology: &Topology,
+    topology: &Arc<Topology, Global>,
     script: Option<&Script>,
     readers: &mut Vec<FeedReader<S>>,
     gate: &G,
 ) -> Result<Ruling, OutOfMemory>
-    requires open { AreOpen topology.now S.faults readers.old.items [] }
+    requires open { AreOpen (arc_value topology.now) S.faults readers.old.items [] }
     requires short { All (All IsShort) (scripts_of (option_copied script)) }
     ensures same { tags_of S.place readers.new.items ≡ tags_of S.place readers.old.items }
     ensures ran { IfOk result (λ ruling. (files : List (List ℕ)) → AreLeft S.left readers.old.items files →
-        IsRunOf topology.now (routers_of_readers readers.old.items) (scripts_of (option_copied script.entry)) (opened S.faults S.left files readers.new.items) ruling.verdict ruling.text.items) }
+        IsRunOf (arc_value topology.now) (routers_of_readers readers.old.items) (scripts_of (option_copied script.entry)) (opened S.faults S.left files readers.new.items) ruling.verdict ruling.text.items) }
     ensures faults { IfOk result (λ ruling. some_rose S.faults readers.new.items ≡ is_fault ruling.verdict) }
 {
     let done = run_jobs(alloc, topology, script, readers, gate)?;
@@ -96,7 +98,7 @@ fn first_feed<'a>(
 /// Opens the feeds that are still to be opened, of these routers, runs the jobs over all, and gives those feeds back.
 pub fn from_feeds<W: World, G: Gate>(
     alloc: Global,
-    topology: &Topology,
+    topology: &Arc<Topology, Global>,
     routers: &[RouterId],
     script: Option<&Script>,
     feeds: &[FeedPart],
@@ -106,10 +108,10 @@ pub fn from_feeds<W: World, G: Gate>(
 ) -> Result<Ruling, OutOfMemory>
     requires room { length (W.calls world.old) + length feeds.now ≤ 2 ^ 32 }
     requires as_many { length routers.now ≡ length feeds.now }
-    requires open { AreOpen topology.now W.Src.faults readers.old.items routers.now }
+    requires open { AreOpen (arc_value topology.now) W.Src.faults readers.old.items routers.now }
     requires short { All (All IsShort) (scripts_of (option_copied script)) }
     ensures same { tags_of W.Src.place readers.new.items ≡ tags_of W.Src.place readers.old.items }
-    ensures opens { IfOk result (λ ruling. Opens topology.now W.Src.faults W.Src.left (W.files world.old) routers.now (scripts_of (option_copied script.entry))
+    ensures opens { IfOk result (λ ruling. Opens (arc_value topology.now) W.Src.faults W.Src.left (W.files world.old) routers.now (scripts_of (option_copied script.entry))
         readers.old.items readers.new.items (map feed_texts feeds.now) (W.calls world.old) (W.calls world.new) ruling.verdict ruling.text.items) }
     ensures memory { OnErr result (Names (W.calls world.old) (W.calls world.new) (feed_files (map feed_texts feeds.now))) }
     ensures keeps { Appends (W.calls world.old) (W.calls world.new) }

@@ -2,22 +2,25 @@
 
 ghost use Rattle.std.specs.Prelude.{◌≡◌, ◌<◌, ◌≤◌, ◌+◌, ◌++◌, ◌∷◌, [], List, length, All, IfOk, OnOk, IsSome};
 ghost use Rattle.std.specs.List.{list_any};
+ghost use Rattle.std.specs.Arc.{arc_value};
 ghost use Rattle.std.specs.Option.{option_copied};
 ghost use Rattle.dn_model.specs.Lawful.{takes};
 ghost use Rattle.dn_model.specs.declared.script.Line.{Line};
 ghost use Rattle.dn_model.specs.declared.told.JobTold.{JobTold};
 ghost use Rattle.route_feed.specs.FeedReader.{Reader};
 ghost use Rattle.dn_run.specs.Jobs.{scripts_of, IsFresh, AreNumbered, HaveRoutersApart, HasRun};
+ghost use Rattle.dn_run.specs.Latest.{After, IsOf};
 ghost use Rattle.dn_run.specs.Network.{entries, CountsFaults};
 ghost use Rattle.dn_run.specs.Tracks.{Ready, tags_of, Tracks, Owns, is_own, IsShort};
 
 use crate::job::{do_script, take_at};
-use crate::tables::Tables;
+use crate::latest::Latest;
 use crate::take::Book;
 use dn_io::{Gate, Source};
 use dn_model::{JobTold, Line, List, OutOfMemory, Posted, RouterId, Script, Told, Topology};
 use route_feed::FeedReader;
 use std::alloc::Global;
+use std::sync::Arc;
 
 /// What the jobs of a run came to: the history that they made, and what is told of each.
 #[derive(Drop)]
@@ -154,6 +157,36 @@ fn run_owns<S: Source, G: Gate>(
     Ok(())
 }
 
+/// Runs the jobs over a book of no update, one after another, and tells of each.
+fn run_all<S: Source, G: Gate>(
+    alloc: Global,
+    topology: &Topology,
+    script: Option<&Script>,
+    readers: &mut Vec<FeedReader<S>>,
+    mut book: Book,
+    gate: &G,
+) -> Result<JobsDone, OutOfMemory>
+    requires short { All (All IsShort) (scripts_of (option_copied script)) }
+    requires fresh { All (IsFresh topology.now S.faults) readers.old.items }
+    requires numbered { AreNumbered 1 readers.old.items }
+    requires apart { HaveRoutersApart readers.old.items }
+    requires few { length readers.old.items ≤ 64 }
+    requires none { book.history ≡ [] }
+    requires version { IsOf topology.now book.latest.version }
+    requires after { After book.latest [] }
+    ensures ran { IfOk result (λ done. HasRun topology.now S.left readers.old.items readers.new.items done.history (scripts_of (option_copied script.entry)) done.jobs.items) }
+    ensures counts { OnOk result (All (λ r. CountsFaults r (S.faults r.source)) readers.new.items) }
+    ensures ended { OnOk result (All (λ r. IsSome r.told.end) readers.new.items) }
+    ensures same { tags_of S.place readers.new.items ≡ tags_of S.place readers.old.items }
+{
+    let mut jobs = run_script(alloc, topology, script, readers, &mut book, gate)?;
+    run_owns(alloc, topology, script, readers, &mut book, &mut jobs, gate)?;
+    Ok(JobsDone {
+        history: book.history,
+        jobs,
+    })
+}
+
 /// Runs the jobs of a run, one after another, over the readers of its feeds: first the script's, where there is one, and
 /// then one for each feed that it doesn't take. Jobs count from 1. Each feed is read to its end.
 ///
@@ -165,29 +198,24 @@ fn run_owns<S: Source, G: Gate>(
 /// `OutOfMemory`; the readers then stand where the jobs left them.
 pub fn run_jobs<S: Source, G: Gate>(
     alloc: Global,
-    topology: &Topology,
+    topology: &Arc<Topology, Global>,
     script: Option<&Script>,
     readers: &mut Vec<FeedReader<S>>,
     gate: &G,
 ) -> Result<JobsDone, OutOfMemory>
     requires short { All (All IsShort) (scripts_of (option_copied script)) }
-    requires fresh { All (IsFresh topology.now S.faults) readers.old.items }
+    requires fresh { All (IsFresh (arc_value topology.now) S.faults) readers.old.items }
     requires numbered { AreNumbered 1 readers.old.items }
     requires apart { HaveRoutersApart readers.old.items }
     requires few { length readers.old.items ≤ 64 }
-    ensures ran { IfOk result (λ done. HasRun topology.now S.left readers.old.items readers.new.items done.history (scripts_of (option_copied script.entry)) done.jobs.items) }
+    ensures ran { IfOk result (λ done. HasRun (arc_value topology.now) S.left readers.old.items readers.new.items done.history (scripts_of (option_copied script.entry)) done.jobs.items) }
     ensures counts { OnOk result (All (λ r. CountsFaults r (S.faults r.source)) readers.new.items) }
     ensures ended { OnOk result (All (λ r. IsSome r.told.end) readers.new.items) }
     ensures same { tags_of S.place readers.new.items ≡ tags_of S.place readers.old.items }
 {
-    let mut book = Book {
-        tables: Tables::new(alloc, topology.routers.len())?,
+    let book = Book {
+        latest: Latest::new(alloc, topology.clone()?)?,
         history: List::new(alloc),
     };
-    let mut jobs = run_script(alloc, topology, script, readers, &mut book, gate)?;
-    run_owns(alloc, topology, script, readers, &mut book, &mut jobs, gate)?;
-    Ok(JobsDone {
-        history: book.history,
-        jobs,
-    })
+    run_all(alloc, topology, script, readers, book, gate)
 }

@@ -2,6 +2,7 @@
 
 ghost use Rattle.std.specs.Prelude.{◌≡◌, ◌≤◌, ◌∷◌, [], IfOk, length};
 ghost use Rattle.std.specs.Prelude.{All};
+ghost use Rattle.std.specs.Arc.{arc_value};
 ghost use Rattle.std.specs.Option.{option_copied};
 ghost use Rattle.dn_run.specs.Jobs.{scripts_of};
 ghost use Rattle.dn_run.specs.Tracks.{IsShort};
@@ -14,6 +15,7 @@ use dn_model::{
 };
 use route_feed::FeedReader;
 use std::alloc::Global;
+use std::sync::Arc;
 use std::test::Fail;
 
 /// An edge at a router's interface 2.
@@ -27,8 +29,8 @@ fn edge(router: u16) -> TopoEnd
 }
 
 /// Three routers, `r1`, `r2` and `r3`, each with an edge at its interface 2.
-fn three_routers(alloc: Global) -> Result<Topology, OutOfMemory>
-    ensures { IfOk result (λ t. length t.routers ≡ 3) }
+fn three_routers(alloc: Global) -> Result<Arc<Topology, Global>, OutOfMemory>
+    ensures { IfOk result (λ t. length (arc_value t).routers ≡ 3) }
 {
     let mut routers = List::new(alloc);
     routers.push(Name::from_text(alloc, b"r1")?)?;
@@ -38,11 +40,12 @@ fn three_routers(alloc: Global) -> Result<Topology, OutOfMemory>
     edges.push(edge(0))?;
     edges.push(edge(1))?;
     edges.push(edge(2))?;
-    Ok(Topology {
+    let topology = Topology {
         routers,
         links: List::new(alloc),
         edges,
-    })
+    };
+    Ok(Arc::new(alloc, topology)?)
 }
 
 /// A frame that sets 10.`second`.0.0/16 over interface 2, with metric 20 and the gateway 192.0.2.1.

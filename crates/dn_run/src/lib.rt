@@ -9,6 +9,7 @@ mod job;
 mod jobs;
 #[cfg(test)]
 mod jobs_tests;
+mod latest;
 mod load;
 mod parts;
 mod program;
@@ -17,11 +18,9 @@ mod ruling;
 #[cfg(test)]
 mod run_tests;
 mod status;
-mod tables;
-#[cfg(test)]
-mod tables_tests;
 mod take;
 mod untaken;
+mod walk;
 mod words;
 
 pub use program::run;

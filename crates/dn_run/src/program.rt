@@ -1,6 +1,7 @@
 //! The program: from the words of the command line to what was written.
 
 ghost use Rattle.std.specs.Prelude.{◌≡◌, ◌<◌, ◌≤◌, ◌+◌, ◌^◌, ◌++◌, ◌∷◌, [], ℕ, List, length, map, All, IfOk, OnErr, IfSome, IsTrue};
+ghost use Rattle.std.specs.Arc.{arc_value};
 ghost use Rattle.std.specs.Option.{option_copied};
 ghost use Rattle.std.specs.String.{string_bytes};
 ghost use Rattle.dn_io.specs.Calls.{names_of};
@@ -26,11 +27,12 @@ use dn_io::{Gate, Sink, World};
 use dn_model::{ErrorLine, OutOfMemory, RouterId, Script, Topology};
 use run_report::write_report;
 use std::alloc::Global;
+use std::sync::Arc;
 
 /// Counts the jobs, opens the feeds, of these routers, and runs the jobs over them.
 fn from_jobs<W: World, G: Gate>(
     alloc: Global,
-    topology: &Topology,
+    topology: &Arc<Topology, Global>,
     routers: &[RouterId],
     script: Option<&Script>,
     feeds: &[FeedPart],
@@ -40,11 +42,11 @@ fn from_jobs<W: World, G: Gate>(
     requires room { length (W.calls world.old) + length feeds.now ≤ 2 ^ 32 }
     requires as_many { length routers.now ≡ length feeds.now }
     requires few { length feeds.now ≤ 64 }
-    requires known { All (λ r. r.0 < length topology.now.routers) routers.now }
+    requires known { All (λ r. r.0 < length (arc_value topology.now).routers) routers.now }
     requires apart { IsTrue (all_differ same_router routers.now) }
     requires short { All (All IsShort) (scripts_of (option_copied script)) }
     ensures stage { IfOk result (λ ruling. Stage (W.calls world.old) (W.calls world.new) (feed_files (map feed_texts feeds.now)) ruling.verdict (W.files world.old)
-        (λ files calls. FromJobs files topology.now routers.now (scripts_of (option_copied script.entry)) (map feed_texts feeds.now) calls ruling.verdict ruling.text.items)) }
+        (λ files calls. FromJobs files (arc_value topology.now) routers.now (scripts_of (option_copied script.entry)) (map feed_texts feeds.now) calls ruling.verdict ruling.text.items)) }
     ensures memory { OnErr result (Names (W.calls world.old) (W.calls world.new) (feed_files (map feed_texts feeds.now))) }
 {
     if has_too_many_jobs(routers, script) {
@@ -66,7 +68,7 @@ fn from_jobs<W: World, G: Gate>(
 /// Reads a script, and goes on with it.
 fn from_script<W: World, G: Gate>(
     alloc: Global,
-    topology: &Topology,
+    topology: &Arc<Topology, Global>,
     routers: &[RouterId],
     part: &ScriptPart,
     feeds: &[FeedPart],
@@ -76,10 +78,10 @@ fn from_script<W: World, G: Gate>(
     requires room { length (W.calls world.old) + 1 + length feeds.now ≤ 2 ^ 32 }
     requires as_many { length routers.now ≡ length feeds.now }
     requires few { length feeds.now ≤ 64 }
-    requires known { All (λ r. r.0 < length topology.now.routers) routers.now }
+    requires known { All (λ r. r.0 < length (arc_value topology.now).routers) routers.now }
     requires apart { IsTrue (all_differ same_router routers.now) }
     ensures stage { IfOk result (λ ruling. Stage (W.calls world.old) (W.calls world.new) (string_bytes part.now.file ∷ feed_files (map feed_texts feeds.now)) ruling.verdict (W.files world.old)
-        (λ files calls. FromScripts files topology.now routers.now [] (script_texts part.now ∷ []) (map feed_texts feeds.now) calls ruling.verdict ruling.text.items)) }
+        (λ files calls. FromScripts files (arc_value topology.now) routers.now [] (script_texts part.now ∷ []) (map feed_texts feeds.now) calls ruling.verdict ruling.text.items)) }
     ensures memory { OnErr result (Names (W.calls world.old) (W.calls world.new) (string_bytes part.now.file ∷ feed_files (map feed_texts feeds.now))) }
 {
     match load_script(
@@ -112,7 +114,7 @@ fn from_script<W: World, G: Gate>(
 /// Reads the script, where there is one, and goes on.
 fn from_scripts<W: World, G: Gate>(
     alloc: Global,
-    topology: &Topology,
+    topology: &Arc<Topology, Global>,
     routers: &[RouterId],
     parts: &RunParts,
     world: &mut W,
@@ -122,10 +124,10 @@ fn from_scripts<W: World, G: Gate>(
     requires as_many { length routers.now ≡ length parts.now.feeds.items }
     requires few { length parts.now.feeds.items ≤ 64 }
     requires one { length parts.now.scripts.items ≤ 1 }
-    requires known { All (λ r. r.0 < length topology.now.routers) routers.now }
+    requires known { All (λ r. r.0 < length (arc_value topology.now).routers) routers.now }
     requires apart { IsTrue (all_differ same_router routers.now) }
     ensures stage { IfOk result (λ ruling. Stage (W.calls world.old) (W.calls world.new) (script_files (parts_texts parts.now).scripts ++ feed_files (parts_texts parts.now).feeds) ruling.verdict (W.files world.old)
-        (λ files calls. FromScripts files topology.now routers.now [] (parts_texts parts.now).scripts (parts_texts parts.now).feeds calls ruling.verdict ruling.text.items)) }
+        (λ files calls. FromScripts files (arc_value topology.now) routers.now [] (parts_texts parts.now).scripts (parts_texts parts.now).feeds calls ruling.verdict ruling.text.items)) }
     ensures memory { OnErr result (Names (W.calls world.old) (W.calls world.new) (script_files (parts_texts parts.now).scripts ++ feed_files (parts_texts parts.now).feeds)) }
 {
     let feeds = parts.feeds.as_slice();
@@ -139,7 +141,7 @@ fn from_scripts<W: World, G: Gate>(
 /// Looks up the feeds' routers, and goes on with them.
 fn from_routers<W: World, G: Gate>(
     alloc: Global,
-    topology: &Topology,
+    topology: &Arc<Topology, Global>,
     parts: &RunParts,
     world: &mut W,
     gate: &G,
@@ -148,7 +150,7 @@ fn from_routers<W: World, G: Gate>(
     requires few { length parts.now.feeds.items ≤ 64 }
     requires one { length parts.now.scripts.items ≤ 1 }
     ensures stage { IfOk result (λ ruling. Stage (W.calls world.old) (W.calls world.new) (script_files (parts_texts parts.now).scripts ++ feed_files (parts_texts parts.now).feeds) ruling.verdict (W.files world.old)
-        (λ files calls. FromRouters (parts_texts parts.now) files topology.now calls ruling.verdict ruling.text.items)) }
+        (λ files calls. FromRouters (parts_texts parts.now) files (arc_value topology.now) calls ruling.verdict ruling.text.items)) }
     ensures memory { OnErr result (Names (W.calls world.old) (W.calls world.new) (script_files (parts_texts parts.now).scripts ++ feed_files (parts_texts parts.now).feeds)) }
 {
     match find_routers(alloc, topology, parts.feeds.as_slice()) {
@@ -174,7 +176,10 @@ fn from_topology<W: World, G: Gate>(
     ensures memory { OnErr result (Names (W.calls world.old) (W.calls world.new) (names_due topology.now (parts_texts parts.now))) }
 {
     match load_topology(alloc, topology, world)? {
-        Loaded::Read(topology) => from_routers(alloc, &topology, parts, world, gate),
+        Loaded::Read(topology) => {
+            let topology = Arc::new(alloc, topology)?;
+            from_routers(alloc, &topology, parts, world, gate)
+        }
         Loaded::Refused(line) => refusal(alloc, Verdict::BadTopology, line),
         Loaded::Failed => refusal(alloc, Verdict::ReadFault, ErrorLine::ReadTopology),
     }

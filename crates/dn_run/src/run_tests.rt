@@ -24,14 +24,26 @@ const USUAL: [&str; 5] = ["deltanet", "run", "topology", "r1=f1", "@script"];
 /// The words of a run with a feed of `r1` alone.
 const FEED_ALONE: [&str; 4] = ["deltanet", "run", "topology", "r1=f1"];
 
-/// A frame that sets 10.`second`.0.0 of this length over interface `oif`, with metric 20 and the gateway 192.0.2.1.
-fn set_frame(second: u8, len: u8, oif: u8) -> [u8; 64] {
+/// A frame that sets a prefix over interface `oif`, with this metric and the gateway 192.0.2.1.
+fn frame_of(base: [u8; 4], len: u8, metric: u8, oif: u8) -> [u8; 64] {
+    let [a, b, c, d] = base;
     [
         1, 1, 0, 64, 60, 0, 0, 0, 24, 0, 1, 5, 0, 0, 0, 0, 0, 0, 0, 0, 2, len, 0, 0, 254, 11, 0, 1,
-        0, 0, 0, 0, 8, 0, 1, 0, 10, second, 0, 0, 8, 0, 5, 0, 192, 0, 2, 1, 8, 0, 4, 0, oif, 0, 0,
-        0, 8, 0, 6, 0, 20, 0, 0, 0,
+        0, 0, 0, 0, 8, 0, 1, 0, a, b, c, d, 8, 0, 5, 0, 192, 0, 2, 1, 8, 0, 4, 0, oif, 0, 0, 0, 8,
+        0, 6, 0, metric, 0, 0, 0,
     ]
 }
+
+/// A frame that sets 10.`second`.0.0 of this length over interface `oif`, with metric 20.
+fn set_frame(second: u8, len: u8, oif: u8) -> [u8; 64] {
+    frame_of([10, second, 0, 0], len, 20, oif)
+}
+
+/// A frame that sets 0.0.0.0/0 over interface 2, with metric 20.
+const DEFAULT: [u8; 56] = [
+    1, 1, 0, 56, 52, 0, 0, 0, 24, 0, 1, 5, 0, 0, 0, 0, 0, 0, 0, 0, 2, 0, 0, 0, 254, 11, 0, 1, 0, 0,
+    0, 0, 8, 0, 5, 0, 192, 0, 2, 1, 8, 0, 4, 0, 2, 0, 0, 0, 8, 0, 6, 0, 20, 0, 0, 0,
+];
 
 /// A frame of two messages: one clears 10.0.0.0/8 with metric 20, and one sets it over interface 3.
 const MOVE_TO_3: [u8; 108] = [
@@ -331,11 +343,55 @@ fn feeds_without_updates(rt: HostRuntime) -> Result<(), Fail> {
 #[test]
 fn a_clear_of_empty_tables(rt: HostRuntime) -> Result<(), Fail> {
     let alloc = rt.alloc();
-    let came = come_to(alloc, &USUAL, RING, TAKE_ALL, &CLEAR)?;
+    let script = "take r1 all\npath r1 10.1.2.3\ndelta\n";
+    let came = come_to(alloc, &USUAL, RING, script, &CLEAR)?;
     assert_eq!(rt; came.status, Status::Done);
     assert_eq!(rt;
         came.written.as_slice(),
-        b"feed 1 r1 updates 1 skipped 0 refused 0 end\nhistory 1\n1 feed 1 r1 clear 10.0.0.0/8\njob 1\nline 2 at 1 path r1 10.1.2.3\nhops r1\nend noroute\ndone\n".as_slice()
+        b"feed 1 r1 updates 1 skipped 0 refused 0 end\nhistory 1\n1 feed 1 r1 clear 10.0.0.0/8\njob 1\nline 2 at 1 path r1 10.1.2.3\nhops r1\nend noroute\nline 3 at 1 delta\nnone\ndone\n".as_slice()
+    );
+    Ok(())
+}
+
+#[test]
+fn what_one_update_changes(rt: HostRuntime) -> Result<(), Fail> {
+    let alloc = rt.alloc();
+    let last_address = frame_of([255, 255, 255, 255], 32, 0, 1);
+    let cases: [(&[u8], &str, &str); 2] = [
+        (
+            &DEFAULT,
+            "0.0.0.0/0 metric 20 to r2 by a",
+            "0.0.0.0-255.255.255.255 noroute -> to r2 by a",
+        ),
+        (
+            &last_address,
+            "255.255.255.255/32 metric 0 exit 1",
+            "255.255.255.255-255.255.255.255 noroute -> exit 1",
+        ),
+    ];
+    for (bytes, update, change) in cases {
+        let came = come_to(alloc, &USUAL, RING, "take r1 all\ndelta\n", bytes)?;
+        let text = format!(in alloc;
+            "feed 1 r1 updates 1 skipped 0 refused 0 end\nhistory 1\n1 feed 1 r1 set {update}\njob 1\nline 2 at 1 delta\nr1 {change}\ndone\n"
+        )?;
+        assert_eq!(rt; came.status, Status::Done, "{update}");
+        assert_eq!(rt; came.written.as_slice(), text.as_bytes(), "{update}");
+    }
+    Ok(())
+}
+
+#[test]
+fn a_clear_of_both_metrics_changes_to_no_route(rt: HostRuntime) -> Result<(), Fail> {
+    let alloc = rt.alloc();
+    let mut bytes = Vec::from_slice(alloc, &set_frame(0, 8, 2))?;
+    bytes.extend_from_slice(&frame_of([10, 0, 0, 0], 8, 5, 3))?;
+    bytes.extend_from_slice(&CLEAR)?;
+    let script = "take r1 2\npath r1 10.0.0.1\ntake r1 all\ndelta\n";
+    let came = come_to(alloc, &USUAL, RING, script, bytes.as_slice())?;
+    assert_eq!(rt; came.status, Status::Done);
+    assert_eq!(rt;
+        came.written.as_slice(),
+        b"feed 1 r1 updates 3 skipped 0 refused 0 end\nhistory 3\n1 feed 1 r1 set 10.0.0.0/8 metric 20 to r2 by a\n2 feed 1 r1 set 10.0.0.0/8 metric 5 to r3 by c\n3 feed 1 r1 clear 10.0.0.0/8\njob 1\nline 2 at 2 path r1 10.0.0.1\nhops r1 r3\nend noroute\nline 4 at 3 delta\nr1 10.0.0.0-10.255.255.255 to r3 by c -> noroute\ndone\n".as_slice()
     );
     Ok(())
 }
@@ -357,6 +413,20 @@ fn a_path_over_three_feeds(rt: HostRuntime) -> Result<(), Fail> {
 }
 
 #[test]
+fn a_loop_of_two_of_three(rt: HostRuntime) -> Result<(), Fail> {
+    let alloc = rt.alloc();
+    let words = ["deltanet", "run", "topology", "r1=f1", "r3=f2", "@script"];
+    let script = "take r1 all\ntake r3 all\npath r1 10.0.0.0\n";
+    let came = come_to(alloc, &words, RING, script, &set_frame(0, 8, 3))?;
+    assert_eq!(rt; came.status, Status::Done);
+    assert_eq!(rt;
+        came.written.as_slice(),
+        b"feed 1 r1 updates 1 skipped 0 refused 0 end\nfeed 2 r3 updates 1 skipped 0 refused 0 end\nhistory 2\n1 feed 1 r1 set 10.0.0.0/8 metric 20 to r3 by c\n2 feed 2 r3 set 10.0.0.0/8 metric 20 to r1 by c\njob 1\nline 3 at 2 path r1 10.0.0.0\nhops r1 r3 r1 r3\nend loop\ndone\n".as_slice()
+    );
+    Ok(())
+}
+
+#[test]
 fn feeds_that_no_script_takes_are_jobs(rt: HostRuntime) -> Result<(), Fail> {
     let alloc = rt.alloc();
     let words = ["deltanet", "run", "topology", "r3=f3", "r1=f1"];
@@ -373,12 +443,12 @@ fn feeds_that_no_script_takes_are_jobs(rt: HostRuntime) -> Result<(), Fail> {
 fn an_unknown_name_makes_no_pin(rt: HostRuntime) -> Result<(), Fail> {
     let alloc = rt.alloc();
     let words = ["deltanet", "run", "topology", "@script"];
-    let script = "path r9 10.0.0.0\npath r1 10.0.0.0\n";
+    let script = "path r9 10.0.0.0\npath r1 10.0.0.0\ndelta\n";
     let came = come_to(alloc, &words, RING, script, &[])?;
     assert_eq!(rt; came.status, Status::Done);
     assert_eq!(rt;
         came.written.as_slice(),
-        b"history 0\njob 1\nline 1 path r9 10.0.0.0\nunknown router r9\nline 2 at 0 path r1 10.0.0.0\nhops r1\nend noroute\ndone\n".as_slice()
+        b"history 0\njob 1\nline 1 path r9 10.0.0.0\nunknown router r9\nline 2 at 0 path r1 10.0.0.0\nhops r1\nend noroute\nline 3 at 0 delta\nnone\ndone\n".as_slice()
     );
     Ok(())
 }

@@ -1,42 +1,49 @@
-//! Frames of a feed are taken: tables and history follow it, frame by frame.
+//! Frames of a feed are taken: version and history follow it, frame by frame.
 
 ghost use Rattle.std.specs.Prelude.{◌≡◌, ℕ, ◌<◌, ◌≤◌, ◌++◌, ◌∷◌, [], List, length, OnOk, IfOk, is_none, Some, None, IsSome, true};
 ghost use Rattle.dn_model.specs.Steps.{entries_by};
-ghost use Rattle.dn_run.specs.Tables.{TablesOf};
 ghost use Rattle.dn_model.specs.declared.entry.Entry.{Entry};
+ghost use Rattle.dn_model.specs.declared.topology.Topology.{Topology as TopologyIs};
+ghost use Rattle.dn_run.specs.Latest.{After, CanMake, CanMakeAll, IsOf};
 ghost use Rattle.dn_run.specs.Network.{entries};
 ghost use Rattle.dn_run.specs.Takes.{TakesOne, TakesSome, Moves, tag_of};
 
-use crate::tables::Tables;
+use crate::latest::Latest;
 use dn_io::{Gate, Point, Source};
 use dn_model::{Entry, List, Op, OutOfMemory, Posted, RouterId, Topology};
 use route_feed::{FeedReader, FeedStep};
 use std::alloc::Global;
 
-/// The history so far, and the tables of all routers after it.
+/// The history so far, and the version after it.
 #[derive(Drop)]
 pub struct Book {
-    pub tables: Tables,
+    pub latest: Latest,
     pub history: List<Posted>,
 }
 
 /// The seat of all jobs, which run one after another.
 const SEAT: u32 = 0;
 
-/// Applies an update: the router's table changes, and the history grows by it.
-fn post(tables: &mut Tables, history: &mut List<Posted>, entry: Entry) -> Result<(), OutOfMemory>
-    requires { entry.router.0 < length tables.old }
-    ensures len { length tables.new ≡ length tables.old }
+/// Applies an update: the version goes on by it, and so does the history.
+fn post(
+    alloc: Global,
+    latest: &mut Latest,
+    history: &mut List<Posted>,
+    entry: Entry,
+) -> Result<(), OutOfMemory>
+    requires { CanMake latest.old.version entry }
+    ensures of { OnOk result ((t : TopologyIs) → IsOf t latest.old.version → IsOf t latest.new.version) }
     ensures grows { OnOk result (entries history.new ≡ entries history.old ++ entry ∷ []) }
-    ensures tables { OnOk result ((before : List Entry) → TablesOf tables.old before → TablesOf tables.new (before ++ entry ∷ [])) }
+    ensures after { OnOk result ((before : List Entry) → After latest.old before → After latest.new (before ++ entry ∷ [])) }
 {
-    tables.apply(&entry)?;
+    latest.advance(alloc, &entry)?;
     history.push(Posted { seat: SEAT, entry })
 }
 
 /// Applies updates of one router's feed, in order.
 fn post_all<G: Gate>(
-    tables: &mut Tables,
+    alloc: Global,
+    latest: &mut Latest,
     history: &mut List<Posted>,
     feed_no: u32,
     router: RouterId,
@@ -44,15 +51,16 @@ fn post_all<G: Gate>(
     gate: &G,
     job: u32,
 ) -> Result<(), OutOfMemory>
-    requires { router.0 < length tables.old }
-    ensures len { length tables.new ≡ length tables.old }
+    requires { CanMakeAll latest.old.version feed_no router ops.now }
+    ensures of { OnOk result ((t : TopologyIs) → IsOf t latest.old.version → IsOf t latest.new.version) }
     ensures grows { OnOk result (entries history.new ≡ entries history.old ++ entries_by feed_no router ops.now) }
-    ensures tables { OnOk result ((before : List Entry) → TablesOf tables.old before → TablesOf tables.new (before ++ entries_by feed_no router ops.now)) }
+    ensures after { OnOk result ((before : List Entry) → After latest.old before → After latest.new (before ++ entries_by feed_no router ops.now)) }
 {
     for op in ops {
         gate.at(job, Point::BeforeApply);
         post(
-            tables,
+            alloc,
+            latest,
             history,
             Entry {
                 router,
@@ -76,11 +84,11 @@ fn take_frame<S: Source, G: Gate>(
     job: u32,
 ) -> Result<bool, OutOfMemory>
     requires router { reader.old.told.router.0 < length topology.now.routers }
-    requires tables { length book.old.tables ≡ length topology.now.routers }
+    requires version { IsOf topology.now book.old.latest.version }
     ensures taken { IfOk result (λ more. TakesOne more topology.now S.left reader.old reader.new (entries book.old.history) (entries book.new.history)) }
     ensures more { IfOk result (λ more. more ≡ is_none reader.new.told.end) }
     ensures grows { IfOk result (λ more. more ≡ true → (reader.old.passed < reader.new.passed) × (reader.new.passed ≤ reader.new.limit)) }
-    ensures moves { OnOk result (Moves S.faults reader.old reader.new book.old book.new) }
+    ensures moves { OnOk result (Moves topology.now S.faults reader.old reader.new book.old book.new) }
     ensures same { tag_of S.place reader.new ≡ tag_of S.place reader.old }
 {
     let feed_no = reader.told().feed_no;
@@ -88,7 +96,8 @@ fn take_frame<S: Source, G: Gate>(
     match reader.next_frame(alloc, topology)? {
         FeedStep::Ops(ops, _) => {
             post_all(
-                &mut book.tables,
+                alloc,
+                &mut book.latest,
                 &mut book.history,
                 feed_no,
                 router,
@@ -118,9 +127,9 @@ fn take_some<S: Source, G: Gate>(
     job: u32,
 ) -> Result<(), OutOfMemory>
     requires router { reader.old.told.router.0 < length topology.now.routers }
-    requires tables { length book.old.tables ≡ length topology.now.routers }
+    requires version { IsOf topology.now book.old.latest.version }
     ensures taken { OnOk result (TakesSome (Some count) topology.now S.left reader.old reader.new (entries book.old.history) (entries book.new.history)) }
-    ensures moves { OnOk result (Moves S.faults reader.old reader.new book.old book.new) }
+    ensures moves { OnOk result (Moves topology.now S.faults reader.old reader.new book.old book.new) }
     ensures same { tag_of S.place reader.new ≡ tag_of S.place reader.old }
 {
     for taken in 0..count {
@@ -142,9 +151,9 @@ fn take_rest<S: Source, G: Gate>(
     job: u32,
 ) -> Result<(), OutOfMemory>
     requires router { reader.old.told.router.0 < length topology.now.routers }
-    requires tables { length book.old.tables ≡ length topology.now.routers }
+    requires version { IsOf topology.now book.old.latest.version }
     ensures taken { OnOk result (TakesSome None topology.now S.left reader.old reader.new (entries book.old.history) (entries book.new.history)) }
-    ensures moves { OnOk result (Moves S.faults reader.old reader.new book.old book.new) }
+    ensures moves { OnOk result (Moves topology.now S.faults reader.old reader.new book.old book.new) }
     ensures same { tag_of S.place reader.new ≡ tag_of S.place reader.old }
 {
     let mut more = true;
@@ -165,9 +174,9 @@ pub fn take<S: Source, G: Gate>(
     job: u32,
 ) -> Result<(), OutOfMemory>
     requires router { reader.old.told.router.0 < length topology.now.routers }
-    requires tables { length book.old.tables ≡ length topology.now.routers }
+    requires version { IsOf topology.now book.old.latest.version }
     ensures taken { OnOk result (TakesSome count topology.now S.left reader.old reader.new (entries book.old.history) (entries book.new.history)) }
-    ensures moves { OnOk result (Moves S.faults reader.old reader.new book.old book.new) }
+    ensures moves { OnOk result (Moves topology.now S.faults reader.old reader.new book.old book.new) }
     ensures same { tag_of S.place reader.new ≡ tag_of S.place reader.old }
 {
     match count {

@@ -1,3 +1,4 @@
+use Rattle.std.specs.Arc.{arc_value}
 use Rattle.std.proofs.Common.{◌≡◌, ◌∙◌, ◌+◌, ◌∷◌, [], arith, length, map, refl, ap, sym, subst, OnErr, IfOk}
 use Rattle.dn_io.specs.Calls.{Refused}
 use Rattle.std.specs.Option.{option_copied}
@@ -13,7 +14,7 @@ use Rattle.dn_run.proofs.feeds.+from_feeds.Goals as goal
 
 pub from_feeds-ruling-requires-clause-open : goal.from_feeds-ruling-requires-clause-open
 from_feeds-ruling-requires-clause-open g t c κs within =
-    open-pushed c.args.topology.now g.W.Src.Source.faults c.args.readers.now.items c.push_reserved.new.self.items c.new-reader.result (c.len.result + 1) c.in-Ok.source c.in-Some.router c.args.routers.now c.in-Some.others.now
+    open-pushed (arc_value c.args.topology.now) g.W.Src.Source.faults c.args.readers.now.items c.push_reserved.new.self.items c.new-reader.result (c.len.result + 1) c.in-Ok.source c.in-Some.router c.args.routers.now c.in-Some.others.now
     c.requires.open c.in-Some.ensures.1 (c.push_reserved.ensures.items ∙ rw c.in_ok-reserve.ensures.items refl) c.new-reader.ensures.start (omega arith) c.in-Ok.ensures.fresh
 
 pub give_back-requires : goal.give_back-requires
@@ -24,7 +25,7 @@ give_back-requires g t c =
 
 pub returns-in-Some-pop-clause-opens : goal.returns-in-Some-pop-clause-opens
 returns-in-Some-pop-clause-opens g t c =
-    opens-given (λ x. x.verdict) (λ x. x.text.items) c.from_feeds-ruling.result c.args.topology.now g.W.Src.Source.faults g.W.Src.Source.left g.W.Src.Source.place _ _
+    opens-given (λ x. x.verdict) (λ x. x.text.items) c.from_feeds-ruling.result (arc_value c.args.topology.now) g.W.Src.Source.faults g.W.Src.Source.left g.W.Src.Source.place _ _
     c.args.routers.now c.in-Some.others.now c.in-Some.router (scripts_of (option_copied c.args.script)) c.args.readers.now.items c.push_reserved.new.self.items c.pop.new.self.items c.from_feeds-ruling.new.readers.items
     c.new-reader.result c.in-Some-pop.reader c.in-Ok.source c.into_parts-source.result.0 (c.len.result + 1) c.in-Some.feed.now.part
     (record { router = c.in-Some.feed.now.router; file = string_bytes c.in-Some.feed.now.file }) (map feed_texts c.args.feeds.now) (map feed_texts c.in-Some.later.now) _ _ _ _ c.as_str.result.now
@@ -45,17 +46,17 @@ returns-in-Some-pop-clause-keeps g t c =
 
 pub returns-in_default-clause-opens : goal.returns-in_default-clause-opens
 returns-in_default-clause-opens g t c =
-    subst (λ fs. IfOk c.run_readers.result (λ x. Opens c.args.topology.now g.W.Src.Source.faults g.W.Src.Source.left (g.W.World.files c.args.world.now) c.args.routers.now (scripts_of (option_copied c.args.script)) c.args.readers.now.items c.run_readers.new.readers.items (map feed_texts fs) (g.W.World.calls c.args.world.now) (g.W.World.calls c.args.world.now) x.verdict x.text.items)) (sym c.in_default.ensures.0)
-    (subst (λ rs. IfOk c.run_readers.result (λ x. Opens c.args.topology.now g.W.Src.Source.faults g.W.Src.Source.left (g.W.World.files c.args.world.now) rs (scripts_of (option_copied c.args.script)) c.args.readers.now.items c.run_readers.new.readers.items [] (g.W.World.calls c.args.world.now) (g.W.World.calls c.args.world.now) x.verdict x.text.items)) (sym c.in_default.ensures.1)
-    (opens-none (λ x. x.verdict) (λ x. x.text.items) c.run_readers.result c.args.topology.now g.W.Src.Source.faults g.W.Src.Source.left (g.W.World.files c.args.world.now) (scripts_of (option_copied c.args.script))
+    subst (λ fs. IfOk c.run_readers.result (λ x. Opens (arc_value c.args.topology.now) g.W.Src.Source.faults g.W.Src.Source.left (g.W.World.files c.args.world.now) c.args.routers.now (scripts_of (option_copied c.args.script)) c.args.readers.now.items c.run_readers.new.readers.items (map feed_texts fs) (g.W.World.calls c.args.world.now) (g.W.World.calls c.args.world.now) x.verdict x.text.items)) (sym c.in_default.ensures.0)
+    (subst (λ rs. IfOk c.run_readers.result (λ x. Opens (arc_value c.args.topology.now) g.W.Src.Source.faults g.W.Src.Source.left (g.W.World.files c.args.world.now) rs (scripts_of (option_copied c.args.script)) c.args.readers.now.items c.run_readers.new.readers.items [] (g.W.World.calls c.args.world.now) (g.W.World.calls c.args.world.now) x.verdict x.text.items)) (sym c.in_default.ensures.1)
+    (opens-none (λ x. x.verdict) (λ x. x.text.items) c.run_readers.result (arc_value c.args.topology.now) g.W.Src.Source.faults g.W.Src.Source.left (g.W.World.files c.args.world.now) (scripts_of (option_copied c.args.script))
     c.args.readers.now.items c.run_readers.new.readers.items (g.W.World.calls c.args.world.now) c.run_readers.ensures.ran c.run_readers.ensures.faults))
 
 pub returns-in-Err-Failed-clause-opens : goal.returns-in-Err-Failed-clause-opens
 returns-in-Err-Failed-clause-opens g t c =
-    subst (λ fs. IfOk c.refusal.result (λ x. Opens c.args.topology.now g.W.Src.Source.faults g.W.Src.Source.left (g.W.World.files c.args.world.now) c.args.routers.now (scripts_of (option_copied c.args.script)) c.args.readers.now.items c.reserve.new.self.items (map feed_texts fs) (g.W.World.calls c.args.world.now) (g.W.World.calls c.source_of.new.self) x.verdict x.text.items)) (sym c.in-Some.ensures.0)
-    (subst (λ rs. IfOk c.refusal.result (λ x. Opens c.args.topology.now g.W.Src.Source.faults g.W.Src.Source.left (g.W.World.files c.args.world.now) rs (scripts_of (option_copied c.args.script)) c.args.readers.now.items c.reserve.new.self.items (map feed_texts (c.in-Some.feed.now ∷ c.in-Some.later.now)) (g.W.World.calls c.args.world.now) (g.W.World.calls c.source_of.new.self) x.verdict x.text.items)) (sym c.in-Some.ensures.1)
-    (subst (λ ns. IfOk c.refusal.result (λ x. Opens c.args.topology.now g.W.Src.Source.faults g.W.Src.Source.left (g.W.World.files c.args.world.now) (c.in-Some.router ∷ c.in-Some.others.now) (scripts_of (option_copied c.args.script)) c.args.readers.now.items ns (map feed_texts (c.in-Some.feed.now ∷ c.in-Some.later.now)) (g.W.World.calls c.args.world.now) (g.W.World.calls c.source_of.new.self) x.verdict x.text.items)) (sym c.in_ok-reserve.ensures.items)
-    (opens-refused (λ x. x.verdict) (λ x. x.text.items) c.refusal.result c.args.topology.now g.W.Src.Source.faults g.W.Src.Source.left (g.W.World.files c.args.world.now) c.in-Some.router c.in-Some.others.now
+    subst (λ fs. IfOk c.refusal.result (λ x. Opens (arc_value c.args.topology.now) g.W.Src.Source.faults g.W.Src.Source.left (g.W.World.files c.args.world.now) c.args.routers.now (scripts_of (option_copied c.args.script)) c.args.readers.now.items c.reserve.new.self.items (map feed_texts fs) (g.W.World.calls c.args.world.now) (g.W.World.calls c.source_of.new.self) x.verdict x.text.items)) (sym c.in-Some.ensures.0)
+    (subst (λ rs. IfOk c.refusal.result (λ x. Opens (arc_value c.args.topology.now) g.W.Src.Source.faults g.W.Src.Source.left (g.W.World.files c.args.world.now) rs (scripts_of (option_copied c.args.script)) c.args.readers.now.items c.reserve.new.self.items (map feed_texts (c.in-Some.feed.now ∷ c.in-Some.later.now)) (g.W.World.calls c.args.world.now) (g.W.World.calls c.source_of.new.self) x.verdict x.text.items)) (sym c.in-Some.ensures.1)
+    (subst (λ ns. IfOk c.refusal.result (λ x. Opens (arc_value c.args.topology.now) g.W.Src.Source.faults g.W.Src.Source.left (g.W.World.files c.args.world.now) (c.in-Some.router ∷ c.in-Some.others.now) (scripts_of (option_copied c.args.script)) c.args.readers.now.items ns (map feed_texts (c.in-Some.feed.now ∷ c.in-Some.later.now)) (g.W.World.calls c.args.world.now) (g.W.World.calls c.source_of.new.self) x.verdict x.text.items)) (sym c.in_ok-reserve.ensures.items)
+    (opens-refused (λ x. x.verdict) (λ x. x.text.items) c.refusal.result (arc_value c.args.topology.now) g.W.Src.Source.faults g.W.Src.Source.left (g.W.World.files c.args.world.now) c.in-Some.router c.in-Some.others.now
     (scripts_of (option_copied c.args.script)) c.args.readers.now.items c.in-Some.feed.now.part (record { router = c.in-Some.feed.now.router; file = string_bytes c.in-Some.feed.now.file }) (map feed_texts c.in-Some.later.now) _ _
     c.requires.open.fresh (rw (c.in-Err-Failed.field-0-is, c.as_str.ensures.value) at c.in-Err-Failed.ensures.refused) c.refusal.ensures.verdict c.refusal.ensures.text)))
 

@@ -1,3 +1,4 @@
+use Rattle.std.specs.Arc.{arc_value}
 use Rattle.std.proofs.Common.{◌≡◌, ◌+◌, ◌∙◌, ◌∷◌, ◌++◌, [], IsSomeAnd, map, ap, sym, refl}
 use Rattle.std.specs.String.{string_bytes}
 use Rattle.dn_io.specs.Files.{bytes_of}
@@ -13,34 +14,34 @@ use Rattle.dn_run.proofs.program.from_script.Goals as goal
 
 pub returns-in-Read-clause-stage : goal.returns-in-Read-clause-stage
 returns-in-Read-clause-stage g c =
-    let loads = rw (c.in-Read.is, c.as_str.ensures.value) at c.in_ok-script.ensures.loads in
-    stage-read (λ fs. IsSomeAnd (bytes_of fs (string_bytes c.args.part.now.file)) (λ bytes. IsReadFront bytes (text_limit + 1) loads.0 × SaysScript c.args.topology.now c.args.routers.now [] c.args.part.now.part bytes (loaded.Read c.in-Read.script))) (λ x fs calls. FromScripts fs c.args.topology.now c.args.routers.now [] (script_texts c.args.part.now ∷ []) (map feed_texts c.args.feeds.now) calls x.verdict x.text.items)
-    (λ x fs calls. FromJobs fs c.args.topology.now c.args.routers.now (c.in-Read.script.lines ∷ []) (map feed_texts c.args.feeds.now) calls x.verdict x.text.items) (λ x. x.verdict) c.from_jobs.result (g.W.World.files c.args.world.now) _ (g.W.World.calls c.args.world.now) _ _ (string_bytes c.args.part.now.file) (feed_files (map feed_texts c.args.feeds.now)) loads.0
-    loads.1 c.in_ok-script.ensures.same_files loads.2 (λ x fs more says after. script-read fs c.args.topology.now c.args.routers.now c.args.part.now.part (string_bytes c.args.part.now.file) (map feed_texts c.args.feeds.now) c.in-Read.script loads.0 more x.verdict x.text.items says after) c.from_jobs.ensures.stage
+    let loads = rw (c.in-Read.is, c.as_str.ensures.value, c.deref.ensures) at c.in_ok-script.ensures.loads in
+    stage-read (λ fs. IsSomeAnd (bytes_of fs (string_bytes c.args.part.now.file)) (λ bytes. IsReadFront bytes (text_limit + 1) loads.0 × SaysScript (arc_value c.args.topology.now) c.args.routers.now [] c.args.part.now.part bytes (loaded.Read c.in-Read.script))) (λ x fs calls. FromScripts fs (arc_value c.args.topology.now) c.args.routers.now [] (script_texts c.args.part.now ∷ []) (map feed_texts c.args.feeds.now) calls x.verdict x.text.items)
+    (λ x fs calls. FromJobs fs (arc_value c.args.topology.now) c.args.routers.now (c.in-Read.script.lines ∷ []) (map feed_texts c.args.feeds.now) calls x.verdict x.text.items) (λ x. x.verdict) c.from_jobs.result (g.W.World.files c.args.world.now) _ (g.W.World.calls c.args.world.now) _ _ (string_bytes c.args.part.now.file) (feed_files (map feed_texts c.args.feeds.now)) loads.0
+    loads.1 c.in_ok-script.ensures.same_files loads.2 (λ x fs more says after. script-read fs (arc_value c.args.topology.now) c.args.routers.now c.args.part.now.part (string_bytes c.args.part.now.file) (map feed_texts c.args.feeds.now) c.in-Read.script loads.0 more x.verdict x.text.items says after) c.from_jobs.ensures.stage
 
 pub returns-in-Read-clause-memory : goal.returns-in-Read-clause-memory
 returns-in-Read-clause-memory g c =
-    let loads = rw (c.in-Read.is, c.as_str.ensures.value) at c.in_ok-script.ensures.loads in
+    let loads = rw (c.in-Read.is, c.as_str.ensures.value, c.deref.ensures) at c.in_ok-script.ensures.loads in
     names-then c.from_jobs.result _ _ _ _ _ _ loads.1 c.from_jobs.ensures.memory
 
 pub returns-in-Refused-clause-stage : goal.returns-in-Refused-clause-stage
 returns-in-Refused-clause-stage g c =
-    let loads = rw (c.in-Refused.is, c.as_str.ensures.value) at c.in_ok-script.ensures.loads in
-    stage-refused (λ fs. IsSomeAnd (bytes_of fs (string_bytes c.args.part.now.file)) (λ bytes. IsReadFront bytes (text_limit + 1) loads.0 × SaysScript c.args.topology.now c.args.routers.now [] c.args.part.now.part bytes (loaded.Refused c.in-Refused.line))) (λ x fs calls. FromScripts fs c.args.topology.now c.args.routers.now [] (script_texts c.args.part.now ∷ []) (map feed_texts c.args.feeds.now) calls x.verdict x.text.items) (λ x. x.verdict) c.refusal.result (g.W.World.files c.args.world.now) (g.W.World.calls c.args.world.now) _ (string_bytes c.args.part.now.file) (feed_files (map feed_texts c.args.feeds.now)) loads.0
+    let loads = rw (c.in-Refused.is, c.as_str.ensures.value, c.deref.ensures) at c.in_ok-script.ensures.loads in
+    stage-refused (λ fs. IsSomeAnd (bytes_of fs (string_bytes c.args.part.now.file)) (λ bytes. IsReadFront bytes (text_limit + 1) loads.0 × SaysScript (arc_value c.args.topology.now) c.args.routers.now [] c.args.part.now.part bytes (loaded.Refused c.in-Refused.line))) (λ x fs calls. FromScripts fs (arc_value c.args.topology.now) c.args.routers.now [] (script_texts c.args.part.now ∷ []) (map feed_texts c.args.feeds.now) calls x.verdict x.text.items) (λ x. x.verdict) c.refusal.result (g.W.World.files c.args.world.now) (g.W.World.calls c.args.world.now) _ (string_bytes c.args.part.now.file) (feed_files (map feed_texts c.args.feeds.now)) loads.0
     loads.1 loads.2 (ok-then c.refusal.result (λ x is. ap is_fault is) c.refusal.ensures.verdict)
-    (ok-both c.refusal.result (λ x is prints fs says. script-refused fs c.args.topology.now c.args.routers.now c.args.part.now.part (string_bytes c.args.part.now.file) (map feed_texts c.args.feeds.now) c.in-Refused.line loads.0 x.verdict x.text.items says is prints) c.refusal.ensures.verdict c.refusal.ensures.text)
+    (ok-both c.refusal.result (λ x is prints fs says. script-refused fs (arc_value c.args.topology.now) c.args.routers.now c.args.part.now.part (string_bytes c.args.part.now.file) (map feed_texts c.args.feeds.now) c.in-Refused.line loads.0 x.verdict x.text.items says is prints) c.refusal.ensures.verdict c.refusal.ensures.text)
 
 pub returns-in-Refused-clause-memory : goal.returns-in-Refused-clause-memory
 returns-in-Refused-clause-memory g c =
-    let loads = rw (c.in-Refused.is, c.as_str.ensures.value) at c.in_ok-script.ensures.loads in
+    let loads = rw (c.in-Refused.is, c.as_str.ensures.value, c.deref.ensures) at c.in_ok-script.ensures.loads in
     on-err c.refusal.result (names-one _ _ _ _ _ loads.1)
 
 pub returns-in-Failed-clause-stage : goal.returns-in-Failed-clause-stage
 returns-in-Failed-clause-stage g c =
     let loads = rw (c.in-Failed.is, c.as_str.ensures.value) at c.in_ok-script.ensures.loads in
-    stage-fault (λ x fs calls. FromScripts fs c.args.topology.now c.args.routers.now [] (script_texts c.args.part.now ∷ []) (map feed_texts c.args.feeds.now) calls x.verdict x.text.items) (λ x. x.verdict) c.refusal-in-Failed.result (g.W.World.files c.args.world.now) (g.W.World.calls c.args.world.now) _ (string_bytes c.args.part.now.file) (feed_files (map feed_texts c.args.feeds.now))
+    stage-fault (λ x fs calls. FromScripts fs (arc_value c.args.topology.now) c.args.routers.now [] (script_texts c.args.part.now ∷ []) (map feed_texts c.args.feeds.now) calls x.verdict x.text.items) (λ x. x.verdict) c.refusal-in-Failed.result (g.W.World.files c.args.world.now) (g.W.World.calls c.args.world.now) _ (string_bytes c.args.part.now.file) (feed_files (map feed_texts c.args.feeds.now))
     loads (ok-then c.refusal-in-Failed.result (λ x is. ap is_fault is) c.refusal-in-Failed.ensures.verdict)
-    (ok-both c.refusal-in-Failed.result (λ x is prints fs state fails. script-failed fs c.args.topology.now c.args.routers.now c.args.part.now.part (string_bytes c.args.part.now.file) (map feed_texts c.args.feeds.now) state x.verdict x.text.items fails is prints) c.refusal-in-Failed.ensures.verdict c.refusal-in-Failed.ensures.text)
+    (ok-both c.refusal-in-Failed.result (λ x is prints fs state fails. script-failed fs (arc_value c.args.topology.now) c.args.routers.now c.args.part.now.part (string_bytes c.args.part.now.file) (map feed_texts c.args.feeds.now) state x.verdict x.text.items fails is prints) c.refusal-in-Failed.ensures.verdict c.refusal-in-Failed.ensures.text)
 
 pub returns-in-Failed-clause-memory : goal.returns-in-Failed-clause-memory
 returns-in-Failed-clause-memory g c =

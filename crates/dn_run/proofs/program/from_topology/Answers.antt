@@ -11,15 +11,20 @@ use Rattle.dn_run.proofs.ProgramLemmas.{on-err, names-one, names-then, stage-rea
 use Rattle.dn_run.proofs.StepLemmas.{ok-then, ok-both, topology-read, topology-refused, topology-failed}
 use Rattle.dn_run.proofs.program.from_topology.Goals as goal
 
-pub returns-in-Read-clause-stage : goal.returns-in-Read-clause-stage
-returns-in-Read-clause-stage g c =
+pub returns-in_err-topology-in-Read-clause-memory : goal.returns-in_err-topology-in-Read-clause-memory
+returns-in_err-topology-in-Read-clause-memory g c =
+    let loads = rw c.in-Read.is at c.in_ok-topology.ensures.loads in
+    on-err c.from_residual-in_err-topology-in-Read.result (names-one _ _ _ _ _ loads.1)
+
+pub returns-in_ok-topology-in-Read-clause-stage : goal.returns-in_ok-topology-in-Read-clause-stage
+returns-in_ok-topology-in-Read-clause-stage g c =
     let loads = rw c.in-Read.is at c.in_ok-topology.ensures.loads in
     stage-read (λ fs. IsSomeAnd (bytes_of fs c.args.topology.now) (λ bytes. IsReadFront bytes (text_limit + 1) loads.0 × SaysTopology bytes (loaded.Read c.in-Read.topology))) (λ x fs calls. FromTopology c.args.topology.now (parts_texts c.args.parts.now) fs calls x.verdict x.text.items)
     (λ x fs calls. FromRouters (parts_texts c.args.parts.now) fs c.in-Read.topology calls x.verdict x.text.items) (λ x. x.verdict) c.from_routers.result (g.W.World.files c.args.world.now) _ (g.W.World.calls c.args.world.now) _ _ c.args.topology.now (script_files (parts_texts c.args.parts.now).scripts ++ feed_files (parts_texts c.args.parts.now).feeds) loads.0
-    loads.1 c.in_ok-topology.ensures.same_files loads.2 (λ x fs more says after. topology-read fs c.args.topology.now (parts_texts c.args.parts.now) c.in-Read.topology loads.0 more x.verdict x.text.items says after) c.from_routers.ensures.stage
+    loads.1 c.in_ok-topology.ensures.same_files loads.2 (λ x fs more says after. topology-read fs c.args.topology.now (parts_texts c.args.parts.now) c.in-Read.topology loads.0 more x.verdict x.text.items says after) (rw c.in_ok-topology-in-Read.ensures.ok at c.from_routers.ensures.stage)
 
-pub returns-in-Read-clause-memory : goal.returns-in-Read-clause-memory
-returns-in-Read-clause-memory g c =
+pub returns-in_ok-topology-in-Read-clause-memory : goal.returns-in_ok-topology-in-Read-clause-memory
+returns-in_ok-topology-in-Read-clause-memory g c =
     let loads = rw c.in-Read.is at c.in_ok-topology.ensures.loads in
     names-then c.from_routers.result _ _ _ _ _ _ loads.1 c.from_routers.ensures.memory
 

@@ -1,10 +1,29 @@
-use Rattle.std.proofs.Common.{◌≡◌, refl, None, ap, sym, ◌∙◌, arith}
+use Rattle.std.proofs.Common.{rules, ◌≡◌, List, refl, None, ap, subst, sym, ◌∙◌, arith}
+use Rattle.dn_model.specs.declared.entry.Entry.{Entry}
+use Rattle.dn_run.specs.Latest.{After}
+use Rattle.dn_run.specs.Network.{entries}
+use Rattle.dn_run.proofs.LatestLemmas.{can-make-all}
 use Rattle.std.proofs.lemmas.List.{append-nil}
 use Rattle.std.proofs.lemmas.Grind.{common_steps}
 use Rattle.route_feed.specs.FeedReader.{told_then, end_of}
 use Rattle.dn_model.specs.Steps.{Accepted, Refused}
 use Rattle.dn_run.proofs.TakesLemmas.{gives-step, end-before_ops}
 use Rattle.dn_run.proofs.take.take_frame.Goals as goal
+
+pub post_all-requires-after_bounds : goal.post_all-requires-after_bounds
+post_all-requires-after_bounds g c =
+    let are = rw c.in-Ops.is at c.in_ok-ops.ensures.within in
+    λ κs within. rw (c.told-2.ensures, c.as_slice.ensures.value) (can-make-all c.args.topology.now c.args.book.now.latest.version c.told.result.now.feed_no c.args.reader.now.told.router c.in-Ops.ops c.requires.version c.requires.router are)
+
+pub returns-in_ok-post_all-in-Ops-clause-moves : goal.returns-in_ok-post_all-in-Ops-clause-moves
+returns-in_ok-post_all-in-Ops-clause-moves g c = record {
+  version = c.in_ok-post_all-in-Ops.ensures.of c.args.topology.now;
+  follows = λ is. subst (λ (es : List Entry). After c.post_all.new.latest es) (sym c.in_ok-post_all-in-Ops.ensures.grows) (c.in_ok-post_all-in-Ops.ensures.after (entries c.args.book.now.history) is);
+  fits = first_of (search rules, grind (arith, common_steps));
+  within = first_of (search rules, grind (arith, common_steps));
+  counts = first_of (search rules, grind (arith, common_steps));
+  ended = first_of (search rules, grind (arith, common_steps));
+}
 
 pub returns-in_ok-post_all-in-Ops-clause-taken : goal.returns-in_ok-post_all-in-Ops-clause-taken
 returns-in_ok-post_all-in-Ops-clause-taken g c =

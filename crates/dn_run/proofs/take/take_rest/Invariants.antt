@@ -8,7 +8,7 @@ abbrev pub invariant-loop-more : goal.invariant-loop-more
 invariant-loop-more g l = record {
   taken : TakesAny l.topology g.S.Source.left l.fn.reader l.reader (entries l.fn.book.history) (entries l.book.history);
   going : EndsUnless l.more l.reader.told.end;
-  moves : Moves g.S.Source.faults l.fn.reader l.reader l.fn.book l.book;
+  moves : Moves l.topology g.S.Source.faults l.fn.reader l.reader l.fn.book l.book;
   same : tag_of g.S.Source.place l.reader ≡ tag_of g.S.Source.place l.fn.reader;
 }
 

@@ -4,11 +4,11 @@ use Rattle.dn_run.specs.Jobs.{scripts_of}
 use Rattle.dn_run.specs.Network.{entries}
 use Rattle.dn_run.specs.Tracks.{Tracks, Owns}
 use Rattle.dn_run.proofs.JobsLemmas.{same-length, tracks-start, run-over, over-counts, over-ended}
-use Rattle.dn_run.proofs.jobs.run_jobs.Goals as goal
+use Rattle.dn_run.proofs.jobs.run_all.Goals as goal
 
 pub returns-clause-ran : goal.returns-clause-ran
 returns-clause-ran g c =
-    let start = tracks-start c.args.topology.now g.S.Source.left g.S.Source.faults c.args.readers.now.items c.new-2.result c.new-2.ensures c.requires.fresh c.requires.numbered c.requires.apart in
+    let start = tracks-start c.args.topology.now g.S.Source.left g.S.Source.faults c.args.readers.now.items c.args.book.history c.requires.none c.requires.fresh c.requires.numbered c.requires.apart in
     let first = c.in_ok-jobs.ensures.owns c.args.readers.now.items start in
     let last = c.in_ok-run_owns.ensures.owns c.args.readers.now.items c.in_ok-jobs.jobs.items first in
     run-over c.args.topology.now g.S.Source.left g.S.Source.faults c.args.readers.now.items c.run_owns.new.readers.items c.run_owns.new.book.history (scripts_of (option_copied c.args.script))
@@ -17,7 +17,7 @@ returns-clause-ran g c =
 
 pub returns-clause-counts : goal.returns-clause-counts
 returns-clause-counts g c =
-    let start = tracks-start c.args.topology.now g.S.Source.left g.S.Source.faults c.args.readers.now.items c.new-2.result c.new-2.ensures c.requires.fresh c.requires.numbered c.requires.apart in
+    let start = tracks-start c.args.topology.now g.S.Source.left g.S.Source.faults c.args.readers.now.items c.args.book.history c.requires.none c.requires.fresh c.requires.numbered c.requires.apart in
     let first = c.in_ok-jobs.ensures.owns c.args.readers.now.items start in
     let last = c.in_ok-run_owns.ensures.owns c.args.readers.now.items c.in_ok-jobs.jobs.items first in
     over-counts c.args.topology.now g.S.Source.left g.S.Source.faults c.args.readers.now.items c.run_owns.new.readers.items (entries c.run_owns.new.book.history) (scripts_of (option_copied c.args.script))
@@ -25,7 +25,7 @@ returns-clause-counts g c =
 
 pub returns-clause-ended : goal.returns-clause-ended
 returns-clause-ended g c =
-    let start = tracks-start c.args.topology.now g.S.Source.left g.S.Source.faults c.args.readers.now.items c.new-2.result c.new-2.ensures c.requires.fresh c.requires.numbered c.requires.apart in
+    let start = tracks-start c.args.topology.now g.S.Source.left g.S.Source.faults c.args.readers.now.items c.args.book.history c.requires.none c.requires.fresh c.requires.numbered c.requires.apart in
     let first = c.in_ok-jobs.ensures.owns c.args.readers.now.items start in
     let last = c.in_ok-run_owns.ensures.owns c.args.readers.now.items c.in_ok-jobs.jobs.items first in
     over-ended c.args.topology.now g.S.Source.left g.S.Source.faults c.args.readers.now.items c.run_owns.new.readers.items (entries c.run_owns.new.book.history) (scripts_of (option_copied c.args.script))

@@ -16,7 +16,7 @@ use std::sync::Arc;
 use std::test::Fail;
 
 /// The router of all updates.
-const R1: RouterId = RouterId(0);
+const FIRST: RouterId = RouterId(0);
 
 /// 10.0.0.0/8.
 fn ten() -> Prefix {
@@ -63,7 +63,7 @@ fn entry(update: Update) -> Entry
         },
     };
     Entry {
-        router: R1,
+        router: FIRST,
         feed_no: 1,
         op,
     }
@@ -183,7 +183,7 @@ fn of_two_metrics_the_lesser_wins_and_a_clearing_takes_both(rt: HostRuntime) -> 
         hi: 0x0AFF_FFFF,
     };
     let change = Change {
-        router: R1,
+        router: FIRST,
         run,
         before: Target::Exit(2),
         after: Target::Exit(3),
@@ -191,9 +191,9 @@ fn of_two_metrics_the_lesser_wins_and_a_clearing_takes_both(rt: HostRuntime) -> 
     assert_eq!(rt; better.changes(), &[change][..]);
     let (version, worse) = advanced(alloc, version, set(ten(), 20, 4))?;
     assert_eq!(rt; worse.changes().len(), 0);
-    assert_eq!(rt; by_rows(&version, R1, 0x0A00_0001), Target::Exit(3));
+    assert_eq!(rt; by_rows(&version, FIRST, 0x0A00_0001), Target::Exit(3));
     let (version, _) = advanced(alloc, version, clear(ten(), None))?;
-    assert_eq!(rt; by_rows(&version, R1, 0x0A00_0001), Target::NoRoute);
+    assert_eq!(rt; by_rows(&version, FIRST, 0x0A00_0001), Target::NoRoute);
     assert_eq!(rt; version.routers(), 3);
     assert_eq!(rt; version.atoms(), 3);
     assert_eq!(rt; version.copy(alloc)?.bounds(1), (0x0A00_0000, 0x0B00_0000));
@@ -207,16 +207,16 @@ fn as_the_plain_evaluator(rt: HostRuntime) -> Result<(), Fail> {
     let mut old = first_version(alloc)?;
     for update in updates() {
         let entry = entry(update);
-        let before = plain_routes(alloc, entries.as_slice(), R1)?;
+        let before = plain_routes(alloc, entries.as_slice(), FIRST)?;
         entries.push(entry)?;
-        let after = plain_routes(alloc, entries.as_slice(), R1)?;
+        let after = plain_routes(alloc, entries.as_slice(), FIRST)?;
         let (new, delta) = old.apply(alloc, &entry)?;
         for a in ADDRESSES {
             let was = plain_target(before.as_slice(), &[], a);
             let is = plain_target(after.as_slice(), &[], a);
             let change = if was == is { None } else { Some((was, is)) };
-            assert_eq!(rt; by_rows(&old, R1, a), was, "before, at {a}");
-            assert_eq!(rt; by_rows(&new, R1, a), is, "after, at {a}");
+            assert_eq!(rt; by_rows(&old, FIRST, a), was, "before, at {a}");
+            assert_eq!(rt; by_rows(&new, FIRST, a), is, "after, at {a}");
             assert_eq!(rt; by_rows(&new, RouterId(1), a), Target::NoRoute);
             assert_eq!(rt; told(delta.changes(), a), change, "told, at {a}");
         }

@@ -8,14 +8,13 @@ Usage: bench/prefixes.py [RUNS] [N]..      runs of each feed (1), of which the f
                                            (25000 50000 100000 200000 400000), at most 16777216, multiples of 8
 """
 
-import os
 import struct
 import sys
 import tempfile
 
 from program import build, run
+from ring import ROUTERS, words, write_feeds, write_network
 
-ROUTERS = 8
 MAIN, OTHER = 254, 100
 MULTIPLIER = 2654435761  # odd, so that different j below 2^24 give different prefixes
 BYTES_OF_FRAME = 64
@@ -37,25 +36,6 @@ def frame(j, table):
     return struct.pack(">BBH", 1, 1, 4 + len(message)) + message
 
 
-def write_network(folder):
-    """A ring: link li from interface 2 of mi to interface 3 of the next router."""
-    with open(os.path.join(folder, "topology.toml"), "w") as out:
-        names = ", ".join(f'"m{i}"' for i in range(ROUTERS))
-        out.write(f"routers = [{names}]\n")
-        for i in range(ROUTERS):
-            out.write(f'[[link]]\nname = "l{i}"\nends = ["m{i}:2", "m{(i + 1) % ROUTERS}:3"]\n')
-    with open(os.path.join(folder, "script"), "w") as out:
-        for i in range(ROUTERS):
-            out.write(f"take m{i} all\n")
-        out.write("path m0 0.0.0.1\n")
-
-
-def write_feeds(folder, count, table):
-    for i in range(ROUTERS):
-        with open(os.path.join(folder, f"m{i}.fpm"), "wb") as out:
-            out.writelines(frame(j, table) for j in range(i, count, ROUTERS))
-
-
 def expected(count, table):
     """The head and the end of the report. Prefix 0, 0.0.0.0/24, is m0's alone."""
     each = count // ROUTERS
@@ -69,11 +49,8 @@ def expected(count, table):
 
 
 def measure(folder, count, table, runs):
-    write_feeds(folder, count, table)
-    words = [os.path.join(folder, "topology.toml")]
-    words += [f"m{i}={folder}/m{i}.fpm" for i in range(ROUTERS)]
-    words.append(f"@{folder}/script")
-    return min(run(folder, words, *expected(count, table)) for _ in range(runs))
+    write_feeds(folder, count, lambda j: frame(j, table))
+    return min(run(folder, words(folder), *expected(count, table)) for _ in range(runs))
 
 
 def main():
@@ -84,7 +61,7 @@ def main():
     build()
     times = []
     with tempfile.TemporaryDirectory() as folder:
-        write_network(folder)
+        write_network(folder, ["path m0 0.0.0.1"])
         for n in counts:
             size = n * BYTES_OF_FRAME
             alone, _, _ = measure(folder, n, OTHER, runs)

@@ -8,14 +8,13 @@ path and for what the last update changed, which this file works out by itself.
 Usage: bench/updates.py [RUNS] [N]..       runs of each feed (1), of which the fastest counts, and the N (500 1000 2000 4000)
 """
 
-import os
 import struct
 import sys
 import tempfile
 
 from program import build, run
+from ring import ROUTERS, words, write_feeds, write_network
 
-ROUTERS = 8
 MULTIPLIER = 2654435761
 ADDRESS = 0x00000001
 
@@ -37,27 +36,6 @@ def frame(j):
     message += struct.pack("<HHI", 8, 6, metric)
     message = struct.pack("<IHHII", 16 + len(message), 24, 0x0501, 0, 0) + message
     return struct.pack(">BBH", 1, 1, 4 + len(message)) + message
-
-
-def write_network(folder):
-    """A ring: link li from interface 2 of mi to interface 3 of the next router, and an edge at each router's interface 1."""
-    with open(os.path.join(folder, "topology.toml"), "w") as out:
-        names = ", ".join(f'"m{i}"' for i in range(ROUTERS))
-        out.write(f"routers = [{names}]\n")
-        for i in range(ROUTERS):
-            out.write(f'[[link]]\nname = "l{i}"\nends = ["m{i}:2", "m{(i + 1) % ROUTERS}:3"]\n')
-        for i in range(ROUTERS):
-            out.write(f'[[edge]]\nat = "m{i}:1"\n')
-    with open(os.path.join(folder, "script"), "w") as out:
-        for i in range(ROUTERS):
-            out.write(f"take m{i} all\n")
-        out.write(f"path m0 {address(ADDRESS)}\ndelta\n")
-
-
-def write_feeds(folder, count):
-    for i in range(ROUTERS):
-        with open(os.path.join(folder, f"m{i}.fpm"), "wb") as out:
-            out.writelines(frame(j) for j in range(i, count, ROUTERS))
 
 
 def address(a):
@@ -127,14 +105,11 @@ def main():
     build()
     times = []
     with tempfile.TemporaryDirectory() as folder:
-        write_network(folder)
-        words = [os.path.join(folder, "topology.toml")]
-        words += [f"m{i}={folder}/m{i}.fpm" for i in range(ROUTERS)]
-        words.append(f"@{folder}/script")
+        write_network(folder, [f"path m0 {address(ADDRESS)}", "delta"])
         for n in counts:
-            write_feeds(folder, n)
+            write_feeds(folder, n, frame)
             head, end, atoms = expected(n)
-            clock, processor, peak = min(run(folder, words, head, end) for _ in range(runs))
+            clock, processor, peak = min(run(folder, words(folder), head, end) for _ in range(runs))
             times.append(clock / n)
             print(
                 f"{n} updates, {atoms} atoms: {clock:.3f} s, {processor:.3f} s of the processor, "

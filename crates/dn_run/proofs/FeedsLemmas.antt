@@ -16,12 +16,13 @@ use Rattle.dn_model.specs.declared.error_line.ErrorLine.TheVariants as errors
 use Rattle.dn_run.specs.Feeds.{opened, Appends, AreLeft, some_rose, routers_of_readers, AreOpen, Opens}
 use Rattle.dn_run.specs.Jobs.{IsFresh, AreNumbered, same_router}
 use Rattle.dn_run.specs.Run.{OpenedFeed, FromFeeds, OnFeed, IsUntouched, IsErrorLine, IsRunOf, feed_files, feed_limit}
-use Rattle.dn_run.specs.Stage.{Names, IsFrontOf, is_fault}
+use Rattle.dn_run.specs.Stage.{Names, IsFrontOf, is_fault, may_end_early}
 use Rattle.dn_run.specs.Takes.{Tag, tag_of}
 use Rattle.dn_run.specs.Tracks.{tags_of}
 use Rattle.dn_run.specs.declared.status.Verdict.{Verdict}
 use Rattle.dn_run.specs.declared.status.Verdict.TheVariants.{ReadFault}
 use Rattle.route_feed.specs.FeedReader.{Reader, told_so_far}
+use Rattle.dn_run.proofs.AskedLemmas.{asked-all, asked-cons, asked-front}
 use Rattle.dn_run.proofs.CallsLemmas.{names_of-append, names_of-with_state}
 
 -- ---- calls
@@ -173,7 +174,7 @@ module _ {S : Type 0} where
   opens-push verdict text (Ok x) t faults left place files files' routers scripts olds news old new part words feeds c0 c1 c2 c3 same out at back len has is inner = record {
     more = call_of words.file (back_with (faults new.source) (left new.source)) ∷ inner.more;
     appended = back ∙ rw (inner.appended, out, at) (with_state-middle c0 words.file inner.more (back_with (faults new.source) (left new.source)));
-    front = (inner.front.0, ap (λ ns. words.file ∷ ns) inner.front.1);
+    asked = asked-cons (verdict x) words.file (names_of inner.more) (feed_files feeds) inner.asked;
     given_back = inner.given_back;
     failed = sym (any-push (λ r. not (faults r.source == 0)) news new (some_failed inner.more)) ∙ inner.failed;
     due_is = due-told files t faults left routers scripts olds news old new part words feeds inner.more (verdict x) (text x) len has is
@@ -192,7 +193,7 @@ module _ {S : Type 0} where
   opens-refused verdict text (Ok x) t faults left files router routers scripts olds part words feeds c0 c1 fresh out is says = record {
     more = call_of words.file Refused ∷ [];
     appended = out;
-    front = (feed_files feeds, refl);
+    asked = asked-front (verdict x) (words.file ∷ []) (words.file ∷ feed_files feeds) (ap may_end_early is) (feed_files feeds, refl);
     given_back = refl;
     failed = rw (none-rose t faults olds fresh, is) refl;
     due_is = due files;
@@ -214,7 +215,7 @@ module _ {S : Type 0} where
   opens-none verdict text (Ok x) t faults left files scripts olds news calls ran rose = record {
     more = [];
     appended = sym (append-nil calls);
-    front = ([], refl);
+    asked = asked-all (verdict x) [];
     given_back = refl;
     failed = or-false (some_rose faults news) ∙ rose;
     due_is = due files;

@@ -1,3 +1,4 @@
+pub mod AskedLemmas
 pub mod CallsLemmas
 pub mod CommandLineLemmas
 pub mod FeedsLemmas

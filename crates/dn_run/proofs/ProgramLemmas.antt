@@ -6,8 +6,9 @@ use Rattle.dn_io.specs.Calls.{Call, CallState, Out, Refused, Back, call_of, back
 use Rattle.dn_io.specs.Files.{Files, bytes_of}
 use Rattle.dn_run.specs.Opened.{text_limit, IsReadFront, FailsAt, WasFault, MayNameOne}
 use Rattle.dn_run.specs.Run.{OnFile}
-use Rattle.dn_run.specs.Stage.{Stage, Names, IsFrontOf, is_fault}
+use Rattle.dn_run.specs.Stage.{Stage, Names, IsFrontOf, is_fault, may_end_early}
 use Rattle.dn_run.specs.declared.status.Verdict.{Verdict}
+use Rattle.dn_run.proofs.AskedLemmas.{asked-cons, asked-front}
 use Rattle.dn_run.proofs.CallsLemmas.{names_of-append}
 
 pub on-err : {X E P : Type 0} (result : Result X E) → P → OnErr result P
@@ -65,7 +66,7 @@ stage-read P due inner verdict (Err e) files files' old mid new name names left 
 stage-read P due inner verdict (Ok x) files files' old mid new name names left is same told step after = record {
   more = call_of name (Back false left) ∷ after.more;
   appended = after.appended ∙ ap (λ m. m ++ after.more) is ∙ append_assoc old (call_of name (Back false left) ∷ []) after.more;
-  front = (after.front.0, ap (λ ns. name ∷ ns) after.front.1);
+  asked = asked-cons (verdict x) name (names_of after.more) names after.asked;
   given_back = after.given_back;
   failed = after.failed;
   due_is = both-told files (λ fs p q. step x fs after.more p q) told (subst (λ (f : Option Files). IfSome f (λ fs. inner x fs after.more)) same after.due_is);
@@ -74,14 +75,14 @@ stage-read P due inner verdict (Ok x) files files' old mid new name names left i
 -- a file was read and given back, and its text refused
 pub stage-refused : {X E : Type 0} (P : Files → Type 0) (due : X → Files → List Call → Type 0) (verdict : X → Verdict) (result : Result X E) (files : Option Files)
     (old new : List Call) (name : List ℕ) (names : List (List ℕ)) (left : Option (List ℕ)) →
-    new ≡ old ++ call_of name (Back false left) ∷ [] → IfSome files P → IfOk result (λ x. is_fault (verdict x) ≡ false) →
+    new ≡ old ++ call_of name (Back false left) ∷ [] → IfSome files P → IfOk result (λ x. may_end_early (verdict x) ≡ true) → IfOk result (λ x. is_fault (verdict x) ≡ false) →
     IfOk result (λ x. (fs : Files) → P fs → due x fs (call_of name (Back false left) ∷ [])) →
     IfOk result (λ x. Stage old new (name ∷ names) (verdict x) files (due x))
-stage-refused P due verdict (Err e) files old new name names left is told fine step = tt
-stage-refused P due verdict (Ok x) files old new name names left is told fine step = record {
+stage-refused P due verdict (Err e) files old new name names left is told early fine step = tt
+stage-refused P due verdict (Ok x) files old new name names left is told early fine step = record {
   more = call_of name (Back false left) ∷ [];
   appended = is;
-  front = (names, refl);
+  asked = asked-front (verdict x) (name ∷ []) (name ∷ names) early (names, refl);
   given_back = refl;
   failed = sym fine;
   due_is = both-told files (λ fs p q. step fs p) told told;
@@ -100,14 +101,14 @@ some-failed-one name state = or-false (state_failed state)
 -- a file failed, and the run ends
 pub stage-fault : {X E : Type 0} (due : X → Files → List Call → Type 0) (verdict : X → Verdict) (result : Result X E) (files : Option Files)
     (old new : List Call) (name : List ℕ) (names : List (List ℕ)) →
-    WasFault files text_limit old name new → IfOk result (λ x. is_fault (verdict x) ≡ true) →
+    WasFault files text_limit old name new → IfOk result (λ x. may_end_early (verdict x) ≡ true) → IfOk result (λ x. is_fault (verdict x) ≡ true) →
     IfOk result (λ x. (fs : Files) (state : CallState) → FailsAt fs name text_limit state → due x fs (call_of name state ∷ [])) →
     IfOk result (λ x. Stage old new (name ∷ names) (verdict x) files (due x))
-stage-fault due verdict (Err e) files old new name names fault fine step = tt
-stage-fault due verdict (Ok x) files old new name names fault fine step = record {
+stage-fault due verdict (Err e) files old new name names fault early fine step = tt
+stage-fault due verdict (Ok x) files old new name names fault early fine step = record {
   more = call_of name fault.0 ∷ [];
   appended = fault.1;
-  front = (names, refl);
+  asked = asked-front (verdict x) (name ∷ []) (name ∷ names) early (names, refl);
   given_back = some-out-one name fault.0 fault.3;
   failed = some-failed-one name fault.0 ∙ fault.2 ∙ sym fine;
   due_is = both-told files (λ fs p q. step fs fault.0 p) fault.4 fault.4;
@@ -122,13 +123,13 @@ on-fault fs name (Back true left) fault good fails f = (f, fails)
 
 -- a run that asks for no further name
 pub stage-none : {X E : Type 0} (due : X → Files → List Call → Type 0) (verdict : X → Verdict) (result : Result X E) (files : Option Files) (calls : List Call) (names : List (List ℕ)) →
-    IfOk result (λ x. is_fault (verdict x) ≡ false) → IfOk result (λ x. (fs : Files) → due x fs []) →
+    IfOk result (λ x. may_end_early (verdict x) ≡ true) → IfOk result (λ x. is_fault (verdict x) ≡ false) → IfOk result (λ x. (fs : Files) → due x fs []) →
     IfOk result (λ x. Stage calls calls names (verdict x) files (due x))
-stage-none due verdict (Err e) files calls names fine step = tt
-stage-none due verdict (Ok x) files calls names fine step = record {
+stage-none due verdict (Err e) files calls names early fine step = tt
+stage-none due verdict (Ok x) files calls names early fine step = record {
   more = [];
   appended = sym (append-nil calls);
-  front = (names, refl);
+  asked = asked-front (verdict x) [] names early (names, refl);
   given_back = refl;
   failed = sym fine;
   due_is = all-told files step;

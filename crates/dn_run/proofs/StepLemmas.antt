@@ -65,7 +65,7 @@ module _ {S : Type 0} where
   opens-first verdict text t faults left files routers scripts feeds old new few opens = record {
     more = opens.more;
     appended = opens.appended;
-    front = opens.front;
+    asked = opens.asked;
     given_back = opens.given_back;
     failed = opens.failed;
     due_is = both-told files (λ fs due none. match-false (nat_lt most_jobs (length scripts + length (untaken scripts routers))) _ _ few (due [] refl)) opens.due_is opens.due_is;

@@ -10,7 +10,7 @@ use Rattle.dn_model.specs.declared.script.Line.{Line}
 use Rattle.dn_model.specs.declared.topology.Topology.{Topology}
 use Rattle.dn_run.specs.Jobs.{IsFresh, AreNumbered, same_router}
 use Rattle.dn_run.specs.Run.{OpenedFeed, FromFeeds, IsRunOf, feed_files, feed_limit}
-use Rattle.dn_run.specs.Stage.{IsFrontOf, is_fault}
+use Rattle.dn_run.specs.Stage.{WereAsked, is_fault}
 use Rattle.dn_run.specs.declared.status.Verdict.{Verdict}
 use Rattle.route_feed.specs.FeedReader.{Reader}
 
@@ -46,13 +46,13 @@ pub record AreOpen {S : Type 0} (t : Topology) (faults : S → ℕ) (readers : L
   pub few : length readers + length routers ≤ 64
 
 -- The feeds that are still to be opened were opened and given back, and the run came to this: the names of their files
--- were asked for, the first of these, in order; every source was given back, and one failed, of these or of the readers',
+-- were asked for, all or the first of these, in order; every source was given back, and one failed, of these or of the readers',
 -- exactly where the verdict is a read fault. Where the world tells its files, the verdict is due by them.
 pub record Opens {S : Type 0} (t : Topology) (faults : S → ℕ) (left : S → Option (List ℕ)) (files : Option Files) (routers : List RouterId) (scripts : List (List Line))
     (olds news : List (Reader S)) (feeds : List (ℕ × FeedWords)) (old new : List Call) (verdict : Verdict) (text : List ℕ) : Type 0 where
   pub more : List Call
   pub appended : new ≡ old ++ more
-  pub front : IsFrontOf (names_of more) (feed_files feeds)
+  pub asked : WereAsked verdict (names_of more) (feed_files feeds)
   pub given_back : some_out more ≡ false
   pub failed : (some_rose faults news || some_failed more) ≡ is_fault verdict
   pub due_is : IfSome files (λ fs. (bytes : List (List ℕ)) → AreLeft left olds bytes →

@@ -12,6 +12,25 @@ use Rattle.dn_run.specs.declared.status.Verdict.TheVariants.{Done, Refusals, Bad
 abbrev pub IsFrontOf : List (List ℕ) → List (List ℕ) → Type 0
 IsFrontOf names all = (rest : List (List ℕ)) × (all ≡ names ++ rest)
 
+-- Which of some names were asked for: all of them where the jobs ran to their ends without a fault; the first of them
+-- where a word, a text or a file ended the run.
+abbrev pub WereAsked : Verdict → List (List ℕ) → List (List ℕ) → Type 0
+WereAsked Done asked names = asked ≡ names
+WereAsked Refusals asked names = asked ≡ names
+WereAsked BadWords asked names = IsFrontOf asked names
+WereAsked BadTopology asked names = IsFrontOf asked names
+WereAsked BadScript asked names = IsFrontOf asked names
+WereAsked ReadFault asked names = IsFrontOf asked names
+
+-- whether a verdict may end a run before its jobs
+abbrev pub may_end_early : Verdict → Bool
+may_end_early Done = false
+may_end_early Refusals = false
+may_end_early BadWords = true
+may_end_early BadTopology = true
+may_end_early BadScript = true
+may_end_early ReadFault = true
+
 abbrev pub is_fault : Verdict → Bool
 is_fault Done = false
 is_fault Refusals = false
@@ -20,12 +39,12 @@ is_fault BadTopology = false
 is_fault BadScript = false
 is_fault ReadFault = true
 
--- Further names were asked for, the first of these, in order. Every source was given back, and one failed exactly where
+-- Further names were asked for, all or the first of these, in order. Every source was given back, and one failed exactly where
 -- the verdict is a read fault. Where the world tells its files, the verdict is due by them and by what became of the calls.
 pub record Stage (old new : List Call) (names : List (List ℕ)) (verdict : Verdict) (files : Option Files) (due : Files → List Call → Type 0) : Type 0 where
   pub more : List Call
   pub appended : new ≡ old ++ more
-  pub front : IsFrontOf (names_of more) names
+  pub asked : WereAsked verdict (names_of more) names
   pub given_back : some_out more ≡ false
   pub failed : some_failed more ≡ is_fault verdict
   pub due_is : IfSome files (λ fs. due fs more)
@@ -35,6 +54,17 @@ pub record Names (old new : List Call) (names : List (List ℕ)) : Type 0 where
   pub more : List (List ℕ)
   pub appended : names_of new ≡ names_of old ++ more
   pub front : IsFrontOf more names
+
+-- Which names each status says were asked for: all of them at 0 and 1, and else the first of them.
+abbrev pub AsksFor : Status → List (List ℕ) → List (List ℕ) → Type 0
+AsksFor statuses.Done asked names = asked ≡ names
+AsksFor statuses.Refusals asked names = asked ≡ names
+AsksFor statuses.BadWords asked names = IsFrontOf asked names
+AsksFor statuses.BadTopology asked names = IsFrontOf asked names
+AsksFor statuses.BadScript asked names = IsFrontOf asked names
+AsksFor statuses.ReadFault asked names = IsFrontOf asked names
+AsksFor statuses.WriteFault asked names = IsFrontOf asked names
+AsksFor statuses.OutOfMemory asked names = IsFrontOf asked names
 
 -- What each status says of the calls: every source was given back, and one failed exactly at a read fault. At a write
 -- fault of an error line or report one may have failed; where memory was wanted nothing is said.

@@ -11,7 +11,7 @@ ghost use Rattle.dn_model.specs.Topology.{all_differ};
 ghost use Rattle.dn_run.specs.Jobs.{scripts_of, same_router};
 ghost use Rattle.dn_run.specs.PartsRead.{feed_texts, script_texts, parts_texts};
 ghost use Rattle.dn_run.specs.Run.{FromWords, FromParts, FromTopology, FromRouters, FromScripts, FromJobs, IsWritten, IsFinished, status_of, names_due, names_of_parts, names_of_words, names_of_command, feed_files, script_files, most_jobs, untaken, takes_router};
-ghost use Rattle.dn_run.specs.Stage.{Stage, Names, IsFrontOf, AnswersCalls, CountsWrites};
+ghost use Rattle.dn_run.specs.Stage.{Stage, Names, AsksFor, AnswersCalls, CountsWrites};
 ghost use Rattle.dn_run.specs.WordsRefused.{command_texts};
 ghost use Rattle.dn_model.specs.Words.{parts_of};
 
@@ -265,8 +265,8 @@ pub fn run<W: World, K: Sink, G: Gate>(
     // What was written is what is due by the words, the files' bytes and what became of each file that was asked for.
     ensures headline { IfSome (W.files world.old) (λ files.
         IsWritten (FromWords (map string_bytes words.now) files (W.calls world.new)) result (K.written sink.old) (K.written sink.new)) }
-    // No name is asked for but those of the words, in order.
-    ensures names { IsFrontOf (names_of (W.calls world.new)) (names_of_words (map string_bytes words.now)) }
+    // The names of the words are asked for in order: all of them at the statuses 0 and 1, else the first of them.
+    ensures names { AsksFor result (names_of (W.calls world.new)) (names_of_words (map string_bytes words.now)) }
     // Every source was given back, save where memory was wanted; and one failed exactly where the status says so.
     ensures files { AnswersCalls result (W.calls world.new) }
     // A write failed exactly where the status says so, and nothing was written where memory was wanted.

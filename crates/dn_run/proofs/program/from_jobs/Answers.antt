@@ -5,7 +5,7 @@ use Rattle.dn_model.specs.Report.{error_text}
 use Rattle.dn_run.specs.Jobs.{scripts_of}
 use Rattle.dn_run.specs.PartsRead.{feed_texts}
 use Rattle.dn_run.specs.Run.{FromJobs, feed_files}
-use Rattle.dn_run.specs.Stage.{is_fault}
+use Rattle.dn_run.specs.Stage.{is_fault, may_end_early}
 use Rattle.dn_run.proofs.ProgramLemmas.{stage-none}
 use Rattle.dn_run.proofs.StepLemmas.{ok-then, ok-both, too-many, stage-opens}
 use Rattle.dn_run.proofs.program.from_jobs.Goals as goal
@@ -14,7 +14,7 @@ pub returns-then-has_too_many_jobs-clause-stage : goal.returns-then-has_too_many
 returns-then-has_too_many_jobs-clause-stage g c =
     stage-none (λ x fs calls. FromJobs fs (arc_value c.args.topology.now) c.args.routers.now (scripts_of (option_copied c.args.script)) (map feed_texts c.args.feeds.now) calls x.verdict x.text.items)
     (λ x. x.verdict) c.refusal.result (g.W.World.files c.args.world.now) (g.W.World.calls c.args.world.now) (feed_files (map feed_texts c.args.feeds.now))
-    (ok-then c.refusal.result (λ x is. ap is_fault is) c.refusal.ensures.verdict)
+    (ok-then c.refusal.result (λ x is. ap may_end_early is) c.refusal.ensures.verdict) (ok-then c.refusal.result (λ x is. ap is_fault is) c.refusal.ensures.verdict)
     (ok-both c.refusal.result (λ x is says fs. too-many fs (arc_value c.args.topology.now) c.args.routers.now (scripts_of (option_copied c.args.script)) (map feed_texts c.args.feeds.now) x.verdict x.text.items
     (sym c.has_too_many_jobs.ensures ∙ c.if-has_too_many_jobs.true) is says) c.refusal.ensures.verdict c.refusal.ensures.text)
 

@@ -6,7 +6,7 @@ use Rattle.dn_run.specs.Loaded.{SaysScript}
 use Rattle.dn_run.specs.Opened.{IsReadFront, text_limit}
 use Rattle.dn_run.specs.PartsRead.{feed_texts, script_texts, parts_texts}
 use Rattle.dn_run.specs.Run.{FromScripts, FromJobs, feed_files}
-use Rattle.dn_run.specs.Stage.{is_fault}
+use Rattle.dn_run.specs.Stage.{is_fault, may_end_early}
 use Rattle.dn_run.specs.declared.load.Loaded.TheVariants as loaded
 use Rattle.dn_run.proofs.ProgramLemmas.{on-err, names-one, names-then, stage-read, stage-refused, stage-fault}
 use Rattle.dn_run.proofs.StepLemmas.{ok-then, ok-both, script-read, script-refused, script-failed}
@@ -28,7 +28,7 @@ pub returns-in-Refused-clause-stage : goal.returns-in-Refused-clause-stage
 returns-in-Refused-clause-stage g c =
     let loads = rw (c.in-Refused.is, c.as_str.ensures.value, c.deref.ensures) at c.in_ok-script.ensures.loads in
     stage-refused (λ fs. IsSomeAnd (bytes_of fs (string_bytes c.args.part.now.file)) (λ bytes. IsReadFront bytes (text_limit + 1) loads.0 × SaysScript (arc_value c.args.topology.now) c.args.routers.now [] c.args.part.now.part bytes (loaded.Refused c.in-Refused.line))) (λ x fs calls. FromScripts fs (arc_value c.args.topology.now) c.args.routers.now [] (script_texts c.args.part.now ∷ []) (map feed_texts c.args.feeds.now) calls x.verdict x.text.items) (λ x. x.verdict) c.refusal.result (g.W.World.files c.args.world.now) (g.W.World.calls c.args.world.now) _ (string_bytes c.args.part.now.file) (feed_files (map feed_texts c.args.feeds.now)) loads.0
-    loads.1 loads.2 (ok-then c.refusal.result (λ x is. ap is_fault is) c.refusal.ensures.verdict)
+    loads.1 loads.2 (ok-then c.refusal.result (λ x is. ap may_end_early is) c.refusal.ensures.verdict) (ok-then c.refusal.result (λ x is. ap is_fault is) c.refusal.ensures.verdict)
     (ok-both c.refusal.result (λ x is prints fs says. script-refused fs (arc_value c.args.topology.now) c.args.routers.now c.args.part.now.part (string_bytes c.args.part.now.file) (map feed_texts c.args.feeds.now) c.in-Refused.line loads.0 x.verdict x.text.items says is prints) c.refusal.ensures.verdict c.refusal.ensures.text)
 
 pub returns-in-Refused-clause-memory : goal.returns-in-Refused-clause-memory
@@ -40,7 +40,7 @@ pub returns-in-Failed-clause-stage : goal.returns-in-Failed-clause-stage
 returns-in-Failed-clause-stage g c =
     let loads = rw (c.in-Failed.is, c.as_str.ensures.value) at c.in_ok-script.ensures.loads in
     stage-fault (λ x fs calls. FromScripts fs (arc_value c.args.topology.now) c.args.routers.now [] (script_texts c.args.part.now ∷ []) (map feed_texts c.args.feeds.now) calls x.verdict x.text.items) (λ x. x.verdict) c.refusal-in-Failed.result (g.W.World.files c.args.world.now) (g.W.World.calls c.args.world.now) _ (string_bytes c.args.part.now.file) (feed_files (map feed_texts c.args.feeds.now))
-    loads (ok-then c.refusal-in-Failed.result (λ x is. ap is_fault is) c.refusal-in-Failed.ensures.verdict)
+    loads (ok-then c.refusal-in-Failed.result (λ x is. ap may_end_early is) c.refusal-in-Failed.ensures.verdict) (ok-then c.refusal-in-Failed.result (λ x is. ap is_fault is) c.refusal-in-Failed.ensures.verdict)
     (ok-both c.refusal-in-Failed.result (λ x is prints fs state fails. script-failed fs (arc_value c.args.topology.now) c.args.routers.now c.args.part.now.part (string_bytes c.args.part.now.file) (map feed_texts c.args.feeds.now) state x.verdict x.text.items fails is prints) c.refusal-in-Failed.ensures.verdict c.refusal-in-Failed.ensures.text)
 
 pub returns-in-Failed-clause-memory : goal.returns-in-Failed-clause-memory

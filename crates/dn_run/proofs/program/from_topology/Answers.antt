@@ -5,7 +5,7 @@ use Rattle.dn_run.specs.Loaded.{SaysTopology}
 use Rattle.dn_run.specs.Opened.{IsReadFront, text_limit}
 use Rattle.dn_run.specs.PartsRead.{feed_texts, script_texts, parts_texts}
 use Rattle.dn_run.specs.Run.{FromTopology, FromRouters, feed_files, script_files}
-use Rattle.dn_run.specs.Stage.{is_fault}
+use Rattle.dn_run.specs.Stage.{is_fault, may_end_early}
 use Rattle.dn_run.specs.declared.load.Loaded.TheVariants as loaded
 use Rattle.dn_run.proofs.ProgramLemmas.{on-err, names-one, names-then, stage-read, stage-refused, stage-fault}
 use Rattle.dn_run.proofs.StepLemmas.{ok-then, ok-both, topology-read, topology-refused, topology-failed}
@@ -32,7 +32,7 @@ pub returns-in-Refused-clause-stage : goal.returns-in-Refused-clause-stage
 returns-in-Refused-clause-stage g c =
     let loads = rw c.in-Refused.is at c.in_ok-topology.ensures.loads in
     stage-refused (λ fs. IsSomeAnd (bytes_of fs c.args.topology.now) (λ bytes. IsReadFront bytes (text_limit + 1) loads.0 × SaysTopology bytes (loaded.Refused c.in-Refused.line))) (λ x fs calls. FromTopology c.args.topology.now (parts_texts c.args.parts.now) fs calls x.verdict x.text.items) (λ x. x.verdict) c.refusal.result (g.W.World.files c.args.world.now) (g.W.World.calls c.args.world.now) _ c.args.topology.now (script_files (parts_texts c.args.parts.now).scripts ++ feed_files (parts_texts c.args.parts.now).feeds) loads.0
-    loads.1 loads.2 (ok-then c.refusal.result (λ x is. ap is_fault is) c.refusal.ensures.verdict)
+    loads.1 loads.2 (ok-then c.refusal.result (λ x is. ap may_end_early is) c.refusal.ensures.verdict) (ok-then c.refusal.result (λ x is. ap is_fault is) c.refusal.ensures.verdict)
     (ok-both c.refusal.result (λ x is prints fs says. topology-refused fs c.args.topology.now (parts_texts c.args.parts.now) c.in-Refused.line loads.0 x.verdict x.text.items says is prints) c.refusal.ensures.verdict c.refusal.ensures.text)
 
 pub returns-in-Refused-clause-memory : goal.returns-in-Refused-clause-memory
@@ -44,7 +44,7 @@ pub returns-in-Failed-clause-stage : goal.returns-in-Failed-clause-stage
 returns-in-Failed-clause-stage g c =
     let loads = rw c.in-Failed.is at c.in_ok-topology.ensures.loads in
     stage-fault (λ x fs calls. FromTopology c.args.topology.now (parts_texts c.args.parts.now) fs calls x.verdict x.text.items) (λ x. x.verdict) c.refusal-in-Failed.result (g.W.World.files c.args.world.now) (g.W.World.calls c.args.world.now) _ c.args.topology.now (script_files (parts_texts c.args.parts.now).scripts ++ feed_files (parts_texts c.args.parts.now).feeds)
-    loads (ok-then c.refusal-in-Failed.result (λ x is. ap is_fault is) c.refusal-in-Failed.ensures.verdict)
+    loads (ok-then c.refusal-in-Failed.result (λ x is. ap may_end_early is) c.refusal-in-Failed.ensures.verdict) (ok-then c.refusal-in-Failed.result (λ x is. ap is_fault is) c.refusal-in-Failed.ensures.verdict)
     (ok-both c.refusal-in-Failed.result (λ x is prints fs state fails. topology-failed fs c.args.topology.now (parts_texts c.args.parts.now) state x.verdict x.text.items fails is prints) c.refusal-in-Failed.ensures.verdict c.refusal-in-Failed.ensures.text)
 
 pub returns-in-Failed-clause-memory : goal.returns-in-Failed-clause-memory

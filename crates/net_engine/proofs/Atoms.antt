@@ -138,7 +138,7 @@ or-again true q = refl
 or-again false true = refl
 or-again false false = refl
 
-eqb-turned : (m n : ℕ) → eqb m n ≡ eqb n m
+pub eqb-turned : (m n : ℕ) → eqb m n ≡ eqb n m
 eqb-turned m n = ⊎_elim
     (λ (e : m ≡ n). eq-eqb m n e ∙ sym (eq-eqb n m (sym e)))
     (λ (e : m ≡ n → ⊥). ne_eqb m n e ∙ sym (ne_eqb n m (λ f. e (sym f))))

@@ -10,7 +10,6 @@ pub mod Moving
 pub mod Owned
 pub mod Parting
 pub mod PrefixEnds
-pub mod Prefixes
 pub mod Standing
 pub mod StandingFor
 pub mod Tabled

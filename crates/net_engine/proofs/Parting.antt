@@ -1,18 +1,12 @@
 -- Atoms that are cut at both ends of a prefix.
-use Rattle.std.proofs.Common.{◌≡◌, ℕ, ◌+◌, ◌<◌, ◌^◌, ◌∙◌, ◌||◌, ⊎_elim, Bool, true, false, List, refl, ap, sym, arith, eqb}
-use Rattle.std.proofs.lemmas.Bool.{cases_eq, eq-eqb, ne_eqb, or_left, or_right}
+use Rattle.std.proofs.Common.{◌≡◌, ◌+◌, ◌<◌, ◌^◌, ◌∙◌, ◌||◌, Bool, true, false, List, refl, ap, sym, arith, eqb}
+use Rattle.std.proofs.lemmas.Bool.{eq-eqb, ne_eqb, or_left, or_right}
 use Rattle.dn_model.specs.Cidr.{Cidr, IsCidr, size}
 use Rattle.dn_model.specs.Rows.{CoverFrom}
 use Rattle.dn_model.specs.Version.{Atom, begins_at, first_of, is_end_of, past_of, rules_at, target_at}
 use Rattle.net_engine.specs.Net.{cut_atoms}
 use Rattle.net_engine.specs.Walked.{BeginsAtEnds, IsParted}
-use Rattle.net_engine.proofs.Atoms.{cut-begins, cut-rules, cut-target}
-
-turned : (m n : ℕ) → eqb m n ≡ eqb n m
-turned m n = ⊎_elim
-    (λ (e : m ≡ n). eq-eqb m n e ∙ sym (eq-eqb n m (sym e)))
-    (λ (e : m ≡ n → ⊥). ne_eqb m n e ∙ sym (ne_eqb n m (λ f. e (sym f))))
-    (cases_eq m n)
+use Rattle.net_engine.proofs.Atoms.{cut-begins, cut-rules, cut-target, eqb-turned}
 
 or-one : (p q r : Bool) → r ≡ false → (p || q) ≡ (p || (q || r))
 or-one true q r e = refl
@@ -30,7 +24,7 @@ parted-once old new p cover cidr last is = record {
       let past : eqb (p.base + size p) a ≡ false = ne_eqb (p.base + size p) a (λ e. omega arith) in
       ap (λ xs. begins_at xs a) is
       ∙ cut-begins 0 old p.base a cover (omega arith) cidr.base
-      ∙ ap (λ b. begins_at old a || b) (turned a p.base)
+      ∙ ap (λ b. begins_at old a || b) (eqb-turned a p.base)
       ∙ or-one (begins_at old a) (eqb p.base a) (eqb (p.base + size p) a) past;
   rules = λ r a l. ap (λ xs. rules_at xs r a) is ∙ cut-rules old p.base r a;
   targets = λ r a l. ap (λ xs. target_at xs r a) is ∙ cut-target old p.base r a;
@@ -42,10 +36,10 @@ parted-twice old mid new p cover again cidr below first second = record {
   begins = λ a l.
       ap (λ xs. begins_at xs a) second
       ∙ cut-begins 0 mid (p.base + size p) a again (omega arith) below
-      ∙ ap (λ b. begins_at mid a || b) (turned a (p.base + size p))
+      ∙ ap (λ b. begins_at mid a || b) (eqb-turned a (p.base + size p))
       ∙ ap (λ xs. begins_at xs a || eqb (p.base + size p) a) first
       ∙ ap (λ b. b || eqb (p.base + size p) a) (cut-begins 0 old p.base a cover (omega arith) cidr.base)
-      ∙ ap (λ b. (begins_at old a || b) || eqb (p.base + size p) a) (turned a p.base)
+      ∙ ap (λ b. (begins_at old a || b) || eqb (p.base + size p) a) (eqb-turned a p.base)
       ∙ or-two (begins_at old a) (eqb p.base a) (eqb (p.base + size p) a);
   rules = λ r a l. ap (λ xs. rules_at xs r a) second ∙ cut-rules mid (p.base + size p) r a ∙ ap (λ xs. rules_at xs r a) first ∙ cut-rules old p.base r a;
   targets = λ r a l. ap (λ xs. target_at xs r a) second ∙ cut-target mid (p.base + size p) r a ∙ ap (λ xs. target_at xs r a) first ∙ cut-target old p.base r a;

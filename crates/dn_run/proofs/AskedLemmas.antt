@@ -1,5 +1,5 @@
 -- Which names were asked for.
-use Rattle.std.proofs.Common.{◌≡◌, ℕ, Bool, true, false, List, [], ◌∷◌, ◌++◌, Option, refl, ap, sym, subst}
+use Rattle.std.proofs.Common.{◌≡◌, ℕ, true, List, [], ◌∷◌, Option, refl, ap, sym, subst}
 use Rattle.std.proofs.lemmas.List.{append-nil}
 use Rattle.dn_run.specs.Run.{IsFinished}
 use Rattle.dn_run.specs.Stage.{AsksFor, IsFrontOf, WereAsked, may_end_early}

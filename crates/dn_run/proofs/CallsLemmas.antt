@@ -1,5 +1,5 @@
 -- What the world's calls are after a name was opened and its source given back.
-use Rattle.std.proofs.Common.{◌≡◌, ℕ, zero, suc, List, [], ◌∷◌, ◌++◌, Option, Some, length, refl, ap}
+use Rattle.std.proofs.Common.{◌≡◌, ℕ, zero, suc, List, [], ◌∷◌, ◌++◌, Some, length, refl, ap}
 use Rattle.dn_io.specs.Calls.{Call, CallState, Out, call_of, with_out, with_state, state_at, names_of}
 
 pub state_at-with_out : (calls : List Call) (name : List ℕ) → state_at (with_out calls name) (length calls) ≡ Some Out

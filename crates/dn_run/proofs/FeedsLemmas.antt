@@ -1,10 +1,10 @@
 -- How the feeds of a run are opened one after another, and given back.
-use Rattle.std.proofs.Common.{◌≡◌, ℕ, zero, suc, ◌+◌, ◌<◌, ◌≤◌, ◌^◌, Bool, true, false, ◌==◌, ◌||◌, not, Result, Ok, Err, OnOk, OnErr, IfOk, IfSome, IsSome, IsSomeAnd, IsTrue, List, [], ◌∷◌, ◌++◌, length, map, All, Option, None, Some, refl, ap, sym, ◌∙◌, ◌⊎◌, inl, inr, arith, subst, append_assoc, if◌then◌else◌, nat_lt}
-use Rattle.std.specs.List.{list_any, list_all}
+use Rattle.std.proofs.Common.{◌≡◌, ℕ, suc, ◌+◌, ◌<◌, Bool, true, false, ◌==◌, ◌||◌, not, Result, Ok, Err, OnErr, IfOk, IfSome, IsSome, IsSomeAnd, IsTrue, List, [], ◌∷◌, ◌++◌, length, map, All, Option, None, Some, refl, ap, sym, ◌∙◌, arith, subst, append_assoc}
+use Rattle.std.specs.List.{list_any}
 use Rattle.std.proofs.lemmas.Grind.{common_steps}
 use Rattle.std.proofs.lemmas.List.{append-nil, map-append, length-append}
 use Rattle.std.proofs.lemmas.List.Elements.{All-cons, All-nil, All-head, All-tail, All-push}
-use Rattle.dn_io.specs.Calls.{Call, CallState, Out, Refused, Back, call_of, back_with, with_out, with_state, state_at, names_of, some_out, some_failed}
+use Rattle.dn_io.specs.Calls.{Call, CallState, Out, Refused, call_of, back_with, with_out, with_state, state_at, names_of, some_failed}
 use Rattle.dn_io.specs.Files.{Files, bytes_of}
 use Rattle.dn_model.specs.Topology.{all_differ}
 use Rattle.dn_model.specs.Words.{FeedWords}
@@ -15,9 +15,9 @@ use Rattle.dn_model.specs.Report.{error_text}
 use Rattle.dn_model.specs.declared.error_line.ErrorLine.TheVariants as errors
 use Rattle.dn_run.specs.Feeds.{opened, Appends, AreLeft, some_rose, routers_of_readers, AreOpen, Opens}
 use Rattle.dn_run.specs.Jobs.{IsFresh, AreNumbered, same_router}
-use Rattle.dn_run.specs.Run.{OpenedFeed, FromFeeds, OnFeed, IsUntouched, IsErrorLine, IsRunOf, feed_files, feed_limit}
-use Rattle.dn_run.specs.Stage.{Names, IsFrontOf, is_fault, may_end_early}
-use Rattle.dn_run.specs.Takes.{Tag, tag_of}
+use Rattle.dn_run.specs.Run.{FromFeeds, IsUntouched, IsRunOf, feed_files, feed_limit}
+use Rattle.dn_run.specs.Stage.{Names, is_fault, may_end_early}
+use Rattle.dn_run.specs.Takes.{tag_of}
 use Rattle.dn_run.specs.Tracks.{tags_of}
 use Rattle.dn_run.specs.declared.status.Verdict.{Verdict}
 use Rattle.dn_run.specs.declared.status.Verdict.TheVariants.{ReadFault}

@@ -1,34 +1,31 @@
 -- The jobs of a run before the first call and after the last.
-use Rattle.std.proofs.Common.{◌≡◌, ℕ, zero, suc, ◌+◌, ◌*◌, ◌<◌, ◌≤◌, ◌^◌, Bool, true, false, ◌==◌, ◌&&◌, ◌||◌, not, IsTrue, List, [], ◌∷◌, ◌++◌, length, get_or, map, filter, sum, take, drop, cond, All, Option, None, Some, IsSome, refl, ap, sym, ◌∙◌, arith, subst, append_assoc, Bor}
-use Rattle.std.specs.List.{AllZip, list_any, flat_map, sum_by}
+use Rattle.std.proofs.Common.{◌≡◌, ℕ, suc, ◌+◌, ◌<◌, ◌≤◌, Bool, true, false, ◌==◌, not, IsTrue, List, [], ◌∷◌, ◌++◌, length, get_or, map, filter, take, cond, All, Option, None, Some, IsSome, refl, ap, sym, ◌∙◌, arith, subst, Bor}
+use Rattle.std.specs.List.{AllZip, list_any}
 use Rattle.std.proofs.Math.Seq.{take-length}
 use Rattle.std.proofs.Math.Bool.{or-false}
 use Rattle.std.proofs.lemmas.Bool.{and_parts}
 use Rattle.std.proofs.lemmas.Bool.Decides.{nat_tests}
-use Rattle.std.proofs.lemmas.List.{append-nil, length-append, length-map}
-use Rattle.std.proofs.lemmas.List.Sums.{sum-map}
+use Rattle.std.proofs.lemmas.List.{append-nil, length-map}
 use Rattle.std.proofs.lemmas.List.Elements.{All-nil, All-cons, All-head, All-tail, All-append, All-filter, All-map, filter_agree}
 use Rattle.dn_io.specs.Told.{with_front}
-use Rattle.dn_model.specs.Feed.{AreSteps}
-use Rattle.dn_model.specs.Frames.{IsFrame, Frame}
-use Rattle.dn_model.specs.Lawful.{Job, Tells, TellsAll, KeepsOrder, IsShuffle, jobs_of, entries_of_job, takes, takes_feed, left_by, is_from, is_from_some}
-use Rattle.dn_model.specs.Steps.{FrameStep, FeedRead, updates, entries_by, entries_of}
+use Rattle.dn_model.specs.Frames.{IsFrame}
+use Rattle.dn_model.specs.Lawful.{Job, TellsAll, KeepsOrder, jobs_of, takes_feed, is_from, is_from_some}
+use Rattle.dn_model.specs.Steps.{FeedRead, updates, entries_of}
 use Rattle.dn_run.specs.Latest.{After, IsOf}
 use Rattle.dn_model.specs.Topology.{all_differ}
 use Rattle.dn_model.specs.declared.entry.Entry.{Entry}
 use Rattle.dn_model.specs.declared.entry.Posted.{Posted}
-use Rattle.dn_model.specs.declared.ids.RouterId.{RouterId}
 use Rattle.dn_model.specs.declared.script.Line.{Line}
 use Rattle.dn_model.specs.declared.topology.Topology.{Topology}
 use Rattle.dn_model.specs.declared.told.FeedEnd.{FeedEnd}
 use Rattle.dn_model.specs.declared.told.JobTold.{JobTold}
-use Rattle.route_feed.specs.FeedReader.{Reader, IsAt, told_so_far}
+use Rattle.route_feed.specs.FeedReader.{Reader, IsAt}
 use Rattle.std.specs.Option.{option_copied}
 use Rattle.dn_model.specs.declared.script.Script.{Script}
 use Rattle.dn_run.specs.Takes.{tag_of}
-use Rattle.dn_run.specs.Jobs.{scripts_of, IsFresh, AreNumbered, HaveRoutersApart, same_router, IsReadBy, AreReadBy, HasRun}
+use Rattle.dn_run.specs.Jobs.{scripts_of, IsFresh, AreNumbered, HaveRoutersApart, same_router, AreReadBy, HasRun}
 use Rattle.dn_run.specs.Network.{entries, StandsBy, CountsBy, CountsFaults, IsCount}
-use Rattle.dn_run.specs.Tracks.{IsShort, tags_of, Ready, Strand, end_or, feed_of, GoesOn, Stands, AreApart, AllApart, Woven, Tracks, Whatever, script_jobs, is_own, own_told, WhateverOwn, Owns}
+use Rattle.dn_run.specs.Tracks.{IsShort, tags_of, Ready, Strand, end_or, feed_of, GoesOn, Stands, AreApart, AllApart, Tracks, script_jobs, is_own, own_told, WhateverOwn, Owns}
 use Rattle.dn_run.specs.declared.take.Book.{Book}
 use Rattle.dn_run.proofs.StrandLemmas.{All-unmap, eqb-back, nows}
 use Rattle.dn_run.proofs.TakesLemmas.{later-nil}

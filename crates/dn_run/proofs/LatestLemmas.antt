@@ -5,7 +5,6 @@ use Rattle.std.proofs.lemmas.List.{get_or_past}
 use Rattle.dn_model.specs.Delta.{IsDelta}
 use Rattle.dn_model.specs.Entry.{IsEntryOf, IsOpOf}
 use Rattle.dn_model.specs.Labels.{AreEachLabels, DoesAfter, IsLabel, StandsFor, hi_of, label_at, lo_of, target_of}
-use Rattle.dn_model.specs.Table.{target}
 use Rattle.dn_model.specs.Version.{Kept, KeptStandsFor}
 use Rattle.dn_model.specs.Walk.{next, without}
 use Rattle.dn_model.specs.declared.change.Change.{Change}
@@ -14,7 +13,6 @@ use Rattle.dn_model.specs.declared.entry.Op.{Op}
 use Rattle.dn_model.specs.declared.ids.LinkId.{LinkId}
 use Rattle.dn_model.specs.declared.ids.RouterId.{RouterId}
 use Rattle.dn_model.specs.declared.label_row.LabelRow.{LabelRow}
-use Rattle.dn_model.specs.declared.target.Target.{Target}
 use Rattle.dn_model.specs.declared.target.Target.TheVariants.{NoRoute}
 use Rattle.dn_model.specs.declared.topology.Topology.{Topology}
 use Rattle.dn_model.proofs.Covers.{high-at, holder-at}

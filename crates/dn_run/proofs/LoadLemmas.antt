@@ -1,10 +1,10 @@
 -- What reading no more than one byte past the limit says of a whole file.
-use Rattle.std.proofs.Common.{◌≡◌, ℕ, zero, suc, ◌+◌, ◌<◌, ◌≤◌, Bool, true, false, nat_lt, List, [], ◌∷◌, ◌++◌, length, take, Option, None, Some, IfSome, IsSomeAnd, Result, Ok, Err, IfOk, OnErr, refl, ap, sym, ◌∙◌, ◌⊎◌, inl, inr, arith, subst}
+use Rattle.std.proofs.Common.{◌≡◌, ℕ, zero, suc, ◌+◌, ◌<◌, ◌≤◌, Bool, true, false, nat_lt, List, [], ◌∷◌, length, take, Option, None, Some, IfSome, IsSomeAnd, Result, Ok, Err, IfOk, OnErr, refl, ap, sym, ◌∙◌, inr, arith, subst}
 use Rattle.std.proofs.lemmas.Bool.{ltb-true, ltb-false, lt-ltb}
 use Rattle.std.proofs.lemmas.List.{take_all, length-take-le}
 use Rattle.dn_io.specs.Calls.{Call, Back, call_of, names_of}
 use Rattle.dn_io.specs.Files.{Files, bytes_of}
-use Rattle.dn_model.specs.TopologyText.{topology_of, parts, top_fault}
+use Rattle.dn_model.specs.TopologyText.{topology_of, top_fault}
 use Rattle.dn_model.specs.ScriptText.{script_of}
 use Rattle.dn_model.specs.declared.cause.TheConstants.{TOO_LONG}
 use Rattle.dn_model.specs.declared.ids.RouterId.{RouterId}

@@ -1,13 +1,13 @@
 -- How the jobs of feeds that no script takes go on.
-use Rattle.std.proofs.Common.{◌≡◌, ℕ, zero, suc, ◌+◌, ◌<◌, ◌≤◌, Bool, true, false, ◌==◌, ◌&&◌, ◌||◌, not, Result, Ok, Err, OnOk, IfOk, List, [], ◌∷◌, ◌++◌, length, get_or, set, map, filter, take, drop, All, Option, None, Some, IsSome, refl, ap, sym, ◌∙◌, arith, subst, append_assoc}
-use Rattle.std.specs.List.{AllZip, list_any, flat_map}
+use Rattle.std.proofs.Common.{◌≡◌, ℕ, zero, suc, ◌+◌, ◌<◌, Bool, true, false, ◌==◌, ◌||◌, not, List, [], ◌∷◌, ◌++◌, length, get_or, filter, take, drop, All, Option, None, IsSome, refl, ap, sym, ◌∙◌, arith, subst, append_assoc}
+use Rattle.std.specs.List.{AllZip, list_any}
 use Rattle.std.proofs.Math.Seq.{take-append_seam, get_or-append_seam}
 use Rattle.std.proofs.lemmas.Bool.{or_parts}
 use Rattle.std.proofs.lemmas.List.{append-nil, length-append, length-map, map-append, set-get_or, set_split, length-take-le}
 use Rattle.std.proofs.lemmas.List.Folds.{list_any_none}
 use Rattle.std.proofs.lemmas.List.Elements.{All-nil, All-cons, All-head, All-tail, All-append, All-filter, filter-append}
-use Rattle.dn_model.specs.Lawful.{Job, Tells, TellsAll, KeepsOrder, entries_of_job, asked, takes, takes_feed, is_from, is_from_some}
-use Rattle.dn_model.specs.Steps.{FrameStep, FeedRead, updates, entries_by, entries_of}
+use Rattle.dn_model.specs.Lawful.{Job, TellsAll, KeepsOrder, asked, takes, takes_feed, is_from, is_from_some}
+use Rattle.dn_model.specs.Steps.{FrameStep, FeedRead, updates, entries_by}
 use Rattle.dn_model.specs.declared.entry.Entry.{Entry}
 use Rattle.dn_model.specs.declared.entry.Op.{Op}
 use Rattle.dn_model.specs.declared.ids.RouterId.{RouterId}
@@ -17,9 +17,7 @@ use Rattle.dn_model.specs.declared.told.FeedEnd.{FeedEnd}
 use Rattle.dn_model.specs.declared.told.JobTold.{JobTold}
 use Rattle.dn_model.specs.declared.told.Told.{Told}
 use Rattle.route_feed.specs.FeedReader.{Reader}
-use Rattle.dn_run.specs.Network.{IsCount}
-use Rattle.dn_run.specs.Takes.{IsLater}
-use Rattle.dn_run.specs.Tracks.{Strand, GoesOn, AreApart, Woven, Tracks, Whatever, WhateverRest, Rests, IsRest, TakesFeed, TakesFrom, script_jobs, is_own, own_told, WhateverOwn, Owns}
+use Rattle.dn_run.specs.Tracks.{Strand, GoesOn, AreApart, Woven, Tracks, WhateverRest, Rests, IsRest, TakesFeed, TakesFrom, script_jobs, is_own, own_told, WhateverOwn, Owns}
 use Rattle.dn_run.proofs.StrandLemmas.{Parts, all-parts, all-joined, all-through, ZipParts, zip-parts, Split, split-at, nows, grown, Others, apart-others, woven-took, go-back, Grows, grows}
 use Rattle.dn_run.proofs.TellLemmas.{tells-fewer}
 use Rattle.dn_run.proofs.RestLemmas.{rest-ends}

@@ -1,12 +1,11 @@
 -- How the steps of a run follow one another.
-use Rattle.std.proofs.Common.{◌≡◌, ℕ, ◌+◌, ◌<◌, ◌≤◌, Bool, true, false, ◌==◌, ◌||◌, not, Result, Ok, Err, OnOk, OnErr, IfOk, IfSome, IsSome, IsSomeAnd, MatchResult, List, [], ◌∷◌, ◌++◌, Option, None, Some, refl, ap, sym, ◌∙◌, ◌⊎◌, inl, inr, arith, subst, append_assoc}
-use Rattle.std.proofs.lemmas.Grind.{common_steps}
+use Rattle.std.proofs.Common.{◌≡◌, ℕ, Bool, true, false, ◌||◌, Result, Ok, Err, OnErr, IfOk, IfSome, IsSomeAnd, List, [], ◌∷◌, ◌++◌, Option, None, Some, refl, ap, sym, ◌∙◌, inl, inr, subst, append_assoc}
 use Rattle.std.proofs.lemmas.List.{append-nil}
-use Rattle.dn_io.specs.Calls.{Call, CallState, Out, Refused, Back, call_of, back_with, names_of, some_out, some_failed, state_failed, state_is_out}
-use Rattle.dn_io.specs.Files.{Files, bytes_of}
-use Rattle.dn_run.specs.Opened.{text_limit, IsReadFront, FailsAt, WasFault, MayNameOne}
+use Rattle.dn_io.specs.Calls.{Call, CallState, Out, Refused, Back, call_of, names_of, some_out, some_failed, state_failed, state_is_out}
+use Rattle.dn_io.specs.Files.{Files}
+use Rattle.dn_run.specs.Opened.{text_limit, FailsAt, WasFault, MayNameOne}
 use Rattle.dn_run.specs.Run.{OnFile}
-use Rattle.dn_run.specs.Stage.{Stage, Names, IsFrontOf, is_fault, may_end_early}
+use Rattle.dn_run.specs.Stage.{Stage, Names, is_fault, may_end_early}
 use Rattle.dn_run.specs.declared.status.Verdict.{Verdict}
 use Rattle.dn_run.proofs.AskedLemmas.{asked-cons, asked-front}
 use Rattle.dn_run.proofs.CallsLemmas.{names_of-append}

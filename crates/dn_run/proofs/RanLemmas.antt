@@ -1,17 +1,14 @@
 -- What the jobs of a run came to, as the run's report has it.
-use Rattle.std.proofs.Common.{◌≡◌, ℕ, zero, suc, ◌+◌, ◌<◌, ◌≤◌, Bool, true, false, ◌==◌, ◌||◌, ◌&&◌, not, Result, Ok, Err, IfOk, List, [], ◌∷◌, ◌++◌, length, map, All, Option, None, Some, refl, ap, sym, ◌∙◌, arith, subst, if◌then◌else◌}
-use Rattle.std.specs.List.{list_any}
+use Rattle.std.proofs.Common.{◌≡◌, ℕ, suc, ◌+◌, ◌<◌, ◌≤◌, Bool, true, false, ◌==◌, not, Result, Ok, Err, IfOk, List, [], ◌∷◌, length, map, All, Option, None, Some, refl, ap, sym, ◌∙◌, arith, subst, if◌then◌else◌}
 use Rattle.std.proofs.lemmas.Bool.Decides.{nat_tests}
-use Rattle.std.proofs.lemmas.Grind.{common_steps}
 use Rattle.std.proofs.lemmas.List.Elements.{All-head, All-tail}
 use Rattle.dn_io.specs.Calls.{Back, back_with}
 use Rattle.dn_io.specs.Told.{with_front}
 use Rattle.dn_model.specs.Feed.{IsReading, IsFaultedReading}
 use Rattle.dn_model.specs.Entry.{entries}
 use Rattle.dn_model.specs.Report.{report}
-use Rattle.dn_model.specs.Steps.{FeedRead, FrameStep, told_of}
+use Rattle.dn_model.specs.Steps.{FeedRead, told_of}
 use Rattle.dn_model.specs.declared.entry.Posted.{Posted}
-use Rattle.dn_model.specs.declared.ids.RouterId.{RouterId}
 use Rattle.dn_model.specs.declared.script.Line.{Line}
 use Rattle.dn_model.specs.declared.topology.Topology.{Topology}
 use Rattle.dn_model.specs.declared.told.FeedEnd.{FeedEnd}
@@ -21,14 +18,13 @@ use Rattle.dn_model.specs.declared.told.JobTold.{JobTold}
 use Rattle.dn_run.specs.Feeds.{opened, AreLeft, some_rose, routers_of_readers}
 use Rattle.dn_run.specs.Jobs.{AreNumbered, IsReadBy, AreReadBy, HasRun}
 use Rattle.dn_run.specs.Network.{StandsBy, CountsBy, CountsFaults}
-use Rattle.dn_run.specs.Opened.{IsReadFront}
-use Rattle.dn_run.specs.Run.{IsReadOf, AreReadOf, OpenedFeed, IsRunOf, verdict_of, is_faulted, some_faulted, all_well, feed_limit}
+use Rattle.dn_run.specs.Run.{IsReadOf, AreReadOf, IsRunOf, verdict_of, is_faulted, some_faulted, all_well, feed_limit}
 use Rattle.dn_run.specs.Stage.{is_fault}
 use Rattle.dn_run.specs.Takes.{tag_of}
 use Rattle.dn_run.specs.Tracks.{tags_of}
 use Rattle.dn_run.specs.declared.status.Verdict.{Verdict}
 use Rattle.dn_run.specs.declared.status.Verdict.TheVariants.{Done, Refusals, ReadFault}
-use Rattle.route_feed.specs.FeedReader.{Reader, HasEnded, HasFaulted, told_at_end}
+use Rattle.route_feed.specs.FeedReader.{Reader, HasEnded, HasFaulted}
 
 -- ---- verdicts and faults
 

@@ -1,11 +1,11 @@
 -- What reading a file whole leaves in the world's calls, and what bytes it gives.
-use Rattle.std.proofs.Common.{◌≡◌, ℕ, ◌+◌, ◌≤◌, List, [], ◌∷◌, ◌++◌, Option, None, Some, Result, Ok, Err, IfOk, OnOk, IfSome, IsSome, IsSomeAnd, length, take, refl, ap, sym, ◌∙◌, inl, inr, ◌⊎◌, arith, subst, true, false, not, ◌==◌}
+use Rattle.std.proofs.Common.{◌≡◌, ℕ, ◌+◌, ◌≤◌, List, [], ◌∷◌, ◌++◌, Option, None, Some, Result, Ok, Err, IfOk, OnOk, IfSome, IsSome, IsSomeAnd, length, take, refl, ap, sym, ◌∙◌, inl, inr, arith, subst, true, not, ◌==◌}
 use Rattle.std.proofs.lemmas.Bool.Decides.{nat_tests}
 use Rattle.std.proofs.lemmas.List.{append-nil, take_all}
 use Rattle.std.proofs.Math.Seq.{take-append_seam}
 use Rattle.std.proofs.lemmas.Grind.{common_steps}
-use Rattle.dn_io.specs.Told.{with_front, NothingLeft}
-use Rattle.dn_io.specs.Calls.{Call, CallState, Out, Refused, Back, call_of, with_out, with_state, back_with, state_failed, state_is_out, names_of}
+use Rattle.dn_io.specs.Told.{with_front}
+use Rattle.dn_io.specs.Calls.{Call, CallState, Refused, Back, call_of, with_out, with_state, back_with, names_of}
 use Rattle.dn_io.specs.Files.{Files, bytes_of}
 use Rattle.dn_io.specs.Faults.{Rose}
 use Rattle.dn_run.specs.Opened.{WasRead, ComesFrom, IsReadTo, IsReadFront, LeavesFront, FailsAt, WasFault, MayNameOne}

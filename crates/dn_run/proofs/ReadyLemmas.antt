@@ -1,13 +1,11 @@
 -- Readers and a book stay ready for further calls.
-use Rattle.std.proofs.Common.{◌≡◌, ℕ, suc, ◌+◌, ◌*◌, ◌<◌, ◌≤◌, ◌^◌, Result, Ok, Err, OnOk, List, [], ◌∷◌, ◌++◌, length, get_or, set, map, sum, take, drop, All, Option, None, Some, refl, ap, sym, ◌∙◌, arith, subst}
+use Rattle.std.proofs.Common.{◌≡◌, ℕ, suc, ◌+◌, ◌*◌, ◌<◌, ◌≤◌, ◌^◌, Result, Ok, Err, OnOk, List, [], ◌∷◌, ◌++◌, length, get_or, set, map, sum, take, drop, All, Option, ap, sym, ◌∙◌, arith, subst}
 use Rattle.std.proofs.lemmas.List.{set-get_or, set_split, length-set, length-take-le}
 use Rattle.std.specs.List.{sum_by}
 use Rattle.std.proofs.Math.Seq.{map-set_same}
-use Rattle.std.proofs.lemmas.List.Elements.{All-set, All-get_or, All-head, All-tail}
+use Rattle.std.proofs.lemmas.List.Elements.{All-set, All-head, All-tail}
 use Rattle.std.proofs.lemmas.List.Sums.{sum-map, sum_by-set, sum_by-cons}
-use Rattle.dn_model.specs.declared.entry.Entry.{Entry}
 use Rattle.dn_model.specs.declared.topology.Topology.{Topology}
-use Rattle.dn_model.specs.declared.told.FeedEnd.{FeedEnd}
 use Rattle.route_feed.specs.FeedReader.{Reader}
 use Rattle.dn_run.specs.Network.{entries}
 use Rattle.dn_run.specs.Takes.{Moves, TakesSome, tag_of}

@@ -1,5 +1,5 @@
 -- How what a script's job has taken goes on by the rest of the feeds that its lines name.
-use Rattle.std.proofs.Common.{◌≡◌, ℕ, suc, ◌+◌, ◌<◌, ◌≤◌, Bool, true, false, ◌==◌, ◌&&◌, ◌||◌, not, if◌then◌else◌, Result, Ok, Err, OnOk, List, [], ◌∷◌, ◌++◌, length, get_or, map, filter, drop, All, Option, None, Some, IsSome, refl, ap, sym, ◌∙◌, arith, subst, append_assoc}
+use Rattle.std.proofs.Common.{◌≡◌, ℕ, Bool, true, false, ◌==◌, ◌&&◌, ◌||◌, not, Result, Ok, Err, OnOk, List, [], ◌∷◌, ◌++◌, length, get_or, filter, drop, All, Option, None, Some, IsSome, refl, ap, sym, ◌∙◌, arith, subst, append_assoc}
 use Rattle.std.specs.List.{AllZip, list_any, flat_map, position}
 use Rattle.std.proofs.Math.Bool.{or-true, or-false}
 use Rattle.std.proofs.Math.Seq.{drop-append_seam}
@@ -20,11 +20,10 @@ use Rattle.dn_model.specs.declared.told.Told.{Told}
 use Rattle.route_feed.specs.FeedReader.{Reader}
 use Rattle.dn_run.specs.Network.{IsCount}
 use Rattle.dn_run.specs.Takes.{IsLater}
-use Rattle.dn_run.specs.Tracks.{Strand, GoesOn, Stands, AreApart, Woven, Tracks, Whatever, WhateverRest, Rests, IsRest, TakesFeed, TakesFrom, TakesAt, TakesOf, reads}
+use Rattle.dn_run.specs.Tracks.{Strand, GoesOn, AreApart, Woven, Tracks, Whatever, WhateverRest, Rests, IsRest, TakesFeed, TakesAt, TakesOf, reads}
 use Rattle.dn_run.proofs.StrandLemmas.{All-unmap, eqb-back, Parts, all-parts, all-joined, all-through, ZipParts, zip-parts, nows, grown, Others, apart-others, woven-took, goes-back, go-back, Grows, grows}
 use Rattle.dn_run.proofs.TellLemmas.{taken-is}
-use Rattle.dn_run.proofs.OrderLemmas.{one-alone}
-use Rattle.dn_run.proofs.TracksLemmas.{found-reads, none-reads, none-takes, other-takes}
+use Rattle.dn_run.proofs.TracksLemmas.{found-reads, none-reads, other-takes}
 
 -- ---- what is first named by one line more
 

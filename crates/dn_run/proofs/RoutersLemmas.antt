@@ -1,11 +1,9 @@
 -- The routers of feeds, one after another.
-use Rattle.std.proofs.Common.{◌≡◌, ℕ, ◌<◌, ◌+◌, ◌-◌, ◌==◌, arith, length, take, drop, get_or, Bool, true, false, Result, Ok, Err, List, [], ◌∷◌, ◌++◌, All, Option, None, Some, map, refl, ap, sym, ◌∙◌, subst, append_assoc, if◌then◌else◌}
-use Rattle.std.specs.List.{list_any, filter_map}
-use Rattle.std.specs.Option.{option_to_list}
+use Rattle.std.proofs.Common.{◌≡◌, ℕ, ◌<◌, ◌+◌, ◌-◌, ◌==◌, arith, length, take, drop, get_or, false, Ok, Err, List, [], ◌∷◌, ◌++◌, Some, map, refl, ap, sym, ◌∙◌, subst, append_assoc}
+use Rattle.std.specs.List.{list_any}
 use Rattle.std.proofs.lemmas.List.{append-nil, take_all}
 use Rattle.dn_model.specs.Lookup.{router_of}
-use Rattle.dn_model.specs.Topology.{all_differ}
-use Rattle.dn_model.specs.Words.{FeedWords, unless_faulty}
+use Rattle.dn_model.specs.Words.{FeedWords}
 use Rattle.dn_model.specs.declared.ids.RouterId.{RouterId}
 use Rattle.dn_model.specs.declared.topology.Topology.{Topology}
 use Rattle.dn_model.specs.declared.error_line.ErrorLine.{ErrorLine}

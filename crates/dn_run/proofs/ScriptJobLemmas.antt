@@ -1,13 +1,12 @@
 -- A script's job that was run over all feeds is one over those that it takes.
-use Rattle.std.proofs.Common.{◌≡◌, ℕ, suc, ◌+◌, ◌<◌, ◌≤◌, Bool, true, false, ◌==◌, ◌&&◌, ◌||◌, not, IsTrue, if◌then◌else◌, cond, List, [], ◌∷◌, ◌++◌, length, get_or, map, filter, drop, All, Option, None, Some, refl, ap, sym, ◌∙◌, subst, append_assoc, eq-eqb}
+use Rattle.std.proofs.Common.{◌≡◌, Bool, true, false, ◌&&◌, ◌||◌, not, IsTrue, cond, List, [], ◌∷◌, ◌++◌, length, get_or, filter, drop, All, refl, ap, sym, ◌∙◌, eq-eqb}
 use Rattle.std.specs.List.{list_any, flat_map}
-use Rattle.std.proofs.Math.Bool.{or-true, or-false}
+use Rattle.std.proofs.Math.Bool.{or-true}
 use Rattle.std.proofs.lemmas.Bool.{or_parts}
-use Rattle.std.proofs.lemmas.Grind.{flat_map-append}
 use Rattle.std.proofs.lemmas.List.{append-nil}
-use Rattle.std.proofs.lemmas.List.Elements.{All-nil, All-cons, All-head, All-tail, All-append, All-filter, All-weaker, filter-append}
-use Rattle.dn_model.specs.Lawful.{Job, KeepsOrder, entries_of_job, taken, takes, takes_feed, taken_by, taken_along, first_taken, left_by, is_from, is_from_some}
-use Rattle.dn_model.specs.Steps.{FrameStep, FeedRead, updates, entries_of, entries_by}
+use Rattle.std.proofs.lemmas.List.Elements.{All-nil, All-cons, All-head, All-tail, All-append, All-filter}
+use Rattle.dn_model.specs.Lawful.{KeepsOrder, taken, takes, takes_feed, taken_by, taken_along, first_taken, left_by, is_from, is_from_some}
+use Rattle.dn_model.specs.Steps.{FeedRead, updates, entries_of}
 use Rattle.dn_model.specs.declared.entry.Entry.{Entry}
 use Rattle.dn_model.specs.declared.entry.Op.{Op}
 use Rattle.dn_model.specs.declared.ids.RouterId.{RouterId}

@@ -1,12 +1,12 @@
 -- What each step of a run is due by, once its file was read, refused or failed.
-use Rattle.std.proofs.Common.{◌≡◌, ℕ, ◌+◌, Bool, true, false, nat_lt, ◌||◌, Result, Ok, Err, IfOk, OnErr, IfSome, IsSomeAnd, MatchResult, List, [], ◌∷◌, ◌++◌, length, Option, None, Some, refl, ap, sym, ◌∙◌, subst}
+use Rattle.std.proofs.Common.{◌≡◌, ℕ, ◌+◌, Bool, true, false, nat_lt, Result, Ok, Err, IfOk, IsSomeAnd, MatchResult, List, [], ◌∷◌, ◌++◌, length, Option, refl, ap, sym, ◌∙◌, subst}
 use Rattle.std.specs.Bool.{MatchBool}
-use Rattle.dn_io.specs.Calls.{Call, CallState, Out, Refused, Back, call_of, some_failed}
+use Rattle.dn_io.specs.Calls.{Call, CallState, Back, call_of}
 use Rattle.dn_io.specs.Files.{Files, bytes_of}
 use Rattle.dn_model.specs.Report.{error_text}
 use Rattle.dn_model.specs.ScriptText.{ScriptFault, script_of}
 use Rattle.dn_model.specs.TopologyText.{Parts, topology_of, parts}
-use Rattle.dn_model.specs.Words.{FeedWords, PartsSaid, parts_of}
+use Rattle.dn_model.specs.Words.{FeedWords, PartsSaid}
 use Rattle.dn_model.specs.declared.ids.RouterId.{RouterId}
 use Rattle.dn_model.specs.declared.script.Line.{Line}
 use Rattle.dn_model.specs.declared.script.Script.{Script}
@@ -14,12 +14,11 @@ use Rattle.dn_model.specs.declared.topology.Topology.{Topology}
 use Rattle.dn_model.specs.declared.topology_fault.TopoFault.{TopoFault}
 use Rattle.dn_model.specs.declared.error_line.ErrorLine.{ErrorLine}
 use Rattle.dn_model.specs.declared.error_line.ErrorLine.TheVariants as errors
-use Rattle.dn_run.specs.CommandLine.{RunWords}
-use Rattle.dn_run.specs.Feeds.{Opens, some_rose}
+use Rattle.dn_run.specs.Feeds.{Opens}
 use Rattle.dn_run.specs.Loaded.{SaysTopology, SaysScript}
 use Rattle.dn_run.specs.Opened.{text_limit, IsReadFront, FailsAt}
-use Rattle.dn_run.specs.Run.{IsErrorLine, OnFile, FromFeeds, FromJobs, FromScripts, FromRouters, FromTopology, FromParts, feed_files, untaken, most_jobs, taken_by_scripts, routers_of}
-use Rattle.dn_run.specs.Stage.{Stage, is_fault}
+use Rattle.dn_run.specs.Run.{IsErrorLine, FromJobs, FromScripts, FromRouters, FromTopology, feed_files, untaken, most_jobs, taken_by_scripts, routers_of}
+use Rattle.dn_run.specs.Stage.{Stage}
 use Rattle.dn_run.specs.Tracks.{tags_of}
 use Rattle.dn_run.specs.declared.load.Loaded.TheVariants as loaded
 use Rattle.dn_run.specs.declared.status.Verdict.{Verdict}

@@ -1,8 +1,8 @@
 -- What holds of all feeds stays true when one of them gives more.
-use Rattle.std.proofs.Common.{◌≡◌, ℕ, suc, get_or, ◌+◌, ◌*◌, ◌<◌, ◌≤◌, ◌==◌, ◌||◌, Bool, true, false, not, IsTrue, List, [], ◌∷◌, ◌++◌, length, map, filter, All, Option, None, Some, refl, ap, sym, ◌∙◌, arith, subst, append_assoc, eq-eqb}
+use Rattle.std.proofs.Common.{◌≡◌, ℕ, get_or, ◌==◌, ◌||◌, true, false, IsTrue, List, [], ◌∷◌, ◌++◌, length, map, filter, All, Option, Some, refl, ap, sym, ◌∙◌, arith, subst, append_assoc, eq-eqb}
 use Rattle.std.proofs.Math.Bool.{or-true}
 use Rattle.std.proofs.lemmas.Bool.Decides.{nat_tests}
-use Rattle.std.specs.List.{AllZip, list_any}
+use Rattle.std.specs.List.{AllZip}
 use Rattle.std.proofs.lemmas.List.{append-nil, map-append, length-map}
 use Rattle.std.proofs.lemmas.List.Elements.{All-append, All-nil, All-cons, All-head, All-tail, filter-append}
 use Rattle.dn_model.specs.Lawful.{is_from, is_from_some}
@@ -13,7 +13,7 @@ use Rattle.dn_model.specs.declared.ids.RouterId.{RouterId}
 use Rattle.dn_model.specs.declared.topology.Topology.{Topology}
 use Rattle.dn_model.specs.declared.told.FeedEnd.{FeedEnd}
 use Rattle.route_feed.specs.FeedReader.{Reader}
-use Rattle.dn_run.specs.Network.{StandsBy, CountsFaults}
+use Rattle.dn_run.specs.Network.{CountsFaults}
 use Rattle.dn_run.specs.Takes.{IsLater, Gives}
 use Rattle.dn_run.specs.Tracks.{Strand, feed_of, GoesOn, Stands, AreApart, AllApart, Woven, TakesFeed, TakesFrom}
 use Rattle.dn_run.proofs.TakesLemmas.{split, later-more}

@@ -1,17 +1,15 @@
 -- What taking frames of a feed adds to what its reader has handed out.
-use Rattle.std.proofs.Common.{◌≡◌, ℕ, ◌+◌, ◌*◌, ◌<◌, ◌≤◌, Bool, true, false, is_none, List, [], ◌∷◌, ◌++◌, length, map, Option, None, Some, refl, ap, sym, ◌∙◌, arith, subst, append_assoc}
-use Rattle.std.proofs.lemmas.Grind.{common_steps}
-use Rattle.std.specs.List.{flat_map}
+use Rattle.std.proofs.Common.{◌≡◌, ℕ, ◌+◌, Bool, true, false, is_none, List, [], ◌∷◌, ◌++◌, Option, None, Some, refl, ap, sym, ◌∙◌, arith, subst, append_assoc}
 use Rattle.std.proofs.lemmas.List.{append-nil, length-append}
-use Rattle.dn_model.specs.Steps.{FrameStep, Accepted, Refused, updates, entries_by, ops_of}
+use Rattle.dn_model.specs.Steps.{FrameStep, updates, entries_by, ops_of}
 use Rattle.dn_model.specs.declared.entry.Entry.{Entry}
 use Rattle.dn_model.specs.declared.entry.Op.{Op}
 use Rattle.dn_model.specs.declared.ids.RouterId.{RouterId}
 use Rattle.dn_model.specs.declared.topology.Topology.{Topology}
 use Rattle.dn_model.specs.declared.told.FeedEnd.{FeedEnd}
 use Rattle.route_feed.specs.FeedReader.{Reader, IsAt}
-use Rattle.dn_run.specs.Network.{entries, StandsBy, IsCount, EndsUnless, CountsFaults}
-use Rattle.dn_run.specs.Takes.{IsLater, Gives, Moves, TakesOne, TakesExactly, TakesAny, TakesSome, tag_of}
+use Rattle.dn_run.specs.Network.{entries, StandsBy, EndsUnless}
+use Rattle.dn_run.specs.Takes.{IsLater, Gives, Moves, TakesOne, TakesExactly, TakesAny, tag_of}
 use Rattle.dn_run.specs.declared.take.Book.{Book}
 
 pub updates-append : (xs ys : List FrameStep) → updates (xs ++ ys) ≡ updates xs ++ updates ys

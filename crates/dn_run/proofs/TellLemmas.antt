@@ -1,12 +1,12 @@
 -- How what is told goes on by a line, and how many frames lines ask for.
-use Rattle.std.proofs.Common.{◌≡◌, ℕ, suc, ◌+◌, ◌<◌, ◌≤◌, Bool, true, false, ◌==◌, ◌&&◌, not, List, [], ◌∷◌, ◌++◌, length, map, filter, fold, take, drop, All, Option, None, Some, refl, ap, sym, ◌∙◌, arith, subst, append_assoc, if◌then◌else◌}
+use Rattle.std.proofs.Common.{◌≡◌, ℕ, suc, ◌+◌, ◌≤◌, Bool, ◌==◌, List, [], ◌∷◌, ◌++◌, length, filter, fold, take, All, Option, None, Some, refl, ap, sym, ◌∙◌, arith, subst, append_assoc}
 use Rattle.std.specs.List.{AllZip}
-use Rattle.std.proofs.lemmas.List.{append-nil, take_all, map-append, length-append, length-map}
-use Rattle.std.proofs.Math.Seq.{take-append_seam, drop-append_seam}
+use Rattle.std.proofs.lemmas.List.{append-nil, take_all, map-append, length-append}
+use Rattle.std.proofs.Math.Seq.{take-append_seam}
 use Rattle.std.proofs.lemmas.List.Sums.{fold-append}
 use Rattle.std.proofs.lemmas.List.Elements.{All-filter}
-use Rattle.dn_model.specs.Answer.{unknown_of, IsAnswer}
-use Rattle.dn_model.specs.Lawful.{Tells, IsOutcome, HoldsWhatWasTaken, asked, asked_by, both_counts, front_of, taken, takes, pin_after, is_from}
+use Rattle.dn_model.specs.Answer.{IsAnswer}
+use Rattle.dn_model.specs.Lawful.{Tells, IsOutcome, HoldsWhatWasTaken, asked, asked_by, both_counts, front_of, taken, pin_after, is_from}
 use Rattle.dn_model.specs.Steps.{FrameStep, FeedRead, updates, entries_of, entries_by}
 use Rattle.dn_run.specs.Latest.{After, Latest}
 use Rattle.dn_model.specs.declared.entry.Entry.{Entry}

@@ -1,5 +1,5 @@
 -- How what a script's job has taken and told goes on by a line.
-use Rattle.std.proofs.Common.{◌≡◌, ℕ, suc, ◌+◌, ◌<◌, ◌≤◌, Bool, true, false, ◌==◌, nat_lt, cond, if◌then◌else◌, Result, Ok, Err, OnOk, List, [], ◌∷◌, ◌++◌, length, get_or, map, filter, fold, take, All, Option, None, Some, refl, ap, sym, ◌∙◌, arith, subst, append_assoc}
+use Rattle.std.proofs.Common.{◌≡◌, ℕ, suc, ◌+◌, ◌≤◌, Bool, true, false, ◌==◌, nat_lt, cond, if◌then◌else◌, Result, Ok, Err, OnOk, List, [], ◌∷◌, ◌++◌, length, get_or, All, Option, None, Some, refl, ap, sym, ◌∙◌, arith, subst, append_assoc}
 use Rattle.std.specs.List.{AllZip, flat_map, position, position_or_len}
 use Rattle.std.proofs.lemmas.List.{append-nil, length-append, length-map, map-append}
 use Rattle.std.proofs.Math.Seq.{get_or-append_seam}
@@ -8,7 +8,7 @@ use Rattle.std.proofs.lemmas.List.Sums.{fold-append}
 use Rattle.std.proofs.lemmas.List.Quantifiers.{position-Some}
 use Rattle.std.proofs.lemmas.Bool.{eqb-true, ltb-false}
 use Rattle.dn_model.specs.Lawful.{Tells, asked, asked_by, both_counts, taken_by, taken_along, takes, pin_after}
-use Rattle.dn_model.specs.Steps.{FrameStep, FeedRead, updates, entries_by, entries_of}
+use Rattle.dn_model.specs.Steps.{FrameStep, FeedRead, updates, entries_by}
 use Rattle.dn_run.specs.Latest.{After, Latest}
 use Rattle.dn_model.specs.declared.entry.Entry.{Entry}
 use Rattle.dn_model.specs.declared.entry.Posted.{Posted}
@@ -17,11 +17,10 @@ use Rattle.dn_model.specs.declared.query.Query.{Query}
 use Rattle.dn_model.specs.declared.script.Line.{Line}
 use Rattle.dn_model.specs.declared.script.Line.TheVariants as line
 use Rattle.dn_model.specs.declared.topology.Topology.{Topology}
-use Rattle.dn_model.specs.declared.told.FeedEnd.{FeedEnd}
 use Rattle.dn_model.specs.declared.told.Told.{Told}
 use Rattle.route_feed.specs.FeedReader.{Reader}
 use Rattle.dn_run.specs.Network.{entries, IsCount}
-use Rattle.dn_run.specs.Tracks.{Strand, GoesOn, Stands, AreApart, Woven, Tracks, Whatever, TakesFeed, TakesFrom, TakesAt, TakesOf, reads, last_pin, IsOutcomeNow, Adds}
+use Rattle.dn_run.specs.Tracks.{Strand, GoesOn, AreApart, Woven, Tracks, Whatever, TakesFeed, TakesAt, TakesOf, reads, last_pin, IsOutcomeNow, Adds}
 use Rattle.dn_run.proofs.StrandLemmas.{All-unmap, eqb-back, Parts, all-parts, all-joined, all-through, ZipParts, zip-parts, nows, grown, Others, apart-others, woven-took, goes-back, go-back, Grows, grows}
 use Rattle.dn_run.proofs.TellLemmas.{Tells-take, Tells-ask, asked-push, count-zero, count-more, taken-is, length-entries, pin-now, outcome-whatever}
 use Rattle.dn_run.proofs.OrderLemmas.{taken_along-push, none-taken, one-alone, taken_by-own}

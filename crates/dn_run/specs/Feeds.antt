@@ -1,7 +1,7 @@
 -- What the readers of a run's feeds are while the feeds are opened, read and given back.
-use Rattle.std.specs.Prelude.{◌≡◌, ℕ, zero, suc, ◌+◌, ◌≤◌, ◌<◌, ◌^◌, ◌==◌, ◌||◌, not, Bool, false, List, [], ◌∷◌, ◌++◌, All, length, map, Option, Some, IfSome, IsTrue}
+use Rattle.std.specs.Prelude.{◌≡◌, ℕ, ◌+◌, ◌≤◌, ◌<◌, ◌==◌, ◌||◌, not, Bool, false, List, [], ◌∷◌, ◌++◌, All, length, map, Option, Some, IfSome, IsTrue}
 use Rattle.std.specs.List.{list_any}
-use Rattle.dn_io.specs.Calls.{Call, CallState, Back, back_with, names_of, some_out, some_failed}
+use Rattle.dn_io.specs.Calls.{Call, back_with, names_of, some_out, some_failed}
 use Rattle.dn_io.specs.Files.{Files}
 use Rattle.dn_model.specs.Topology.{all_differ}
 use Rattle.dn_model.specs.Words.{FeedWords}
@@ -9,7 +9,7 @@ use Rattle.dn_model.specs.declared.ids.RouterId.{RouterId}
 use Rattle.dn_model.specs.declared.script.Line.{Line}
 use Rattle.dn_model.specs.declared.topology.Topology.{Topology}
 use Rattle.dn_run.specs.Jobs.{IsFresh, AreNumbered, same_router}
-use Rattle.dn_run.specs.Run.{OpenedFeed, FromFeeds, IsRunOf, feed_files, feed_limit}
+use Rattle.dn_run.specs.Run.{OpenedFeed, FromFeeds, feed_files, feed_limit}
 use Rattle.dn_run.specs.Stage.{WereAsked, is_fault}
 use Rattle.dn_run.specs.declared.status.Verdict.{Verdict}
 use Rattle.route_feed.specs.FeedReader.{Reader}

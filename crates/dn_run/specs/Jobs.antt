@@ -11,7 +11,6 @@ use Rattle.dn_model.specs.declared.topology.Topology.{Topology}
 use Rattle.dn_model.specs.declared.told.JobTold.{JobTold}
 use Rattle.route_feed.specs.FeedReader.{Reader, told_so_far}
 use Rattle.dn_run.specs.Network.{entries, StandsBy}
-use Rattle.dn_run.specs.Tracks.{IsShort}
 
 -- the scripts of a run that has one, or none
 abbrev pub scripts_of : Option Script → List (List Line)

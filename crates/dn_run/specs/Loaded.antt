@@ -1,12 +1,11 @@
 -- What became of a topology or a script that was to be read from a file.
-use Rattle.std.specs.Prelude.{◌≡◌, ◌+◌, ℕ, List, [], ◌∷◌, ◌++◌, Option, IfSome, IsSomeAnd, Result, Ok, Err, All, false}
+use Rattle.std.specs.Prelude.{◌≡◌, ◌+◌, ℕ, List, [], ◌∷◌, ◌++◌, Option, IfSome, IsSomeAnd, Ok, Err, All, false}
 use Rattle.dn_io.specs.Calls.{Call, Back, call_of}
 use Rattle.dn_io.specs.Files.{Files, bytes_of}
 use Rattle.dn_model.specs.TopologyText.{topology_of, parts}
 use Rattle.dn_model.specs.ScriptText.{ScriptFault, script_of, IsShort}
 use Rattle.dn_model.specs.declared.ids.RouterId.{RouterId}
 use Rattle.dn_model.specs.declared.script.Script.{Script}
-use Rattle.dn_model.specs.declared.error_line.ErrorLine.{ErrorLine}
 use Rattle.dn_model.specs.declared.error_line.ErrorLine.TheVariants as errors
 use Rattle.dn_model.specs.declared.topology.Topology.{Topology}
 use Rattle.dn_model.specs.declared.topology_fault.TopoFault.{TopoFault}

@@ -1,9 +1,7 @@
 -- Where a reader stands in its feed.
-use Rattle.std.specs.Prelude.{◌≡◌, ℕ, ◌+◌, ◌<◌, ◌≤◌, ◌^◌, Bool, true, false, List, [], ◌∷◌, ◌++◌, length, map, Option, None, Some, is_none}
+use Rattle.std.specs.Prelude.{◌≡◌, ℕ, ◌<◌, ◌≤◌, Bool, true, false, List, Option, None, Some}
 pub use Rattle.dn_model.specs.Entry.{entries}
-use Rattle.dn_model.specs.Steps.{FrameStep, updates, entries_by}
-use Rattle.dn_model.specs.declared.entry.Entry.{Entry}
-use Rattle.dn_model.specs.declared.entry.Posted.{Posted}
+use Rattle.dn_model.specs.Steps.{FrameStep}
 use Rattle.dn_model.specs.declared.topology.Topology.{Topology}
 use Rattle.dn_model.specs.declared.told.FeedEnd.{FeedEnd}
 use Rattle.dn_model.specs.declared.told.FeedEnd.TheVariants as ends

@@ -1,5 +1,5 @@
 -- What a call of the world leaves behind where a file is read whole.
-use Rattle.std.specs.Prelude.{◌≡◌, ℕ, ◌⊎◌, ◌+◌, ◌≤◌, List, [], ◌∷◌, ◌++◌, length, take, Option, None, Some, IfSome, IsSomeAnd, false, true}
+use Rattle.std.specs.Prelude.{◌≡◌, ℕ, ◌⊎◌, ◌+◌, ◌≤◌, List, [], ◌∷◌, ◌++◌, length, take, Option, Some, IfSome, IsSomeAnd, false, true}
 use Rattle.dn_io.specs.Told.{with_front, NothingLeft}
 use Rattle.dn_io.specs.Files.{Files, bytes_of}
 use Rattle.dn_io.specs.Calls.{Call, CallState, Out, Refused, Back, call_of, state_failed, state_is_out, names_of}

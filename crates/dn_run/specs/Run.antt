@@ -1,9 +1,9 @@
 -- What a run comes to: its steps in order, of which the first that refuses ends it.
-use Rattle.std.specs.Prelude.{ℕ, suc, Bool, true, false, List, [], ◌∷◌, ◌++◌, ◌≡◌, ◌≤◌, ◌+◌, ◌==◌, ◌&&◌, nat_lt, not, All, length, map, filter, Option, None, Some, IfSome, IsSomeAnd, MatchOption, MatchResult, Result, Ok, Err, if◌then◌else◌}
+use Rattle.std.specs.Prelude.{ℕ, suc, Bool, true, false, List, [], ◌∷◌, ◌++◌, ◌≡◌, ◌≤◌, ◌+◌, ◌==◌, ◌&&◌, nat_lt, not, All, length, map, filter, Option, None, Some, IsSomeAnd, MatchOption, MatchResult, Result, Ok, Err, if◌then◌else◌}
 use Rattle.std.specs.List.{list_all, list_any, filter_map, flat_map}
 use Rattle.std.specs.Option.{option_to_list}
 use Rattle.std.specs.Bool.{MatchBool}
-use Rattle.dn_io.specs.Told.{with_end, with_front}
+use Rattle.dn_io.specs.Told.{with_end}
 use Rattle.dn_io.specs.Files.{Files, bytes_of}
 use Rattle.dn_io.specs.Calls.{Call, CallState, Out, Refused, Back}
 use Rattle.dn_model.specs.Words.{FeedWords, PartsSaid, parts_of, unless_faulty}
@@ -11,7 +11,7 @@ use Rattle.dn_model.specs.TopologyText.{topology_of, parts}
 use Rattle.dn_model.specs.Lookup.{router_of}
 use Rattle.dn_model.specs.ScriptText.{script_of}
 use Rattle.dn_model.specs.Feed.{IsReading, IsFaultedReading}
-use Rattle.dn_model.specs.Steps.{FrameStep, FeedRead, refusals, told_of}
+use Rattle.dn_model.specs.Steps.{FeedRead, told_of}
 use Rattle.dn_model.specs.Lawful.{IsShuffle, KeepsOrder, takes, jobs_of, TellsAll}
 use Rattle.dn_model.specs.Report.{report, error_text}
 use Rattle.dn_model.specs.declared.ids.RouterId.{RouterId}

@@ -1,5 +1,5 @@
 -- What a stage of a run leaves in the world's calls, and what it came to.
-use Rattle.std.specs.Prelude.{ℕ, Bool, true, false, List, [], ◌∷◌, ◌++◌, ◌≡◌, Option, IfSome}
+use Rattle.std.specs.Prelude.{ℕ, Bool, true, false, List, ◌++◌, ◌≡◌, Option, IfSome}
 use Rattle.dn_io.specs.Faults.{Rose}
 use Rattle.dn_io.specs.Files.{Files}
 use Rattle.dn_io.specs.Calls.{Call, names_of, some_out, some_failed}

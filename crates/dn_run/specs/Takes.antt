@@ -1,5 +1,5 @@
 -- What taking frames of one feed does.
-use Rattle.std.specs.Prelude.{◌≡◌, ℕ, ◌+◌, ◌*◌, ◌<◌, ◌≤◌, Bool, true, false, List, [], ◌∷◌, ◌++◌, length, Option, None, Some}
+use Rattle.std.specs.Prelude.{◌≡◌, ℕ, ◌+◌, ◌*◌, ◌≤◌, Bool, true, false, List, [], ◌∷◌, ◌++◌, length, Option, None, Some}
 use Rattle.dn_model.specs.Steps.{FrameStep, updates, entries_by}
 use Rattle.dn_run.specs.Latest.{After, IsOf}
 use Rattle.dn_model.specs.declared.entry.Entry.{Entry}

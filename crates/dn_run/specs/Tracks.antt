@@ -1,5 +1,5 @@
 -- What a job over several feeds has taken and told so far.
-use Rattle.std.specs.Prelude.{◌≡◌, ℕ, ◌+◌, ◌*◌, ◌<◌, ◌≤◌, ◌^◌, ◌==◌, zero, suc, Bool, true, false, not, List, [], ◌∷◌, ◌++◌, length, map, filter, fold, sum, take, All, Option, None, Some, IsSome, IsTrue}
+use Rattle.std.specs.Prelude.{◌≡◌, ℕ, ◌*◌, ◌<◌, ◌≤◌, ◌^◌, ◌==◌, zero, suc, Bool, true, false, not, List, [], ◌∷◌, ◌++◌, length, map, filter, fold, sum, take, All, Option, None, Some, IsSome, IsTrue}
 use Rattle.std.specs.List.{AllZip, list_any, flat_map, position}
 use Rattle.dn_model.specs.Answer.{unknown_of, IsAnswer}
 use Rattle.dn_model.specs.Lawful.{Job, Tells, TellsAll, KeepsOrder, asked, takes, takes_feed, pin_after, is_from, is_from_some, taken_along, first_taken, left_by}
@@ -10,7 +10,6 @@ use Rattle.dn_model.specs.declared.entry.Entry.{Entry}
 use Rattle.dn_model.specs.declared.ids.RouterId.{RouterId}
 use Rattle.dn_model.specs.declared.query.Query.{Query}
 use Rattle.dn_model.specs.declared.script.Line.{Line}
-use Rattle.dn_model.specs.declared.script.Line.TheVariants as line
 use Rattle.dn_model.specs.declared.topology.Topology.{Topology}
 use Rattle.dn_model.specs.declared.told.FeedEnd.{FeedEnd}
 use Rattle.dn_model.specs.declared.told.FeedEnd.TheVariants as ends

@@ -1,5 +1,5 @@
 use Rattle.std.specs.Arc.{arc_value}
-use Rattle.std.proofs.Common.{◌≡◌, ◌∙◌, ◌+◌, ◌∷◌, [], arith, length, map, refl, ap, sym, subst, OnErr, IfOk}
+use Rattle.std.proofs.Common.{◌∙◌, ◌+◌, ◌∷◌, [], arith, map, refl, ap, sym, subst, OnErr, IfOk}
 use Rattle.dn_io.specs.Calls.{Refused}
 use Rattle.std.specs.Option.{option_copied}
 use Rattle.std.specs.String.{string_bytes}

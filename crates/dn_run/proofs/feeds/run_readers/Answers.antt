@@ -1,5 +1,4 @@
 use Rattle.std.specs.Arc.{arc_value}
-use Rattle.std.proofs.Common.{◌≡◌, ◌∙◌}
 use Rattle.std.specs.Option.{option_copied}
 use Rattle.dn_run.specs.Jobs.{scripts_of}
 use Rattle.dn_run.proofs.RanLemmas.{ran, rose}

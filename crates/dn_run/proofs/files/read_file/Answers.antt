@@ -1,5 +1,4 @@
-use Rattle.std.proofs.Common.{◌≡◌, ◌++◌, ◌∷◌, [], length, ◌∙◌}
-use Rattle.dn_io.specs.Calls.{call_of, back_with}
+use Rattle.std.proofs.Common.{◌∙◌}
 use Rattle.dn_run.proofs.CallsLemmas.{state_at-with_out}
 use Rattle.dn_run.proofs.ReadLemmas.{given_back, was_read, was_fault, named_one}
 use Rattle.dn_run.proofs.files.read_file.Goals as goal

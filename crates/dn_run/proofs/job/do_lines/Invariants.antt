@@ -1,4 +1,4 @@
-use Rattle.std.proofs.Common.{◌≡◌, ℕ, List, [], take, length}
+use Rattle.std.proofs.Common.{◌≡◌, List, [], take}
 use Rattle.route_feed.specs.FeedReader.{Reader}
 use Rattle.dn_run.specs.Network.{entries}
 use Rattle.dn_run.specs.Tracks.{Ready, Tracks, tags_of}

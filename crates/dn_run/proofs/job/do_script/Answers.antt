@@ -1,4 +1,3 @@
-use Rattle.std.proofs.Common.{[]}
 use Rattle.dn_run.specs.Network.{entries}
 use Rattle.dn_run.proofs.RestLemmas.{rests-none}
 use Rattle.dn_run.proofs.job.do_script.Goals as goal

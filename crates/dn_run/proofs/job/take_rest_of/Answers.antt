@@ -1,4 +1,4 @@
-use Rattle.std.proofs.Common.{◌≡◌, refl, false, ap, ◌∙◌}
+use Rattle.std.proofs.Common.{ap}
 use Rattle.dn_model.specs.Lawful.{takes}
 use Rattle.dn_run.specs.Network.{entries}
 use Rattle.dn_run.proofs.RestLemmas.{rests-took, rests-asked}

@@ -1,4 +1,4 @@
-use Rattle.std.proofs.Common.{◌≡◌, ℕ, List, [], take, length}
+use Rattle.std.proofs.Common.{◌≡◌, List, [], take}
 use Rattle.dn_model.specs.declared.script.Line.{Line}
 use Rattle.dn_model.specs.declared.told.Told.{Told}
 use Rattle.route_feed.specs.FeedReader.{Reader}

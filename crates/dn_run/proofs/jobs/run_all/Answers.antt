@@ -1,8 +1,7 @@
-use Rattle.std.proofs.Common.{◌≡◌, sym, length, []}
+use Rattle.std.proofs.Common.{sym, length}
 use Rattle.std.specs.Option.{option_copied}
 use Rattle.dn_run.specs.Jobs.{scripts_of}
 use Rattle.dn_run.specs.Network.{entries}
-use Rattle.dn_run.specs.Tracks.{Tracks, Owns}
 use Rattle.dn_run.proofs.JobsLemmas.{same-length, tracks-start, run-over, over-counts, over-ended}
 use Rattle.dn_run.proofs.jobs.run_all.Goals as goal
 

@@ -1,4 +1,4 @@
-use Rattle.std.proofs.Common.{◌≡◌, ◌+◌, ◌≤◌, ◌∙◌, length, arith}
+use Rattle.std.proofs.Common.{◌+◌, ◌≤◌, ◌∙◌, length, arith}
 use Rattle.dn_run.proofs.JobsLemmas.{same-length}
 use Rattle.dn_run.proofs.jobs.run_owns.Goals as goal
 

@@ -1,4 +1,4 @@
-use Rattle.std.proofs.Common.{◌≡◌, take, drop, sym}
+use Rattle.std.proofs.Common.{take, drop, sym}
 use Rattle.std.proofs.lemmas.List.{take-append-drop}
 use Rattle.dn_run.proofs.program.finish.Goals as goal
 

@@ -1,7 +1,6 @@
 use Rattle.std.specs.Arc.{arc_value}
-use Rattle.std.proofs.Common.{◌≡◌, ◌∙◌, sym, ap, map}
+use Rattle.std.proofs.Common.{◌∙◌, sym, ap, map}
 use Rattle.std.specs.Option.{option_copied}
-use Rattle.dn_model.specs.Report.{error_text}
 use Rattle.dn_run.specs.Jobs.{scripts_of}
 use Rattle.dn_run.specs.PartsRead.{feed_texts}
 use Rattle.dn_run.specs.Run.{FromJobs, feed_files}

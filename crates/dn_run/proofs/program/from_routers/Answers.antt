@@ -1,5 +1,5 @@
 use Rattle.std.specs.Arc.{arc_value}
-use Rattle.std.proofs.Common.{◌≡◌, ◌++◌, ap}
+use Rattle.std.proofs.Common.{◌++◌, ap}
 use Rattle.dn_run.specs.PartsRead.{parts_texts}
 use Rattle.dn_run.specs.Run.{FromRouters, feed_files, script_files}
 use Rattle.dn_run.specs.Stage.{is_fault, may_end_early}

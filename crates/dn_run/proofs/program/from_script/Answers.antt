@@ -1,10 +1,10 @@
 use Rattle.std.specs.Arc.{arc_value}
-use Rattle.std.proofs.Common.{◌≡◌, ◌+◌, ◌∙◌, ◌∷◌, ◌++◌, [], IsSomeAnd, map, ap, sym, refl}
+use Rattle.std.proofs.Common.{◌+◌, ◌∷◌, [], IsSomeAnd, map, ap}
 use Rattle.std.specs.String.{string_bytes}
 use Rattle.dn_io.specs.Files.{bytes_of}
 use Rattle.dn_run.specs.Loaded.{SaysScript}
 use Rattle.dn_run.specs.Opened.{IsReadFront, text_limit}
-use Rattle.dn_run.specs.PartsRead.{feed_texts, script_texts, parts_texts}
+use Rattle.dn_run.specs.PartsRead.{feed_texts, script_texts}
 use Rattle.dn_run.specs.Run.{FromScripts, FromJobs, feed_files}
 use Rattle.dn_run.specs.Stage.{is_fault, may_end_early}
 use Rattle.dn_run.specs.declared.load.Loaded.TheVariants as loaded

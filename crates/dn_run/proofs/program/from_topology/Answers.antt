@@ -1,9 +1,8 @@
-use Rattle.std.proofs.Common.{◌≡◌, ◌+◌, ◌∙◌, ◌∷◌, ◌++◌, [], IsSomeAnd, map, ap, sym, refl}
-use Rattle.std.specs.String.{string_bytes}
+use Rattle.std.proofs.Common.{◌+◌, ◌++◌, IsSomeAnd, ap}
 use Rattle.dn_io.specs.Files.{bytes_of}
 use Rattle.dn_run.specs.Loaded.{SaysTopology}
 use Rattle.dn_run.specs.Opened.{IsReadFront, text_limit}
-use Rattle.dn_run.specs.PartsRead.{feed_texts, script_texts, parts_texts}
+use Rattle.dn_run.specs.PartsRead.{parts_texts}
 use Rattle.dn_run.specs.Run.{FromTopology, FromRouters, feed_files, script_files}
 use Rattle.dn_run.specs.Stage.{is_fault, may_end_early}
 use Rattle.dn_run.specs.declared.load.Loaded.TheVariants as loaded

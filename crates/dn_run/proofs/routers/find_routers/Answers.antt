@@ -5,7 +5,7 @@ use Rattle.std.proofs.lemmas.List.Elements.{All-push}
 use Rattle.dn_model.proofs.TopologySound.{all_differ-push}
 use Rattle.dn_model.specs.Topology.{all_differ}
 use Rattle.dn_run.specs.Jobs.{same_router}
-use Rattle.dn_run.proofs.RoutersLemmas.{so_far_kept, fewer_left, stopped}
+use Rattle.dn_run.proofs.RoutersLemmas.{so_far_kept, fewer_left}
 use Rattle.dn_run.proofs.routers.find_routers.Goals as goal
 
 pub loop-rest-preserved : goal.loop-rest-preserved

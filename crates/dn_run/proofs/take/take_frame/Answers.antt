@@ -1,11 +1,11 @@
-use Rattle.std.proofs.Common.{rules, ◌≡◌, List, refl, None, ap, subst, sym, ◌∙◌, arith}
+use Rattle.std.proofs.Common.{rules, ◌≡◌, List, None, ap, subst, sym, ◌∙◌, arith}
 use Rattle.dn_model.specs.declared.entry.Entry.{Entry}
 use Rattle.dn_run.specs.Latest.{After}
 use Rattle.dn_run.specs.Network.{entries}
 use Rattle.dn_run.proofs.LatestLemmas.{can-make-all}
 use Rattle.std.proofs.lemmas.List.{append-nil}
 use Rattle.std.proofs.lemmas.Grind.{common_steps}
-use Rattle.route_feed.specs.FeedReader.{told_then, end_of}
+use Rattle.route_feed.specs.FeedReader.{end_of}
 use Rattle.dn_model.specs.Steps.{Accepted, Refused}
 use Rattle.dn_run.proofs.TakesLemmas.{gives-step, end-before_ops}
 use Rattle.dn_run.proofs.take.take_frame.Goals as goal

@@ -1,4 +1,4 @@
-use Rattle.std.proofs.Common.{◌≡◌, ap, sym, ◌∙◌}
+use Rattle.std.proofs.Common.{ap, ◌∙◌}
 use Rattle.dn_run.proofs.TakesLemmas.{any-more, moves-more, ends_unless}
 use Rattle.dn_run.proofs.take.take_rest.Goals as goal
 

@@ -1,4 +1,4 @@
-use Rattle.std.proofs.Common.{◌≡◌, ℕ, ◌+◌, ◌-◌, List, length, if◌then◌else◌}
+use Rattle.std.proofs.Common.{◌≡◌, ◌+◌, ◌-◌, if◌then◌else◌}
 use Rattle.dn_run.specs.Network.{entries, EndsUnless}
 use Rattle.dn_run.specs.Takes.{TakesAny, Moves, tag_of}
 use Rattle.dn_run.proofs.take.take_rest.Given as goal

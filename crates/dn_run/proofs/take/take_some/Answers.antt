@@ -1,4 +1,4 @@
-use Rattle.std.proofs.Common.{◌≡◌, ap, sym, ◌∙◌}
+use Rattle.std.proofs.Common.{ap, ◌∙◌}
 use Rattle.dn_run.proofs.TakesLemmas.{exactly-more, moves-more}
 use Rattle.dn_run.proofs.take.take_some.Goals as goal
 

@@ -1,4 +1,4 @@
-use Rattle.std.proofs.Common.{◌≡◌, ℕ, List, length, Some}
+use Rattle.std.proofs.Common.{◌≡◌}
 use Rattle.dn_run.specs.Network.{entries}
 use Rattle.dn_run.specs.Takes.{TakesExactly, Moves, tag_of}
 use Rattle.dn_run.proofs.take.take_some.Given as goal

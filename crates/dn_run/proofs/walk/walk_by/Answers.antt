@@ -1,8 +1,6 @@
-use Rattle.std.proofs.Common.{◌≡◌, ◌∙◌, List, [], sym, ap}
-use Rattle.dn_model.specs.Labels.{StandsFor}
+use Rattle.std.proofs.Common.{◌≡◌, ◌∙◌, [], sym, ap}
 use Rattle.dn_model.specs.Walk.{next}
 use Rattle.dn_model.specs.declared.answer.PathEnd.TheVariants.{At}
-use Rattle.dn_model.specs.declared.entry.Entry.{Entry}
 use Rattle.dn_model.specs.declared.ids.LinkId.{LinkId}
 use Rattle.dn_model.specs.declared.ids.RouterId.{RouterId}
 use Rattle.dn_model.specs.declared.label_row.LabelRow.{LabelRow}

@@ -97,8 +97,8 @@ module _ (from to : ℕ) (xs ys : List Row) (i : ℕ) (row : Row) (fresh : All (
   pub grown-more : (y : Row) → without_atom to y ≡ get_or ys i row → Retargets (get_or ys i row) y to (target_of (get_or ys i row) from) → Grown from to xs (set ys i y) (i + 1)
   grown-more y without added = record {
     part =
-      let added' : Retargets row y to (target_of row from) = subst (λ (r : Row). Retargets r y to (target_of r from)) (sym is) added in
-      subst (λ zs. Inherit from to (take (i + 1) xs) zs) (sym (take_more_set ys i y lt)) (all_zip_more (λ (x z : Row). Retargets x z to (target_of x from)) xs (take i ys) i row y within before now.part added');
+        let added' : Retargets row y to (target_of row from) = subst (λ (r : Row). Retargets r y to (target_of r from)) (sym is) added in
+        subst (λ zs. Inherit from to (take (i + 1) xs) zs) (sym (take_more_set ys i y lt)) (all_zip_more (λ (x z : Row). Retargets x z to (target_of x from)) xs (take i ys) i row y within before now.part added');
     left = left-more i xs ys y lt within now.left;
     back = grown-back y without;
     long = length-set ys i y ∙ now.long;
@@ -123,11 +123,11 @@ forgot-more a xs ys i row y within is gone now =
     let long : length ys ≡ length xs = now.long in
     let lt : i < length ys = omega arith in record {
       part =
-        take_more_set ys i y lt
-        ∙ ap (λ zs. zs ++ y ∷ []) now.part
-        ∙ ap (λ (z : Row). map (without_atom a) (take i xs) ++ z ∷ []) (gone ∙ ap (without_atom a) (same-at i xs ys row now.left))
-        ∙ sym (map-append (without_atom a) (take i xs) (get_or xs i row ∷ []))
-        ∙ ap (λ zs. map (without_atom a) zs) (sym (take_more xs i row within));
+          take_more_set ys i y lt
+          ∙ ap (λ zs. zs ++ y ∷ []) now.part
+          ∙ ap (λ (z : Row). map (without_atom a) (take i xs) ++ z ∷ []) (gone ∙ ap (without_atom a) (same-at i xs ys row now.left))
+          ∙ sym (map-append (without_atom a) (take i xs) (get_or xs i row ∷ []))
+          ∙ ap (λ zs. map (without_atom a) zs) (sym (take_more xs i row within));
       left = left-more i xs ys y lt within now.left;
       long = length-set ys i y ∙ long;
     }

@@ -1,5 +1,9 @@
 //! Two small sets and a network of one router, whose answers were worked out by hand.
 
+ghost use Rattle.std.specs.Prelude.{◌≡◌, IfOk, IsTrue};
+ghost use Rattle.edge_labels.specs.Atoms.{has_atom};
+ghost use Rattle.edge_labels.specs.Labels.{routers};
+
 use super::{AtomSet, LabelGraph};
 use dn_model::{AtomId, OutOfMemory, RouterId, Target};
 use std::alloc::Global;
@@ -39,7 +43,11 @@ fn a_set_without_another(rt: HostRuntime) -> Result<(), Fail> {
     Ok(())
 }
 
-fn inherited(alloc: Global) -> Result<LabelGraph, OutOfMemory> {
+/// The labels of one router, which has atoms 0 and 1, both with exit 1.
+fn inherited(alloc: Global) -> Result<LabelGraph, OutOfMemory>
+    ensures router { IfOk result (λ graph. routers graph ≡ 1) }
+    ensures atom { IfOk result (λ graph. IsTrue (has_atom graph.atoms 1)) }
+{
     let mut graph = LabelGraph::new(alloc, 1)?;
     graph.move_atom(
         alloc,

@@ -5,7 +5,7 @@ Each frame sets a route of a prefix that no other frame has, so tables and histo
 also read with its routes in another table, which are decoded and skipped: reading and decoding alone.
 
 Usage: bench/prefixes.py [RUNS] [N]..      runs of each feed (1), of which the fastest counts, and the N
-                                           (25000 50000 100000 200000 400000), at most 16777216, multiples of 8
+                                           (25000 50000 100000), at most 16777216, multiples of 8
 """
 
 import struct
@@ -55,7 +55,7 @@ def measure(folder, count, table, runs):
 
 def main():
     runs = int(sys.argv[1]) if len(sys.argv) > 1 else 1
-    counts = [int(word) for word in sys.argv[2:]] or [25000, 50000, 100000, 200000, 400000]
+    counts = [int(word) for word in sys.argv[2:]] or [25000, 50000, 100000]
     if any(n % ROUTERS or not 0 < n <= 2**24 for n in counts):
         sys.exit("prefixes.py: N is a multiple of 8, at most 16777216")
     build()

@@ -1,5 +1,5 @@
 -- Atoms of which one is cut in two.
-use Rattle.std.proofs.Common.{◌≡◌, ℕ, ◌+◌, ◌<◌, ◌≤◌, ◌^◌, ◌∙◌, ⊎_elim, zero, suc, true, false, cond, ◌||◌, Some, option_map, List, [], ◌∷◌, ◌++◌, length, get_or, take, drop, refl, ap, sym, subst, arith, leb, ltb, eqb}
+use Rattle.std.proofs.Common.{◌≡◌, ℕ, ◌<◌, ◌≤◌, ◌^◌, ◌∙◌, ⊎_elim, zero, suc, true, false, cond, ◌||◌, Some, option_map, List, [], ◌∷◌, ◌++◌, length, get_or, take, drop, refl, ap, sym, subst, arith, leb, ltb, eqb}
 use Rattle.std.proofs.lemmas.Bool.{cases_Bool, cases_lt, lt-ltb, le-ltb, leb-true, ltb-true, eqb-false, ne_eqb, and_parts, or_from, both_ways}
 use Rattle.dn_model.specs.Rows.{is_within, CoverFrom}
 use Rattle.dn_model.specs.Atoms.{low_of, high_of, has_address, row_at, is_boundary, AreBelow, HasNone, AreOnce, AreAtoms, lower_part, upper_part, cut_rows, part_of}

@@ -1,7 +1,5 @@
 -- What the look-up of an interface finds, list by list, and that it lies within the topology.
-use Rattle.std.proofs.Common.{◌≡◌, ℕ, zero, suc, ◌+◌, ◌<◌, ◌≤◌, Bool, true, false, ◌&&◌, IsTrue, IfSome, List, [], ◌∷◌, ◌++◌, length, get_or, drop, map, Option, Some, None, cond, refl, ap, ◌∙◌, arith, rules, inl, inr}
-use Rattle.std.proofs.lemmas.Grind.{common_steps}
-use Rattle.std.proofs.lemmas.Bool.Decides.{nat_tests}
+use Rattle.std.proofs.Common.{◌≡◌, ℕ, ◌+◌, ◌<◌, ◌≤◌, Bool, true, ◌&&◌, IfSome, List, [], ◌∷◌, ◌++◌, length, get_or, drop, map, Option, Some, None, cond, refl, arith, inl, inr}
 use Rattle.std.proofs.lemmas.Bool.{and_parts, cases_Bool}
 use Rattle.std.proofs.lemmas.List.{drop_more}
 use Rattle.std.specs.List.{list_any, list_all}
@@ -17,7 +15,7 @@ use Rattle.dn_model.specs.declared.ports.Port.{Port}
 use Rattle.dn_model.specs.declared.ports.Port.TheVariants.{Link, Edge}
 use Rattle.dn_model.specs.Name.{is_name_text}
 use Rattle.dn_model.specs.Topology.{is_link_of, is_end_of, same_end}
-use Rattle.dn_model.specs.Lookup.{ports_of_link, ports_of_links, ports_of, port_of, IsPortWithin}
+use Rattle.dn_model.specs.Lookup.{ports_of_link, ports_of_links, port_of, IsPortWithin}
 
 pub lookup-append : {K X : Type 0} (test : K → Bool) (xs ys : List (K × X)) → lookup test (xs ++ ys) ≡ option_or (lookup test xs) (lookup test ys)
 lookup-append test [] ys = refl

@@ -1,5 +1,5 @@
 -- When an atom and an interval of addresses share one.
-use Rattle.std.proofs.Common.{◌≡◌, ℕ, ◌<◌, ◌≤◌, ◌⊎◌, ⊎_elim, true, ◌&&◌, arith, ltb}
+use Rattle.std.proofs.Common.{◌≡◌, ℕ, ◌<◌, ◌≤◌, ⊎_elim, true, ◌&&◌, arith, ltb}
 use Rattle.std.proofs.lemmas.Bool.{cases_lt, lt-ltb, ltb-true, and_from, and_parts}
 use Rattle.dn_model.specs.Atoms.{meets}
 use Rattle.dn_model.specs.declared.atom_row.AtomRow.{AtomRow}

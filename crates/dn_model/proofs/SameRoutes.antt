@@ -1,8 +1,8 @@
 -- Routing tables up to order: what an update makes of them, and the route of an address.
-use Rattle.std.proofs.Common.{◌≡◌, ◌≢◌, ℕ, ◌<◌, ◌≤◌, ◌⊎◌, ◌∙◌, ◌||◌, ◌&&◌, Bool, true, false, not, Option, Some, None, List, [], ◌∷◌, ◌++◌, filter, refl, ap, sym, subst, inl, inr, ⊎_elim, arith, ltb, eqb}
+use Rattle.std.proofs.Common.{◌≡◌, ◌≢◌, ℕ, ◌<◌, ◌≤◌, ◌&&◌, Bool, true, not, Option, Some, None, List, [], ◌∷◌, ◌++◌, filter, ap, sym, subst, ⊎_elim, ltb, eqb}
 use Rattle.std.specs.List.{Contains}
 use Rattle.std.specs.List.Sorted.{IsPermutation}
-use Rattle.std.proofs.lemmas.Bool.{or_from, and_right, and_left, cases_lt, le-ltb, ne_eqb, cases_eq, both_ways}
+use Rattle.std.proofs.lemmas.Bool.{or_from, and_right, and_left, cases_lt, le-ltb, ne_eqb, cases_eq}
 use Rattle.std.proofs.lemmas.List.Elements.{Contains-push_cases, Contains-append_left, Contains-append_right}
 use Rattle.std.proofs.lemmas.List.Sorted.{Contains-permutation, IsPermutation-refl, IsPermutation-sym}
 use Rattle.dn_model.specs.Cidr.{covers}
@@ -11,9 +11,8 @@ use Rattle.dn_model.specs.declared.entry.Entry.{Entry}
 use Rattle.dn_model.specs.declared.entry.Op.{Op}
 use Rattle.dn_model.specs.declared.entry.Op.TheVariants.{Set, Clear}
 use Rattle.dn_model.specs.declared.entry.Route.{Route}
-use Rattle.dn_model.specs.declared.target.Target.{Target}
 use Rattle.dn_model.specs.Routes.{IsTable, SameRoutes}
-use Rattle.dn_model.specs.Table.{is_of_prefix, has_key, after_op, table, goes_before, best, target, target_in, target_or_none, IsBest}
+use Rattle.dn_model.specs.Table.{is_of_prefix, has_key, after_op, table, best, target, target_in, target_or_none, IsBest}
 use Rattle.dn_model.proofs.Best.{best-is, contains-filter, filter-contains, contains-here}
 use Rattle.dn_model.proofs.Keys.{best-once}
 use Rattle.dn_model.proofs.Tables.{table-push_own, table-push_other}

@@ -1,18 +1,17 @@
 -- The links and the edges of a document without a fault are those of a sound topology.
-use Rattle.std.proofs.Common.{◌≡◌, ℕ, zero, suc, ◌+◌, ◌<◌, ◌≤◌, Bool, true, false, not, ◌&&◌, ◌||◌, ◌==◌, nat_le, nat_lt, codes, List, [], ◌∷◌, ◌++◌, length, take, drop, map, filter, Option, Some, None, is_none, option_and_then, position, cond, refl, sym, ap, ◌∙◌, arith, rules, inl, inr, lit≤, Result, Ok, Err, append_assoc, length-append}
-use Rattle.std.proofs.lemmas.Bool.{and_parts, and_from, or_parts, or_from, not-false, le-leb, lt-ltb, leb-true, leb-false, true≢false, and_left}
+use Rattle.std.proofs.Common.{◌≡◌, ℕ, ◌+◌, ◌<◌, ◌≤◌, Bool, true, false, not, ◌&&◌, ◌||◌, ◌==◌, nat_le, nat_lt, codes, List, [], ◌∷◌, ◌++◌, length, drop, map, Option, Some, None, is_none, option_and_then, position, cond, refl, sym, ap, ◌∙◌, arith, lit≤, Result, Ok, Err, append_assoc, length-append}
+use Rattle.std.proofs.lemmas.Bool.{and_parts, and_from, or_parts, not-false, le-leb, lt-ltb, leb-false, true≢false, and_left}
 use Rattle.std.proofs.lemmas.Option.{same_Some}
 use Rattle.std.proofs.lemmas.List.{append-nil, map-append}
 use Rattle.std.proofs.lemmas.List.Elements.{filter_map-append}
 use Rattle.std.proofs.lemmas.List.Folds.{list_all-append, list_any-append}
 use Rattle.std.proofs.lemmas.List.Quantifiers.{position-Some}
 use Rattle.std.specs.List.{list_any, list_all, filter_map}
-use Rattle.toml.specs.Data.{Data, Members, as_str, as_table}
+use Rattle.toml.specs.Data.{Data, Members, as_table}
 use Rattle.dn_model.specs.declared.topology.TopoEnd.{TopoEnd}
 use Rattle.dn_model.specs.declared.topology.TopoLink.{TopoLink}
 use Rattle.dn_model.specs.declared.topology_fault.TopoFault.{TopoFault}
-use Rattle.dn_model.specs.declared.topology_fault.TopoPart.{TopoPart}
-use Rattle.dn_model.specs.declared.topology_fault.TopoPart.TheVariants.{Top, Routers, Link, Edge}
+use Rattle.dn_model.specs.declared.topology_fault.TopoPart.TheVariants.{Routers, Link, Edge}
 use Rattle.dn_model.specs.declared.cause.TheConstants.{TOO_LONG}
 use Rattle.dn_model.specs.Name.{is_name_text}
 use Rattle.dn_model.specs.Topology.{same_text, same_end, all_differ, all_ends, is_end_of, is_link_of, is_sound_topology}

@@ -1,19 +1,15 @@
 -- A document without a fault says a sound topology.
-use Rattle.std.proofs.Common.{◌≡◌, ℕ, zero, suc, ◌+◌, ◌<◌, ◌≤◌, Bool, true, false, not, ◌&&◌, ◌||◌, ◌==◌, nat_le, nat_lt, List, [], ◌∷◌, ◌++◌, length, map, filter, Option, Some, None, is_none, option_and_then, position, cond, refl, sym, ap, ◌∙◌, arith, rules, inl, inr, append_assoc, length-append}
-use Rattle.std.proofs.lemmas.Bool.{and_parts, and_from, or_parts, cases_Bool, not-true, not-false, not_from_false, not_from_true, leb-true, leb-false, le-leb, lt-ltb, false≢true, true≢false}
+use Rattle.std.proofs.Common.{◌≡◌, ℕ, ◌+◌, ◌<◌, ◌≤◌, Bool, true, false, not, nat_le, List, [], ◌∷◌, ◌++◌, length, map, filter, Option, Some, None, is_none, cond, refl, ◌∙◌, arith, append_assoc, length-append}
+use Rattle.std.proofs.lemmas.Bool.{and_parts, or_parts, not-true, not-false, leb-false, true≢false}
 use Rattle.std.proofs.lemmas.List.{append-nil}
 use Rattle.std.proofs.lemmas.List.Elements.{filter_map-append}
 use Rattle.std.proofs.lemmas.List.Folds.{list_all-append, list_any-append}
-use Rattle.std.specs.List.{list_any, list_all, filter_map}
-use Rattle.toml.specs.Data.{Data, as_str, as_table}
-use Rattle.dn_model.specs.declared.topology.TopoEnd.{TopoEnd}
-use Rattle.dn_model.specs.declared.topology.TopoLink.{TopoLink}
-use Rattle.dn_model.specs.declared.topology_fault.TopoFault.{TopoFault}
-use Rattle.dn_model.specs.declared.topology_fault.TopoPart.{TopoPart}
-use Rattle.dn_model.specs.declared.topology_fault.TopoPart.TheVariants.{Top, Routers, Link, Edge}
+use Rattle.std.specs.List.{list_any, list_all}
+use Rattle.toml.specs.Data.{Data, as_str}
+use Rattle.dn_model.specs.declared.topology_fault.TopoPart.TheVariants.{Routers}
 use Rattle.dn_model.specs.Name.{is_name_text}
-use Rattle.dn_model.specs.Topology.{same_text, same_end, all_differ, all_ends, is_end_of, is_link_of, is_sound_topology}
-use Rattle.dn_model.specs.TopologyText.{passes, standing, faults_along, has_text, has_end, router_table, routers_said}
+use Rattle.dn_model.specs.Topology.{same_text, all_differ}
+use Rattle.dn_model.specs.TopologyText.{passes, standing, faults_along, has_text, router_table, routers_said}
 
 -- ---- lists without a fault
 

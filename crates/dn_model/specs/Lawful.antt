@@ -1,6 +1,6 @@
 -- When a history and the pins of queries are lawful: the history is a shuffle of what the feeds gave, and each query's
 -- pin holds exactly what its job's earlier lines took.
-use Rattle.std.specs.Prelude.{ℕ, Bool, true, false, List, [], ◌∷◌, ◌++◌, ◌≡◌, ◌≤◌, ◌==◌, suc, not, All, length, map, filter, take, drop, fold, ◌+◌, ◌&&◌, Option, None, Some, if◌then◌else◌, IsTrue}
+use Rattle.std.specs.Prelude.{ℕ, Bool, false, List, [], ◌∷◌, ◌++◌, ◌≡◌, ◌≤◌, ◌==◌, suc, not, All, length, map, filter, take, drop, fold, ◌+◌, ◌&&◌, Option, None, Some, if◌then◌else◌, IsTrue}
 use Rattle.std.specs.List.{list_any, flat_map}
 use Rattle.dn_model.specs.Answer.{unknown_of, IsAnswer}
 use Rattle.dn_model.specs.Steps.{FrameStep, updates, FeedRead, entries_of}

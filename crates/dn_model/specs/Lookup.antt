@@ -1,5 +1,5 @@
 -- How names and interfaces are looked up in a topology.
-use Rattle.std.specs.Prelude.{ℕ, Bool, List, [], ◌∷◌, ◌++◌, ◌+◌, ◌<◌, length, map, position, Option, option_map}
+use Rattle.std.specs.Prelude.{ℕ, List, [], ◌∷◌, ◌++◌, ◌+◌, ◌<◌, length, map, position, Option, option_map}
 use Rattle.std.specs.Map.{lookup}
 use Rattle.dn_model.specs.declared.ids.RouterId.{RouterId}
 use Rattle.dn_model.specs.declared.ids.LinkId.{LinkId}

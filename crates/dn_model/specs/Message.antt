@@ -1,8 +1,8 @@
 -- Route messages of rtnetlink(7), in the layout in which FRR's forwarding plane manager module sends them. Numbers
 -- are little-endian, as the sender's are; an address is in network byte order.
-use Rattle.std.specs.Prelude.{◌≡◌, ℕ, ◌+◌, ◌<◌, ◌^◌, ◌==◌, Bool, true, false, if◌then◌else◌, List, [], ◌∷◌, ◌++◌, length, Option, None, Some, IfSome, IsSome, unwrap_or, ◌||◌}
+use Rattle.std.specs.Prelude.{ℕ, ◌+◌, ◌<◌, ◌^◌, ◌==◌, Bool, true, false, if◌then◌else◌, List, [], ◌∷◌, ◌++◌, length, Option, None, Some, IfSome, unwrap_or, ◌||◌}
 use Rattle.std.specs.Int.{w32, to_be_bytes, to_le_bytes}
-use Rattle.dn_model.specs.Cidr.{Cidr, IsCidr}
+use Rattle.dn_model.specs.Cidr.{Cidr}
 use Rattle.dn_model.specs.Lookup.{port_of}
 use Rattle.dn_model.specs.declared.ids.RouterId.{RouterId}
 use Rattle.dn_model.specs.declared.ports.Port.{Port}

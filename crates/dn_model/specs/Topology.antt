@@ -1,5 +1,5 @@
 -- What a topology is, and how its routers, links and interfaces are found.
-use Rattle.std.specs.Prelude.{ℕ, Bool, true, false, List, [], ◌∷◌, ◌++◌, length, nat_le, nat_lt, ◌&&◌, ◌==◌, not, map}
+use Rattle.std.specs.Prelude.{ℕ, Bool, true, List, [], ◌∷◌, ◌++◌, length, nat_le, nat_lt, ◌&&◌, ◌==◌, not, map}
 use Rattle.std.specs.List.{list_all, list_any}
 use Rattle.std.specs.Str.{bytes_eq}
 use Rattle.dn_model.specs.Name.{is_name_text}

@@ -1,6 +1,6 @@
 -- What a text says of a network: its routers, links and edges, or the first of its faults. The text is a document of
 -- TOML 1.1; which keys and values it has is the project's own profile.
-use Rattle.std.specs.Prelude.{ℕ, Bool, true, false, codes, List, [], ◌∷◌, ◌++◌, ◌+◌, length, nat_le, nat_lt, ◌&&◌, ◌||◌, ◌==◌, not, map, filter, is_none, is_some, Option, None, Some, option_map, option_and_then, Result, Ok, Err, if◌then◌else◌, ◌≡◌}
+use Rattle.std.specs.Prelude.{ℕ, Bool, false, codes, List, [], ◌∷◌, ◌++◌, ◌+◌, length, nat_le, nat_lt, ◌||◌, ◌==◌, not, map, filter, is_none, Option, None, Some, option_map, option_and_then, Result, Ok, Err, if◌then◌else◌, ◌≡◌}
 use Rattle.std.specs.List.{list_any, filter_map}
 use Rattle.std.specs.Option.{option_map_or}
 use Rattle.std.specs.Str.{is_utf8}

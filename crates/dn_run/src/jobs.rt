@@ -1,23 +1,21 @@
 //! The jobs of a run, one after another: the script's, and one for each feed that it doesn't take.
 
 ghost use Rattle.std.specs.Prelude.{◌≡◌, ◌<◌, ◌≤◌, ◌+◌, ◌++◌, ◌∷◌, [], List, length, All, IfOk, OnOk, IsSome};
-ghost use Rattle.std.specs.List.{list_any};
 ghost use Rattle.std.specs.Arc.{arc_value};
 ghost use Rattle.std.specs.Option.{option_copied};
-ghost use Rattle.dn_model.specs.Lawful.{takes};
-ghost use Rattle.dn_model.specs.declared.script.Line.{Line};
 ghost use Rattle.dn_model.specs.declared.told.JobTold.{JobTold};
 ghost use Rattle.route_feed.specs.FeedReader.{Reader};
 ghost use Rattle.dn_run.specs.Jobs.{scripts_of, IsFresh, AreNumbered, HaveRoutersApart, HasRun};
 ghost use Rattle.dn_run.specs.Latest.{After, IsOf};
 ghost use Rattle.dn_run.specs.Network.{entries, CountsFaults};
-ghost use Rattle.dn_run.specs.Tracks.{Ready, tags_of, Tracks, Owns, is_own, IsShort};
+ghost use Rattle.dn_run.specs.Tracks.{Ready, tags_of, Tracks, Owns, IsShort};
 
 use crate::job::{do_script, take_at};
 use crate::latest::Latest;
 use crate::take::Book;
+use crate::untaken::is_own_feed;
 use dn_io::{Gate, Source};
-use dn_model::{JobTold, Line, List, OutOfMemory, Posted, RouterId, Script, Told, Topology};
+use dn_model::{JobTold, List, OutOfMemory, Posted, RouterId, Script, Told, Topology};
 use route_feed::FeedReader;
 use std::alloc::Global;
 use std::sync::Arc;
@@ -27,33 +25,6 @@ use std::sync::Arc;
 pub struct JobsDone {
     pub history: List<Posted>,
     pub jobs: Vec<JobTold>,
-}
-
-/// Whether a line takes frames of this router's feed.
-fn is_take_of(line: &Line, router: RouterId) -> bool
-    ensures { result ≡ takes router line.now }
-{
-    match line {
-        Line::Take { router: taken, .. } => *taken == router,
-        Line::Ask { .. } => false,
-    }
-}
-
-/// Whether some line of a script takes frames of this router's feed.
-fn takes_feed(lines: &[Line], router: RouterId) -> bool
-    ensures { result ≡ list_any (takes router) lines.now }
-{
-    lines.iter().any(|line| is_take_of(line, router))
-}
-
-/// Whether no script takes this router's feed, so that it is a job of its own.
-fn is_own_feed(script: Option<&Script>, router: RouterId) -> bool
-    ensures { result ≡ is_own (scripts_of (option_copied script.entry)) router }
-{
-    match script {
-        Some(script) => !takes_feed(script.lines.as_slice(), router),
-        None => true,
-    }
 }
 
 /// What is told of the first job.

@@ -31,7 +31,7 @@ fn names_the_first_bad_part(rt: HostRuntime) {
     assert_eq!(rt; read(alloc, &["r1=f", ""]).err(), bad(2));
     assert_eq!(rt; read(alloc, &["@s", "@", "x"]).err(), bad(2));
     assert_eq!(rt; read(alloc, &["r1=", "@"]).err(), bad(1));
-    assert_eq!(rt; read(alloc, &["R1=f"]).err(), bad(1));
+    assert_eq!(rt; read(alloc, &["Rx=f"]).err(), bad(1));
 }
 
 #[test]

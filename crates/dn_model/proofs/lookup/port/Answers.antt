@@ -1,4 +1,3 @@
-use Rattle.std.proofs.Common.{◌≡◌}
 use Rattle.dn_model.proofs.Lookups.{port_within}
 use Rattle.dn_model.proofs.lookup.port.Goals as goal
 

@@ -1,5 +1,3 @@
-use Rattle.std.proofs.Common.{sym, ◌∙◌, ap, cond, Some, None}
-use Rattle.dn_model.specs.declared.ports.Port.TheVariants.{Edge}
 use Rattle.dn_model.specs.Topology.{same_end}
 use Rattle.dn_model.proofs.Lookups.{lookup-edges}
 use Rattle.dn_model.proofs.lookup.port_among_edges.Goals as goal

@@ -1,4 +1,3 @@
-use Rattle.std.proofs.Common.{◌≡◌}
 use Rattle.dn_model.proofs.Lookups.{port_of-parts}
 use Rattle.dn_model.proofs.lookup.what_is_at.Goals as goal
 

@@ -1,7 +1,6 @@
 //! Pages: short lists, each in one block, which are copied as a whole.
 
-ghost use Rattle.std.specs.Prelude.{◌≡◌, ◌<◌, ◌≤◌, ◌++◌, ◌∷◌, [], OnOk, IfOk, length, slice_set, take, drop};
-ghost use Rattle.std.specs.List.{insert};
+ghost use Rattle.std.specs.Prelude.{◌≡◌, ◌<◌, ◌≤◌, ◌++◌, OnOk, IfOk, length, set, insert};
 
 use dn_model::OutOfMemory;
 use std::alloc::Global;
@@ -38,8 +37,8 @@ pub fn page_set<T: Clone>(
     value: T,
 ) -> Result<Vec<T>, OutOfMemory>
     requires inside { i < length items.now }
-    requires equal { (x y : T) → T.is_clone x y → y ≡ x }
-    ensures { IfOk result (λ page. page.items ≡ slice_set items.now i value) }
+    requires clones { (x y : T) → T.is_clone x y → y ≡ x }
+    ensures { IfOk result (λ page. page.items ≡ set items.now i value) }
 {
     let mut page = Vec::with_capacity(alloc, items.len())?;
     add_copies(&mut page, &items[..i])?;
@@ -57,7 +56,7 @@ pub fn page_insert<T: Clone>(
 ) -> Result<Vec<T>, OutOfMemory>
     requires inside { i ≤ length items.now }
     requires few { length items.now < 64 }
-    requires equal { (x y : T) → T.is_clone x y → y ≡ x }
+    requires clones { (x y : T) → T.is_clone x y → y ≡ x }
     ensures { IfOk result (λ page. page.items ≡ insert items.now i value) }
 {
     let mut page = Vec::with_capacity(alloc, items.len() + 1)?;

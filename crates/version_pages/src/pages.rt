@@ -1,7 +1,6 @@
 //! A list in shared pages.
 
-ghost use Rattle.std.specs.Prelude.{◌≡◌, ◌<◌, ◌≤◌, [], IfOk, MatchOption, length, option_copied, slice_get, slice_index_or, slice_set};
-ghost use Rattle.std.specs.List.{insert};
+ghost use Rattle.std.specs.Prelude.{◌≡◌, ◌<◌, ◌≤◌, ◌↔◌, [], IfOk, IfSome, IsSome, length, set, insert, slice_index_or};
 
 use crate::page::page_of;
 use crate::tree::{Tree, leaf};
@@ -18,12 +17,12 @@ pub struct Pages<T> {
 }
 
 impl<T> Model for Pages<T> {
-    ghost use Rattle.std.specs.Prelude.{List, [], match_option};
+    ghost use Rattle.std.specs.Prelude.{List, [], option_map, unwrap_or};
     ghost use Rattle.std.specs.Arc.{arc_value};
 
     ghost Value = { List T };
 
-    ghost view = { λ p. match_option p.tree [] arc_value };
+    ghost view = { λ p. unwrap_or (option_map arc_value p.tree) [] };
 }
 
 impl<T> Pages<T> {
@@ -47,7 +46,8 @@ impl<T> Pages<T> {
     /// The element at a place, counted from 0, and none where there are not so many. It takes no memory, and a time
     /// that grows as the logarithm of the length.
     pub fn get(&self, i: u64) -> Option<&T>
-        ensures value { option_copied result ≡ slice_get self.now i }
+        ensures inside { IsSome result ↔ (i < length self.now) }
+        ensures element { (d : T) → IfSome result (λ x. x.now ≡ slice_index_or self.now i d) }
     {
         match &self.tree {
             None => None,
@@ -73,8 +73,8 @@ impl<T: Clone> Pages<T> {
     /// shared with this list, which stays as it is.
     pub fn set(&self, alloc: Global, i: u64, value: T) -> Result<Pages<T>, OutOfMemory>
         requires inside { i < length self.now }
-        requires equal { (x y : T) → T.is_clone x y → y ≡ x }
-        ensures { IfOk result (λ pages. pages ≡ slice_set self.now i value) }
+        requires clones { (x y : T) → T.is_clone x y → y ≡ x }
+        ensures { IfOk result (λ pages. pages ≡ set self.now i value) }
     {
         match &self.tree {
             None => Ok(Pages { tree: None }),
@@ -88,7 +88,7 @@ impl<T: Clone> Pages<T> {
     /// in two halves where it is full, and all others are shared with this list, which stays as it is.
     pub fn insert(&self, alloc: Global, i: u64, value: T) -> Result<Pages<T>, OutOfMemory>
         requires inside { i ≤ length self.now }
-        requires equal { (x y : T) → T.is_clone x y → y ≡ x }
+        requires clones { (x y : T) → T.is_clone x y → y ≡ x }
         ensures { IfOk result (λ pages. pages ≡ insert self.now i value) }
     {
         let tree = match &self.tree {

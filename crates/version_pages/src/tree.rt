@@ -1,8 +1,7 @@
 //! A tree of pages, balanced by height (Adelson-Velskii and Landis 1962), whose nodes never change and are shared.
 
-ghost use Rattle.std.specs.Prelude.{◌≡◌, ◌<◌, ◌≤◌, ◌+◌, ◌++◌, ◌∷◌, [], Unit, IfOk, MatchOption, length, option_copied, slice_get, slice_set};
+ghost use Rattle.std.specs.Prelude.{◌≡◌, ◌<◌, ◌≤◌, ◌↔◌, ◌++◌, IfOk, IfSome, IsSome, length, set, insert, slice_index_or};
 ghost use Rattle.std.specs.Arc.{arc_value};
-ghost use Rattle.std.specs.List.{insert};
 
 use crate::page::{FULL, HALF, page_insert, page_of, page_set};
 use dn_model::OutOfMemory;
@@ -68,7 +67,8 @@ impl<T> Tree<T> {
 
     /// The element at a place, and none past the last.
     pub fn get(&self, i: u64) -> Option<&T>
-        ensures { option_copied result ≡ slice_get self.now i }
+        ensures inside { IsSome result ↔ (i < length self.now) }
+        ensures element { (d : T) → IfSome result (λ x. x.now ≡ slice_index_or self.now i d) }
     {
         match &self.node {
             Node::Page(items) => items.get(i as usize),
@@ -81,13 +81,12 @@ impl<T> Tree<T> {
             }
         }
     }
-
 }
 
 impl<T: Drop> Tree<T> {
     /// The two trees of a fork, shared, and none of a page.
     fn sides(&self) -> Result<Option<(Arc<Tree<T>, Global>, Arc<Tree<T>, Global>)>, OutOfMemory>
-        ensures { IfOk result (λ sides. MatchOption sides (Unit {0}) (λ p. arc_value p.0 ++ arc_value p.1 ≡ self.now)) }
+        ensures { IfOk result (λ sides. IfSome sides (λ p. arc_value p.0 ++ arc_value p.1 ≡ self.now)) }
     {
         match &self.node {
             Node::Page(_) => Ok(None),
@@ -212,7 +211,7 @@ fn split<T: Clone>(
 ) -> Result<Arc<Tree<T>, Global>, OutOfMemory>
     requires inside { i ≤ length items.now }
     requires full { length items.now ≡ 64 }
-    requires equal { (x y : T) → T.is_clone x y → y ≡ x }
+    requires clones { (x y : T) → T.is_clone x y → y ≡ x }
     ensures { IfOk result (λ tree. arc_value tree ≡ insert items.now i value) }
 {
     let (lower, upper) = if i <= HALF {
@@ -236,7 +235,7 @@ fn grown<T: Clone>(
 ) -> Result<Arc<Tree<T>, Global>, OutOfMemory>
     requires inside { i ≤ length items.now }
     requires few { length items.now ≤ 64 }
-    requires equal { (x y : T) → T.is_clone x y → y ≡ x }
+    requires clones { (x y : T) → T.is_clone x y → y ≡ x }
     ensures { IfOk result (λ tree. arc_value tree ≡ insert items.now i value) }
 {
     if items.len() == FULL {
@@ -247,15 +246,10 @@ fn grown<T: Clone>(
 
 impl<T: Clone> Tree<T> {
     /// The tree with another value in the place of an element. It shares all pages but one with this one.
-    pub fn set(
-        &self,
-        alloc: Global,
-        i: u64,
-        value: T,
-    ) -> Result<Arc<Tree<T>, Global>, OutOfMemory>
+    pub fn set(&self, alloc: Global, i: u64, value: T) -> Result<Arc<Tree<T>, Global>, OutOfMemory>
         requires inside { i < length self.now }
-        requires equal { (x y : T) → T.is_clone x y → y ≡ x }
-        ensures { IfOk result (λ tree. arc_value tree ≡ slice_set self.now i value) }
+        requires clones { (x y : T) → T.is_clone x y → y ≡ x }
+        ensures { IfOk result (λ tree. arc_value tree ≡ set self.now i value) }
     {
         match &self.node {
             Node::Page(items) => leaf(alloc, page_set(alloc, items, i as usize, value)?),
@@ -279,7 +273,7 @@ impl<T: Clone> Tree<T> {
         value: T,
     ) -> Result<Arc<Tree<T>, Global>, OutOfMemory>
         requires inside { i ≤ length self.now }
-        requires equal { (x y : T) → T.is_clone x y → y ≡ x }
+        requires clones { (x y : T) → T.is_clone x y → y ≡ x }
         ensures { IfOk result (λ tree. arc_value tree ≡ insert self.now i value) }
     {
         match &self.node {

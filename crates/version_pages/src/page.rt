@@ -1,6 +1,6 @@
 //! Pages: short lists, each in one block, which are copied as a whole.
 
-ghost use Rattle.std.specs.Prelude.{◌≡◌, ◌<◌, ◌≤◌, ◌++◌, OnOk, IfOk, length, set, insert};
+ghost use Rattle.std.specs.Prelude.{◌≡◌, ◌<◌, ◌≤◌, ◌++◌, ◌∷◌, [], OnOk, IfOk, length, set, insert};
 
 use dn_model::OutOfMemory;
 use std::alloc::Global;
@@ -19,6 +19,15 @@ fn add_copies<T: Clone>(page: &mut Vec<T>, items: &[T]) -> Result<(), OutOfMemor
 {
     page.extend_from_slice(items)?;
     Ok(())
+}
+
+/// A page of one element.
+pub fn page_of_one<T: Drop>(alloc: Global, value: T) -> Result<Vec<T>, OutOfMemory>
+    ensures { IfOk result (λ page. page.items ≡ value ∷ []) }
+{
+    let mut page = Vec::with_capacity(alloc, 1)?;
+    page.push(value)?;
+    Ok(page)
 }
 
 /// A page of these elements.
@@ -40,10 +49,8 @@ pub fn page_set<T: Clone>(
     requires clones { (x y : T) → T.is_clone x y → y ≡ x }
     ensures { IfOk result (λ page. page.items ≡ set items.now i value) }
 {
-    let mut page = Vec::with_capacity(alloc, items.len())?;
-    add_copies(&mut page, &items[..i])?;
-    page.push(value)?;
-    add_copies(&mut page, &items[i + 1..])?;
+    let mut page = page_of(alloc, items)?;
+    page[i] = value;
     Ok(page)
 }
 

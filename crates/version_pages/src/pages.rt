@@ -2,7 +2,7 @@
 
 ghost use Rattle.std.specs.Prelude.{◌≡◌, ◌<◌, ◌≤◌, ◌↔◌, [], IfOk, IfSome, IsSome, length, set, insert, slice_index_or};
 
-use crate::page::page_of;
+use crate::page::page_of_one;
 use crate::tree::{Tree, leaf};
 use dn_model::OutOfMemory;
 use std::alloc::Global;
@@ -92,7 +92,7 @@ impl<T: Clone> Pages<T> {
         ensures { IfOk result (λ pages. pages ≡ insert self.now i value) }
     {
         let tree = match &self.tree {
-            None => leaf(alloc, page_of(alloc, &[value])?)?,
+            None => leaf(alloc, page_of_one(alloc, value)?)?,
             Some(tree) => tree.insert(alloc, i, value)?,
         };
         Ok(Pages { tree: Some(tree) })

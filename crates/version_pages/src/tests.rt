@@ -1,7 +1,7 @@
 //! Lists whose elements were worked out by hand.
 
 use super::Pages;
-use crate::page::page_of;
+use crate::page::page_of_one;
 use crate::tree::leaf;
 use dn_model::{AtomId, AtomRow};
 use std::test::Fail;
@@ -121,8 +121,8 @@ fn rows_of_atoms_are_elements(rt: HostRuntime) -> Result<(), Fail> {
 /// 33 pages would have.
 #[test]
 fn a_tree_stays_low(rt: HostRuntime) -> Result<(), Fail> {
-    let mut tree = leaf(rt.alloc(), page_of(rt.alloc(), &[0u64])?)?;
-    let mut at_front = leaf(rt.alloc(), page_of(rt.alloc(), &[0u64])?)?;
+    let mut tree = leaf(rt.alloc(), page_of_one(rt.alloc(), 0u64)?)?;
+    let mut at_front = leaf(rt.alloc(), page_of_one(rt.alloc(), 0u64)?)?;
     for k in 0..1000u64 {
         tree = tree.insert(rt.alloc(), tree.len(), k)?;
         at_front = at_front.insert(rt.alloc(), 0, k)?;

@@ -214,15 +214,14 @@ fn split<T: Clone>(
     requires clones { (x y : T) → T.is_clone x y → y ≡ x }
     ensures { IfOk result (λ tree. arc_value tree ≡ insert items.now i value) }
 {
-    let (lower, upper) = if i <= HALF {
-        let lower = page_insert(alloc, &items[..HALF], i, value)?;
-        (lower, page_of(alloc, &items[HALF..])?)
-    } else {
-        let upper = page_insert(alloc, &items[HALF..], i - HALF, value)?;
-        (page_of(alloc, &items[..HALF])?, upper)
-    };
-    let left = leaf(alloc, lower)?;
-    let right = leaf(alloc, upper)?;
+    let (lower, upper) = items.split_at(HALF);
+    if i <= HALF {
+        let left = leaf(alloc, page_insert(alloc, lower, i, value)?)?;
+        let right = leaf(alloc, page_of(alloc, upper)?)?;
+        return fork(alloc, left, right);
+    }
+    let left = leaf(alloc, page_of(alloc, lower)?)?;
+    let right = leaf(alloc, page_insert(alloc, upper, i - HALF, value)?)?;
     fork(alloc, left, right)
 }
 

@@ -62,7 +62,7 @@ pub fn page_insert<T: Clone>(
     value: T,
 ) -> Result<Vec<T>, OutOfMemory>
     requires inside { i ≤ length items.now }
-    requires few { length items.now < 64 }
+    requires few { length items.now < FULL }
     requires clones { (x y : T) → T.is_clone x y → y ≡ x }
     ensures { IfOk result (λ page. page.items ≡ insert items.now i value) }
 {

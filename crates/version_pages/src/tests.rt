@@ -117,8 +117,8 @@ fn rows_of_atoms_are_elements(rt: HostRuntime) -> Result<(), Fail> {
     Ok(())
 }
 
-/// A thousand elements at the end are 30 pages of 32 and one more, above which a balanced tree has at most 7 forks, as
-/// 33 pages would have.
+/// A thousand and one elements, each put at one end, are 30 pages of 32 and one of 41. Above 31 pages there are at least
+/// 5 forks, and at most 6 in a balanced tree, which has 34 pages at least where there are 7.
 #[test]
 fn a_tree_stays_low(rt: HostRuntime) -> Result<(), Fail> {
     let mut tree = leaf(rt.alloc(), page_of_one(rt.alloc(), 0u64)?)?;

@@ -22,9 +22,17 @@ pub struct Tree<T> {
 enum Node<T> {
     /// 1 to 64 elements.
     Page(Vec<T>),
-    /// Two trees, one after the other, with the length of the left one, the length of both, and how many forks there
-    /// are at most on the way to a page, this one among them.
-    Fork(Arc<Tree<T>, Global>, u64, Arc<Tree<T>, Global>, u64, u8),
+    /// Two trees, one after the other.
+    Fork {
+        left: Arc<Tree<T>, Global>,
+        /// The length of the left one, which is the place where the right one begins.
+        middle: u64,
+        right: Arc<Tree<T>, Global>,
+        /// The length of both.
+        len: u64,
+        /// How many forks there are at most on the way to a page, this one among them.
+        height: u8,
+    },
 }
 
 impl<T> Model for Tree<T> {
@@ -53,7 +61,7 @@ impl<T> Tree<T> {
     {
         match &self.node {
             Node::Page(items) => items.len() as u64,
-            Node::Fork(_, _, _, len, _) => *len,
+            Node::Fork { len, .. } => *len,
         }
     }
 
@@ -61,7 +69,7 @@ impl<T> Tree<T> {
     pub fn height(&self) -> u8 {
         match &self.node {
             Node::Page(_) => 0,
-            Node::Fork(_, _, _, _, height) => *height,
+            Node::Fork { height, .. } => *height,
         }
     }
 
@@ -72,7 +80,12 @@ impl<T> Tree<T> {
     {
         match &self.node {
             Node::Page(items) => items.get(i as usize),
-            Node::Fork(left, middle, right, _, _) => {
+            Node::Fork {
+                left,
+                middle,
+                right,
+                ..
+            } => {
                 if i < *middle {
                     left.get(i)
                 } else {
@@ -90,7 +103,7 @@ impl<T: Drop> Tree<T> {
     {
         match &self.node {
             Node::Page(_) => Ok(None),
-            Node::Fork(left, _, right, _, _) => {
+            Node::Fork { left, right, .. } => {
                 let left = Arc::try_clone(left)?;
                 let right = Arc::try_clone(right)?;
                 Ok(Some((left, right)))
@@ -102,7 +115,7 @@ impl<T: Drop> Tree<T> {
 /// A tree of one page.
 pub fn leaf<T: Drop>(alloc: Global, items: Vec<T>) -> Result<Arc<Tree<T>, Global>, OutOfMemory>
     requires some { 0 < length items.items }
-    requires few { length items.items ≤ 64 }
+    requires few { length items.items ≤ FULL }
     ensures { IfOk result (λ tree. arc_value tree ≡ items.items) }
 {
     let tree = Tree {
@@ -125,7 +138,13 @@ fn fork<T: Drop>(
     };
     let height = left.height().max(right.height()).saturating_add(1);
     let tree = Tree {
-        node: Node::Fork(left, middle, right, len, height),
+        node: Node::Fork {
+            left,
+            middle,
+            right,
+            len,
+            height,
+        },
     };
     Ok(Arc::new(alloc, tree)?)
 }
@@ -210,7 +229,7 @@ fn split<T: Clone>(
     value: T,
 ) -> Result<Arc<Tree<T>, Global>, OutOfMemory>
     requires inside { i ≤ length items.now }
-    requires full { length items.now ≡ 64 }
+    requires full { length items.now ≡ FULL }
     requires clones { (x y : T) → T.is_clone x y → y ≡ x }
     ensures { IfOk result (λ tree. arc_value tree ≡ insert items.now i value) }
 {
@@ -233,7 +252,7 @@ fn grown<T: Clone>(
     value: T,
 ) -> Result<Arc<Tree<T>, Global>, OutOfMemory>
     requires inside { i ≤ length items.now }
-    requires few { length items.now ≤ 64 }
+    requires few { length items.now ≤ FULL }
     requires clones { (x y : T) → T.is_clone x y → y ≡ x }
     ensures { IfOk result (λ tree. arc_value tree ≡ insert items.now i value) }
 {
@@ -252,7 +271,12 @@ impl<T: Clone> Tree<T> {
     {
         match &self.node {
             Node::Page(items) => leaf(alloc, page_set(alloc, items, i as usize, value)?),
-            Node::Fork(left, middle, right, _, _) => {
+            Node::Fork {
+                left,
+                middle,
+                right,
+                ..
+            } => {
                 if i < *middle {
                     let left = left.set(alloc, i, value)?;
                     fork(alloc, left, Arc::try_clone(right)?)
@@ -277,7 +301,12 @@ impl<T: Clone> Tree<T> {
     {
         match &self.node {
             Node::Page(items) => grown(alloc, items, i as usize, value),
-            Node::Fork(left, middle, right, _, _) => {
+            Node::Fork {
+                left,
+                middle,
+                right,
+                ..
+            } => {
                 if i <= *middle {
                     let left = left.insert(alloc, i, value)?;
                     join(alloc, left, Arc::try_clone(right)?)

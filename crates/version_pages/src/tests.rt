@@ -1,10 +1,55 @@
 //! Lists whose elements were worked out by hand.
 
+ghost use Rattle.std.specs.Prelude.{◌≡◌, IfOk};
+ghost use Rattle.std.specs.Arc.{arc_value};
+
 use super::Pages;
 use crate::page::page_of_one;
 use crate::tree::leaf;
-use dn_model::{AtomId, AtomRow};
+use dn_model::{AtomId, AtomRow, OutOfMemory};
+use std::alloc::{AllocError, Global};
+use std::marker::Model;
+use std::sync::Arc;
 use std::test::Fail;
+
+/// A number behind a pointer that is shared. A contract sees the number alone, so that a clone equals its source.
+#[derive(Drop)]
+struct Shared {
+    number: Arc<u64, Global>,
+}
+
+impl Model for Shared {
+    ghost use Rattle.std.specs.Prelude.{ℕ};
+    ghost use Rattle.std.specs.Arc.{arc_value};
+
+    ghost Value = { ℕ };
+
+    ghost view = { λ s. arc_value s.number };
+}
+
+impl Shared {
+    fn new(alloc: Global, number: u64) -> Result<Shared, OutOfMemory>
+        ensures { IfOk result (λ shared. shared ≡ number) }
+    {
+        let number = Arc::new(alloc, number)?;
+        Ok(Shared { number })
+    }
+
+    fn number(&self) -> u64
+        ensures { result ≡ self.now }
+    {
+        *self.number
+    }
+}
+
+impl Clone for Shared {
+    ghost is_clone = { λ shared copy. copy ≡ shared };
+
+    fn clone(&self) -> Result<Shared, AllocError> {
+        let number = Arc::try_clone(&self.number)?;
+        Ok(Shared { number })
+    }
+}
 
 /// Lists cross to another thread.
 fn crosses<T: Send + Sync>(_value: &T) {}
@@ -114,6 +159,20 @@ fn rows_of_atoms_are_elements(rt: HostRuntime) -> Result<(), Fail> {
     let cut = two.set(rt.alloc(), 0, lower)?;
     assert_eq!(rt; cut.get(0).copied(), Some(lower));
     assert_eq!(rt; two.get(0).copied(), Some(row));
+    Ok(())
+}
+
+#[test]
+fn pointers_are_elements(rt: HostRuntime) -> Result<(), Fail> {
+    let first = Shared::new(rt.alloc(), 11)?;
+    let second = Shared::new(rt.alloc(), 22)?;
+    let one = Pages::new().insert(rt.alloc(), 0, first)?;
+    crosses(&one);
+    assert_eq!(rt; one.len(), 1);
+    let two = one.insert(rt.alloc(), 0, second)?;
+    assert_eq!(rt; two.get(0).map(|shared| shared.number()), Some(22));
+    assert_eq!(rt; two.get(1).map(|shared| shared.number()), Some(11));
+    assert_eq!(rt; one.get(0).map(|shared| shared.number()), Some(11));
     Ok(())
 }
 

@@ -1,15 +1,16 @@
 -- What the calls answer, from what a search found.
-use Rattle.std.proofs.Common.{◌≡◌, ℕ, ◌+◌, ◌<◌, ◌≤◌, ◌^◌, ◌∙◌, suc, false, Some, option_map, Contains, List, [], ◌∷◌, ◌++◌, length, get_or, set, map, take, drop, ap, sym, subst, arith}
+use Rattle.std.proofs.Common.{◌≡◌, ℕ, ◌+◌, ◌<◌, ◌≤◌, ◌^◌, ◌∙◌, suc, true, false, eqb, Some, option_map, Contains, List, [], ◌∷◌, ◌++◌, length, get_or, set, map, take, drop, ap, sym, subst, append_assoc, arith}
 use Rattle.std.specs.List.{insert}
-use Rattle.std.proofs.lemmas.List.{get_or_read}
-use Rattle.dn_model.specs.Atoms.{AreAtoms, atom_of, atoms_in, low_of, high_of, row_at, row_of, is_boundary, lower_part, upper_part, cut_rows}
+use Rattle.std.proofs.lemmas.Bool.{eq-eqb}
+use Rattle.std.proofs.lemmas.List.Folds.{list_any_at}
+use Rattle.dn_model.specs.Atoms.{AreAtoms, atom_of, bounds_of, atoms_in, low_of, high_of, row_at, row_of, is_boundary, lower_part, upper_part, cut_rows}
 use Rattle.dn_model.specs.declared.atom_row.AtomRow.{AtomRow}
 use Rattle.dn_model.specs.declared.ids.AtomId.{AtomId}
 use Rattle.dn_model.proofs.Covers.{high-at}
 use Rattle.dn_model.proofs.Cuts.{cut-at, length-after-cut}
 use Rattle.atom_map.specs.Index.{IsIndexed, first_below}
 use Rattle.atom_map.proofs.Begun.{atom-at, below-at, contained, cut-indexed, few-atoms, no-boundary, number-at}
-use Rattle.atom_map.proofs.Meeting.{atoms-met}
+use Rattle.atom_map.proofs.Meeting.{atoms-met, from-place}
 use Rattle.atom_map.proofs.Placed.{two-for-one}
 
 -- the atom at a place has the address
@@ -23,19 +24,10 @@ pub record Found (rows : List AtomRow) (place a : ℕ) (row : AtomRow) : Type 0 
 pub atoms-same : (self items : List AtomRow) → items ≡ self → AreAtoms items → AreAtoms self
 atoms-same self items e h = let A : List AtomRow → Type 0 = λ xs. AreAtoms xs in subst A e h
 
-pub found-in : (self items deref : List AtomRow) (place a : ℕ) (row : AtomRow) → items ≡ self → deref ≡ items → AreAtoms items → place < length deref → row ≡ get_or items place row → ((d : AtomRow) → (get_or deref place d).low ≤ a) → ((d : AtomRow) → a < (get_or deref place d).high) → Found self place a row
-found-in self items deref place a row e v h inside is from to =
-    let B : List AtomRow → Type 0 = λ xs. place < length xs in
-    let C : List AtomRow → Type 0 = λ xs. row ≡ get_or xs place row in
-    let D : List AtomRow → Type 0 = λ xs. low_of (get_or xs place row) ≤ a in
-    let E : List AtomRow → Type 0 = λ xs. a < high_of (get_or xs place row) in
-    record {
-      atoms = atoms-same self items e h;
-      inside = subst B (v ∙ e) inside;
-      is = subst C e is;
-      from = subst D (v ∙ e) (from row);
-      to = subst E (v ∙ e) (to row);
-    }
+pub found-in : (self rows : List AtomRow) (place a : ℕ) (row : AtomRow) → rows ≡ self → AreAtoms rows → place < length rows → ((d : AtomRow) → row ≡ get_or rows place d) → ((d : AtomRow) → (get_or rows place d).low ≤ a) → ((d : AtomRow) → a < (get_or rows place d).high) → Found self place a row
+found-in self rows place a row e h inside is from to =
+    let F : List AtomRow → Type 0 = λ xs. Found xs place a row in
+    subst F e (record { atoms = h; inside = inside; is = is row; from = from row; to = to row })
 
 pub atom-found : (self : List AtomRow) (place a : ℕ) (row : AtomRow) → Found self place a row → option_map atom_of (row_at self a) ≡ Some row.atom
 atom-found self place a row f = atom-at self place a row f.atoms f.inside f.is f.from f.to
@@ -51,34 +43,37 @@ high-found self place a row f =
     subst P (sym f.is) (high-at low_of high_of 0 self place row f.atoms.cover f.inside)
 
 -- the bounds of a number
-pub bounds-found : (self items : List AtomRow) (lows : List ℕ) (place low : ℕ) (row : AtomRow) (atom : AtomId) → items ≡ self → IsIndexed items lows → Found self place low row → atom.0 < length self → low ≡ get_or lows atom.0 low → Contains self (row_of atom row.low row.high)
-bounds-found self items lows place low row atom e x f l is =
+pub bounds-found : (self rows : List AtomRow) (lows : List ℕ) (place low : ℕ) (row : AtomRow) (atom : AtomId) → rows ≡ self → IsIndexed rows lows → Found self place low row → atom.0 < length self → ((d : ℕ) → low ≡ get_or lows atom.0 d) → Contains self (row_of atom row.low row.high)
+bounds-found self rows lows place low row atom e x f l start =
     let I : List AtomRow → Type 0 = λ xs. IsIndexed xs lows in
     let h : IsIndexed self lows = subst I e x in
-    let same : length lows ≡ length self = h.long in
-    let start : low ≡ get_or lows atom.0 0 = get_or_read lows atom.0 low (omega arith) is 0 in
-    let n : (get_or self place row).atom.0 ≡ atom.0 = number-at self lows atom.0 place low row h l start f.inside f.from f.to in
+    let n : (get_or self place row).atom.0 ≡ atom.0 = number-at self lows atom.0 place low row h l (start 0) f.inside f.from f.to in
     contained self place row atom f.inside f.is (ap (λ (r : AtomRow). r.atom.0) f.is ∙ n)
+
+pub order-found : (self : List AtomRow) (place a : ℕ) (row : AtomRow) → Found self place a row → row.low < row.high
+order-found self place a row f =
+    let P : AtomRow → Type 0 = λ r. low_of r < high_of r in
+    let from : low_of (get_or self place row) ≤ a = f.from in
+    let to : a < high_of (get_or self place row) = f.to in
+    subst P (sym f.is) (omega arith)
 
 -- the atoms of an interval
 no-row : AtomRow
 no-row = row_of (record { 0 = 0 }) 0 0
 
-pub met-found : (self items deref deref2 rest : List AtomRow) (got : List AtomId) (place lo hi : ℕ) → items ≡ self → deref ≡ items → deref2 ≡ items → AreAtoms items → place < length deref → ((d : AtomRow) → (get_or deref place d).low ≤ lo) → ((d : AtomRow) → lo < (get_or deref place d).high) → lo < hi → rest ≡ drop place deref2 → got ≡ map atom_of (first_below hi rest) → got ≡ atoms_in self lo hi
-met-found self items deref deref2 rest got place lo hi e v v2 h inside from to o r is =
-    let B : List AtomRow → Type 0 = λ xs. place < length xs in
-    let D : List AtomRow → Type 0 = λ xs. low_of (get_or xs place no-row) ≤ lo in
-    let E : List AtomRow → Type 0 = λ xs. lo < high_of (get_or xs place no-row) in
+pub met-found : (self rows : List AtomRow) (got : List AtomId) (place lo hi : ℕ) → rows ≡ self → AreAtoms rows → place < length rows → ((d : AtomRow) → (get_or rows place d).low ≤ lo) → ((d : AtomRow) → lo < (get_or rows place d).high) → lo < hi → got ≡ map atom_of (first_below hi (drop place rows)) → got ≡ atoms_in self lo hi
+met-found self rows got place lo hi e h inside from to o is =
     is
-    ∙ ap (λ (xs : List AtomRow). map atom_of (first_below hi xs)) (r ∙ ap (λ (xs : List AtomRow). drop place xs) (v2 ∙ e))
-    ∙ atoms-met lo hi self place no-row (atoms-same self items e h) o (subst B (v ∙ e) inside) (subst D (v ∙ e) (from no-row)) (subst E (v ∙ e) (to no-row))
+    ∙ atoms-met lo hi rows place no-row h o inside (from no-row) (to no-row)
+    ∙ ap (λ (xs : List AtomRow). atoms_in xs lo hi) e
 
 -- two parts in the place of an atom
-pub parted : (xs ys : List AtomRow) (place at : ℕ) (new : AtomId) (row d : AtomRow) → place < length xs → row ≡ get_or xs place row → ys ≡ insert xs (place + 1) (upper_part at new row) → set ys place (lower_part at row) ≡ take place xs ++ lower_part at (get_or xs place d) ∷ upper_part at new (get_or xs place d) ∷ drop (place + 1) xs
-parted xs ys place at new row d l is e =
-    ap (λ (zs : List AtomRow). set zs place (lower_part at row)) e
-    ∙ two-for-one xs place row (lower_part at row) (upper_part at new row) l
-    ∙ ap (λ (r : AtomRow). take place xs ++ lower_part at r ∷ upper_part at new r ∷ drop (place + 1) xs) (get_or_read xs place row l is d)
+pub parted : (rows longer made : List AtomRow) (place at : ℕ) (new : AtomId) (row d : AtomRow) → place < length rows → ((d : AtomRow) → row ≡ get_or rows place d) → longer ≡ insert rows (place + 1) (upper_part at new row) → made ≡ set longer place (lower_part at row) → made ≡ take place rows ++ lower_part at (get_or rows place d) ∷ upper_part at new (get_or rows place d) ∷ drop (place + 1) rows
+parted rows longer made place at new row d l is e s =
+    s
+    ∙ ap (λ (zs : List AtomRow). set zs place (lower_part at row)) e
+    ∙ two-for-one rows place row (lower_part at row) (upper_part at new row) l
+    ∙ ap (λ (r : AtomRow). take place rows ++ lower_part at r ∷ upper_part at new r ∷ drop (place + 1) rows) (is d)
 
 -- a cut in the midst of an atom
 strict : (self : List AtomRow) (place at : ℕ) (row : AtomRow) → Found self place at row → (row.low ≡ at → ⊥) → low_of (get_or self place row) < at
@@ -89,6 +84,9 @@ strict self place at row f apart =
 
 pub few-found : (self : List AtomRow) (place at : ℕ) (row : AtomRow) → Found self place at row → (row.low ≡ at → ⊥) → length self < 2 ^ 32
 few-found self place at row f apart = few-atoms self place at row f.atoms f.inside (strict self place at row f apart) f.to
+
+pub boundary-found : (self : List AtomRow) (place at : ℕ) (row : AtomRow) → Found self place at row → row.low ≡ at → is_boundary self at ≡ true
+boundary-found self place at row f e = list_any_at (λ (r : AtomRow). eqb r.low at) self place row f.inside (eq-eqb (low_of (get_or self place row)) at (sym (ap low_of f.is) ∙ e))
 
 pub no-boundary-found : (self : List AtomRow) (place at : ℕ) (row : AtomRow) → Found self place at row → (row.low ≡ at → ⊥) → is_boundary self at ≡ false
 no-boundary-found self place at row f apart = no-boundary self place at row f.atoms f.inside (strict self place at row f apart) f.to
@@ -110,3 +108,12 @@ indexed-found self items got lows more place at row new e x f apart b n is m =
 
 pub length-found : (self got : List AtomRow) (at : ℕ) (new : AtomId) → AreAtoms self → at < 2 ^ 32 → got ≡ cut_rows self at new → length got ≡ suc (length self)
 length-found self got at new h b is = ap (λ (xs : List AtomRow). length xs) is ∙ length-after-cut 0 self at new h.cover (omega arith) b
+
+-- one more atom with its bounds
+pub one-more-told : (rows : List AtomRow) (i : ℕ) (row : AtomRow) (old new : List (AtomId × ℕ × ℕ)) → i < length rows → ((d : AtomRow) → row ≡ get_or rows i d) → old ++ map bounds_of (drop i rows) ≡ map bounds_of rows → new ≡ old ++ bounds_of row ∷ [] → new ++ map bounds_of (drop (i + 1) rows) ≡ map bounds_of rows
+one-more-told rows i row old new l is e n =
+    let rest : List (AtomId × ℕ × ℕ) = map bounds_of (drop (i + 1) rows) in
+    ap (λ (xs : List (AtomId × ℕ × ℕ)). xs ++ rest) n
+    ∙ append_assoc old (bounds_of row ∷ []) rest
+    ∙ ap (λ (xs : List AtomRow). old ++ map bounds_of xs) (sym (from-place rows i row l is))
+    ∙ e

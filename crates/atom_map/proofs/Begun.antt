@@ -1,5 +1,6 @@
 -- Where the atoms begin, by number: at first, after a cut, and where one is asked for.
 use Rattle.std.proofs.Common.{◌≡◌, ℕ, ◌+◌, ◌<◌, ◌≤◌, ◌^◌, ◌∙◌, ⊎_elim, zero, suc, true, false, Some, option_map, Contains, List, [], ◌∷◌, ◌++◌, length, get_or, refl, ap, sym, subst, arith, leb, ltb, lit<}
+use Rattle.std.specs.List.{insert}
 use Rattle.std.proofs.lemmas.Bool.{cases_Bool, cases_lt, and_parts, leb-true, ne_eqb}
 use Rattle.std.proofs.lemmas.List.{get_or_append_left, get_or_push, length_push}
 use Rattle.std.proofs.lemmas.Option.{none-some}
@@ -27,6 +28,14 @@ one-indexed = record {
   long = refl;
   begins = one-begins;
 }
+
+-- the one atom in a list that had none, and its beginning
+pub one-made : (rows none : List AtomRow) (lows unbegun : List ℕ) → none ≡ [] → rows ≡ insert none 0 (row_of (record { 0 = 0 }) 0 (2 ^ 32)) → unbegun ≡ [] → lows ≡ insert unbegun 0 0 → IsIndexed rows lows
+one-made rows none lows unbegun n r u l =
+    let P : List AtomRow → Type 0 = λ xs. IsIndexed xs lows in
+    let Q : List ℕ → Type 0 = λ ys. IsIndexed one_atom ys in
+    subst P (sym (r ∙ ap (λ (xs : List AtomRow). insert xs 0 (row_of (record { 0 = 0 }) 0 (2 ^ 32))) n))
+    (subst Q (sym (l ∙ ap (λ (ys : List ℕ). insert ys 0 0) u)) one-indexed)
 
 -- the row of an address doesn't begin at an address where none begins
 not-boundary : (rows : List AtomRow) (b at : ℕ) (row : AtomRow) → row_at rows b ≡ Some row → is_boundary rows at ≡ false → row.low ≡ at → ⊥

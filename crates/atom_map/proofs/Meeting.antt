@@ -1,9 +1,11 @@
 -- The atoms that an interval meets: from the one of its first address to the last that begins below its end.
-use Rattle.std.proofs.Common.{◌≡◌, ℕ, ◌<◌, ◌≤◌, ◌^◌, ◌∙◌, ◌⊎◌, ⊎_elim, zero, suc, true, false, cond, List, [], ◌∷◌, ◌&&◌, length, get_or, map, drop, filter, refl, ap, sym, arith, ltb}
+use Rattle.std.proofs.Common.{◌≡◌, ℕ, ◌+◌, ◌<◌, ◌≤◌, ◌^◌, ◌∙◌, ◌⊎◌, ⊎_elim, zero, suc, true, false, cond, List, [], ◌∷◌, ◌++◌, ◌&&◌, length, get_or, map, drop, filter, refl, ap, sym, add-one, append_assoc, arith, drop-cons, ltb}
 use Rattle.std.proofs.lemmas.Bool.{cases_lt, lt-ltb, le-ltb, and_from, and_left, and_right}
+use Rattle.std.proofs.lemmas.List.{append-nil, drop_all}
 use Rattle.dn_model.specs.Rows.{CoverFrom}
 use Rattle.dn_model.specs.Atoms.{AreAtoms, low_of, high_of, meets, atoms_in, atom_of}
 use Rattle.dn_model.specs.declared.atom_row.AtomRow.{AtomRow}
+use Rattle.dn_model.specs.declared.ids.AtomId.{AtomId}
 use Rattle.dn_model.proofs.Covers.{low-at, starts-below}
 use Rattle.atom_map.specs.Index.{first_below}
 
@@ -35,6 +37,34 @@ taken hi r rs l = ap (λ b. cond b (r ∷ first_below hi rs) []) (lt-ltb r.low h
 
 pub not-taken : (hi : ℕ) (r : AtomRow) (rs : List AtomRow) → hi ≤ r.low → first_below hi (r ∷ rs) ≡ []
 not-taken hi r rs l = ap (λ b. cond b (r ∷ first_below hi rs) []) (le-ltb r.low hi l)
+
+-- the elements from a place on, by the one there
+pub from-place : {X : Type 0} (xs : List X) (i : ℕ) (x : X) → i < length xs → ((d : X) → x ≡ get_or xs i d) → drop i xs ≡ x ∷ drop (i + 1) xs
+from-place {X} xs i x l is =
+    drop-cons xs i x l
+    ∙ ap (λ (y : X). y ∷ drop (suc i) xs) (sym (is x))
+    ∙ ap (λ k. x ∷ drop k xs) (sym (add-one i))
+
+-- a walk over the atoms that begin below an address: one more, the first that doesn't, and the end
+pub one-more-below : (hi i : ℕ) (rows : List AtomRow) (row : AtomRow) (old new whole : List AtomId) → i < length rows → ((d : AtomRow) → row ≡ get_or rows i d) → row.low < hi → old ++ map atom_of (first_below hi (drop i rows)) ≡ whole → new ≡ old ++ row.atom ∷ [] → new ++ map atom_of (first_below hi (drop (i + 1) rows)) ≡ whole
+one-more-below hi i rows row old new whole l is b e n =
+    let rest : List AtomId = map atom_of (first_below hi (drop (i + 1) rows)) in
+    ap (λ (xs : List AtomId). xs ++ rest) n
+    ∙ append_assoc old (row.atom ∷ []) rest
+    ∙ ap (λ (xs : List AtomRow). old ++ map atom_of xs) (sym (ap (first_below hi) (from-place rows i row l is) ∙ taken hi row (drop (i + 1) rows) b))
+    ∙ e
+
+pub no-more-below : (hi i : ℕ) (rows : List AtomRow) (row : AtomRow) (got whole : List AtomId) → i < length rows → ((d : AtomRow) → row ≡ get_or rows i d) → hi ≤ row.low → got ++ map atom_of (first_below hi (drop i rows)) ≡ whole → got ≡ whole
+no-more-below hi i rows row got whole l is b e =
+    sym (append-nil got)
+    ∙ ap (λ (xs : List AtomRow). got ++ map atom_of xs) (sym (ap (first_below hi) (from-place rows i row l is) ∙ not-taken hi row (drop (i + 1) rows) b))
+    ∙ e
+
+pub all-below : (hi i : ℕ) (rows : List AtomRow) (got whole : List AtomId) → length rows ≤ i → got ++ map atom_of (first_below hi (drop i rows)) ≡ whole → got ≡ whole
+all-below hi i rows got whole l e =
+    sym (append-nil got)
+    ∙ ap (λ (xs : List AtomRow). got ++ map atom_of (first_below hi xs)) (sym (drop_all i rows l))
+    ∙ e
 
 -- no atom of an interval with no address
 pub none-of-none : (lo hi : ℕ) (rows : List AtomRow) → hi ≤ lo → filter (meets lo hi) rows ≡ []

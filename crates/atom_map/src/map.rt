@@ -5,10 +5,11 @@ ghost use Rattle.dn_model.specs.Atoms.{AreAtoms, IsCut, atom_of, atoms_in, bound
 ghost use Rattle.dn_model.specs.declared.atom_row.AtomRow.{AtomRow};
 ghost use Rattle.atom_map.specs.Index.{one_atom};
 
-use crate::search::{atoms_below, part, place_of, rest};
+use crate::search::{atoms_below, part, place_of, read};
 use dn_model::{AtomId, AtomRow, List, OutOfMemory};
 use std::alloc::Global;
 use std::marker::Model;
+use version_pages::Pages;
 
 /// The address after the last.
 const END: u64 = 0x1_0000_0000;
@@ -17,8 +18,8 @@ const END: u64 = 0x1_0000_0000;
 /// the addresses from 0 to 2^32 once, and their numbers are those below their count.
 #[derive(Drop)]
 pub struct AtomMap {
-    rows: Vec<AtomRow>,
-    lows: Vec<u32>,
+    rows: Pages<AtomRow>,
+    lows: Pages<u32>,
 }
 
 impl Model for AtomMap {
@@ -28,9 +29,9 @@ impl Model for AtomMap {
 
     ghost Value = { List AtomRow };
 
-    ghost view = { λ m. m.rows.items };
+    ghost view = { λ m. m.rows };
 
-    ghost invariant = { λ m. IsIndexed m.rows.items m.lows.items };
+    ghost invariant = { λ m. IsIndexed m.rows m.lows };
 }
 
 impl AtomMap {
@@ -38,33 +39,34 @@ impl AtomMap {
     pub fn new(alloc: Global) -> Result<AtomMap, OutOfMemory>
         ensures { IfOk result (λ atoms. atoms ≡ one_atom) }
     {
-        let mut rows = Vec::new(alloc);
-        rows.push(AtomRow {
+        let row = AtomRow {
             atom: AtomId(0),
             low: 0,
             high: END,
-        })?;
-        let mut lows = Vec::new(alloc);
-        lows.push(0)?;
+        };
+        let rows = Pages::new().insert(alloc, 0, row)?;
+        let lows = Pages::new().insert(alloc, 0, 0)?;
         Ok(AtomMap { rows, lows })
     }
 
     /// Cuts the atom of an address in two there: the atom ends at the address now, and a new one, whose number is the
     /// count of the atoms before, begins there. It answers both, and none exactly where an atom begins at the address
     /// already. After `OutOfMemory`, for which alone it fails, the atoms are as before.
-    pub fn cut(&mut self, at: u32) -> Result<Option<(AtomId, AtomId)>, OutOfMemory>
+    pub fn cut(&mut self, alloc: Global, at: u32) -> Result<Option<(AtomId, AtomId)>, OutOfMemory>
         ensures ok { IfOk result (IsCut self.old self.new at) }
         ensures err { OnErr result (self.new ≡ self.old) }
         ensures form { AreAtoms self.new }
         ensures there { IfOk result (λ cut. IfSome cut (λ p. (p.0.0 < length self.new) × (p.1.0 < length self.new))) }
     {
         let place = place_of(&self.rows, at);
-        let row = self.rows[place];
+        let row = read(&self.rows, place);
         if row.low == at as u64 {
             return Ok(None);
         }
         let new = AtomId(self.rows.len() as u32);
-        part(&mut self.rows, &mut self.lows, place, at, new)?;
+        let (rows, lows) = part(alloc, &self.rows, &self.lows, place, at, new)?;
+        self.rows = rows;
+        self.lows = lows;
         Ok(Some((row.atom, new)))
     }
 
@@ -74,7 +76,7 @@ impl AtomMap {
         ensures there { result.0 < length self.now }
     {
         let place = place_of(&self.rows, a);
-        self.rows[place].atom
+        read(&self.rows, place).atom
     }
 
     /// How many atoms there are.
@@ -82,7 +84,7 @@ impl AtomMap {
         ensures value { result ≡ length self.now }
         ensures form { AreAtoms self.now }
     {
-        self.rows.len() as u64
+        self.rows.len()
     }
 
     /// The place of the atom that has an address: how many atoms go before it. It takes no memory.
@@ -91,7 +93,7 @@ impl AtomMap {
         ensures from { (d : AtomRow) → (slice_index_or self.now result d).low ≤ a }
         ensures to { (d : AtomRow) → a < (slice_index_or self.now result d).high }
     {
-        place_of(&self.rows, a) as u64
+        place_of(&self.rows, a)
     }
 
     /// The atom at a place, with its bounds.
@@ -99,7 +101,7 @@ impl AtomMap {
         requires { i < length self.now }
         ensures { (d : AtomRow) → result ≡ slice_index_or self.now i d }
     {
-        self.rows[i as usize]
+        read(&self.rows, i)
     }
 
     /// The bounds of an atom: its first address, and the one after its last, which for the last atom is 2^32. It takes
@@ -110,9 +112,9 @@ impl AtomMap {
         ensures order { result.0 < result.1 }
         ensures end { result.1 ≤ 2 ^ 32 }
     {
-        let low = self.lows[atom.0 as usize];
+        let low = read(&self.lows, atom.0 as u64);
         let place = place_of(&self.rows, low);
-        let row = self.rows[place];
+        let row = read(&self.rows, place);
         (row.low, row.high)
     }
 
@@ -125,7 +127,7 @@ impl AtomMap {
             return Ok(List::new(alloc));
         }
         let from = place_of(&self.rows, lo as u32);
-        let atoms = atoms_below(alloc, rest(&self.rows, from), hi)?;
+        let atoms = atoms_below(alloc, &self.rows, from, hi)?;
         Ok(List::from_vec(atoms))
     }
 
@@ -135,18 +137,19 @@ impl AtomMap {
         ensures form { AreAtoms self.now }
     {
         let mut rows = Vec::new(alloc);
-        for row in &self.rows {
+        for i in 0..self.rows.len() {
+            let row = read(&self.rows, i);
             rows.push((row.atom, row.low, row.high))?;
         }
         Ok(List::from_vec(rows))
     }
 
-    /// The same atoms again.
-    pub fn copy(&self, alloc: Global) -> Result<AtomMap, OutOfMemory>
+    /// The same atoms again. The two share all that they keep.
+    pub fn copy(&self, _alloc: Global) -> Result<AtomMap, OutOfMemory>
         ensures { IfOk result (λ atoms. atoms ≡ self.now) }
     {
-        let rows = Vec::from_slice(alloc, self.rows.as_slice())?;
-        let lows = Vec::from_slice(alloc, self.lows.as_slice())?;
+        let rows = self.rows.copy()?;
+        let lows = self.lows.copy()?;
         Ok(AtomMap { rows, lows })
     }
 }

@@ -74,7 +74,7 @@ impl Net {
             mut labels,
             mut owners,
         } = self;
-        let Some((old, new)) = atoms.cut(at)? else {
+        let Some((old, new)) = atoms.cut(alloc, at)? else {
             return Ok(Net {
                 routers,
                 atoms,

@@ -176,19 +176,24 @@ fn pointers_are_elements(rt: HostRuntime) -> Result<(), Fail> {
     Ok(())
 }
 
-/// A thousand and one elements, each put at one end, are 30 pages of 32 and one of 41. Above 31 pages there are at least
-/// 5 forks, and at most 6 in a balanced tree, which has 34 pages at least where there are 7.
+/// A thousand and one elements, each put at one end, are 30 pages of 32 and one of 41; put elsewhere they are no more
+/// pages. Above 31 pages there are at least 5 forks, and at most 6 in a balanced tree, which has 34 pages at least where
+/// there are 7.
 #[test]
 fn a_tree_stays_low(rt: HostRuntime) -> Result<(), Fail> {
-    let mut tree = leaf(rt.alloc(), page_of_one(rt.alloc(), 0u64)?)?;
+    let mut at_end = leaf(rt.alloc(), page_of_one(rt.alloc(), 0u64)?)?;
     let mut at_front = leaf(rt.alloc(), page_of_one(rt.alloc(), 0u64)?)?;
+    let mut in_middle = leaf(rt.alloc(), page_of_one(rt.alloc(), 0u64)?)?;
     for k in 0..1000u64 {
-        tree = tree.insert(rt.alloc(), tree.len(), k)?;
+        at_end = at_end.insert(rt.alloc(), at_end.len(), k)?;
         at_front = at_front.insert(rt.alloc(), 0, k)?;
+        in_middle = in_middle.insert(rt.alloc(), in_middle.len() / 2, k)?;
     }
-    assert_eq!(rt; tree.len(), 1001);
-    assert!(rt; tree.height() >= 5);
-    assert!(rt; tree.height() <= 6);
+    assert_eq!(rt; at_end.len(), 1001);
+    assert!(rt; at_end.height() >= 5);
+    assert!(rt; at_end.height() <= 6);
+    assert!(rt; at_front.height() >= 5);
     assert!(rt; at_front.height() <= 6);
+    assert!(rt; in_middle.height() <= 6);
     Ok(())
 }

@@ -1,5 +1,5 @@
 -- What a node stands for, and what always holds of it.
-use Rattle.std.specs.Prelude.{◌≡◌, ℕ, ◌+◌, ◌<◌, ◌≤◌, List, ◌++◌, length}
+use Rattle.std.specs.Prelude.{◌≡◌, ◌+◌, ◌<◌, ◌≤◌, List, ◌++◌, length}
 use Rattle.std.specs.Arc.{arc_value}
 use Rattle.version_pages.specs.declared.tree.Node.{Node}
 use Rattle.version_pages.specs.declared.tree.Node.TheVariants.{Page, Fork}

@@ -1,10 +1,55 @@
 //! Lists whose elements were worked out by hand.
 
+ghost use Rattle.std.specs.Prelude.{◌≡◌, IfOk};
+ghost use Rattle.std.specs.Arc.{arc_value};
+
 use super::Pages;
 use crate::page::page_of_one;
 use crate::tree::leaf;
-use dn_model::{AtomId, AtomRow};
+use dn_model::{AtomId, AtomRow, OutOfMemory};
+use std::alloc::{AllocError, Global};
+use std::marker::Model;
+use std::sync::Arc;
 use std::test::Fail;
+
+/// A number behind a pointer that is shared. A contract sees the number alone, so that a clone equals its source.
+#[derive(Drop)]
+struct Shared {
+    number: Arc<u64, Global>,
+}
+
+impl Model for Shared {
+    ghost use Rattle.std.specs.Prelude.{ℕ};
+    ghost use Rattle.std.specs.Arc.{arc_value};
+
+    ghost Value = { ℕ };
+
+    ghost view = { λ s. arc_value s.number };
+}
+
+impl Shared {
+    fn new(alloc: Global, number: u64) -> Result<Shared, OutOfMemory>
+        ensures { IfOk result (λ shared. shared ≡ number) }
+    {
+        let number = Arc::new(alloc, number)?;
+        Ok(Shared { number })
+    }
+
+    fn number(&self) -> u64
+        ensures { result ≡ self.now }
+    {
+        *self.number
+    }
+}
+
+impl Clone for Shared {
+    ghost is_clone = { λ shared copy. copy ≡ shared };
+
+    fn clone(&self) -> Result<Shared, AllocError> {
+        let number = Arc::try_clone(&self.number)?;
+        Ok(Shared { number })
+    }
+}
 
 /// Lists cross to another thread.
 fn crosses<T: Send + Sync>(_value: &T) {}
@@ -117,19 +162,38 @@ fn rows_of_atoms_are_elements(rt: HostRuntime) -> Result<(), Fail> {
     Ok(())
 }
 
-/// A thousand and one elements, each put at one end, are 30 pages of 32 and one of 41. Above 31 pages there are at least
-/// 5 forks, and at most 6 in a balanced tree, which has 34 pages at least where there are 7.
+#[test]
+fn pointers_are_elements(rt: HostRuntime) -> Result<(), Fail> {
+    let first = Shared::new(rt.alloc(), 11)?;
+    let second = Shared::new(rt.alloc(), 22)?;
+    let one = Pages::new().insert(rt.alloc(), 0, first)?;
+    crosses(&one);
+    assert_eq!(rt; one.len(), 1);
+    let two = one.insert(rt.alloc(), 0, second)?;
+    assert_eq!(rt; two.get(0).map(|shared| shared.number()), Some(22));
+    assert_eq!(rt; two.get(1).map(|shared| shared.number()), Some(11));
+    assert_eq!(rt; one.get(0).map(|shared| shared.number()), Some(11));
+    Ok(())
+}
+
+/// A thousand and one elements, each put at one end, are 30 pages of 32 and one of 41; put elsewhere they are no more
+/// pages. Above 31 pages there are at least 5 forks, and at most 6 in a balanced tree, which has 34 pages at least where
+/// there are 7.
 #[test]
 fn a_tree_stays_low(rt: HostRuntime) -> Result<(), Fail> {
-    let mut tree = leaf(rt.alloc(), page_of_one(rt.alloc(), 0u64)?)?;
+    let mut at_end = leaf(rt.alloc(), page_of_one(rt.alloc(), 0u64)?)?;
     let mut at_front = leaf(rt.alloc(), page_of_one(rt.alloc(), 0u64)?)?;
+    let mut in_middle = leaf(rt.alloc(), page_of_one(rt.alloc(), 0u64)?)?;
     for k in 0..1000u64 {
-        tree = tree.insert(rt.alloc(), tree.len(), k)?;
+        at_end = at_end.insert(rt.alloc(), at_end.len(), k)?;
         at_front = at_front.insert(rt.alloc(), 0, k)?;
+        in_middle = in_middle.insert(rt.alloc(), in_middle.len() / 2, k)?;
     }
-    assert_eq!(rt; tree.len(), 1001);
-    assert!(rt; tree.height() >= 5);
-    assert!(rt; tree.height() <= 6);
+    assert_eq!(rt; at_end.len(), 1001);
+    assert!(rt; at_end.height() >= 5);
+    assert!(rt; at_end.height() <= 6);
+    assert!(rt; at_front.height() >= 5);
     assert!(rt; at_front.height() <= 6);
+    assert!(rt; in_middle.height() <= 6);
     Ok(())
 }

@@ -1,7 +1,6 @@
-use Rattle.std.proofs.Common.{arith, sym}
+use Rattle.std.proofs.Common.{arith}
 use Rattle.std.proofs.lemmas.Grind.{common_steps}
 use Rattle.std.proofs.lemmas.List.{set-append_left, set-append_right}
-use Rattle.std.specs.Arc.{arc_value}
 use Rattle.version_pages.proofs.tree.Tree.+set.Goals as goal
 
 pub returns-in_ok-try_clone-in-Fork : goal.returns-in_ok-try_clone-in-Fork

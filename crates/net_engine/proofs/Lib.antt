@@ -2,6 +2,7 @@ pub mod Agreed
 pub mod Along
 pub mod Atoms
 pub mod Begun
+pub mod Crossing
 pub mod Cutting
 pub mod Held
 pub mod Labelled

@@ -5,10 +5,6 @@ ghost use Rattle.std.specs.Prelude.{◌≡◌, ◌<◌, ℕ, Bool, List, Contain
 ghost use Rattle.dn_model.specs.Cidr.{IsCidr};
 ghost use Rattle.dn_model.specs.Delta.{IsDelta, told};
 ghost use Rattle.dn_model.specs.Entry.{IsEntryOf};
-ghost use Rattle.dn_model.specs.Payload.{IsPayload};
-ghost use Rattle.dn_model.specs.Feed.{IsReading, IsFaultedReading};
-ghost use Rattle.dn_model.specs.Steps.{FrameStep};
-ghost use Rattle.dn_model.specs.declared.told.FeedEnd.{FeedEnd};
 ghost use Rattle.dn_model.specs.Runs.{Interval, AreRuns};
 ghost use Rattle.dn_model.specs.Table.{table, best, HasKeysOnce, IsBest};
 ghost use Rattle.dn_model.specs.Walk.{next, walk, walk_end, LeadsWithin, EndsWith};
@@ -18,7 +14,6 @@ ghost use Rattle.dn_model.specs.declared.entry.Entry.{Entry};
 ghost use Rattle.dn_model.specs.declared.entry.Route.{Route};
 ghost use Rattle.dn_model.specs.declared.ids.LinkId.{LinkId};
 ghost use Rattle.dn_model.specs.declared.ids.RouterId.{RouterId};
-ghost use Rattle.dn_model.specs.declared.payload.Payload.{Payload};
 ghost use Rattle.dn_model.specs.declared.target.Target.{Target};
 ghost use Rattle.dn_model.specs.declared.topology.Topology.{Topology};
 
@@ -62,21 +57,4 @@ pub fn runs_are_unique()
 /// The last update of a history makes one list of changes, as they are printed.
 pub fn changes_are_unique()
     ensures { (history : List Entry) (xs ys : List Change) → IsDelta history xs → IsDelta history ys → told xs ≡ told ys }
-{}
-
-/// The bytes of a payload say one thing.
-pub fn payloads_are_unique()
-    ensures { (bytes : List ℕ) (x y : Payload) → IsPayload bytes x → IsPayload bytes y → x ≡ y }
-{}
-
-/// A feed has one reading: its bytes, up to a limit, come to one list of steps and one end.
-pub fn feeds_have_one_reading()
-    ensures { (t : Topology) (r : RouterId) (bytes : List ℕ) (limit : ℕ) (xs ys : List FrameStep) (e f : FeedEnd)
-        → IsReading t r bytes limit xs e → IsReading t r bytes limit ys f → (xs ≡ ys) × (e ≡ f) }
-{}
-
-/// A feed that failed has one reading.
-pub fn failed_feeds_have_one_reading()
-    ensures { (t : Topology) (r : RouterId) (bytes : List ℕ) (xs ys : List FrameStep)
-        → IsFaultedReading t r bytes xs → IsFaultedReading t r bytes ys → xs ≡ ys }
 {}

@@ -5,11 +5,8 @@
 
 mod answer;
 mod atom_row;
-pub mod cause;
 mod change;
-mod decimal;
 mod entry;
-mod error_line;
 mod ids;
 mod label_row;
 mod laws;
@@ -18,7 +15,6 @@ mod list;
 mod lookup;
 mod memory;
 mod name;
-mod payload;
 mod plain;
 mod plain_delta;
 #[cfg(test)]
@@ -27,35 +23,23 @@ mod plain_delta_tests;
 mod plain_tests;
 mod ports;
 mod prefix;
-mod print;
-#[cfg(test)]
-mod print_tests;
 mod query;
-mod raw_route;
-pub mod refusal;
 mod rule;
 mod run;
-mod script;
 mod target;
 #[cfg(test)]
 mod test_network;
-mod text;
-mod told;
 mod topology;
-mod topology_fault;
 mod unknown;
 
 pub use answer::{Answer, PathEnd};
 pub use atom_row::AtomRow;
 pub use change::Change;
-pub use decimal::read_number;
 pub use entry::{Entry, Op, Posted, Route};
-pub use error_line::ErrorLine;
 pub use ids::{AtomId, LinkId, RouterId};
 pub use label_row::LabelRow;
 pub use laws::{
-    best_goes_first, best_has_no_order, changes_are_unique, failed_feeds_have_one_reading,
-    feeds_have_one_reading, histories_lead_within, loops_are_true, payloads_are_unique,
+    best_goes_first, best_has_no_order, changes_are_unique, histories_lead_within, loops_are_true,
     runs_are_unique, tables_have_keys_once, walks_end_at_the_last_router,
 };
 pub use laws_of_rows::{
@@ -65,21 +49,11 @@ pub use list::List;
 pub use lookup::{link, port, router};
 pub use memory::OutOfMemory;
 pub use name::{Name, is_name};
-pub use payload::{Item, ItemKind, Payload, Refused, Skip};
 pub use plain::{plain_answer, plain_routes, plain_target, plain_walk};
 pub use ports::Port;
 pub use prefix::Prefix;
-pub use print::{
-    print_address, print_prefix, print_run, print_target, push_address, push_bytes, push_decimal,
-    push_labelled, push_link, push_prefix, push_router, push_run, push_target,
-};
 pub use query::{Ask, Query, Unknown};
-pub use raw_route::{RawRoute, RouteKind};
 pub use rule::Rule;
 pub use run::Run;
-pub use script::{Line, Script};
 pub use target::{DropKind, Target};
-pub use text::Text;
-pub use told::{FeedEnd, FeedTold, JobTold, Outcome, RefusedFrame, Told};
 pub use topology::{TopoEnd, TopoLink, Topology};
-pub use topology_fault::{TopoFault, TopoPart, TopoRefused};

@@ -7,12 +7,12 @@ use Rattle.std.proofs.lemmas.List.Elements.{All-cons, All-nil, All-head, All-tai
 use Rattle.dn_io.specs.Calls.{Call, CallState, Out, Refused, call_of, back_with, with_out, with_state, state_at, names_of, some_failed}
 use Rattle.dn_io.specs.Files.{Files, bytes_of}
 use Rattle.dn_model.specs.Topology.{all_differ}
-use Rattle.dn_model.specs.Words.{FeedWords}
+use Rattle.dn_formats.specs.Words.{FeedWords}
 use Rattle.dn_model.specs.declared.ids.RouterId.{RouterId}
-use Rattle.dn_model.specs.declared.script.Line.{Line}
+use Rattle.dn_formats.specs.declared.script.Line.{Line}
 use Rattle.dn_model.specs.declared.topology.Topology.{Topology}
-use Rattle.dn_model.specs.Report.{error_text}
-use Rattle.dn_model.specs.declared.error_line.ErrorLine.TheVariants as errors
+use Rattle.dn_formats.specs.Report.{error_text}
+use Rattle.dn_formats.specs.declared.error_line.ErrorLine.TheVariants as errors
 use Rattle.dn_run.specs.Feeds.{opened, Appends, AreLeft, some_rose, routers_of_readers, AreOpen, Opens}
 use Rattle.dn_run.specs.Jobs.{IsFresh, AreNumbered, same_router}
 use Rattle.dn_run.specs.Run.{FromFeeds, IsUntouched, IsRunOf, feed_files, feed_limit}

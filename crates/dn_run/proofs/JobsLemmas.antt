@@ -8,20 +8,20 @@ use Rattle.std.proofs.lemmas.Bool.Decides.{nat_tests}
 use Rattle.std.proofs.lemmas.List.{append-nil, length-map}
 use Rattle.std.proofs.lemmas.List.Elements.{All-nil, All-cons, All-head, All-tail, All-append, All-filter, All-map, filter_agree}
 use Rattle.dn_io.specs.Told.{with_front}
-use Rattle.dn_model.specs.Frames.{IsFrame}
-use Rattle.dn_model.specs.Lawful.{Job, TellsAll, KeepsOrder, jobs_of, takes_feed, is_from, is_from_some}
-use Rattle.dn_model.specs.Steps.{FeedRead, updates, entries_of}
+use Rattle.dn_formats.specs.Frames.{IsFrame}
+use Rattle.dn_formats.specs.Lawful.{Job, TellsAll, KeepsOrder, jobs_of, takes_feed, is_from, is_from_some}
+use Rattle.dn_formats.specs.Steps.{FeedRead, updates, entries_of}
 use Rattle.dn_run.specs.Latest.{After, IsOf}
 use Rattle.dn_model.specs.Topology.{all_differ}
 use Rattle.dn_model.specs.declared.entry.Entry.{Entry}
 use Rattle.dn_model.specs.declared.entry.Posted.{Posted}
-use Rattle.dn_model.specs.declared.script.Line.{Line}
+use Rattle.dn_formats.specs.declared.script.Line.{Line}
 use Rattle.dn_model.specs.declared.topology.Topology.{Topology}
-use Rattle.dn_model.specs.declared.told.FeedEnd.{FeedEnd}
-use Rattle.dn_model.specs.declared.told.JobTold.{JobTold}
+use Rattle.dn_formats.specs.declared.told.FeedEnd.{FeedEnd}
+use Rattle.dn_formats.specs.declared.told.JobTold.{JobTold}
 use Rattle.route_feed.specs.FeedReader.{Reader, IsAt}
 use Rattle.std.specs.Option.{option_copied}
-use Rattle.dn_model.specs.declared.script.Script.{Script}
+use Rattle.dn_formats.specs.declared.script.Script.{Script}
 use Rattle.dn_run.specs.Takes.{tag_of}
 use Rattle.dn_run.specs.Jobs.{scripts_of, IsFresh, AreNumbered, HaveRoutersApart, same_router, AreReadBy, HasRun}
 use Rattle.dn_run.specs.Network.{entries, StandsBy, CountsBy, CountsFaults, IsCount}

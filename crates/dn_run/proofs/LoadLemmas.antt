@@ -4,11 +4,11 @@ use Rattle.std.proofs.lemmas.Bool.{ltb-true, ltb-false, lt-ltb}
 use Rattle.std.proofs.lemmas.List.{take_all, length-take-le}
 use Rattle.dn_io.specs.Calls.{Call, Back, call_of, names_of}
 use Rattle.dn_io.specs.Files.{Files, bytes_of}
-use Rattle.dn_model.specs.TopologyText.{topology_of, top_fault}
-use Rattle.dn_model.specs.ScriptText.{script_of}
-use Rattle.dn_model.specs.declared.cause.TheConstants.{TOO_LONG}
+use Rattle.dn_formats.specs.TopologyText.{topology_of, top_fault}
+use Rattle.dn_formats.specs.ScriptText.{script_of}
+use Rattle.dn_formats.specs.declared.cause.TheConstants.{TOO_LONG}
 use Rattle.dn_model.specs.declared.ids.RouterId.{RouterId}
-use Rattle.dn_model.specs.declared.script.Script.{Script}
+use Rattle.dn_formats.specs.declared.script.Script.{Script}
 use Rattle.dn_model.specs.declared.topology.Topology.{Topology}
 use Rattle.dn_run.specs.Loaded.{SaysTopology, SaysScript, Loads, LoadsTopology, LoadsScript}
 use Rattle.dn_io.specs.Told.{with_front}

@@ -5,12 +5,12 @@ use Rattle.std.proofs.lemmas.Grind.{flat_map-append}
 use Rattle.std.proofs.lemmas.List.{append-nil}
 use Rattle.std.proofs.Math.Seq.{drop-append_seam}
 use Rattle.std.proofs.lemmas.List.Elements.{All-head, All-tail}
-use Rattle.dn_model.specs.Lawful.{asked, asked_by, both_counts, front_of, taken, takes, taken_by, taken_along}
-use Rattle.dn_model.specs.Steps.{FrameStep, FeedRead, updates, entries_of}
+use Rattle.dn_formats.specs.Lawful.{asked, asked_by, both_counts, front_of, taken, takes, taken_by, taken_along}
+use Rattle.dn_formats.specs.Steps.{FrameStep, FeedRead, updates, entries_of}
 use Rattle.dn_model.specs.declared.entry.Entry.{Entry}
 use Rattle.dn_model.specs.declared.ids.RouterId.{RouterId}
-use Rattle.dn_model.specs.declared.script.Line.{Line}
-use Rattle.dn_model.specs.declared.script.Line.TheVariants as line
+use Rattle.dn_formats.specs.declared.script.Line.{Line}
+use Rattle.dn_formats.specs.declared.script.Line.TheVariants as line
 use Rattle.dn_run.proofs.TellLemmas.{asked-push}
 
 pub taken_along-push : (fs : List FeedRead) (before lines : List Line) (l : Line) →

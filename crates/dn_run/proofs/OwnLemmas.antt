@@ -6,16 +6,16 @@ use Rattle.std.proofs.lemmas.Bool.{or_parts}
 use Rattle.std.proofs.lemmas.List.{append-nil, length-append, length-map, map-append, set-get_or, set_split, length-take-le}
 use Rattle.std.proofs.lemmas.List.Folds.{list_any_none}
 use Rattle.std.proofs.lemmas.List.Elements.{All-nil, All-cons, All-head, All-tail, All-append, All-filter, filter-append}
-use Rattle.dn_model.specs.Lawful.{Job, TellsAll, KeepsOrder, asked, takes, takes_feed, is_from, is_from_some}
-use Rattle.dn_model.specs.Steps.{FrameStep, FeedRead, updates, entries_by}
+use Rattle.dn_formats.specs.Lawful.{Job, TellsAll, KeepsOrder, asked, takes, takes_feed, is_from, is_from_some}
+use Rattle.dn_formats.specs.Steps.{FrameStep, FeedRead, updates, entries_by}
 use Rattle.dn_model.specs.declared.entry.Entry.{Entry}
 use Rattle.dn_model.specs.declared.entry.Op.{Op}
 use Rattle.dn_model.specs.declared.ids.RouterId.{RouterId}
-use Rattle.dn_model.specs.declared.script.Line.{Line}
+use Rattle.dn_formats.specs.declared.script.Line.{Line}
 use Rattle.dn_model.specs.declared.topology.Topology.{Topology}
-use Rattle.dn_model.specs.declared.told.FeedEnd.{FeedEnd}
-use Rattle.dn_model.specs.declared.told.JobTold.{JobTold}
-use Rattle.dn_model.specs.declared.told.Told.{Told}
+use Rattle.dn_formats.specs.declared.told.FeedEnd.{FeedEnd}
+use Rattle.dn_formats.specs.declared.told.JobTold.{JobTold}
+use Rattle.dn_formats.specs.declared.told.Told.{Told}
 use Rattle.route_feed.specs.FeedReader.{Reader}
 use Rattle.dn_run.specs.Tracks.{Strand, GoesOn, AreApart, Woven, Tracks, WhateverRest, Rests, IsRest, TakesFeed, TakesFrom, script_jobs, is_own, own_told, WhateverOwn, Owns}
 use Rattle.dn_run.proofs.StrandLemmas.{Parts, all-parts, all-joined, all-through, ZipParts, zip-parts, Split, split-at, nows, grown, Others, apart-others, woven-took, go-back, Grows, grows}

@@ -6,10 +6,10 @@ use Rattle.std.proofs.lemmas.Bool.Decides.{nat_tests}
 use Rattle.std.proofs.lemmas.List.{drop_more, drop_all, length-map}
 use Rattle.std.proofs.lemmas.List.Elements.{filter_map-append}
 use Rattle.std.proofs.Math.ListN.{get_or-map}
-use Rattle.dn_model.specs.Words.{FeedWords, Part, FeedPart, ScriptPart, PartsSaid, feed_of_part, part_of, feed_in, script_in, feed_at, script_at, parts_said, numbered_from, fault_of_part, part_faults, unless_faulty, parts_of, most_feeds, most_scripts}
-use Rattle.dn_model.specs.ScriptText.{has_bytes}
-use Rattle.dn_model.specs.declared.error_line.ErrorLine.{ErrorLine}
-use Rattle.dn_model.specs.declared.error_line.ErrorLine.TheVariants.{BadPart, TooManyParts}
+use Rattle.dn_formats.specs.Words.{FeedWords, Part, FeedPart, ScriptPart, PartsSaid, feed_of_part, part_of, feed_in, script_in, feed_at, script_at, parts_said, numbered_from, fault_of_part, part_faults, unless_faulty, parts_of, most_feeds, most_scripts}
+use Rattle.dn_formats.specs.ScriptText.{has_bytes}
+use Rattle.dn_formats.specs.declared.error_line.ErrorLine.{ErrorLine}
+use Rattle.dn_formats.specs.declared.error_line.ErrorLine.TheVariants.{BadPart, TooManyParts}
 use Rattle.dn_run.specs.declared.parts.PartsRefused.{PartsRefused}
 use Rattle.dn_run.specs.declared.parts.PartsRefused.TheVariants as refused
 use Rattle.dn_run.specs.PartsRead.{ArePartsRefused, next_number, with_part, script_named}

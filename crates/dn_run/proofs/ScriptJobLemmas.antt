@@ -5,12 +5,12 @@ use Rattle.std.proofs.Math.Bool.{or-true}
 use Rattle.std.proofs.lemmas.Bool.{or_parts}
 use Rattle.std.proofs.lemmas.List.{append-nil}
 use Rattle.std.proofs.lemmas.List.Elements.{All-nil, All-cons, All-head, All-tail, All-append, All-filter}
-use Rattle.dn_model.specs.Lawful.{KeepsOrder, taken, takes, takes_feed, taken_by, taken_along, first_taken, left_by, is_from, is_from_some}
-use Rattle.dn_model.specs.Steps.{FeedRead, updates, entries_of}
+use Rattle.dn_formats.specs.Lawful.{KeepsOrder, taken, takes, takes_feed, taken_by, taken_along, first_taken, left_by, is_from, is_from_some}
+use Rattle.dn_formats.specs.Steps.{FeedRead, updates, entries_of}
 use Rattle.dn_model.specs.declared.entry.Entry.{Entry}
 use Rattle.dn_model.specs.declared.entry.Op.{Op}
 use Rattle.dn_model.specs.declared.ids.RouterId.{RouterId}
-use Rattle.dn_model.specs.declared.script.Line.{Line}
+use Rattle.dn_formats.specs.declared.script.Line.{Line}
 use Rattle.dn_run.proofs.OrderLemmas.{taken_by-other}
 
 -- ---- filters

@@ -3,17 +3,17 @@ use Rattle.std.proofs.Common.{◌≡◌, ℕ, ◌+◌, Bool, true, false, nat_lt
 use Rattle.std.specs.Bool.{MatchBool}
 use Rattle.dn_io.specs.Calls.{Call, CallState, Back, call_of}
 use Rattle.dn_io.specs.Files.{Files, bytes_of}
-use Rattle.dn_model.specs.Report.{error_text}
-use Rattle.dn_model.specs.ScriptText.{ScriptFault, script_of}
-use Rattle.dn_model.specs.TopologyText.{Parts, topology_of, parts}
-use Rattle.dn_model.specs.Words.{FeedWords, PartsSaid}
+use Rattle.dn_formats.specs.Report.{error_text}
+use Rattle.dn_formats.specs.ScriptText.{ScriptFault, script_of}
+use Rattle.dn_formats.specs.TopologyText.{Parts, topology_of, parts}
+use Rattle.dn_formats.specs.Words.{FeedWords, PartsSaid}
 use Rattle.dn_model.specs.declared.ids.RouterId.{RouterId}
-use Rattle.dn_model.specs.declared.script.Line.{Line}
-use Rattle.dn_model.specs.declared.script.Script.{Script}
+use Rattle.dn_formats.specs.declared.script.Line.{Line}
+use Rattle.dn_formats.specs.declared.script.Script.{Script}
 use Rattle.dn_model.specs.declared.topology.Topology.{Topology}
-use Rattle.dn_model.specs.declared.topology_fault.TopoFault.{TopoFault}
-use Rattle.dn_model.specs.declared.error_line.ErrorLine.{ErrorLine}
-use Rattle.dn_model.specs.declared.error_line.ErrorLine.TheVariants as errors
+use Rattle.dn_formats.specs.declared.topology_fault.TopoFault.{TopoFault}
+use Rattle.dn_formats.specs.declared.error_line.ErrorLine.{ErrorLine}
+use Rattle.dn_formats.specs.declared.error_line.ErrorLine.TheVariants as errors
 use Rattle.dn_run.specs.Feeds.{Opens}
 use Rattle.dn_run.specs.Loaded.{SaysTopology, SaysScript}
 use Rattle.dn_run.specs.Opened.{text_limit, IsReadFront, FailsAt}

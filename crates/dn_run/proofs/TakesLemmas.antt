@@ -1,12 +1,12 @@
 -- What taking frames of a feed adds to what its reader has handed out.
 use Rattle.std.proofs.Common.{◌≡◌, ℕ, ◌+◌, Bool, true, false, is_none, List, [], ◌∷◌, ◌++◌, Option, None, Some, refl, ap, sym, ◌∙◌, arith, subst, append_assoc}
 use Rattle.std.proofs.lemmas.List.{append-nil, length-append}
-use Rattle.dn_model.specs.Steps.{FrameStep, updates, entries_by, ops_of}
+use Rattle.dn_formats.specs.Steps.{FrameStep, updates, entries_by, ops_of}
 use Rattle.dn_model.specs.declared.entry.Entry.{Entry}
 use Rattle.dn_model.specs.declared.entry.Op.{Op}
 use Rattle.dn_model.specs.declared.ids.RouterId.{RouterId}
 use Rattle.dn_model.specs.declared.topology.Topology.{Topology}
-use Rattle.dn_model.specs.declared.told.FeedEnd.{FeedEnd}
+use Rattle.dn_formats.specs.declared.told.FeedEnd.{FeedEnd}
 use Rattle.route_feed.specs.FeedReader.{Reader, IsAt}
 use Rattle.dn_run.specs.Network.{entries, StandsBy, EndsUnless}
 use Rattle.dn_run.specs.Takes.{IsLater, Gives, Moves, TakesOne, TakesExactly, TakesAny, tag_of}

@@ -6,20 +6,20 @@ use Rattle.std.proofs.Math.Seq.{take-append_seam}
 use Rattle.std.proofs.lemmas.List.Sums.{fold-append}
 use Rattle.std.proofs.lemmas.List.Elements.{All-filter}
 use Rattle.dn_model.specs.Answer.{IsAnswer}
-use Rattle.dn_model.specs.Lawful.{Tells, IsOutcome, HoldsWhatWasTaken, asked, asked_by, both_counts, front_of, taken, pin_after, is_from}
-use Rattle.dn_model.specs.Steps.{FrameStep, FeedRead, updates, entries_of, entries_by}
+use Rattle.dn_formats.specs.Lawful.{Tells, IsOutcome, HoldsWhatWasTaken, asked, asked_by, both_counts, front_of, taken, pin_after, is_from}
+use Rattle.dn_formats.specs.Steps.{FrameStep, FeedRead, updates, entries_of, entries_by}
 use Rattle.dn_run.specs.Latest.{After, Latest}
 use Rattle.dn_model.specs.declared.entry.Entry.{Entry}
 use Rattle.dn_model.specs.declared.entry.Posted.{Posted}
 use Rattle.dn_model.specs.declared.ids.RouterId.{RouterId}
 use Rattle.dn_model.specs.declared.query.Query.{Query}
-use Rattle.dn_model.specs.declared.script.Line.{Line}
-use Rattle.dn_model.specs.declared.script.Line.TheVariants as line
+use Rattle.dn_formats.specs.declared.script.Line.{Line}
+use Rattle.dn_formats.specs.declared.script.Line.TheVariants as line
 use Rattle.dn_model.specs.declared.topology.Topology.{Topology}
-use Rattle.dn_model.specs.declared.told.FeedEnd.{FeedEnd}
-use Rattle.dn_model.specs.declared.told.Outcome.{Outcome}
-use Rattle.dn_model.specs.declared.told.Outcome.TheVariants.{Answered, Unknown}
-use Rattle.dn_model.specs.declared.told.Told.{Told}
+use Rattle.dn_formats.specs.declared.told.FeedEnd.{FeedEnd}
+use Rattle.dn_formats.specs.declared.told.Outcome.{Outcome}
+use Rattle.dn_formats.specs.declared.told.Outcome.TheVariants.{Answered, Unknown}
+use Rattle.dn_formats.specs.declared.told.Told.{Told}
 use Rattle.dn_run.specs.Network.{entries, IsCount}
 use Rattle.dn_run.specs.Takes.{IsLater}
 use Rattle.dn_run.specs.Tracks.{Strand, GoesOn, Stands, IsOutcomeNow}

@@ -7,17 +7,17 @@ use Rattle.std.proofs.lemmas.List.Elements.{All-nil, All-cons, All-same}
 use Rattle.std.proofs.lemmas.List.Sums.{fold-append}
 use Rattle.std.proofs.lemmas.List.Quantifiers.{position-Some}
 use Rattle.std.proofs.lemmas.Bool.{eqb-true, ltb-false}
-use Rattle.dn_model.specs.Lawful.{Tells, asked, asked_by, both_counts, taken_by, taken_along, takes, pin_after}
-use Rattle.dn_model.specs.Steps.{FrameStep, FeedRead, updates, entries_by}
+use Rattle.dn_formats.specs.Lawful.{Tells, asked, asked_by, both_counts, taken_by, taken_along, takes, pin_after}
+use Rattle.dn_formats.specs.Steps.{FrameStep, FeedRead, updates, entries_by}
 use Rattle.dn_run.specs.Latest.{After, Latest}
 use Rattle.dn_model.specs.declared.entry.Entry.{Entry}
 use Rattle.dn_model.specs.declared.entry.Posted.{Posted}
 use Rattle.dn_model.specs.declared.ids.RouterId.{RouterId}
 use Rattle.dn_model.specs.declared.query.Query.{Query}
-use Rattle.dn_model.specs.declared.script.Line.{Line}
-use Rattle.dn_model.specs.declared.script.Line.TheVariants as line
+use Rattle.dn_formats.specs.declared.script.Line.{Line}
+use Rattle.dn_formats.specs.declared.script.Line.TheVariants as line
 use Rattle.dn_model.specs.declared.topology.Topology.{Topology}
-use Rattle.dn_model.specs.declared.told.Told.{Told}
+use Rattle.dn_formats.specs.declared.told.Told.{Told}
 use Rattle.route_feed.specs.FeedReader.{Reader}
 use Rattle.dn_run.specs.Network.{entries, IsCount}
 use Rattle.dn_run.specs.Tracks.{Strand, GoesOn, AreApart, Woven, Tracks, Whatever, TakesFeed, TakesAt, TakesOf, reads, last_pin, IsOutcomeNow, Adds}

@@ -4,9 +4,9 @@ use Rattle.std.specs.List.{list_any}
 use Rattle.dn_io.specs.Calls.{Call, back_with, names_of, some_out, some_failed}
 use Rattle.dn_io.specs.Files.{Files}
 use Rattle.dn_model.specs.Topology.{all_differ}
-use Rattle.dn_model.specs.Words.{FeedWords}
+use Rattle.dn_formats.specs.Words.{FeedWords}
 use Rattle.dn_model.specs.declared.ids.RouterId.{RouterId}
-use Rattle.dn_model.specs.declared.script.Line.{Line}
+use Rattle.dn_formats.specs.declared.script.Line.{Line}
 use Rattle.dn_model.specs.declared.topology.Topology.{Topology}
 use Rattle.dn_run.specs.Jobs.{IsFresh, AreNumbered, same_router}
 use Rattle.dn_run.specs.Run.{OpenedFeed, FromFeeds, feed_files, feed_limit}

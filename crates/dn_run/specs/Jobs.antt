@@ -1,14 +1,14 @@
 -- What the jobs of a run came to.
 use Rattle.std.specs.Prelude.{◌≡◌, ℕ, suc, ◌<◌, ◌≤◌, ◌^◌, ◌==◌, Bool, IsTrue, map, List, [], ◌∷◌, All, length, Option, None, Some}
-use Rattle.dn_model.specs.Lawful.{IsShuffle, KeepsOrder, TellsAll, jobs_of}
-use Rattle.dn_model.specs.Steps.{FeedRead}
+use Rattle.dn_formats.specs.Lawful.{IsShuffle, KeepsOrder, TellsAll, jobs_of}
+use Rattle.dn_formats.specs.Steps.{FeedRead}
 use Rattle.dn_model.specs.declared.entry.Posted.{Posted}
 use Rattle.dn_model.specs.Topology.{all_differ}
 use Rattle.dn_model.specs.declared.ids.RouterId.{RouterId}
-use Rattle.dn_model.specs.declared.script.Line.{Line}
-use Rattle.dn_model.specs.declared.script.Script.{Script}
+use Rattle.dn_formats.specs.declared.script.Line.{Line}
+use Rattle.dn_formats.specs.declared.script.Script.{Script}
 use Rattle.dn_model.specs.declared.topology.Topology.{Topology}
-use Rattle.dn_model.specs.declared.told.JobTold.{JobTold}
+use Rattle.dn_formats.specs.declared.told.JobTold.{JobTold}
 use Rattle.route_feed.specs.FeedReader.{Reader, told_so_far}
 use Rattle.dn_run.specs.Network.{entries, StandsBy}
 

@@ -2,13 +2,13 @@
 use Rattle.std.specs.Prelude.{◌≡◌, ◌+◌, ℕ, List, [], ◌∷◌, ◌++◌, Option, IfSome, IsSomeAnd, Ok, Err, All, false}
 use Rattle.dn_io.specs.Calls.{Call, Back, call_of}
 use Rattle.dn_io.specs.Files.{Files, bytes_of}
-use Rattle.dn_model.specs.TopologyText.{topology_of, parts}
-use Rattle.dn_model.specs.ScriptText.{ScriptFault, script_of, IsShort}
+use Rattle.dn_formats.specs.TopologyText.{topology_of, parts}
+use Rattle.dn_formats.specs.ScriptText.{ScriptFault, script_of, IsShort}
 use Rattle.dn_model.specs.declared.ids.RouterId.{RouterId}
-use Rattle.dn_model.specs.declared.script.Script.{Script}
-use Rattle.dn_model.specs.declared.error_line.ErrorLine.TheVariants as errors
+use Rattle.dn_formats.specs.declared.script.Script.{Script}
+use Rattle.dn_formats.specs.declared.error_line.ErrorLine.TheVariants as errors
 use Rattle.dn_model.specs.declared.topology.Topology.{Topology}
-use Rattle.dn_model.specs.declared.topology_fault.TopoFault.{TopoFault}
+use Rattle.dn_formats.specs.declared.topology_fault.TopoFault.{TopoFault}
 use Rattle.dn_run.specs.Opened.{text_limit, IsReadFront, WasFault}
 use Rattle.dn_run.specs.declared.load.Loaded.{Loaded}
 use Rattle.dn_run.specs.declared.load.Loaded.TheVariants.{Read, Refused, Failed}

@@ -1,10 +1,10 @@
 -- Where a reader stands in its feed.
 use Rattle.std.specs.Prelude.{◌≡◌, ℕ, ◌<◌, ◌≤◌, Bool, true, false, List, Option, None, Some}
 pub use Rattle.dn_model.specs.Entry.{entries}
-use Rattle.dn_model.specs.Steps.{FrameStep}
+use Rattle.dn_formats.specs.Steps.{FrameStep}
 use Rattle.dn_model.specs.declared.topology.Topology.{Topology}
-use Rattle.dn_model.specs.declared.told.FeedEnd.{FeedEnd}
-use Rattle.dn_model.specs.declared.told.FeedEnd.TheVariants as ends
+use Rattle.dn_formats.specs.declared.told.FeedEnd.{FeedEnd}
+use Rattle.dn_formats.specs.declared.told.FeedEnd.TheVariants as ends
 use Rattle.route_feed.specs.FeedReader.{Reader, IsAt, HasEnded, HasFaulted}
 
 -- a reader that has handed out these steps of a feed of these bytes: in the midst of it, or past this end

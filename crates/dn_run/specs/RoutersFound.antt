@@ -1,6 +1,6 @@
 -- When the routers of feeds aren't found.
 use Rattle.std.specs.Prelude.{◌≡◌, Result, Err}
-use Rattle.dn_model.specs.declared.error_line.ErrorLine.{ErrorLine}
+use Rattle.dn_formats.specs.declared.error_line.ErrorLine.{ErrorLine}
 use Rattle.dn_run.specs.declared.routers.RoutersRefused.{RoutersRefused}
 use Rattle.dn_run.specs.declared.routers.RoutersRefused.TheVariants as refused
 

@@ -6,25 +6,25 @@ use Rattle.std.specs.Bool.{MatchBool}
 use Rattle.dn_io.specs.Told.{with_end}
 use Rattle.dn_io.specs.Files.{Files, bytes_of}
 use Rattle.dn_io.specs.Calls.{Call, CallState, Out, Refused, Back}
-use Rattle.dn_model.specs.Words.{FeedWords, PartsSaid, parts_of, unless_faulty}
-use Rattle.dn_model.specs.TopologyText.{topology_of, parts}
+use Rattle.dn_formats.specs.Words.{FeedWords, PartsSaid, parts_of, unless_faulty}
+use Rattle.dn_formats.specs.TopologyText.{topology_of, parts}
 use Rattle.dn_model.specs.Lookup.{router_of}
-use Rattle.dn_model.specs.ScriptText.{script_of}
-use Rattle.dn_model.specs.Feed.{IsReading, IsFaultedReading}
-use Rattle.dn_model.specs.Steps.{FeedRead, told_of}
-use Rattle.dn_model.specs.Lawful.{IsShuffle, KeepsOrder, takes, jobs_of, TellsAll}
-use Rattle.dn_model.specs.Report.{report, error_text}
+use Rattle.dn_formats.specs.ScriptText.{script_of}
+use Rattle.dn_formats.specs.Feed.{IsReading, IsFaultedReading}
+use Rattle.dn_formats.specs.Steps.{FeedRead, told_of}
+use Rattle.dn_formats.specs.Lawful.{IsShuffle, KeepsOrder, takes, jobs_of, TellsAll}
+use Rattle.dn_formats.specs.Report.{report, error_text}
 use Rattle.dn_model.specs.declared.ids.RouterId.{RouterId}
 use Rattle.dn_model.specs.declared.topology.Topology.{Topology}
 use Rattle.dn_model.specs.declared.entry.Entry.{Entry}
-use Rattle.dn_model.specs.declared.script.Line.{Line}
-use Rattle.dn_model.specs.declared.script.Line.TheVariants.{Take, Ask}
-use Rattle.dn_model.specs.declared.told.FeedEnd.{FeedEnd}
-use Rattle.dn_model.specs.declared.told.FeedEnd.TheVariants as ends
-use Rattle.dn_model.specs.declared.told.FeedTold.{FeedTold}
-use Rattle.dn_model.specs.declared.told.JobTold.{JobTold}
-use Rattle.dn_model.specs.declared.error_line.ErrorLine.{ErrorLine}
-use Rattle.dn_model.specs.declared.error_line.ErrorLine.TheVariants as errors
+use Rattle.dn_formats.specs.declared.script.Line.{Line}
+use Rattle.dn_formats.specs.declared.script.Line.TheVariants.{Take, Ask}
+use Rattle.dn_formats.specs.declared.told.FeedEnd.{FeedEnd}
+use Rattle.dn_formats.specs.declared.told.FeedEnd.TheVariants as ends
+use Rattle.dn_formats.specs.declared.told.FeedTold.{FeedTold}
+use Rattle.dn_formats.specs.declared.told.JobTold.{JobTold}
+use Rattle.dn_formats.specs.declared.error_line.ErrorLine.{ErrorLine}
+use Rattle.dn_formats.specs.declared.error_line.ErrorLine.TheVariants as errors
 use Rattle.dn_run.specs.CommandLine.{RunWords, command_of}
 use Rattle.dn_run.specs.Opened.{text_limit, IsReadFront, FailsAt}
 use Rattle.dn_run.specs.declared.status.Verdict.{Verdict}

@@ -1,11 +1,11 @@
 -- What taking frames of one feed does.
 use Rattle.std.specs.Prelude.{◌≡◌, ℕ, ◌+◌, ◌*◌, ◌≤◌, Bool, true, false, List, [], ◌∷◌, ◌++◌, length, Option, None, Some}
-use Rattle.dn_model.specs.Steps.{FrameStep, updates, entries_by}
+use Rattle.dn_formats.specs.Steps.{FrameStep, updates, entries_by}
 use Rattle.dn_run.specs.Latest.{After, IsOf}
 use Rattle.dn_model.specs.declared.entry.Entry.{Entry}
 use Rattle.dn_model.specs.declared.ids.RouterId.{RouterId}
 use Rattle.dn_model.specs.declared.topology.Topology.{Topology}
-use Rattle.dn_model.specs.declared.told.FeedEnd.{FeedEnd}
+use Rattle.dn_formats.specs.declared.told.FeedEnd.{FeedEnd}
 use Rattle.route_feed.specs.FeedReader.{Reader}
 use Rattle.dn_run.specs.Network.{entries, StandsBy, IsCount, CountsFaults}
 use Rattle.dn_run.specs.declared.take.Book.{Book}

@@ -2,21 +2,21 @@
 use Rattle.std.specs.Prelude.{◌≡◌, ℕ, ◌*◌, ◌<◌, ◌≤◌, ◌^◌, ◌==◌, zero, suc, Bool, true, false, not, List, [], ◌∷◌, ◌++◌, length, map, filter, fold, sum, take, All, Option, None, Some, IsSome, IsTrue}
 use Rattle.std.specs.List.{AllZip, list_any, flat_map, position}
 use Rattle.dn_model.specs.Answer.{unknown_of, IsAnswer}
-use Rattle.dn_model.specs.Lawful.{Job, Tells, TellsAll, KeepsOrder, asked, takes, takes_feed, pin_after, is_from, is_from_some, taken_along, first_taken, left_by}
-pub use Rattle.dn_model.specs.ScriptText.{IsShort}
-use Rattle.dn_model.specs.Steps.{FrameStep, FeedRead, updates, entries_by}
+use Rattle.dn_formats.specs.Lawful.{Job, Tells, TellsAll, KeepsOrder, asked, takes, takes_feed, pin_after, is_from, is_from_some, taken_along, first_taken, left_by}
+pub use Rattle.dn_formats.specs.ScriptText.{IsShort}
+use Rattle.dn_formats.specs.Steps.{FrameStep, FeedRead, updates, entries_by}
 use Rattle.dn_run.specs.Latest.{After, IsOf, Latest}
 use Rattle.dn_model.specs.declared.entry.Entry.{Entry}
 use Rattle.dn_model.specs.declared.ids.RouterId.{RouterId}
 use Rattle.dn_model.specs.declared.query.Query.{Query}
-use Rattle.dn_model.specs.declared.script.Line.{Line}
+use Rattle.dn_formats.specs.declared.script.Line.{Line}
 use Rattle.dn_model.specs.declared.topology.Topology.{Topology}
-use Rattle.dn_model.specs.declared.told.FeedEnd.{FeedEnd}
-use Rattle.dn_model.specs.declared.told.FeedEnd.TheVariants as ends
-use Rattle.dn_model.specs.declared.told.Outcome.{Outcome}
-use Rattle.dn_model.specs.declared.told.Outcome.TheVariants.{Answered, Unknown}
-use Rattle.dn_model.specs.declared.told.Told.{Told}
-use Rattle.dn_model.specs.declared.told.JobTold.{JobTold}
+use Rattle.dn_formats.specs.declared.told.FeedEnd.{FeedEnd}
+use Rattle.dn_formats.specs.declared.told.FeedEnd.TheVariants as ends
+use Rattle.dn_formats.specs.declared.told.Outcome.{Outcome}
+use Rattle.dn_formats.specs.declared.told.Outcome.TheVariants.{Answered, Unknown}
+use Rattle.dn_formats.specs.declared.told.Told.{Told}
+use Rattle.dn_formats.specs.declared.told.JobTold.{JobTold}
 use Rattle.route_feed.specs.FeedReader.{Reader}
 use Rattle.dn_run.specs.Network.{entries, StandsBy, IsCount, CountsFaults}
 use Rattle.dn_run.specs.Takes.{Tag, tag_of, IsLater, TakesSome}

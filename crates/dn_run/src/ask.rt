@@ -6,8 +6,9 @@ ghost use Rattle.dn_run.specs.Tracks.{IsOutcomeNow, Adds};
 
 use crate::answerer::answer;
 use crate::take::Book;
+use dn_formats::{Outcome, Told};
 use dn_io::{Gate, Point};
-use dn_model::{List, OutOfMemory, Outcome, Query, Told, Topology};
+use dn_model::{List, OutOfMemory, Query, Topology};
 use std::alloc::Global;
 
 /// The answer to a query over the history so far, whose length is its pin; or the query's first unknown name, without

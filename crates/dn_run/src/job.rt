@@ -2,16 +2,17 @@
 
 ghost use Rattle.std.specs.Prelude.{◌≡◌, ◌<◌, ◌==◌, [], ◌++◌, ◌∷◌, List, length, All, IfOk, OnOk, vec_len};
 ghost use Rattle.std.specs.List.{position};
-ghost use Rattle.dn_model.specs.declared.script.Line.{Line};
-ghost use Rattle.dn_model.specs.declared.told.Told.{Told};
+ghost use Rattle.dn_formats.specs.declared.script.Line.{Line};
+ghost use Rattle.dn_formats.specs.declared.told.Told.{Told};
 ghost use Rattle.route_feed.specs.FeedReader.{Reader};
 ghost use Rattle.dn_run.specs.Network.{entries};
 ghost use Rattle.dn_run.specs.Tracks.{Ready, tags_of, reads, TakesFrom, TakesOf, Tracks, Rests, IsShort};
 
 use crate::ask::ask;
 use crate::take::{Book, take};
+use dn_formats::{Line, Told};
 use dn_io::{Gate, Source};
-use dn_model::{Line, List, OutOfMemory, RouterId, Told, Topology};
+use dn_model::{List, OutOfMemory, RouterId, Topology};
 use route_feed::FeedReader;
 use std::alloc::Global;
 

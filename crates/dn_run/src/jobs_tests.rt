@@ -8,11 +8,9 @@ ghost use Rattle.dn_run.specs.Jobs.{scripts_of};
 ghost use Rattle.dn_run.specs.Tracks.{IsShort};
 
 use crate::jobs::{JobsDone, run_jobs};
+use dn_formats::{Line, Outcome, Script, Told};
 use dn_io::{MemSource, NoGate};
-use dn_model::{
-    Ask, Line, List, Name, OutOfMemory, Outcome, Posted, Query, RouterId, Script, Told, TopoEnd,
-    Topology,
-};
+use dn_model::{Ask, List, Name, OutOfMemory, Posted, Query, RouterId, TopoEnd, Topology};
 use route_feed::FeedReader;
 use std::alloc::Global;
 use std::sync::Arc;

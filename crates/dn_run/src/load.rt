@@ -5,8 +5,9 @@ ghost use Rattle.dn_run.specs.Opened.{MayNameOne};
 ghost use Rattle.dn_run.specs.Loaded.{LoadsTopology, SaysTopology, LoadsScript, SaysScript, IsShortScript};
 
 use crate::files::{FileRefused, read_file};
+use dn_formats::{ErrorLine, Script, TopoRefused};
 use dn_io::World;
-use dn_model::{ErrorLine, OutOfMemory, RouterId, Script, TopoRefused, Topology};
+use dn_model::{OutOfMemory, RouterId, Topology};
 use query_lang::{ScriptRefused, read_script};
 use std::alloc::Global;
 use topology::read_topology;

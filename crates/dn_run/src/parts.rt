@@ -2,10 +2,11 @@
 
 ghost use Rattle.std.specs.Prelude.{◌≡◌, ◌≤◌, IfOk, IfErr, OnOk, Ok, length, map, option_map};
 ghost use Rattle.std.specs.String.{string_bytes};
-ghost use Rattle.dn_model.specs.Words.{feed_of_part, is_equals_sign, part_of, parts_of, FeedPart as feed_part};
+ghost use Rattle.dn_formats.specs.Words.{feed_of_part, is_equals_sign, part_of, parts_of, FeedPart as feed_part};
 ghost use Rattle.dn_run.specs.PartsRead.{ArePartsRefused, feed_texts, next_number, parts_texts, script_named, with_part};
 
-use dn_model::{ErrorLine, Name, OutOfMemory, is_name};
+use dn_formats::ErrorLine;
+use dn_model::{Name, OutOfMemory, is_name};
 use std::alloc::{AllocError, AllocFailed, Global};
 
 /// The most feeds of a run.

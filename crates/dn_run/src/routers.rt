@@ -10,7 +10,8 @@ ghost use Rattle.dn_run.specs.RoutersFound.{AreRoutersRefused};
 ghost use Rattle.dn_run.specs.Run.{router_faults, routers_of};
 
 use crate::parts::FeedPart;
-use dn_model::{ErrorLine, OutOfMemory, RouterId, Topology, router};
+use dn_formats::ErrorLine;
+use dn_model::{OutOfMemory, RouterId, Topology, router};
 use std::alloc::{AllocError, AllocFailed, Global};
 
 /// Why the routers of feeds aren't found.

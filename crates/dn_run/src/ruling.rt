@@ -1,12 +1,13 @@
 //! What a run comes to, with the text that it prints.
 
 ghost use Rattle.std.specs.Prelude.{◌≡◌, ◌&&◌, ◌==◌, length, IfOk};
-ghost use Rattle.dn_model.specs.Report.{error_text, report};
+ghost use Rattle.dn_formats.specs.Report.{error_text, report};
 ghost use Rattle.dn_model.specs.Entry.{entries};
 ghost use Rattle.dn_run.specs.Run.{verdict_of, ended_well, is_faulted, some_faulted, all_well};
 
 use crate::status::Verdict;
-use dn_model::{ErrorLine, FeedEnd, FeedTold, JobTold, List, OutOfMemory, Posted, Topology};
+use dn_formats::{ErrorLine, FeedEnd, FeedTold, JobTold};
+use dn_model::{List, OutOfMemory, Posted, Topology};
 use run_report::{error_line, report_text};
 use std::alloc::Global;
 

@@ -1,7 +1,7 @@
 //! Frames of a feed are taken: version and history follow it, frame by frame.
 
 ghost use Rattle.std.specs.Prelude.{◌≡◌, ℕ, ◌<◌, ◌≤◌, ◌++◌, ◌∷◌, [], List, length, OnOk, IfOk, is_none, Some, None, IsSome, true};
-ghost use Rattle.dn_model.specs.Steps.{entries_by};
+ghost use Rattle.dn_formats.specs.Steps.{entries_by};
 ghost use Rattle.dn_model.specs.declared.entry.Entry.{Entry};
 ghost use Rattle.dn_model.specs.declared.topology.Topology.{Topology as TopologyIs};
 ghost use Rattle.dn_run.specs.Latest.{After, CanMake, CanMakeAll, IsOf};

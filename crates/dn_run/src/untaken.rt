@@ -3,11 +3,12 @@
 ghost use Rattle.std.specs.Prelude.{◌≡◌, ◌+◌, ◌≤◌, nat_lt, not, length, filter, map};
 ghost use Rattle.std.specs.List.{list_any};
 ghost use Rattle.std.specs.Option.{option_copied};
-ghost use Rattle.dn_model.specs.Lawful.{takes};
+ghost use Rattle.dn_formats.specs.Lawful.{takes};
 ghost use Rattle.dn_run.specs.Jobs.{scripts_of};
 ghost use Rattle.dn_run.specs.Run.{most_jobs, untaken, takes_router};
 
-use dn_model::{Line, RouterId, Script};
+use dn_formats::{Line, Script};
+use dn_model::RouterId;
 
 /// A run has at most this many jobs.
 const MOST_JOBS: usize = 64;

@@ -1,7 +1,7 @@
 //! A cutter of frames: pieces of a stream go in, frames come out.
 
 ghost use Rattle.std.specs.Prelude.{◌≡◌, ◌+◌, ◌^◌, ◌<◌, ◌↔◌, ℕ, Some, List, [], ◌∷◌, ◌++◌, length, OnOk, OnErr};
-ghost use Rattle.dn_model.specs.Frames.{Frame, frame_text, IsFrame, BeginsFrame, IsFrameFront, rest_kind, lost_cause};
+ghost use Rattle.dn_formats.specs.Frames.{Frame, frame_text, IsFrame, BeginsFrame, IsFrameFront, rest_kind, lost_cause};
 ghost use Rattle.fpm_frame.specs.Held.{fed, PassesFrame};
 ghost use Rattle.fpm_frame.specs.Answers.{AnswersNext, AnswersFinish, IsFrameThere, IsMoreWanted, IsFramingLost, LosesFraming};
 

@@ -2,7 +2,7 @@
 use Rattle.std.proofs.Common.{◌≡◌, ◌<◌, ℕ, Bool, List, [], ◌∷◌, length, refl, arith, None}
 use Rattle.std.specs.List.{slice_split}
 use Rattle.std.proofs.lemmas.List.Splits.{length-slice_split}
-use Rattle.dn_model.specs.Decimal.{address_of_parts, address_of_octets, octet_of}
+use Rattle.dn_formats.specs.Decimal.{address_of_parts, address_of_octets, octet_of}
 
 -- a text has one part at least
 pub slice_split-some : (p : ℕ → Bool) (xs : List ℕ) → 0 < length (slice_split p xs)

@@ -5,7 +5,7 @@ use Rattle.std.proofs.lemmas.Bool.{ltb-false, ltb-true}
 use Rattle.std.proofs.lemmas.List.{take_all, drop_all, nil_from_length, length-take}
 use Rattle.std.proofs.lemmas.List.Sums.{prefix_len-le-length, fails_before_first, passes_at_first}
 use Rattle.std.proofs.lemmas.List.Splits.{slice_split_first, slice_split_none, slice_split-cons_yes, length-slice_split}
-use Rattle.dn_model.specs.ScriptText.{is_gap, is_line_feed, words_of, lines_of, two_of, has_bytes, without_empty_end}
+use Rattle.dn_formats.specs.ScriptText.{is_gap, is_line_feed, words_of, lines_of, two_of, has_bytes, without_empty_end}
 
 end_at : (b : Bool) (n len : ℕ) → nat_lt n len ≡ b → n ≤ len → unwrap_or (cond b (Some n) None) len ≡ n
 end_at true n len e h = refl

@@ -2,7 +2,7 @@
 use Rattle.std.proofs.Common.{◌≡◌, ℕ, List, [], ◌∷◌, ◌++◌, codes, ap, sym, ◌∙◌, append_assoc, arith}
 use Rattle.std.proofs.lemmas.Grind.{common_steps}
 use Rattle.std.specs.List.{flat_map}
-use Rattle.dn_model.specs.Report.{names_text}
+use Rattle.dn_formats.specs.Report.{names_text}
 
 names_as_commas : (n : List ℕ) (ms : List (List ℕ)) → names_text (n ∷ ms) ≡ n ++ flat_map (λ m. codes "," ++ m) ms
 names_as_commas n [] = grind (arith, common_steps)

@@ -5,11 +5,11 @@ use Rattle.std.specs.Str.{bytes_eq}
 use Rattle.std.specs.Prelude.{codes}
 use Rattle.std.proofs.lemmas.List.Elements.{All-cons, All-nil}
 use Rattle.dn_model.specs.Name.{is_name_text}
-use Rattle.dn_model.specs.ScriptText.{ScriptFault, lines_meaning, line_meaning, words_of, passes, count_of, is_named, same_router, take_from, take_meaning, take_count, two_of, command_meaning, ask_of, ask_meaning, numbered, at_line, with_line, IsShort}
+use Rattle.dn_formats.specs.ScriptText.{ScriptFault, lines_meaning, line_meaning, words_of, passes, count_of, is_named, same_router, take_from, take_meaning, take_count, two_of, command_meaning, ask_of, ask_meaning, numbered, at_line, with_line, IsShort}
 use Rattle.dn_model.specs.declared.ids.RouterId.{RouterId}
 use Rattle.dn_model.specs.declared.query.Ask.{Ask}
-use Rattle.dn_model.specs.declared.script.Line.{Line}
-use Rattle.dn_model.specs.declared.script.Line.TheVariants as line
+use Rattle.dn_formats.specs.declared.script.Line.{Line}
+use Rattle.dn_formats.specs.declared.script.Line.TheVariants as line
 
 ShortMeaning : {E : Type 0} → Result (Option Line) E → Type 0
 ShortMeaning (Err c) = Unit {0}

@@ -1,7 +1,7 @@
 -- When the reader of scripts refuses.
 use Rattle.std.specs.Prelude.{◌≡◌, ℕ, Option, Some, Result, Ok, Err}
-use Rattle.dn_model.specs.ScriptText.{ScriptFault}
-use Rattle.dn_model.specs.declared.script.Line.{Line}
+use Rattle.dn_formats.specs.ScriptText.{ScriptFault}
+use Rattle.dn_formats.specs.declared.script.Line.{Line}
 use Rattle.query_lang.specs.declared.script_text.ScriptRefused.{ScriptRefused}
 use Rattle.query_lang.specs.declared.script_text.ScriptRefused.TheVariants as script
 use Rattle.query_lang.specs.declared.script_line.LineRefused.{LineRefused}

@@ -1,10 +1,10 @@
 //! Addresses written as dotted quads.
 
 ghost use Rattle.std.specs.Prelude.{◌≡◌, ◌≤◌, IfSome, ◌∷◌, []};
-ghost use Rattle.dn_model.specs.Decimal.{octet_of, address_of_octets, address_of, address_of_parts};
+ghost use Rattle.dn_formats.specs.Decimal.{octet_of, address_of_octets, address_of, address_of_parts};
 
 use crate::text_cut::split_at_dot;
-use dn_model::read_number;
+use dn_formats::read_number;
 
 /// An octet of an address: a number from 0 to 255.
 fn read_octet(text: &[u8]) -> Option<u32>

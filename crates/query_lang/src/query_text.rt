@@ -5,9 +5,10 @@
 
 ghost use Rattle.std.specs.Prelude.{◌≡◌, ◌++◌, ◌∷◌, [], ◌-◌, OnOk, codes, slice_get, unwrap_or};
 ghost use Rattle.std.specs.List.{flat_map};
-ghost use Rattle.dn_model.specs.Report.{line, names_text, without_text, ask_text, query_text, names_of_ask, name_at, unknown_line};
+ghost use Rattle.dn_formats.specs.Report.{line, names_text, without_text, ask_text, query_text, names_of_ask, name_at, unknown_line};
 
-use dn_model::{Ask, Name, OutOfMemory, Query, Unknown, push_address, push_bytes};
+use dn_formats::{push_address, push_bytes};
+use dn_model::{Ask, Name, OutOfMemory, Query, Unknown};
 
 /// Adds a comma and a name.
 fn push_comma_name(out: &mut Vec<u8>, name: &Name) -> Result<(), OutOfMemory>

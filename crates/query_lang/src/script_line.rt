@@ -2,14 +2,13 @@
 
 ghost use Rattle.std.specs.Prelude.{◌≡◌, ℕ, IsTrue, IfOk, find, ◌∷◌};
 ghost use Rattle.std.specs.List.{list_any};
-ghost use Rattle.dn_model.specs.ScriptText.{line_meaning, words_of, count_of, is_named, same_router, take_from, take_meaning, two_of, command_meaning, ask_of, ask_meaning, path_of, delta_of};
+ghost use Rattle.dn_formats.specs.ScriptText.{line_meaning, words_of, count_of, is_named, same_router, take_from, take_meaning, two_of, command_meaning, ask_of, ask_meaning, path_of, delta_of};
 ghost use Rattle.query_lang.specs.ScriptRefused.{Reads, ReadsCommand};
 
 use crate::address::read_address;
 use crate::text_cut::{has_first, is_same, next_word, two_words};
-use dn_model::{
-    Ask, Line, List, Name, OutOfMemory, Query, RouterId, Topology, is_name, read_number,
-};
+use dn_formats::{Line, read_number};
+use dn_model::{Ask, List, Name, OutOfMemory, Query, RouterId, Topology, is_name};
 use std::alloc::Global;
 
 /// The line is no line of a script, or is too long.

@@ -2,12 +2,13 @@
 
 ghost use Rattle.std.specs.Prelude.{◌≡◌, ◌++◌, ◌≤◌, ◌<◌, IfOk, IfErr, OnOk, Ok, All};
 ghost use Rattle.std.specs.Option.{option_to_list};
-ghost use Rattle.dn_model.specs.ScriptText.{script_of, lines_meaning, line_meaning, lines_of, numbered, IsShort};
+ghost use Rattle.dn_formats.specs.ScriptText.{script_of, lines_meaning, line_meaning, lines_of, numbered, IsShort};
 ghost use Rattle.query_lang.specs.ScriptRefused.{IsRefused};
 
 use crate::script_line::{Feeds, LineRefused, read_line};
 use crate::text_cut::first_line;
-use dn_model::{Line, List, OutOfMemory, RouterId, Script, Topology};
+use dn_formats::{Line, Script};
+use dn_model::{List, OutOfMemory, RouterId, Topology};
 use std::alloc::Global;
 
 /// There are too many lines.

@@ -1,9 +1,10 @@
 //! What no clause says: that the scripts of this page are read, which fault is answered, and printed texts.
 
 use crate::{ScriptRefused, answer_text, read_script};
+use dn_formats::{Line, Outcome, Told};
 use dn_model::{
-    Answer, Ask, Change, Line, List, Name, OutOfMemory, Outcome, PathEnd, Query, RouterId, Run,
-    Target, Told, Topology, Unknown,
+    Answer, Ask, Change, List, Name, OutOfMemory, PathEnd, Query, RouterId, Run, Target, Topology,
+    Unknown,
 };
 use std::alloc::Global;
 use std::test::Fail;

@@ -3,8 +3,8 @@
 ghost use Rattle.std.specs.Prelude.{◌≡◌, ◌+◌, ◌≤◌, ◌<◌, ◌∷◌, [], ◌==◌, length, take, drop, position, nat_lt, MatchOption, None, Some, get_or, false};
 ghost use Rattle.std.specs.List.{position_or_len, slice_split, before_first, after_first};
 ghost use Rattle.std.specs.Str.{bytes_eq};
-ghost use Rattle.dn_model.specs.Decimal.{is_dot};
-ghost use Rattle.dn_model.specs.ScriptText.{is_gap, is_line_feed, words_of, lines_of, two_of, begins_with};
+ghost use Rattle.dn_formats.specs.Decimal.{is_dot};
+ghost use Rattle.dn_formats.specs.ScriptText.{is_gap, is_line_feed, words_of, lines_of, two_of, begins_with};
 
 /// Whether a byte parts words: space, tab or carriage return.
 fn parts_words(byte: u8) -> bool

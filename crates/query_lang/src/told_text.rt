@@ -5,14 +5,14 @@
 
 ghost use Rattle.std.specs.Prelude.{◌≡◌, ◌++◌, ◌∷◌, [], OnOk, IfOk, codes, decimal};
 ghost use Rattle.std.specs.List.{flat_map};
-ghost use Rattle.dn_model.specs.Report.{line, query_text, unknown_line, hop_text, path_end_text, change_line, change_lines, answer_lines, outcome_lines, told_lines};
-ghost use Rattle.dn_model.specs.declared.told.Outcome.TheVariants.{Answered, Unknown as unanswered};
+ghost use Rattle.dn_formats.specs.Report.{line, query_text, unknown_line, hop_text, path_end_text, change_line, change_lines, answer_lines, outcome_lines, told_lines};
+ghost use Rattle.dn_formats.specs.declared.told.Outcome.TheVariants.{Answered, Unknown as unanswered};
 
 use crate::query_text::{push_query, push_unknown_line};
-use dn_model::{
-    Answer, Change, OutOfMemory, Outcome, PathEnd, RouterId, Text, Told, Topology, Unknown,
-    push_bytes, push_labelled, push_router, push_run, push_target,
+use dn_formats::{
+    Outcome, Text, Told, push_bytes, push_labelled, push_router, push_run, push_target,
 };
+use dn_model::{Answer, Change, OutOfMemory, PathEnd, RouterId, Topology, Unknown};
 use std::alloc::Global;
 
 /// Adds a space and a router's name.

@@ -8,12 +8,12 @@ use Rattle.std.proofs.lemmas.List.Elements.{All-nil}
 use Rattle.std.proofs.lemmas.List.Sums.{sum_by-cons}
 use Rattle.std.proofs.Math.Seq.{drop-cons}
 use Rattle.dn_model.specs.Entry.{IsOpOf}
-use Rattle.dn_model.specs.Feed.{item_op, item_refusal, item_is_skipped, ops_among, skipped_among, step_by, step_of}
+use Rattle.dn_formats.specs.Feed.{item_op, item_refusal, item_is_skipped, ops_among, skipped_among, step_by, step_of}
 use Rattle.dn_model.specs.declared.entry.Op.{Op}
 use Rattle.dn_model.specs.declared.ids.RouterId.{RouterId}
-use Rattle.dn_model.specs.declared.payload.Item.{Item}
-use Rattle.dn_model.specs.declared.payload.Payload.{Payload}
-use Rattle.dn_model.specs.declared.payload.Refused.{Refused as Refusal}
+use Rattle.dn_formats.specs.declared.payload.Item.{Item}
+use Rattle.dn_formats.specs.declared.payload.Payload.{Payload}
+use Rattle.dn_formats.specs.declared.payload.Refused.{Refused as Refusal}
 use Rattle.dn_model.specs.declared.topology.Topology.{Topology}
 use Rattle.route_feed.specs.FrameStep.{frame_step}
 use Rattle.route_feed.specs.Gathered.{HasGathered}

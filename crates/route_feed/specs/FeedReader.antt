@@ -3,15 +3,15 @@ use Rattle.std.specs.Prelude.{◌≡◌, ℕ, ◌+◌, ◌*◌, ◌<◌, ◌≤�
 use Rattle.dn_io.specs.Faults.{Rose}
 use Rattle.dn_io.specs.Told.{with_front, NothingLeft}
 use Rattle.dn_model.specs.Entry.{IsOpOf}
-use Rattle.dn_model.specs.Feed.{AreSteps, IsReading, IsFaultedReading}
-use Rattle.dn_model.specs.Frames.{Frame, IsFrame, frames_text}
-use Rattle.dn_model.specs.Steps.{FrameStep, Accepted, Refused, updates, refusals, skipped_of, told_of}
+use Rattle.dn_formats.specs.Feed.{AreSteps, IsReading, IsFaultedReading}
+use Rattle.dn_formats.specs.Frames.{Frame, IsFrame, frames_text}
+use Rattle.dn_formats.specs.Steps.{FrameStep, Accepted, Refused, updates, refusals, skipped_of, told_of}
 use Rattle.dn_model.specs.declared.ids.RouterId.{RouterId}
 use Rattle.dn_model.specs.declared.memory.OutOfMemory.{OutOfMemory}
 use Rattle.dn_model.specs.declared.topology.Topology.{Topology}
-use Rattle.dn_model.specs.declared.told.FeedEnd.{FeedEnd}
-use Rattle.dn_model.specs.declared.told.FeedEnd.TheVariants as ends
-use Rattle.dn_model.specs.declared.told.FeedTold.{FeedTold}
+use Rattle.dn_formats.specs.declared.told.FeedEnd.{FeedEnd}
+use Rattle.dn_formats.specs.declared.told.FeedEnd.TheVariants as ends
+use Rattle.dn_formats.specs.declared.told.FeedTold.{FeedTold}
 use Rattle.route_feed.specs.declared.feed_step.FeedStep.{FeedStep}
 use Rattle.route_feed.specs.declared.feed_step.FeedStep.TheVariants as answers
 

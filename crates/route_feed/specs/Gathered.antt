@@ -2,10 +2,10 @@
 use Rattle.std.specs.Prelude.{◌≡◌, ℕ, ◌+◌, ◌≤◌, List, ◌++◌, length, drop, All}
 use Rattle.std.specs.List.{filter_map}
 use Rattle.dn_model.specs.Entry.{IsOpOf}
-use Rattle.dn_model.specs.Feed.{item_refusal, ops_among, skipped_among}
+use Rattle.dn_formats.specs.Feed.{item_refusal, ops_among, skipped_among}
 use Rattle.dn_model.specs.declared.entry.Op.{Op}
 use Rattle.dn_model.specs.declared.ids.RouterId.{RouterId}
-use Rattle.dn_model.specs.declared.payload.Item.{Item}
+use Rattle.dn_formats.specs.declared.payload.Item.{Item}
 use Rattle.dn_model.specs.declared.topology.Topology.{Topology}
 
 -- Of these messages the first so many were looked at, and none is refused: these are their updates, and so many of

@@ -2,15 +2,16 @@
 
 ghost use Rattle.std.specs.Prelude.{◌≡◌, ℕ, ◌+◌, ◌<◌, ◌≤◌, ◌^◌, List, [], ◌++◌, length, Option, None, Some, IfOk, OnErr};
 ghost use Rattle.dn_io.specs.Told.{with_front};
-ghost use Rattle.dn_model.specs.Steps.{FrameStep};
+ghost use Rattle.dn_formats.specs.Steps.{FrameStep};
 ghost use Rattle.dn_model.specs.declared.topology.Topology.{Topology};
 ghost use Rattle.route_feed.specs.FeedReader.{Reader, IsAt, IsOutcome, FaultsAt, told_then, told_so_far, end_of, IsReadersEnd, Advances, AreOpsOf};
 
 use crate::feed_step::FeedStep;
 use crate::frame_step::hand_out;
 use crate::intake::Intake;
+use dn_formats::{FeedEnd, FeedTold};
 use dn_io::Source;
-use dn_model::{FeedEnd, FeedTold, List, OutOfMemory, RouterId, Topology};
+use dn_model::{List, OutOfMemory, RouterId, Topology};
 use std::alloc::Global;
 use std::marker::Model;
 

@@ -3,20 +3,18 @@
 ghost use Rattle.std.specs.Prelude.{◌≡◌, ◌+◌, ◌<◌, ◌≤◌, ◌^◌, ◌++◌, All, Some, IfOk, OnOk, OnErr, length, if◌then◌else◌};
 ghost use Rattle.std.specs.Option.{option_to_list};
 ghost use Rattle.dn_model.specs.Entry.{IsOpOf};
-ghost use Rattle.dn_model.specs.Feed.{item_op, item_refusal, item_is_skipped, step_of};
-ghost use Rattle.dn_model.specs.Frames.{BeginsFrame};
+ghost use Rattle.dn_formats.specs.Feed.{item_op, item_refusal, item_is_skipped, step_of};
+ghost use Rattle.dn_formats.specs.Frames.{BeginsFrame};
 ghost use Rattle.route_feed.specs.FeedReader.{told_after, AreOpsOf};
 ghost use Rattle.route_feed.specs.FrameStep.{ComesTo, frame_step, IsOfFrame, HandsTo};
 
 use crate::feed_step::FeedStep;
 use crate::intake::Intake;
 use crate::route_op::op_of;
+use dn_formats::refusal::{FRAME_TYPE, UNKNOWN_INTERFACE};
+use dn_formats::{FeedTold, Item, ItemKind, Payload, Refused, RefusedFrame};
 use dn_io::Source;
-use dn_model::refusal::{FRAME_TYPE, UNKNOWN_INTERFACE};
-use dn_model::{
-    FeedTold, Item, ItemKind, List, Op, OutOfMemory, Payload, Refused, RefusedFrame, RouterId,
-    Topology,
-};
+use dn_model::{List, Op, OutOfMemory, RouterId, Topology};
 use fpm_frame::Next;
 use rt_netlink::read_payload;
 use std::alloc::Global;

@@ -3,9 +3,10 @@
 ghost use Rattle.std.specs.Prelude.{◌≡◌, IfSome, unwrap_or};
 ghost use Rattle.dn_model.specs.Entry.{IsOpOf, IsTargetOf};
 ghost use Rattle.dn_model.specs.Lookup.{IsPortWithin};
-ghost use Rattle.dn_model.specs.Message.{target_at, set_op_of, set_op_by, op_of};
+ghost use Rattle.dn_formats.specs.Message.{target_at, set_op_of, set_op_by, op_of};
 
-use dn_model::{DropKind, Op, Port, RawRoute, RouteKind, RouterId, Target, Topology, port};
+use dn_formats::{RawRoute, RouteKind};
+use dn_model::{DropKind, Op, Port, RouterId, Target, Topology, port};
 
 /// What a unicast route does at a port, which is the router's interface of this number.
 fn target_at(port: Port, via: bool, index: u32) -> Target

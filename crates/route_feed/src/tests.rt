@@ -5,8 +5,9 @@ ghost use Rattle.std.specs.Prelude.{◌≡◌, ◌<◌, ◌≤◌, ◌^◌, leng
 use crate::feed_reader::FeedReader;
 use crate::feed_step::FeedStep;
 use crate::test_network::{FIRST, SECOND, THIRD, triangle};
+use dn_formats::FeedEnd;
 use dn_io::{MemSource, Source};
-use dn_model::{FeedEnd, LinkId, Op, OutOfMemory, Prefix, Target, Topology};
+use dn_model::{LinkId, Op, OutOfMemory, Prefix, Target, Topology};
 use std::alloc::Global;
 use std::test::Fail;
 

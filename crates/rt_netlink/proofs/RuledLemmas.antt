@@ -1,7 +1,7 @@
 -- The table of what is refused and what is skipped, part after part.
 use Rattle.std.proofs.Common.{◌≡◌, ℕ, Bool, true, false, List, [], ◌∷◌, ◌++◌, refl, ◌∙◌, Option, None, Some}
 use Rattle.std.specs.Prelude.{if◌then◌else◌, Result, Ok, Err}
-use Rattle.dn_model.specs.Payload.{Ruling, first_ruling, ruling_of}
+use Rattle.dn_formats.specs.Payload.{Ruling, first_ruling, ruling_of}
 use Rattle.rt_netlink.specs.Ruled.{Row, header_rows, part_rows, prefix_rows, hop_rows, Rules, RulesWhole}
 use Rattle.rt_netlink.specs.declared.ruling.Ruling.{Ruling as Answer}
 

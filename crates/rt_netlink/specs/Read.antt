@@ -1,10 +1,10 @@
 -- What is known of a message while it is read.
 use Rattle.std.specs.Prelude.{◌≡◌, ℕ, ◌≤◌, ◌-◌, ◌++◌, List, length, None, Some, Result, Ok, Err}
-use Rattle.dn_model.specs.Payload.{message_length, is_set, Refuses, Skips, ruling_of, route_of, said_after}
-use Rattle.dn_model.specs.declared.payload.Item.{Item}
-use Rattle.dn_model.specs.declared.payload.ItemKind.{ItemKind}
-use Rattle.dn_model.specs.declared.payload.ItemKind.TheVariants.{Route, Skipped}
-use Rattle.dn_model.specs.declared.payload.Payload.{Payload}
+use Rattle.dn_formats.specs.Payload.{message_length, is_set, Refuses, Skips, ruling_of, route_of, said_after}
+use Rattle.dn_formats.specs.declared.payload.Item.{Item}
+use Rattle.dn_formats.specs.declared.payload.ItemKind.{ItemKind}
+use Rattle.dn_formats.specs.declared.payload.ItemKind.TheVariants.{Route, Skipped}
+use Rattle.dn_formats.specs.declared.payload.Payload.{Payload}
 use Rattle.rt_netlink.specs.declared.message.Header.{Header}
 
 -- the header of a message that is all there and that sets a route or deletes one

@@ -11,7 +11,7 @@ mod read;
 mod ruling;
 mod write;
 
-pub use dn_model::{Item, ItemKind, Payload, RawRoute, Refused, RouteKind, Skip};
+pub use dn_formats::{Item, ItemKind, Payload, RawRoute, Refused, RouteKind, Skip};
 pub use read::read_payload;
 pub use write::write_route;
 

@@ -4,8 +4,8 @@
 
 ghost use Rattle.std.specs.Prelude.{◌≡◌, ◌≤◌, ◌<◌, ◌^◌, ◌-◌, ◌%◌, ◌==◌, ◌++◌, length, not, true, false, None, Some, IfOk, IsSome};
 ghost use Rattle.dn_model.specs.Cidr.{IsCidr};
-ghost use Rattle.dn_model.specs.Payload.{CanBeSaid, message_length, is_set, is_main, kind_of, attributes, prefix_of, route_set, route_deleted, route_of};
-ghost use Rattle.dn_model.specs.declared.raw_route.RouteKind.TheVariants.{Unicast};
+ghost use Rattle.dn_formats.specs.Payload.{CanBeSaid, message_length, is_set, is_main, kind_of, attributes, prefix_of, route_set, route_deleted, route_of};
+ghost use Rattle.dn_formats.specs.declared.raw_route.RouteKind.TheVariants.{Unicast};
 ghost use Rattle.rt_netlink.specs.Gathered.{Keeps, KeepsAll};
 ghost use Rattle.rt_netlink.specs.Ruled.{header_rows, part_rows, prefix_rows, hop_rows, Rules, RulesWhole};
 ghost use Rattle.rt_netlink.specs.Read.{IsHeader};
@@ -13,11 +13,12 @@ ghost use Rattle.rt_netlink.specs.Read.{IsHeader};
 use crate::attributes::{RouteAttributes, read_attributes};
 use crate::numbers::{number_at, short_at};
 use crate::ruling::Ruling;
-use dn_model::refusal::{
+use dn_formats::refusal::{
     BAD_ATTR, BAD_LENGTH, BAD_PREFIX_LENGTH, ENCAP, HOST_BITS, MULTIPATH, NEXT_HOP_ID,
     NO_DESTINATION, NO_INTERFACE, ROUTE_TYPE, SHORT, SOURCE_OR_TOS,
 };
-use dn_model::{Prefix, RawRoute, RouteKind, Skip};
+use dn_formats::{RawRoute, RouteKind, Skip};
+use dn_model::Prefix;
 
 /// How long struct nlmsghdr is.
 const HEADER_LENGTH: usize = 16;

@@ -1,14 +1,15 @@
 //! The payload of a frame, message by message.
 
 ghost use Rattle.std.specs.Prelude.{◌≡◌, ◌≤◌, length, drop, IfOk, OnOk, All};
-ghost use Rattle.dn_model.specs.Attributes.{padded};
-ghost use Rattle.dn_model.specs.Payload.{IsPayload, IsSayable, message_length};
+ghost use Rattle.dn_formats.specs.Attributes.{padded};
+ghost use Rattle.dn_formats.specs.Payload.{IsPayload, IsSayable, message_length};
 ghost use Rattle.rt_netlink.specs.Read.{Says};
 
 use crate::message::read_message;
 use crate::numbers::{after_padding, number_at};
 use crate::ruling::Ruling;
-use dn_model::{Item, ItemKind, List, OutOfMemory, Payload, Refused};
+use dn_formats::{Item, ItemKind, Payload, Refused};
+use dn_model::{List, OutOfMemory};
 use std::alloc::Global;
 
 /// What the message at the front says, or the cause by which it is refused.

@@ -1,6 +1,6 @@
 //! Why a message says no route.
 
-use dn_model::Skip;
+use dn_formats::Skip;
 
 /// What becomes of a message that says no route here.
 #[derive(Clone, Copy, Debug, PartialEq, Eq)]

@@ -1,7 +1,7 @@
 //! Payloads of recorded frames, byte by byte, and what they say.
 
 ghost use Rattle.std.specs.Prelude.{◌≤◌, length};
-ghost use Rattle.dn_model.specs.Payload.{CanBeSaid};
+ghost use Rattle.dn_formats.specs.Payload.{CanBeSaid};
 
 use super::{Item, ItemKind, RawRoute, Refused, RouteKind, Skip, read_payload, write_route};
 use dn_model::{OutOfMemory, Prefix};

@@ -1,12 +1,13 @@
 //! The message of a route.
 
 ghost use Rattle.std.specs.Prelude.{◌≡◌, ◌+◌, ◌<◌, ◌++◌, ◌∷◌, [], None, length, IfOk, OnOk};
-ghost use Rattle.dn_model.specs.Message.{message_text, header_text, route_part, attribute, destination_text, gateway_text, number_text, attributes_text, kind_number};
-ghost use Rattle.dn_model.specs.Payload.{IsPayload, CanBeSaid};
-ghost use Rattle.dn_model.specs.declared.payload.ItemKind.TheVariants.{Route};
+ghost use Rattle.dn_formats.specs.Message.{message_text, header_text, route_part, attribute, destination_text, gateway_text, number_text, attributes_text, kind_number};
+ghost use Rattle.dn_formats.specs.Payload.{IsPayload, CanBeSaid};
+ghost use Rattle.dn_formats.specs.declared.payload.ItemKind.TheVariants.{Route};
 
 use crate::numbers::{address_bytes, number_bytes};
-use dn_model::{OutOfMemory, Prefix, RawRoute, RouteKind};
+use dn_formats::{RawRoute, RouteKind};
+use dn_model::{OutOfMemory, Prefix};
 use std::alloc::Global;
 
 /// RTA_DST: the first address of the prefix.

@@ -1,9 +1,10 @@
 //! The names of causes, by their numbers; `Unread` for a number that no cause has.
 
 ghost use Rattle.std.specs.Prelude.{◌≡◌, ◌++◌, ◌∷◌, [], OnOk, codes, slice_get, unwrap_or};
-ghost use Rattle.dn_model.specs.Report.{name_of_cause, frame_causes, topology_causes, script_causes, cause_text};
+ghost use Rattle.dn_formats.specs.Report.{name_of_cause, frame_causes, topology_causes, script_causes, cause_text};
 
-use dn_model::{OutOfMemory, push_bytes};
+use dn_formats::push_bytes;
+use dn_model::OutOfMemory;
 
 /// The name of a cause for which a frame is refused or a feed is lost.
 fn frame_cause(cause: u8) -> &'static [u8]

@@ -1,7 +1,7 @@
 //! The printed error lines, byte for byte.
 
 use crate::error_line;
-use dn_model::{ErrorLine, TopoFault, TopoPart};
+use dn_formats::{ErrorLine, TopoFault, TopoPart};
 
 /// A fault of a topology's text.
 fn fault(part: TopoPart, entry: u32, cause: u8) -> ErrorLine {

@@ -4,12 +4,11 @@
 //! text may have been added.
 
 ghost use Rattle.std.specs.Prelude.{◌≡◌, ◌++◌, ◌∷◌, [], OnOk, IfOk, codes, decimal};
-ghost use Rattle.dn_model.specs.Report.{line, topology_part_text, cause_words, topology_causes, script_causes, name_of_cause, topology_fault_words, script_fault_words, part_words, error_words, error_text};
+ghost use Rattle.dn_formats.specs.Report.{line, topology_part_text, cause_words, topology_causes, script_causes, name_of_cause, topology_fault_words, script_fault_words, part_words, error_words, error_text};
 
 use crate::causes::{script_cause, topology_cause};
-use dn_model::{
-    ErrorLine, OutOfMemory, TopoFault, TopoPart, push_bytes, push_decimal, push_labelled,
-};
+use dn_formats::{ErrorLine, TopoFault, TopoPart, push_bytes, push_decimal, push_labelled};
+use dn_model::OutOfMemory;
 use std::alloc::Global;
 
 /// Adds what is wrong with a part of the command line.

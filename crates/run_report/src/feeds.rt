@@ -5,12 +5,11 @@
 
 ghost use Rattle.std.specs.Prelude.{◌≡◌, ◌++◌, ◌∷◌, [], OnOk, codes, decimal};
 ghost use Rattle.std.specs.List.{flat_map};
-ghost use Rattle.dn_model.specs.Report.{line, cause_text, end_text, refused_line, feed_line, feed_lines};
+ghost use Rattle.dn_formats.specs.Report.{line, cause_text, end_text, refused_line, feed_line, feed_lines};
 
 use crate::causes::push_frame_cause;
-use dn_model::{
-    FeedEnd, FeedTold, OutOfMemory, RefusedFrame, Topology, push_bytes, push_labelled, push_router,
-};
+use dn_formats::{FeedEnd, FeedTold, RefusedFrame, push_bytes, push_labelled, push_router};
+use dn_model::{OutOfMemory, Topology};
 
 /// Adds where and why a feed was lost.
 fn push_lost(out: &mut Vec<u8>, offset: u64, cause: u8) -> Result<(), OutOfMemory>

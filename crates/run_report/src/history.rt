@@ -5,13 +5,11 @@
 
 ghost use Rattle.std.specs.Prelude.{◌≡◌, ◌++◌, ◌∷◌, [], ◌≤◌, OnOk, codes, decimal, map};
 ghost use Rattle.dn_model.specs.Entry.{entries};
-ghost use Rattle.dn_model.specs.Report.{line, op_text, entry_line, entry_lines, history_lines};
+ghost use Rattle.dn_formats.specs.Report.{line, op_text, entry_line, entry_lines, history_lines};
 ghost use Rattle.dn_model.specs.declared.entry.Op.TheVariants.{Set, Clear};
 
-use dn_model::{
-    Entry, List, Op, OutOfMemory, Posted, Prefix, Target, Topology, push_bytes, push_decimal,
-    push_labelled, push_prefix, push_router, push_target,
-};
+use dn_formats::{push_bytes, push_decimal, push_labelled, push_prefix, push_router, push_target};
+use dn_model::{Entry, List, Op, OutOfMemory, Posted, Prefix, Target, Topology};
 
 /// Adds a route that is set.
 fn push_set(

@@ -5,9 +5,10 @@
 
 ghost use Rattle.std.specs.Prelude.{◌≡◌, ◌++◌, ◌∷◌, [], OnOk, codes, decimal};
 ghost use Rattle.std.specs.List.{flat_map};
-ghost use Rattle.dn_model.specs.Report.{line, told_lines, job_lines};
+ghost use Rattle.dn_formats.specs.Report.{line, told_lines, job_lines};
 
-use dn_model::{JobTold, OutOfMemory, Told, Topology, push_bytes, push_labelled};
+use dn_formats::{JobTold, Told, push_bytes, push_labelled};
+use dn_model::{OutOfMemory, Topology};
 use query_lang::push_told;
 
 /// Adds what is told of all queries of a job.

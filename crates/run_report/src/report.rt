@@ -2,12 +2,13 @@
 
 ghost use Rattle.std.specs.Prelude.{◌≡◌, ◌++◌, IfOk, codes};
 ghost use Rattle.dn_model.specs.Entry.{entries};
-ghost use Rattle.dn_model.specs.Report.{line, report};
+ghost use Rattle.dn_formats.specs.Report.{line, report};
 
 use crate::feeds::push_feeds;
 use crate::history::push_history;
 use crate::jobs::push_jobs;
-use dn_model::{FeedTold, JobTold, List, OutOfMemory, Posted, Topology, push_bytes};
+use dn_formats::{FeedTold, JobTold, push_bytes};
+use dn_model::{List, OutOfMemory, Posted, Topology};
 use std::alloc::Global;
 
 /// The whole report: the feeds in order, the history, and the jobs in order. A router or link that the topology hasn't

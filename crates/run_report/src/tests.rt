@@ -4,11 +4,11 @@ ghost use Rattle.std.specs.Prelude.{◌≡◌, ◌∷◌, [], IfOk, codes, IsTru
 ghost use Rattle.dn_model.specs.Name.{is_name_text};
 
 use crate::{report_text, write_report};
+use dn_formats::{FeedEnd, FeedTold, JobTold, Outcome, RefusedFrame, Told};
 use dn_io::{Failed, MemSink};
 use dn_model::{
-    Answer, Ask, Change, DropKind, Entry, FeedEnd, FeedTold, JobTold, LinkId, List, Name, Op,
-    OutOfMemory, Outcome, PathEnd, Posted, Prefix, Query, RefusedFrame, RouterId, Run, Target,
-    Told, TopoEnd, TopoLink, Topology, Unknown,
+    Answer, Ask, Change, DropKind, Entry, LinkId, List, Name, Op, OutOfMemory, PathEnd, Posted,
+    Prefix, Query, RouterId, Run, Target, TopoEnd, TopoLink, Topology, Unknown,
 };
 use std::alloc::Global;
 

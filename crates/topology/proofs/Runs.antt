@@ -12,16 +12,16 @@ use Rattle.std.specs.Option.{option_to_list}
 use Rattle.toml.specs.Data.{Data, Members, as_str}
 use Rattle.dn_model.specs.declared.topology.TopoEnd.{TopoEnd}
 use Rattle.dn_model.specs.declared.topology.TopoLink.{TopoLink}
-use Rattle.dn_model.specs.declared.topology_fault.TopoFault.{TopoFault}
-use Rattle.dn_model.specs.declared.topology_fault.TopoPart.{TopoPart}
-use Rattle.dn_model.specs.declared.topology_fault.TopoPart.TheVariants.{Routers, Link, Edge}
-use Rattle.dn_model.specs.declared.topology_fault.TopoRefused.{TopoRefused}
-use Rattle.dn_model.specs.declared.topology_fault.TopoRefused.TheVariants.{Fault, OutOfMemory}
+use Rattle.dn_formats.specs.declared.topology_fault.TopoFault.{TopoFault}
+use Rattle.dn_formats.specs.declared.topology_fault.TopoPart.{TopoPart}
+use Rattle.dn_formats.specs.declared.topology_fault.TopoPart.TheVariants.{Routers, Link, Edge}
+use Rattle.dn_formats.specs.declared.topology_fault.TopoRefused.{TopoRefused}
+use Rattle.dn_formats.specs.declared.topology_fault.TopoRefused.TheVariants.{Fault, OutOfMemory}
 use Rattle.dn_model.specs.declared.topology.Topology.{Topology}
 use Rattle.dn_model.specs.Topology.{all_ends, is_sound_topology}
-use Rattle.dn_model.specs.TopologyText.{top_causes, top_fault, entries_at, faults_of, Parts, parts, parts_said, list_faults, unless_faulty, standing, faults_along, router_causes, link_causes, edge_causes, router_table, link_table, edge_table, routers_said, links_said, edges_said, link_of_entry, end_of_entry}
-use Rattle.dn_model.proofs.TopologySound.{NoneStands, AreRouters, router_next}
-use Rattle.dn_model.proofs.TopologyLinksSound.{AreLinks, link_next, entries_sound}
+use Rattle.dn_formats.specs.TopologyText.{top_causes, top_fault, entries_at, faults_of, Parts, parts, parts_said, list_faults, unless_faulty, standing, faults_along, router_causes, link_causes, edge_causes, router_table, link_table, edge_table, routers_said, links_said, edges_said, link_of_entry, end_of_entry}
+use Rattle.dn_formats.proofs.TopologySound.{NoneStands, AreRouters, router_next}
+use Rattle.dn_formats.proofs.TopologyLinksSound.{AreLinks, link_next, entries_sound}
 use Rattle.topology.specs.Reading.{first_standing, fault_at, IsRefusalAt, first_of, IsFirstFault, SayRouters, SayLinks, SayEdges}
 
 -- ---- one entry

@@ -10,8 +10,8 @@ use Rattle.toml.specs.declared.value.Value.{Value}
 use Rattle.dn_model.specs.declared.topology.TopoEnd.{TopoEnd}
 use Rattle.dn_model.specs.declared.topology.TopoLink.{TopoLink}
 use Rattle.dn_model.specs.Topology.{same_text, same_end, all_ends}
-use Rattle.dn_model.proofs.TopologyLinksSound.{all_ends-push}
-use Rattle.dn_model.specs.TopologyText.{items_in, has_key_besides, has_text, has_end}
+use Rattle.dn_formats.proofs.TopologyLinksSound.{all_ends-push}
+use Rattle.dn_formats.specs.TopologyText.{items_in, has_key_besides, has_text, has_end}
 
 pub items_in-items_of : (ds : List Data) → items_in (items_of ds) ≡ ds
 items_in-items_of [] = refl

@@ -3,12 +3,12 @@ use Rattle.std.specs.Prelude.{◌≡◌, ℕ, ◌≤◌, Bool, List, [], ◌∷�
 use Rattle.toml.specs.Data.{Data, Members}
 use Rattle.dn_model.specs.declared.topology.TopoEnd.{TopoEnd}
 use Rattle.dn_model.specs.declared.topology.TopoLink.{TopoLink}
-use Rattle.dn_model.specs.declared.topology_fault.TopoFault.{TopoFault}
-use Rattle.dn_model.specs.declared.topology_fault.TopoPart.{TopoPart}
-use Rattle.dn_model.specs.declared.topology_fault.TopoPart.TheVariants.{Routers, Link, Edge}
-use Rattle.dn_model.specs.declared.topology_fault.TopoRefused.{TopoRefused}
-use Rattle.dn_model.specs.declared.topology_fault.TopoRefused.TheVariants.{Fault, OutOfMemory}
-use Rattle.dn_model.specs.TopologyText.{said_by, faults_along, router_table, link_table, edge_table, routers_said, links_said, edges_said}
+use Rattle.dn_formats.specs.declared.topology_fault.TopoFault.{TopoFault}
+use Rattle.dn_formats.specs.declared.topology_fault.TopoPart.{TopoPart}
+use Rattle.dn_formats.specs.declared.topology_fault.TopoPart.TheVariants.{Routers, Link, Edge}
+use Rattle.dn_formats.specs.declared.topology_fault.TopoRefused.{TopoRefused}
+use Rattle.dn_formats.specs.declared.topology_fault.TopoRefused.TheVariants.{Fault, OutOfMemory}
+use Rattle.dn_formats.specs.TopologyText.{said_by, faults_along, router_table, link_table, edge_table, routers_said, links_said, edges_said}
 
 -- the cause of the first row that stands
 abbrev pub first_standing : {A : Type 0} → List (ℕ × (A → Bool)) → A → Option ℕ

@@ -3,13 +3,14 @@
 ghost use Rattle.std.specs.Prelude.{◌≡◌, ◌||◌, [], IfOk, IfErr, Ok, map, is_none, option_map, codes};
 ghost use Rattle.toml.specs.Parse.{parse_document};
 ghost use Rattle.toml.specs.View.{view, table_view};
-ghost use Rattle.dn_model.specs.TopologyText.{list_at, list_or_none_at, said_by, top_causes, top_fault, entries_at, list_faults, parts_said, faults_of, parts_of, unless_faulty, document_of, parts, IsTopologyText, IsTopologyRefused};
+ghost use Rattle.dn_formats.specs.TopologyText.{list_at, list_or_none_at, said_by, top_causes, top_fault, entries_at, list_faults, parts_said, faults_of, parts_of, unless_faulty, document_of, parts, IsTopologyText, IsTopologyRefused};
 ghost use Rattle.topology.specs.Reading.{first_standing, IsFirstFault, IsSaidRefusal};
 
 use crate::lists::{read_edges, read_links, read_routers};
 use crate::value::{has_unknown_top_key, list_at, list_or_none_at};
-use dn_model::cause::{MISSING_KEY, NOT_TOML, TOO_LONG, UNKNOWN_KEY};
-use dn_model::{OutOfMemory, TopoFault, TopoPart, TopoRefused, Topology};
+use dn_formats::cause::{MISSING_KEY, NOT_TOML, TOO_LONG, UNKNOWN_KEY};
+use dn_formats::{TopoFault, TopoPart, TopoRefused};
+use dn_model::{OutOfMemory, Topology};
 use std::alloc::Global;
 use toml::{Table, Value};
 

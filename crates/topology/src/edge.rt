@@ -3,13 +3,13 @@
 ghost use Rattle.std.specs.Prelude.{◌≡◌, ◌≤◌, length, map, not, is_none, option_map, option_and_then};
 ghost use Rattle.toml.specs.Data.{as_table};
 ghost use Rattle.toml.specs.View.{view};
-ghost use Rattle.dn_model.specs.TopologyText.{passes, has_end, has_key_besides, is_edge_key, at_in, end_of_entry, edge_causes};
+ghost use Rattle.dn_formats.specs.TopologyText.{passes, has_end, has_key_besides, is_edge_key, at_in, end_of_entry, edge_causes};
 ghost use Rattle.topology.specs.Reading.{first_standing};
 
 use crate::end::read_end;
 use crate::taken::TakenEnds;
 use crate::value::{has_unknown_edge_key, text_at};
-use dn_model::cause::{BAD_END, END_TWICE, MISSING_KEY, TOO_MANY, UNKNOWN_KEY};
+use dn_formats::cause::{BAD_END, END_TWICE, MISSING_KEY, TOO_MANY, UNKNOWN_KEY};
 use dn_model::{Name, TopoEnd};
 use toml::Value;
 

@@ -3,9 +3,10 @@
 ghost use Rattle.std.specs.Prelude.{◌≡◌, ◌<◌, ◌≤◌, ◌==◌, IfSome, length, position};
 ghost use Rattle.std.specs.Option.{ForSome};
 ghost use Rattle.dn_model.specs.Topology.{same_text};
-ghost use Rattle.dn_model.specs.EndText.{read_end, end_at};
+ghost use Rattle.dn_formats.specs.EndText.{read_end, end_at};
 
-use dn_model::{Name, RouterId, TopoEnd, read_number};
+use dn_formats::read_number;
+use dn_model::{Name, RouterId, TopoEnd};
 
 /// The first place in a list of names that has this text.
 fn place_of(names: &[Name], text: &[u8]) -> Option<usize>

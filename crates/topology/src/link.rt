@@ -4,13 +4,13 @@ ghost use Rattle.std.specs.Prelude.{◌≡◌, ◌≤◌, ◌||◌, ◌==◌, le
 ghost use Rattle.toml.specs.Data.{as_table};
 ghost use Rattle.toml.specs.View.{view, table_view};
 ghost use Rattle.dn_model.specs.Name.{is_name_text};
-ghost use Rattle.dn_model.specs.TopologyText.{passes, has_text, has_end, has_key_besides, is_link_key, two_texts, name_in, ends_in, unnumbered_in, both_ends, ends_of_table, name_of_entry, ends_of_entry, link_causes};
+ghost use Rattle.dn_formats.specs.TopologyText.{passes, has_text, has_end, has_key_besides, is_link_key, two_texts, name_in, ends_in, unnumbered_in, both_ends, ends_of_table, name_of_entry, ends_of_entry, link_causes};
 ghost use Rattle.topology.specs.Reading.{first_standing};
 
 use crate::end::read_end;
 use crate::taken::{TakenEnds, has_link_name};
 use crate::value::{flag_or_none_at, has_unknown_link_key, list_at, text_at};
-use dn_model::cause::{
+use dn_formats::cause::{
     BAD_END, BAD_NAME, END_TWICE, MISSING_KEY, SELF_LINK, TOO_MANY, TWICE_NAMED, UNKNOWN_KEY,
 };
 use dn_model::{Name, TopoEnd, TopoLink, is_name};

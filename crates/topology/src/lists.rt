@@ -2,12 +2,13 @@
 
 ghost use Rattle.std.specs.Prelude.{◌≡◌, ◌≤◌, [], IfOk, IfErr, length, map};
 ghost use Rattle.toml.specs.View.{view};
-ghost use Rattle.dn_model.specs.TopologyText.{faults_along, router_table, link_table, edge_table};
+ghost use Rattle.dn_formats.specs.TopologyText.{faults_along, router_table, link_table, edge_table};
 ghost use Rattle.topology.specs.Reading.{IsFirstFault, SayRouters, SayLinks, SayEdges};
 
 use crate::steps::{add_edge, add_link, add_router};
 use crate::taken::{TakenEnds, ends_of_links};
-use dn_model::{List, Name, TopoEnd, TopoLink, TopoPart, TopoRefused};
+use dn_formats::{TopoPart, TopoRefused};
+use dn_model::{List, Name, TopoEnd, TopoLink};
 use std::alloc::Global;
 use toml::Value;
 

@@ -4,10 +4,10 @@ ghost use Rattle.std.specs.Prelude.{◌≡◌, length, not, is_none};
 ghost use Rattle.toml.specs.Data.{as_str};
 ghost use Rattle.toml.specs.View.{view};
 ghost use Rattle.dn_model.specs.Name.{is_name_text};
-ghost use Rattle.dn_model.specs.TopologyText.{passes, has_text, router_causes};
+ghost use Rattle.dn_formats.specs.TopologyText.{passes, has_text, router_causes};
 ghost use Rattle.topology.specs.Reading.{first_standing};
 
-use dn_model::cause::{BAD_NAME, MISSING_KEY, TOO_MANY, TWICE_NAMED};
+use dn_formats::cause::{BAD_NAME, MISSING_KEY, TOO_MANY, TWICE_NAMED};
 use dn_model::{Name, is_name};
 use toml::Value;
 

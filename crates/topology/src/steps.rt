@@ -6,7 +6,7 @@ ghost use Rattle.toml.specs.Data.{as_str};
 ghost use Rattle.toml.specs.View.{view, table_view};
 ghost use Rattle.dn_model.specs.Name.{is_name_text};
 ghost use Rattle.dn_model.specs.Topology.{all_ends};
-ghost use Rattle.dn_model.specs.TopologyText.{passes, router_causes, link_causes, edge_causes, link_from, name_in, link_of_table, link_of_entry, name_of_entry, end_of_entry};
+ghost use Rattle.dn_formats.specs.TopologyText.{passes, router_causes, link_causes, edge_causes, link_from, name_in, link_of_table, link_of_entry, name_of_entry, end_of_entry};
 ghost use Rattle.topology.specs.Reading.{first_standing, fault_at, IsRefusalAt};
 
 use crate::edge::{edge_cause, end_of_entry};
@@ -14,7 +14,8 @@ use crate::link::{ends_of_table, link_cause};
 use crate::router::router_cause;
 use crate::taken::TakenEnds;
 use crate::value::{flag_or_none_at, text_at};
-use dn_model::{List, Name, OutOfMemory, TopoEnd, TopoFault, TopoLink, TopoPart, TopoRefused};
+use dn_formats::{TopoFault, TopoPart, TopoRefused};
+use dn_model::{List, Name, OutOfMemory, TopoEnd, TopoLink};
 use std::alloc::Global;
 use toml::{Table, Value};
 

@@ -3,7 +3,7 @@
 ghost use Rattle.std.specs.Prelude.{◌≡◌, ◌∷◌, ◌++◌, [], IfOk, OnOk, map};
 ghost use Rattle.std.specs.List.{list_any};
 ghost use Rattle.dn_model.specs.Topology.{same_text, all_ends};
-ghost use Rattle.dn_model.specs.TopologyText.{has_text, has_end};
+ghost use Rattle.dn_formats.specs.TopologyText.{has_text, has_end};
 
 use dn_model::{OutOfMemory, TopoEnd, TopoLink};
 use std::alloc::Global;
@@ -20,7 +20,7 @@ pub struct TakenEnds {
 impl Model for TakenEnds {
     ghost use Rattle.std.specs.Prelude.{◌≡◌, List};
     ghost use Rattle.dn_model.specs.declared.topology.TopoEnd.{TopoEnd};
-    ghost use Rattle.dn_model.specs.TopologyText.{has_end};
+    ghost use Rattle.dn_formats.specs.TopologyText.{has_end};
     ghost use Rattle.topology.specs.Taken.{contains_end};
 
     ghost Value = { List TopoEnd };

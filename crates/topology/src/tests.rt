@@ -1,7 +1,8 @@
 //! What no clause says: that the texts of this page are read, and that the first of two faults is answered.
 
 use crate::{Port, port, read_topology};
-use dn_model::{LinkId, RouterId, TopoFault, TopoPart, TopoRefused};
+use dn_formats::{TopoFault, TopoPart, TopoRefused};
+use dn_model::{LinkId, RouterId};
 use std::alloc::Global;
 use std::test::Fail;
 

@@ -5,7 +5,7 @@ ghost use Rattle.std.specs.List.{list_any};
 ghost use Rattle.std.specs.BTreeMap.{keys};
 ghost use Rattle.toml.specs.Data.{get_member, as_array};
 ghost use Rattle.toml.specs.View.{view, table_view};
-ghost use Rattle.dn_model.specs.TopologyText.{items_in, text_at, list_at, list_or_none_at, flag_or_none_at, is_top_key, is_link_key, is_edge_key, has_key_besides};
+ghost use Rattle.dn_formats.specs.TopologyText.{items_in, text_at, list_at, list_or_none_at, flag_or_none_at, is_top_key, is_link_key, is_edge_key, has_key_besides};
 
 use toml::{Table, Value};
 

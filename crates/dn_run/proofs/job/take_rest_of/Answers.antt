@@ -1,5 +1,5 @@
 use Rattle.std.proofs.Common.{ap}
-use Rattle.dn_model.specs.Lawful.{takes}
+use Rattle.dn_formats.specs.Lawful.{takes}
 use Rattle.dn_run.specs.Network.{entries}
 use Rattle.dn_run.proofs.RestLemmas.{rests-took, rests-asked}
 use Rattle.dn_run.proofs.job.take_rest_of.Goals as goal

@@ -1,6 +1,6 @@
 use Rattle.std.proofs.Common.{rules, ◌≡◌, ◌+◌, ◌++◌, ◌∷◌, [], List, take, sym, ◌∙◌, subst, arith}
 use Rattle.std.proofs.lemmas.Grind.{common_steps}
-use Rattle.dn_model.specs.declared.script.Line.{Line}
+use Rattle.dn_formats.specs.declared.script.Line.{Line}
 use Rattle.dn_run.specs.Network.{entries}
 use Rattle.dn_run.specs.Tracks.{Rests}
 use Rattle.dn_run.proofs.job.take_rests.Goals as goal

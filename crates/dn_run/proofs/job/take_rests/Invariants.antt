@@ -1,6 +1,6 @@
 use Rattle.std.proofs.Common.{◌≡◌, List, [], take}
-use Rattle.dn_model.specs.declared.script.Line.{Line}
-use Rattle.dn_model.specs.declared.told.Told.{Told}
+use Rattle.dn_formats.specs.declared.script.Line.{Line}
+use Rattle.dn_formats.specs.declared.told.Told.{Told}
 use Rattle.route_feed.specs.FeedReader.{Reader}
 use Rattle.dn_run.specs.Network.{entries}
 use Rattle.dn_run.specs.Tracks.{Ready, Rests, tags_of}

@@ -1,6 +1,6 @@
 use Rattle.std.proofs.Common.{sym, subst, List}
 use Rattle.std.proofs.lemmas.Result.{IfOk-weaker}
-use Rattle.dn_model.specs.declared.script.Line.{Line}
+use Rattle.dn_formats.specs.declared.script.Line.{Line}
 use Rattle.dn_run.specs.Network.{entries}
 use Rattle.dn_run.specs.Tracks.{Owns}
 use Rattle.dn_run.proofs.JobsLemmas.{script-is, script-short}

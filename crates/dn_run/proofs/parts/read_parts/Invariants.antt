@@ -1,6 +1,6 @@
 use Rattle.std.proofs.Common.{◌≡◌, ◌≤◌, drop, length, map}
 use Rattle.std.specs.String.{string_bytes}
-use Rattle.dn_model.specs.Words.{parts_of}
+use Rattle.dn_formats.specs.Words.{parts_of}
 use Rattle.dn_run.specs.PartsRead.{parts_texts}
 use Rattle.dn_run.proofs.PartsLemmas.{with_parts}
 use Rattle.dn_run.proofs.parts.read_parts.Given as goal

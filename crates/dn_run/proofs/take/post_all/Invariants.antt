@@ -1,5 +1,5 @@
 use Rattle.std.proofs.Common.{◌≡◌, ◌++◌, List, take}
-use Rattle.dn_model.specs.Steps.{entries_by}
+use Rattle.dn_formats.specs.Steps.{entries_by}
 use Rattle.dn_model.specs.declared.entry.Entry.{Entry}
 use Rattle.dn_model.specs.declared.topology.Topology.{Topology}
 use Rattle.dn_run.specs.Latest.{After, IsOf}

@@ -6,7 +6,7 @@ use Rattle.dn_run.proofs.LatestLemmas.{can-make-all}
 use Rattle.std.proofs.lemmas.List.{append-nil}
 use Rattle.std.proofs.lemmas.Grind.{common_steps}
 use Rattle.route_feed.specs.FeedReader.{end_of}
-use Rattle.dn_model.specs.Steps.{Accepted, Refused}
+use Rattle.dn_formats.specs.Steps.{Accepted, Refused}
 use Rattle.dn_run.proofs.TakesLemmas.{gives-step, end-before_ops}
 use Rattle.dn_run.proofs.take.take_frame.Goals as goal
 

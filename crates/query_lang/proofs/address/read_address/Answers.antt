@@ -1,6 +1,6 @@
 use Rattle.std.proofs.Common.{sym}
 use Rattle.std.specs.List.{slice_split}
-use Rattle.dn_model.specs.Decimal.{is_dot}
+use Rattle.dn_formats.specs.Decimal.{is_dot}
 use Rattle.query_lang.proofs.Addresses.{parts_more, slice_split-some}
 use Rattle.query_lang.proofs.address.read_address.Goals as goal
 

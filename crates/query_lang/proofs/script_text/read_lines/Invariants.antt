@@ -1,5 +1,5 @@
 use Rattle.std.proofs.Common.{◌≡◌, ◌≤◌, length}
-use Rattle.dn_model.specs.ScriptText.{lines_meaning, line_meaning, lines_of}
+use Rattle.dn_formats.specs.ScriptText.{lines_meaning, line_meaning, lines_of}
 use Rattle.query_lang.proofs.ScriptLines.{after_lines}
 use Rattle.query_lang.proofs.script_text.read_lines.Given as goal
 

@@ -1,5 +1,5 @@
 use Rattle.query_lang.proofs.ShortLemmas.{short-read}
-use Rattle.dn_model.specs.ScriptText.{lines_of}
+use Rattle.dn_formats.specs.ScriptText.{lines_of}
 use Rattle.query_lang.proofs.script_text.read_script.Goals as goal
 
 pub returns-clause-short : goal.returns-clause-short

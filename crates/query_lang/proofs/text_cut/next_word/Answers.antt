@@ -1,5 +1,5 @@
 use Rattle.std.proofs.Common.{arith, ◌∙◌, sym, ◌≡◌, false, get_or, ◌<◌, length}
-use Rattle.dn_model.specs.ScriptText.{is_gap}
+use Rattle.dn_formats.specs.ScriptText.{is_gap}
 use Rattle.query_lang.proofs.Cuts.{words_of-first}
 use Rattle.query_lang.proofs.text_cut.next_word.Goals as goal
 

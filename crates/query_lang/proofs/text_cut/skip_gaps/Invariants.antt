@@ -1,5 +1,5 @@
 use Rattle.std.proofs.Common.{◌≡◌, length}
-use Rattle.dn_model.specs.ScriptText.{words_of}
+use Rattle.dn_formats.specs.ScriptText.{words_of}
 use Rattle.query_lang.proofs.text_cut.skip_gaps.Given as goal
 
 abbrev pub invariant-loop-rest : goal.invariant-loop-rest

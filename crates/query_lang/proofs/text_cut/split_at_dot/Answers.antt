@@ -1,5 +1,5 @@
 use Rattle.std.proofs.Common.{arith}
-use Rattle.dn_model.specs.Decimal.{is_dot}
+use Rattle.dn_formats.specs.Decimal.{is_dot}
 use Rattle.query_lang.proofs.Cuts.{slice_split_whole, slice_split_more}
 use Rattle.query_lang.proofs.text_cut.split_at_dot.Goals as goal
 

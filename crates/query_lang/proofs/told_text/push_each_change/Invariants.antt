@@ -1,6 +1,6 @@
 use Rattle.std.proofs.Common.{◌≡◌, ◌++◌, drop}
 use Rattle.std.specs.List.{flat_map}
-use Rattle.dn_model.specs.Report.{change_line}
+use Rattle.dn_formats.specs.Report.{change_line}
 use Rattle.query_lang.proofs.told_text.push_each_change.Given as goal
 
 abbrev pub invariant-loop-change : goal.invariant-loop-change

@@ -1,6 +1,6 @@
 use Rattle.std.proofs.Common.{◌≡◌, ◌++◌, drop}
 use Rattle.std.specs.List.{flat_map}
-use Rattle.dn_model.specs.Report.{hop_text}
+use Rattle.dn_formats.specs.Report.{hop_text}
 use Rattle.query_lang.proofs.told_text.push_hops.Given as goal
 
 abbrev pub invariant-loop-router : goal.invariant-loop-router

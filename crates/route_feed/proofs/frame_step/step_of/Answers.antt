@@ -1,6 +1,6 @@
 -- The payload of the frame decides, which says no more messages than it has bytes.
 use Rattle.std.proofs.Common.{arith}
-use Rattle.dn_model.proofs.FeedLemmas.{messages-few}
+use Rattle.dn_formats.proofs.FeedLemmas.{messages-few}
 use Rattle.route_feed.proofs.HandsLemmas.{at_most-ok, says-ok}
 use Rattle.route_feed.proofs.frame_step.step_of.Goals as goal
 

@@ -1,7 +1,7 @@
 use Rattle.std.proofs.Common.{◌≤◌, ◌∙◌, arith, length}
 use Rattle.std.proofs.lemmas.List.{length-drop}
 use Rattle.std.proofs.lemmas.List.Elements.{All-push}
-use Rattle.dn_model.specs.Payload.{IsSayable}
+use Rattle.dn_formats.specs.Payload.{IsSayable}
 use Rattle.rt_netlink.proofs.SaidLemmas.{item_told, refusal_told, end_told}
 use Rattle.rt_netlink.proofs.read.read_payload.Goals as goal
 

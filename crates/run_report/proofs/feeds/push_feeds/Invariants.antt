@@ -1,6 +1,6 @@
 use Rattle.std.proofs.Common.{◌≡◌, ◌++◌, drop}
 use Rattle.std.specs.List.{flat_map}
-use Rattle.dn_model.specs.Report.{feed_lines}
+use Rattle.dn_formats.specs.Report.{feed_lines}
 use Rattle.run_report.proofs.feeds.push_feeds.Given as goal
 
 abbrev pub invariant-loop-feed : goal.invariant-loop-feed

@@ -1,6 +1,6 @@
 use Rattle.std.proofs.Common.{◌≡◌, ◌++◌, drop}
 use Rattle.std.specs.List.{flat_map}
-use Rattle.dn_model.specs.Report.{refused_line}
+use Rattle.dn_formats.specs.Report.{refused_line}
 use Rattle.run_report.proofs.feeds.push_refused_lines.Given as goal
 
 abbrev pub invariant-loop-frame : goal.invariant-loop-frame

@@ -1,5 +1,5 @@
 use Rattle.std.proofs.Common.{◌≡◌, ◌+◌, ◌++◌, drop, map}
-use Rattle.dn_model.specs.Report.{entry_lines}
+use Rattle.dn_formats.specs.Report.{entry_lines}
 use Rattle.run_report.proofs.history.push_entry_lines.Given as goal
 
 abbrev pub invariant-loop-posted : goal.invariant-loop-posted

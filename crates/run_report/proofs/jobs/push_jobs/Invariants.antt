@@ -1,6 +1,6 @@
 use Rattle.std.proofs.Common.{◌≡◌, ◌++◌, drop}
 use Rattle.std.specs.List.{flat_map}
-use Rattle.dn_model.specs.Report.{job_lines}
+use Rattle.dn_formats.specs.Report.{job_lines}
 use Rattle.run_report.proofs.jobs.push_jobs.Given as goal
 
 abbrev pub invariant-loop-job : goal.invariant-loop-job

@@ -1,8 +1,8 @@
 use Rattle.std.proofs.Common.{sym, ◌+◌, length, map}
 use Rattle.toml.specs.View.{view}
-use Rattle.dn_model.specs.declared.topology_fault.TopoPart.TheVariants.{Link}
+use Rattle.dn_formats.specs.declared.topology_fault.TopoPart.TheVariants.{Link}
 use Rattle.dn_model.specs.Topology.{all_ends}
-use Rattle.dn_model.specs.TopologyText.{link_causes}
+use Rattle.dn_formats.specs.TopologyText.{link_causes}
 use Rattle.topology.specs.Reading.{first_standing}
 use Rattle.topology.proofs.Runs.{refusal_is}
 use Rattle.topology.proofs.steps.add_link.Goals as goal

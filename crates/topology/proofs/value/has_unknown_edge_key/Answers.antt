@@ -1,4 +1,4 @@
-use Rattle.dn_model.specs.TopologyText.{is_edge_key}
+use Rattle.dn_formats.specs.TopologyText.{is_edge_key}
 use Rattle.topology.proofs.Values.{has_key_besides-entries}
 use Rattle.topology.proofs.value.has_unknown_edge_key.Goals as goal
 

@@ -1,0 +1,100 @@
+-- What frames come to, one after another: the steps of one more frame, and that the steps are determined.
+use Rattle.std.proofs.Common.{◌≡◌, ℕ, zero, suc, ◌+◌, ◌-◌, ◌≤◌, Bool, true, false, nat_lt, Option, List, [], ◌∷◌, ◌++◌, length, take, None, Some, refl, ap, sym, ◌∙◌, subst, arith, length-append, add-zero, inl, inr}
+use Rattle.dn_formats.specs.Feed.{AreSteps, IsStep, step_of, IsReading, IsFaultedReading, IsKept, ending}
+use Rattle.dn_formats.specs.Frames.{Frame, FrameRest, NoRest, CutFrame, BadVersion, BadFrameLength, frame_text, frames_text, lost_cause}
+use Rattle.std.specs.Prelude.{if◌then◌else◌}
+use Rattle.dn_formats.specs.Attributes.{padded}
+use Rattle.dn_formats.specs.Payload.{IsPayload, Ruling, Refuses, Skips, said, said_after, ruling_of, nothing_more, message_length}
+use Rattle.dn_formats.specs.Steps.{FrameStep}
+use Rattle.dn_model.specs.declared.ids.RouterId.{RouterId}
+use Rattle.dn_formats.specs.declared.payload.Payload.{Payload}
+use Rattle.dn_model.specs.declared.topology.Topology.{Topology}
+use Rattle.dn_formats.specs.declared.told.FeedEnd.{FeedEnd}
+use Rattle.dn_formats.specs.declared.told.FeedEnd.TheVariants.{Lost}
+use Rattle.dn_formats.proofs.FramesLemmas.{Frames-same}
+
+next_offset : (o : ℕ) (f : Frame) (fs : List Frame) → o + length (frames_text (f ∷ fs)) ≡ o + length (frame_text f) + length (frames_text fs)
+next_offset o f fs = omega (arith, length-append (frame_text f) (frames_text fs))
+
+-- one more frame, after those before it
+pub steps_push : (t : Topology) (r : RouterId) (o : ℕ) (fs : List Frame) (ss : List FrameStep) (f : Frame) (s : FrameStep) →
+    AreSteps t r o fs ss → IsStep t r (o + length (frames_text fs)) f s → AreSteps t r o (fs ++ f ∷ []) (ss ++ s ∷ [])
+steps_push t r o [] [] f s all one = (subst (λ (n : ℕ). IsStep t r n f s) (add-zero o) one, tt)
+steps_push t r o [] (x ∷ ss) f s all one = absurd all
+steps_push t r o (g ∷ fs) [] f s all one = absurd all
+steps_push t r o (g ∷ fs) (x ∷ ss) f s all one =
+    (all.0, steps_push t r (o + length (frame_text g)) fs ss f s all.1 (subst (λ (n : ℕ). IsStep t r n f s) (next_offset o g fs) one))
+
+-- a frame comes to one thing
+step_once : (t : Topology) (r : RouterId) (o : ℕ) (f : Frame) (x y : FrameStep) → IsStep t r o f x → IsStep t r o f y → x ≡ y
+step_once t r o f x y (inl a) (inl b) =
+    a.comes_to ∙ ap (step_of t r o) (a.says ∙ sym b.says) ∙ sym b.comes_to
+step_once t r o f x y (inl a) (inr b) = absurd (b.other a.netlink)
+step_once t r o f x y (inr a) (inl b) = absurd (a.other b.netlink)
+step_once t r o f x y (inr a) (inr b) = a.refused ∙ sym b.refused
+
+-- frames come to one list of steps
+pub steps_once : (t : Topology) (r : RouterId) (o : ℕ) (fs : List Frame) (xs ys : List FrameStep) → AreSteps t r o fs xs → AreSteps t r o fs ys → xs ≡ ys
+steps_once t r o [] [] [] a b = refl
+steps_once t r o [] (x ∷ xs) ys a b = absurd a
+steps_once t r o [] [] (y ∷ ys) a b = absurd b
+steps_once t r o (f ∷ fs) [] ys a b = absurd a
+steps_once t r o (f ∷ fs) (x ∷ xs) [] a b = absurd b
+steps_once t r o (f ∷ fs) (x ∷ xs) (y ∷ ys) a b =
+    let first : x ≡ y = step_once t r o f x y a.0 b.0 in
+    let rest : xs ≡ ys = steps_once t r (o + length (frame_text f)) fs xs ys a.1 b.1 in
+    cc
+
+-- a feed has one reading
+pub reading_once : (t : Topology) (r : RouterId) (bytes : List ℕ) (limit : ℕ) (xs ys : List FrameStep) (e f : FeedEnd) →
+    IsReading t r bytes limit xs e → IsReading t r bytes limit ys f → (xs ≡ ys) × (e ≡ f)
+reading_once t r bytes limit xs ys e f a b =
+    let same : (a.frames ≡ b.frames) × (a.rest ≡ b.rest) = Frames-same (take limit bytes) a.frames b.frames a.rest b.rest a.cut b.cut in
+    let mine : AreSteps t r 0 b.frames xs = subst (λ (fs : List Frame). AreSteps t r 0 fs xs) same.0 a.come_to in
+    (steps_once t r 0 b.frames xs ys mine b.come_to, a.ends ∙ rw (same.0, same.1) (sym b.ends))
+
+-- a feed that failed has one reading
+pub faulted_once : (t : Topology) (r : RouterId) (bytes : List ℕ) (xs ys : List FrameStep) → IsFaultedReading t r bytes xs → IsFaultedReading t r bytes ys → xs ≡ ys
+faulted_once t r bytes xs ys a b =
+    let same : (a.frames ≡ b.frames) × (a.rest ≡ b.rest) = Frames-same bytes a.frames b.frames a.rest b.rest a.cut b.cut in
+    let mine : AreSteps t r 0 b.frames xs = subst (λ (fs : List Frame). AreSteps t r 0 fs xs) same.0 a.come_to in
+    steps_once t r 0 b.frames xs ys mine b.come_to
+
+-- a rest that loses the framing ends the feed, whatever follows
+pub lost_ending : (k : FrameRest) (cause o : ℕ) (longer : Bool) → lost_cause k ≡ Some cause → Lost o cause ≡ ending k o longer
+lost_ending NoRest cause o longer e = cc
+lost_ending CutFrame cause o longer e = cc
+lost_ending BadVersion cause o longer e = cc
+lost_ending BadFrameLength cause o longer e = cc
+
+pub is_kept : (k : FrameRest) → lost_cause k ≡ None → IsKept k
+is_kept NoRest e = tt
+is_kept CutFrame e = tt
+is_kept BadVersion e = cc
+is_kept BadFrameLength e = cc
+
+-- a message has more bytes than none, so a payload says no more messages than it has bytes
+said-few : (at : ℕ) (bytes : List ℕ) (o : Option Ruling) (more : Payload) → length (said at bytes o more).items ≤ 1 + length more.items
+said-few at bytes None more = omega arith
+said-few at bytes (Some (Refuses cause)) more = omega arith
+said-few at bytes (Some (Skips skip)) more = omega arith
+
+few_either : (b : Bool) (x y : Payload) (n : ℕ) → length x.items ≤ n → length y.items ≤ n → length (if b then x else y).items ≤ n
+few_either true x y n h k = h
+few_either false x y n h k = k
+
+said_after-few : (at left : ℕ) (bytes : List ℕ) → length (said_after at left bytes).items ≤ length bytes
+unfolding said_after
+said_after-few at left [] = omega arith
+said_after-few at (suc left) (byte ∷ bytes) = let rest : length (said_after (at + 1) left bytes).items ≤ length bytes = said_after-few (at + 1) left bytes in omega arith
+said_after-few at zero (byte ∷ bytes) =
+    let skip : ℕ = padded (message_length (byte ∷ bytes)) - 1 in
+    let rest : length (said_after (at + 1) skip bytes).items ≤ length bytes = said_after-few (at + 1) skip bytes in
+    let here : length (said at (byte ∷ bytes) (ruling_of (byte ∷ bytes)) (said_after (at + 1) skip bytes)).items ≤ 1 + length (said_after (at + 1) skip bytes).items =
+    said-few at (byte ∷ bytes) (ruling_of (byte ∷ bytes)) (said_after (at + 1) skip bytes) in
+    few_either (nat_lt (length (byte ∷ bytes)) 4) nothing_more (said at (byte ∷ bytes) (ruling_of (byte ∷ bytes)) (said_after (at + 1) skip bytes)) (length (byte ∷ bytes))
+    (omega arith) (omega arith)
+
+-- a payload says no more messages than it has bytes
+pub messages-few : (bytes : List ℕ) (p : Payload) → IsPayload bytes p → length p.items ≤ length bytes
+messages-few bytes p e = subst (λ (x : Payload). length x.items ≤ length bytes) (sym e) (said_after-few 0 0 bytes)

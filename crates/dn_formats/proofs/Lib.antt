@@ -1,0 +1,6 @@
+pub mod Digits
+pub mod FeedLemmas
+pub mod FramesLemmas
+pub mod RoomLemmas
+pub mod TopologyLinksSound
+pub mod TopologySound

@@ -1,0 +1,262 @@
+-- The links and the edges of a document without a fault are those of a sound topology.
+use Rattle.std.proofs.Common.{◌≡◌, ℕ, ◌+◌, ◌<◌, ◌≤◌, Bool, true, false, not, ◌&&◌, ◌||◌, ◌==◌, nat_le, nat_lt, codes, List, [], ◌∷◌, ◌++◌, length, drop, map, Option, Some, None, is_none, option_and_then, position, cond, refl, sym, ap, ◌∙◌, arith, lit≤, Result, Ok, Err, append_assoc, length-append}
+use Rattle.std.proofs.lemmas.Bool.{and_parts, and_from, or_parts, not-false, le-leb, lt-ltb, leb-false, true≢false, and_left}
+use Rattle.std.proofs.lemmas.Option.{same_Some}
+use Rattle.std.proofs.lemmas.List.{append-nil, map-append}
+use Rattle.std.proofs.lemmas.List.Elements.{filter_map-append}
+use Rattle.std.proofs.lemmas.List.Folds.{list_all-append, list_any-append}
+use Rattle.std.proofs.lemmas.List.Quantifiers.{position-Some}
+use Rattle.std.specs.List.{list_any, list_all, filter_map}
+use Rattle.toml.specs.Data.{Data, Members, as_table}
+use Rattle.dn_model.specs.declared.topology.TopoEnd.{TopoEnd}
+use Rattle.dn_model.specs.declared.topology.TopoLink.{TopoLink}
+use Rattle.dn_formats.specs.declared.topology_fault.TopoFault.{TopoFault}
+use Rattle.dn_formats.specs.declared.topology_fault.TopoPart.TheVariants.{Routers, Link, Edge}
+use Rattle.dn_formats.specs.declared.cause.TheConstants.{TOO_LONG}
+use Rattle.dn_model.specs.Name.{is_name_text}
+use Rattle.dn_model.specs.Topology.{same_text, same_end, all_differ, all_ends, is_end_of, is_link_of, is_sound_topology}
+use Rattle.dn_formats.specs.EndText.{read_end, end_at}
+use Rattle.dn_formats.specs.Decimal.{is_decimal, decimal_value, number_within}
+use Rattle.dn_formats.specs.TopologyText.{passes, standing, faults_along, has_text, has_end, link_from, link_of_table, both_ends, ends_of_table, ends_of_entry, link_of_entry, name_of_entry, end_of_entry, name_in, ends_in, unnumbered_in, at_in, link_table, links_said, edge_table, edges_said, router_table, routers_said, Parts, parts_of, faults_of, unless_faulty, entries_at, topology_of, top_fault, top_causes, said_by, document_of}
+use Rattle.dn_formats.proofs.TopologySound.{AreRouters, routers_sound, NoneStands, none_stands, map_empty, front_empty, back_empty, all_differ-push}
+
+-- ---- ends
+
+and_then_some : {A B : Type 0} (f : A → Option B) (o : Option A) (y : B) → option_and_then f o ≡ Some y → (x : A) × ((o ≡ Some x) × (f x ≡ Some y))
+and_then_some f None y e = cc
+and_then_some f (Some x) y e = (x, (refl, e))
+
+cond_some : (b : Bool) (v n : ℕ) → cond b (Some v) None ≡ Some n → (b ≡ true) × (v ≡ n)
+cond_some true v n e = (refl, same_Some _ _ e)
+cond_some false v n e = cc
+
+end_at-parts : (place index : Option ℕ) (e : TopoEnd) → end_at place index ≡ Some e → (place ≡ Some e.router.0) × (index ≡ Some e.index)
+end_at-parts (Some place) (Some index) e is = (ap (λ o. Some o.router.0) (same_Some _ _ is), ap (λ o. Some o.index) (same_Some _ _ is))
+end_at-parts (Some place) None e is = cc
+end_at-parts None index e is = cc
+
+number_bounds : (low high : ℕ) (text : List ℕ) (n : ℕ) → number_within low high text ≡ Some n → (nat_le low n ≡ true) × (nat_le n high ≡ true)
+number_bounds low high text n is =
+    let parts = cond_some (is_decimal text && (nat_le low (decimal_value text) && nat_le (decimal_value text) high)) (decimal_value text) n is in
+    let bounds = and_parts _ _ (and_parts _ _ parts.0).1 in
+    (rw (← parts.1) bounds.0, rw (← parts.1) bounds.1)
+
+-- an end that a text is has its router in the list
+pub read_end-sound : (routers : List (List ℕ)) (text : List ℕ) (e : TopoEnd) → read_end routers text ≡ Some e → is_end_of (length routers) e ≡ true
+read_end-sound routers text e is =
+    let split = and_then_some _ (position (λ byte. byte == 58) text) e is in
+    let parts = end_at-parts _ _ e split.1.1 in
+    let bounds = number_bounds 1 2147483647 (drop (split.0 + 1) text) e.index parts.1 in
+    let place : e.router.0 < length routers = (position-Some _ routers e.router.0 [] parts.0).0 in
+    and_from _ _ (and_from _ _ (lt-ltb _ _ place) bounds.0) bounds.1
+
+-- ---- what an entry of `link` says
+
+both_ends-parts : (first second : Option TopoEnd) (both : TopoEnd × TopoEnd) → both_ends first second ≡ Some both → (first ≡ Some both.0) × (second ≡ Some both.1)
+both_ends-parts (Some f) (Some s) both is = (ap (λ o. Some o.0) (same_Some _ _ is), ap (λ o. Some o.1) (same_Some _ _ is))
+both_ends-parts (Some f) None both is = cc
+both_ends-parts None second both is = cc
+
+link_from-parts : (name : Option (List ℕ)) (ends : Option (TopoEnd × TopoEnd)) (mark : Option Bool) (l : TopoLink) → link_from name ends mark ≡ Some l
+    → (name ≡ Some l.name) × (ends ≡ Some (l.first, l.second))
+link_from-parts (Some n) (Some both) (Some u) l is = (ap (λ o. Some o.name) (same_Some _ _ is), ap (λ o. Some (o.first, o.second)) (same_Some _ _ is))
+link_from-parts (Some n) (Some both) None l is = cc
+link_from-parts (Some n) None mark l is = cc
+link_from-parts None ends mark l is = cc
+
+-- what is known of an entry that says a link
+pub record SaysLink (routers : List (List ℕ)) (x : Data) (l : TopoLink) : Type 0 where
+  pub name : name_of_entry x ≡ Some l.name
+  pub ends : ends_of_entry routers x ≡ Some (l.first, l.second)
+  pub first : is_end_of (length routers) l.first ≡ true
+  pub second : is_end_of (length routers) l.second ≡ true
+
+pub link_of_entry-parts : (routers : List (List ℕ)) (x : Data) (l : TopoLink) → link_of_entry routers x ≡ Some l → SaysLink routers x l
+link_of_entry-parts routers x l is =
+    let table = and_then_some (link_of_table routers) (as_table x) l is in
+    let parts = link_from-parts (name_in table.0) (ends_of_table routers table.0) (unnumbered_in table.0) l table.1.1 in
+    let texts = and_then_some (λ (texts : List ℕ × List ℕ). both_ends (read_end routers texts.0) (read_end routers texts.1)) (ends_in table.0) (l.first, l.second) parts.1 in
+    let both = both_ends-parts (read_end routers texts.0.0) (read_end routers texts.0.1) (l.first, l.second) texts.1.1 in
+    record {
+      name = ap (option_and_then name_in) table.1.0 ∙ parts.0;
+      ends = ap (option_and_then (ends_of_table routers)) table.1.0 ∙ parts.1;
+      first = read_end-sound routers texts.0.0 l.first both.0;
+      second = read_end-sound routers texts.0.1 l.second both.1;
+    }
+
+link_from_there : (name : Option (List ℕ)) (ends : Option (TopoEnd × TopoEnd)) (mark : Option Bool) → is_none name ≡ false → is_none ends ≡ false → is_none mark ≡ false → is_none (link_from name ends mark) ≡ false
+link_from_there (Some n) (Some both) (Some u) one two three = refl
+link_from_there (Some n) (Some both) None one two three = three
+link_from_there (Some n) None mark one two three = two
+link_from_there None ends mark one two three = one
+
+-- an entry with all that a link wants says a link
+pub link_there : (routers : List (List ℕ)) (table : Option Members) → is_none table ≡ false
+    → passes (λ ms. is_none (name_in ms) || is_none (ends_in ms) || is_none (unnumbered_in ms)) table ≡ false
+    → is_none (option_and_then (ends_of_table routers) table) ≡ false → is_none (option_and_then (link_of_table routers) table) ≡ false
+link_there routers None there keys ends = there
+link_there routers (Some ms) there keys ends =
+    let all = or_parts (is_none (name_in ms) || is_none (ends_in ms)) (is_none (unnumbered_in ms)) keys in
+    link_from_there (name_in ms) (ends_of_table routers ms) (unnumbered_in ms) (or_parts (is_none (name_in ms)) (is_none (ends_in ms)) all.0).0 ends all.1
+
+-- ---- links
+
+pub all_ends-push : (ls : List TopoLink) (l : TopoLink) → all_ends (ls ++ l ∷ []) ≡ (all_ends ls ++ l.first ∷ []) ++ l.second ∷ []
+all_ends-push [] l = refl
+all_ends-push (x ∷ ls) l = ap (λ es. x.first ∷ x.second ∷ es) (all_ends-push ls l)
+
+pub record AreLinks (routers : List (List ℕ)) (es : List Data) : Type 0 where
+  pub few : length es ≤ 4096
+  pub as_many : length (links_said routers es) ≡ length es
+  pub sound : list_all (is_link_of (length routers)) (links_said routers es) ≡ true
+  pub named : filter_map name_of_entry es ≡ map (λ l. l.name) (links_said routers es)
+  pub names : all_differ same_text (map (λ l. l.name) (links_said routers es)) ≡ true
+  pub ends : all_differ same_end (all_ends (links_said routers es)) ≡ true
+
+-- one more link whose ends are new and differ
+pub ends_push : (ls : List TopoLink) (l : TopoLink) → all_differ same_end (all_ends ls) ≡ true → (l.first.router.0 == l.second.router.0) ≡ false
+    → (has_end (all_ends ls) l.first || has_end (all_ends ls) l.second) ≡ false → all_differ same_end (all_ends (ls ++ l ∷ [])) ≡ true
+ends_push ls l differ apart fresh =
+    let parts = or_parts (has_end (all_ends ls) l.first) (has_end (all_ends ls) l.second) fresh in
+    let other : same_end l.first l.second ≡ false = and_left _ _ apart in
+    let seconds : list_any (λ y. same_end y l.second) (all_ends ls ++ l.first ∷ []) ≡ false =
+    rw (list_any-append (λ y. same_end y l.second) (all_ends ls) (l.first ∷ []), parts.1, other) in
+    rw (all_ends-push ls l)
+    (all_differ-push same_end (all_ends ls ++ l.first ∷ []) l.second (all_differ-push same_end (all_ends ls) l.first differ parts.0) seconds)
+
+link_push : (routers : List (List ℕ)) (es : List Data) (x : Data) (l : TopoLink) → link_of_entry routers x ≡ Some l → AreLinks routers es → nat_le 4096 (length es) ≡ false
+    → passes (λ n. not (is_name_text n)) (name_of_entry x) ≡ false → passes (has_text (filter_map name_of_entry es)) (name_of_entry x) ≡ false
+    → (l.first.router.0 == l.second.router.0) ≡ false → (has_end (all_ends (links_said routers es)) l.first || has_end (all_ends (links_said routers es)) l.second) ≡ false
+    → AreLinks routers (es ++ x ∷ [])
+link_push routers es x l is sound few named fresh apart ends =
+    let said : links_said routers (es ++ x ∷ []) ≡ links_said routers es ++ l ∷ [] = filter_map-append (link_of_entry routers) es (x ∷ []) ∙ rw is in
+    let facts = link_of_entry-parts routers x l is in
+    let name_is : name_of_entry x ≡ Some l.name = facts.name in
+    let low : length es < 4096 = leb-false _ _ few in
+    let more_named : map (λ (k : TopoLink). k.name) (links_said routers es ++ l ∷ []) ≡ map (λ (k : TopoLink). k.name) (links_said routers es) ++ l.name ∷ [] =
+    map-append (λ (k : TopoLink). k.name) (links_said routers es) (l ∷ []) in
+    let own_name : not (is_name_text l.name) ≡ false = ap (passes (λ n. not (is_name_text n))) (sym name_is) ∙ named in
+    let new_name : has_text (filter_map name_of_entry es) l.name ≡ false = ap (passes (has_text (filter_map name_of_entry es))) (sym name_is) ∙ fresh in
+    let good : is_link_of (length routers) l ≡ true =
+    and_from _ _ (and_from _ _ (and_from _ _ (not-false _ own_name) facts.first) facts.second) (ap not apart) in
+    let entries_named : filter_map name_of_entry (es ++ x ∷ []) ≡ filter_map name_of_entry es ++ l.name ∷ [] = filter_map-append name_of_entry es (x ∷ []) ∙ rw name_is in
+    record {
+      few = rw (length-append es (x ∷ [])) (omega arith);
+      as_many = rw (said, length-append (links_said routers es) (l ∷ []), length-append es (x ∷ []), sound.as_many);
+      sound = rw (said, list_all-append (is_link_of (length routers)) (links_said routers es) (l ∷ []), sound.sound) (and_from _ _ good refl);
+      named = rw (said, more_named, entries_named, sound.named);
+      names = rw (said, more_named) (all_differ-push same_text (map (λ (k : TopoLink). k.name) (links_said routers es)) l.name sound.names (rw (← sound.named) new_name));
+      ends = rw said (ends_push (links_said routers es) l sound.ends apart ends);
+    }
+
+-- an entry at which no row of its table stands
+link_step : (routers : List (List ℕ)) (es : List Data) (x : Data) (l : Option TopoLink) → link_of_entry routers x ≡ l → AreLinks routers es → nat_le 4096 (length es) ≡ false
+    → passes (λ n. not (is_name_text n)) (name_of_entry x) ≡ false → passes (has_text (filter_map name_of_entry es)) (name_of_entry x) ≡ false
+    → is_none l ≡ false → passes (λ both. both.0.router.0 == both.1.router.0) (ends_of_entry routers x) ≡ false
+    → passes (λ both. has_end (all_ends (links_said routers es)) both.0 || has_end (all_ends (links_said routers es)) both.1) (ends_of_entry routers x) ≡ false → AreLinks routers (es ++ x ∷ [])
+link_step routers es x None is sound few named fresh there apart ends = absurd (true≢false there)
+link_step routers es x (Some l) is sound few named fresh there apart ends =
+    let ends_are : ends_of_entry routers x ≡ Some (l.first, l.second) = (link_of_entry-parts routers x l is).ends in
+    let taken = all_ends (links_said routers es) in
+    link_push routers es x l is sound few named fresh
+    (ap (passes (λ both. both.0.router.0 == both.1.router.0)) (sym ends_are) ∙ apart)
+    (ap (passes (λ both. has_end taken both.0 || has_end taken both.1)) (sym ends_are) ∙ ends)
+
+pub link_next : (routers : List (List ℕ)) (es : List Data) (x : Data) → AreLinks routers es → NoneStands (link_table routers es) x → AreLinks routers (es ++ x ∷ [])
+link_next routers es x sound rows =
+    link_step routers es x (link_of_entry routers x) refl sound rows.0 rows.1.1.1.1.0 rows.1.1.1.1.1.0 (link_there routers (as_table x) rows.1.0 rows.1.1.1.0 rows.1.1.1.1.1.1.0) rows.1.1.1.1.1.1.1.0 rows.1.1.1.1.1.1.1.1.0
+
+pub links_sound : (routers : List (List ℕ)) (es more : List Data) → AreLinks routers es → faults_along Link (link_table routers) es more ≡ [] → AreLinks routers (es ++ more)
+unfolding faults_along
+links_sound routers es [] sound none = rw (append-nil es) sound
+links_sound routers es (x ∷ more) sound none =
+    let stand : standing (link_table routers es) x ≡ [] = map_empty (λ (cause : ℕ). record { part = Link; entry = length es + 1; cause = cause }) _ (front_empty _ _ none) in
+    let more_sound : AreLinks routers ((es ++ x ∷ []) ++ more) =
+    links_sound routers (es ++ x ∷ []) more (link_next routers es x sound (none_stands (link_table routers es) x stand)) (back_empty _ _ none) in
+    rw append_assoc at more_sound
+
+-- ---- edges
+
+pub record AreEdges (routers : List (List ℕ)) (links : List TopoLink) (es : List Data) : Type 0 where
+  pub few : length es ≤ 16384
+  pub as_many : length (edges_said routers es) ≡ length es
+  pub sound : list_all (is_end_of (length routers)) (edges_said routers es) ≡ true
+  pub ends : all_differ same_end (all_ends links ++ edges_said routers es) ≡ true
+
+edge_step : (routers : List (List ℕ)) (links : List TopoLink) (es : List Data) (x : Data) (e : Option TopoEnd) → end_of_entry routers x ≡ e → AreEdges routers links es → nat_le 16384 (length es) ≡ false
+    → is_none e ≡ false → passes (has_end (all_ends links ++ edges_said routers es)) e ≡ false → AreEdges routers links (es ++ x ∷ [])
+edge_step routers links es x None is sound few there fresh = absurd (true≢false there)
+edge_step routers links es x (Some e) is sound few there fresh =
+    let said : edges_said routers (es ++ x ∷ []) ≡ edges_said routers es ++ e ∷ [] = filter_map-append (end_of_entry routers) es (x ∷ []) ∙ rw is in
+    let text = and_then_some (read_end routers) (option_and_then at_in (as_table x)) e is in
+    let good : is_end_of (length routers) e ≡ true = read_end-sound routers text.0 e text.1.1 in
+    let low : length es < 16384 = leb-false _ _ few in
+    record {
+      few = rw (length-append es (x ∷ [])) (omega arith);
+      as_many = rw (said, length-append (edges_said routers es) (e ∷ []), length-append es (x ∷ []), sound.as_many);
+      sound = rw (said, list_all-append (is_end_of (length routers)) (edges_said routers es) (e ∷ []), sound.sound) (and_from _ _ good refl);
+      ends = rw (said, ← append_assoc) (all_differ-push same_end (all_ends links ++ edges_said routers es) e sound.ends fresh);
+    }
+
+pub edge_next : (routers : List (List ℕ)) (links : List TopoLink) (es : List Data) (x : Data) → AreEdges routers links es → NoneStands (edge_table routers links es) x → AreEdges routers links (es ++ x ∷ [])
+edge_next routers links es x sound rows = edge_step routers links es x (end_of_entry routers x) refl sound rows.0 rows.1.1.1.1.0 rows.1.1.1.1.1.0
+
+pub edges_sound : (routers : List (List ℕ)) (links : List TopoLink) (es more : List Data) → AreEdges routers links es → faults_along Edge (edge_table routers links) es more ≡ [] → AreEdges routers links (es ++ more)
+unfolding faults_along
+edges_sound routers links es [] sound none = rw (append-nil es) sound
+edges_sound routers links es (x ∷ more) sound none =
+    let stand : standing (edge_table routers links es) x ≡ [] = map_empty (λ (cause : ℕ). record { part = Edge; entry = length es + 1; cause = cause }) _ (front_empty _ _ none) in
+    let more_sound : AreEdges routers links ((es ++ x ∷ []) ++ more) =
+    edges_sound routers links (es ++ x ∷ []) more (edge_next routers links es x sound (none_stands (edge_table routers links es) x stand)) (back_empty _ _ none) in
+    rw append_assoc at more_sound
+
+-- ---- the whole
+
+-- lists of entries without a fault say a sound topology
+pub entries_sound : (routers links edges : List Data) → faults_along Routers router_table [] routers ≡ []
+    → faults_along Link (link_table (routers_said routers)) [] links ≡ []
+    → faults_along Edge (edge_table (routers_said routers) (links_said (routers_said routers) links)) [] edges ≡ []
+    → is_sound_topology (routers_said routers) (links_said (routers_said routers) links) (edges_said (routers_said routers) edges) ≡ true
+entries_sound routers links edges no_router no_link no_edge =
+    let names : List (List ℕ) = routers_said routers in
+    let first : AreRouters routers = routers_sound [] routers (record { few = lit≤ tt; as_many = refl; names = refl; differ = refl }) no_router in
+    let second : AreLinks names links = links_sound names [] links (record { few = lit≤ tt; as_many = refl; sound = refl; named = refl; names = refl; ends = refl }) no_link in
+    let third : AreEdges names (links_said names links) edges =
+    edges_sound names (links_said names links) [] edges
+    (record { few = lit≤ tt; as_many = refl; sound = refl; ends = rw (append-nil (all_ends (links_said names links))) second.ends }) no_edge in
+    let few_routers : nat_le (length names) 1024 ≡ true = le-leb _ _ (rw first.as_many first.few) in
+    let few_links : nat_le (length (links_said names links)) 4096 ≡ true = le-leb _ _ (rw second.as_many second.few) in
+    let few_edges : nat_le (length (edges_said names edges)) 16384 ≡ true = le-leb _ _ (rw third.as_many third.few) in
+    and_from _ _ (and_from _ _ (and_from _ _ (and_from _ _ (and_from _ _ (and_from _ _ (and_from _ _ (and_from _ _ few_routers few_links) few_edges) first.names) first.differ) second.sound) second.names) third.sound) third.ends
+
+pub document_sound : (doc : Members) → faults_of doc ≡ [] → is_sound_topology (parts_of doc).routers (parts_of doc).links (parts_of doc).edges ≡ true
+document_sound doc none =
+    let routers : List Data = entries_at (codes "routers") doc in
+    let links : List Data = entries_at (codes "link") doc in
+    let edges : List Data = entries_at (codes "edge") doc in
+    let names : List (List ℕ) = routers_said routers in
+    let first : List TopoFault = faults_along Routers router_table [] routers in
+    let second : List TopoFault = faults_along Link (link_table names) [] links in
+    let third : List TopoFault = faults_along Edge (edge_table names (links_said names links)) [] edges in
+    let lists : first ++ second ++ third ≡ [] = back_empty (map top_fault (standing top_causes doc)) (first ++ second ++ third) none in
+    let both : first ++ second ≡ [] = front_empty (first ++ second) third lists in
+    entries_sound routers links edges (front_empty first second both) (back_empty first second both) (back_empty (first ++ second) third lists)
+
+unless_faulty_sound : (doc : Members) (faults : List TopoFault) (p : Parts) → faults_of doc ≡ faults → unless_faulty faults (parts_of doc) ≡ Ok p
+    → is_sound_topology p.routers p.links p.edges ≡ true
+unless_faulty_sound doc [] p none e =
+    let said : parts_of doc ≡ p = cc in
+    rw (← said) (document_sound doc none)
+unless_faulty_sound doc (f ∷ more) p some e = cc
+
+said_sound : (doc : Option Members) (p : Parts) → said_by doc ≡ Ok p → is_sound_topology p.routers p.links p.edges ≡ true
+said_sound None p e = cc
+said_sound (Some doc) p e = unless_faulty_sound doc (faults_of doc) p refl e
+
+past_test : (b : Bool) (fault : TopoFault) (r : Result Parts TopoFault) (p : Parts) → cond b (Err fault) r ≡ Ok p → r ≡ Ok p
+past_test true fault r p e = cc
+past_test false fault r p e = e
+
+-- what a text says of a network is a sound topology
+pub topology_of-sound : (bytes : List ℕ) (p : Parts) → topology_of bytes ≡ Ok p → is_sound_topology p.routers p.links p.edges ≡ true
+topology_of-sound bytes p e = said_sound (document_of bytes) p (past_test (nat_lt 16777216 (length bytes)) (top_fault TOO_LONG) (said_by (document_of bytes)) p e)

@@ -1,0 +1,13 @@
+pub mod Attributes
+pub mod Decimal
+pub mod EndText
+pub mod Feed
+pub mod Frames
+pub mod Lawful
+pub mod Message
+pub mod Payload
+pub mod Report
+pub mod ScriptText
+pub mod Steps
+pub mod TopologyText
+pub mod Words

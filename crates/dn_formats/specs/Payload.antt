@@ -1,0 +1,197 @@
+-- What the payload of a frame says: a list of messages of netlink(7) (RFC 3549), of which those of rtnetlink(7) that
+-- set or delete a route (RTM_NEWROUTE, RTM_DELROUTE of linux/rtnetlink.h) are read. Numbers are little-endian, as the
+-- sender's are; an address is in network byte order. Which messages are refused or skipped is the project's own profile.
+use Rattle.std.specs.Prelude.{◌≡◌, ℕ, zero, suc, ◌+◌, ◌-◌, ◌%◌, ◌^◌, ◌==◌, nat_lt, Bool, true, false, ◌&&◌, ◌||◌, not, if◌then◌else◌, List, [], ◌∷◌, length, take, drop, slice_index, Option, None, Some, is_none, unwrap_or, IsSome}
+use Rattle.std.specs.List.{list_any}
+use Rattle.std.specs.Int.{w16, w32, from_le_bytes}
+use Rattle.dn_model.specs.Cidr.{Cidr, IsCidr}
+use Rattle.dn_formats.specs.Attributes.{Attribute, padded, attributes_of, has, number_of, address_of, is_bad, rta_dst, rta_oif, rta_gateway, rta_priority, rta_multipath, rta_table, rta_via, rta_newdst, rta_encap_type, rta_encap, rta_nh_id}
+use Rattle.dn_formats.specs.Message.{NumberFits}
+use Rattle.dn_formats.specs.declared.refusal.TheConstants.{BAD_LENGTH, SHORT, BAD_ATTR, BAD_PREFIX_LENGTH, SOURCE_OR_TOS, NO_DESTINATION, HOST_BITS, ROUTE_TYPE, MULTIPATH, ENCAP, NEXT_HOP_ID, NO_INTERFACE}
+use Rattle.dn_formats.specs.declared.payload.Payload.{Payload}
+use Rattle.dn_formats.specs.declared.payload.Item.{Item}
+use Rattle.dn_formats.specs.declared.payload.ItemKind.{ItemKind}
+use Rattle.dn_formats.specs.declared.payload.ItemKind.TheVariants.{Route, Skipped}
+use Rattle.dn_formats.specs.declared.payload.Skip.{Skip}
+use Rattle.dn_formats.specs.declared.payload.Skip.TheVariants.{OtherType, OtherFamily, OtherTable}
+use Rattle.dn_formats.specs.declared.raw_route.RouteKind.{RouteKind}
+use Rattle.dn_formats.specs.declared.raw_route.RouteKind.TheVariants.{Unicast, Local, Blackhole, Unreachable, Prohibit}
+use Rattle.dn_formats.specs.declared.raw_route.RawRoute.{RawRoute}
+
+-- ---- the fields of the message that begins at the front of these bytes, which go on to the payload's end
+
+-- struct nlmsghdr, 16 bytes: the length, with these 16 bytes, and the type; flags, sequence number and port are not
+-- looked at
+abbrev pub message_length : List ℕ → ℕ
+message_length bytes = from_le_bytes w32 bytes
+
+abbrev pub message_type : List ℕ → ℕ
+message_type bytes = from_le_bytes w16 (drop 4 bytes)
+
+-- RTM_NEWROUTE and RTM_DELROUTE
+abbrev pub is_set : List ℕ → Bool
+is_set bytes = message_type bytes == 24
+
+abbrev pub is_deletion : List ℕ → Bool
+is_deletion bytes = message_type bytes == 25
+
+-- struct rtmsg, 12 bytes after the header, of one byte each: family, length of the prefix, length of the source's
+-- prefix, type of service, table, protocol, scope and type; and flags of four bytes. Protocol, scope and flags are not
+-- looked at.
+abbrev pub family : List ℕ → ℕ
+family bytes = slice_index bytes 16
+
+abbrev pub prefix_length : List ℕ → ℕ
+prefix_length bytes = slice_index bytes 17
+
+abbrev pub source_length : List ℕ → ℕ
+source_length bytes = slice_index bytes 18
+
+abbrev pub service_type : List ℕ → ℕ
+service_type bytes = slice_index bytes 19
+
+abbrev pub table_byte : List ℕ → ℕ
+table_byte bytes = slice_index bytes 20
+
+abbrev pub route_type : List ℕ → ℕ
+route_type bytes = slice_index bytes 23
+
+-- the attributes, from byte 28 to the message's end
+abbrev pub attributes : List ℕ → List Attribute
+attributes bytes = attributes_of (drop 28 (take (message_length bytes) bytes))
+
+-- ---- what the fields say
+
+-- the table: RTA_TABLE stands in place of the byte, and 0 (RT_TABLE_UNSPEC) counts as the main one (RT_TABLE_MAIN, 254)
+abbrev pub table_of : List ℕ → ℕ
+table_of bytes = unwrap_or (number_of rta_table (attributes bytes)) (table_byte bytes)
+
+abbrev pub is_main : ℕ → Bool
+is_main table = table == 254 || table == 0
+
+-- the address of the prefix; without one it is 0.0.0.0
+abbrev pub destination : List ℕ → Option ℕ
+destination bytes = address_of rta_dst (attributes bytes)
+
+abbrev pub prefix_of : List ℕ → Cidr
+prefix_of bytes = record { base = unwrap_or (destination bytes) 0; len = prefix_length bytes }
+
+-- the interface
+abbrev pub interface : List ℕ → Option ℕ
+interface bytes = number_of rta_oif (attributes bytes)
+
+-- RTN_UNICAST, RTN_LOCAL, RTN_BLACKHOLE, RTN_UNREACHABLE, RTN_PROHIBIT
+abbrev pub kind_of : ℕ → Option RouteKind
+kind_of n =
+    if n == 1 then Some Unicast
+    else if n == 2 then Some Local
+    else if n == 6 then Some Blackhole
+    else if n == 7 then Some Unreachable
+    else if n == 8 then Some Prohibit
+    else None
+
+-- the route that is set: without RTA_PRIORITY its metric is 0; of a gateway the presence alone counts
+abbrev pub route_set : List ℕ → RawRoute
+route_set bytes = record {
+  del = false;
+  prefix = prefix_of bytes;
+  metric = Some (unwrap_or (number_of rta_priority (attributes bytes)) 0);
+  kind = unwrap_or (kind_of (route_type bytes)) Unicast;
+  via = has rta_gateway (attributes bytes) || has rta_via (attributes bytes);
+  oif = interface bytes;
+}
+
+-- the route that is deleted: its type and its next hop are not looked at; without RTA_PRIORITY it is of any metric
+abbrev pub route_deleted : List ℕ → RawRoute
+route_deleted bytes = record {
+  del = true;
+  prefix = prefix_of bytes;
+  metric = number_of rta_priority (attributes bytes);
+  kind = Unicast;
+  via = false;
+  oif = None;
+}
+
+abbrev pub route_of : List ℕ → RawRoute
+route_of bytes = if is_set bytes then route_set bytes else route_deleted bytes
+
+-- ---- the table of what is refused and what is skipped
+
+pub data Ruling : Type 0 where
+  Refuses : (cause : ℕ) → Ruling
+  Skips : (skip : Skip) → Ruling
+
+-- The first row that holds of a message decides; a message of which none holds says its route.
+abbrev pub message_rows : List (Ruling × (List ℕ → Bool))
+message_rows =
+    (Refuses BAD_LENGTH, λ m. nat_lt (length m) 16 || nat_lt (message_length m) 16 || nat_lt (length m) (message_length m))
+    ∷ (Skips OtherType, λ m. not (is_set m || is_deletion m))
+    ∷ (Refuses SHORT, λ m. nat_lt (message_length m) 28)
+    ∷ (Skips OtherFamily, λ m. not (family m == 2))
+    ∷ (Refuses BAD_ATTR, λ m. list_any (is_bad (is_set m)) (attributes m))
+    ∷ (Skips OtherTable, λ m. not (is_main (table_of m)))
+    ∷ (Refuses BAD_PREFIX_LENGTH, λ m. nat_lt 32 (prefix_length m))
+    ∷ (Refuses SOURCE_OR_TOS, λ m. not (source_length m == 0) || not (service_type m == 0))
+    ∷ (Refuses NO_DESTINATION, λ m. nat_lt 0 (prefix_length m) && is_none (destination m))
+    ∷ (Refuses HOST_BITS, λ m. not ((prefix_of m).base % 2 ^ (32 - prefix_length m) == 0))
+    ∷ (Refuses ROUTE_TYPE, λ m. is_set m && is_none (kind_of (route_type m)))
+    ∷ (Refuses MULTIPATH, λ m. is_set m && has rta_multipath (attributes m))
+    ∷ (Refuses ENCAP, λ m. is_set m && (has rta_newdst (attributes m) || has rta_encap_type (attributes m) || has rta_encap (attributes m)))
+    ∷ (Refuses NEXT_HOP_ID, λ m. is_set m && has rta_nh_id (attributes m))
+    ∷ (Refuses NO_INTERFACE, λ m. is_set m && route_type m == 1 && is_none (interface m))
+    ∷ []
+
+abbrev pub first_ruling : {A : Type 0} → List (Ruling × (A → Bool)) → A → Option Ruling
+first_ruling [] x = None
+first_ruling (row ∷ rows) x = if row.1 x then Some row.0 else first_ruling rows x
+
+unfoldable pub ruling_of : List ℕ → Option Ruling
+ruling_of bytes = first_ruling message_rows bytes
+
+-- ---- a whole payload
+
+abbrev pub nothing_more : Payload
+nothing_more = record { items = []; refused = None }
+
+abbrev pub before : Item → Payload → Payload
+before item more = record { items = item ∷ more.items; refused = more.refused }
+
+-- what is said from a message at this place on, which begins these bytes and is ruled so, and which has this after it
+abbrev pub said : ℕ → List ℕ → Option Ruling → Payload → Payload
+said at bytes (Some (Refuses cause)) more = record { items = []; refused = Some (record { at = at; cause = cause }) }
+said at bytes (Some (Skips skip)) more = before (record { at = at; what = Skipped skip }) more
+said at bytes None more = before (record { at = at; what = Route (route_of bytes) }) more
+
+-- What these bytes say, the first of which stands at this place of the payload, where the first so many are still those
+-- of the message before. The next message begins after the message's padding. Fewer than 4 bytes at the end are padding.
+unfoldable pub said_after : ℕ → ℕ → List ℕ → Payload
+said_after at left [] = nothing_more
+said_after at (suc left) (byte ∷ bytes) = said_after (at + 1) left bytes
+said_after at zero (byte ∷ bytes) =
+    if nat_lt (length (byte ∷ bytes)) 4 then nothing_more
+    else said at (byte ∷ bytes) (ruling_of (byte ∷ bytes)) (said_after (at + 1) (padded (message_length (byte ∷ bytes)) - 1) bytes)
+
+-- the messages of a payload up to the first that is refused, and that one
+abbrev pub payload_of : List ℕ → Payload
+payload_of bytes = said_after 0 0 bytes
+
+abbrev pub IsPayload : List ℕ → Payload → Type 0
+IsPayload bytes payload = payload ≡ payload_of bytes
+
+-- ---- the routes that a message can say
+
+-- one to delete is unicast, with neither gateway nor interface; one to set has a metric, and an interface if unicast
+abbrev pub HasParts : Bool → Option ℕ → RouteKind → Bool → Option ℕ → Type 0
+HasParts true metric kind via oif = (kind ≡ Unicast) × (via ≡ false) × (oif ≡ None)
+HasParts false metric kind via oif = IsSome metric × (kind ≡ Unicast → IsSome oif)
+
+pub record CanBeSaid (raw : RawRoute) : Type 0 where
+  pub prefix : IsCidr raw.prefix
+  pub parts : HasParts raw.del raw.metric raw.kind raw.via raw.oif
+  pub metric : NumberFits raw.metric
+  pub oif : NumberFits raw.oif
+
+-- an item says a route that can be said, or none
+abbrev pub IsSayable : ItemKind → Type 0
+IsSayable (Route raw) = CanBeSaid raw
+IsSayable (Skipped skip) = Unit {0}

@@ -1,0 +1,60 @@
+-- What each frame of a feed comes to, and what is told of a feed.
+use Rattle.std.specs.Prelude.{ℕ, List, [], ◌∷◌, length, map, sum, Some}
+use Rattle.std.specs.List.{flat_map}
+use Rattle.dn_model.specs.declared.ids.RouterId.{RouterId}
+use Rattle.dn_model.specs.declared.entry.Op.{Op}
+use Rattle.dn_model.specs.declared.entry.Entry.{Entry}
+use Rattle.dn_formats.specs.declared.told.RefusedFrame.{RefusedFrame}
+use Rattle.dn_formats.specs.declared.told.FeedEnd.{FeedEnd}
+use Rattle.dn_formats.specs.declared.told.FeedTold.{FeedTold}
+
+-- Accepted: the updates of the frame and how many messages it passed over. Refused: where it begins in the feed,
+-- where its refused message begins in its payload, and the cause.
+pub data FrameStep : Type 0 where
+  Accepted : (ops : List Op) (skipped : ℕ) → FrameStep
+  Refused : (frame : RefusedFrame) → FrameStep
+
+abbrev pub ops_of : FrameStep → List Op
+ops_of (Accepted ops skipped) = ops
+ops_of (Refused frame) = []
+
+abbrev pub skipped_of : FrameStep → ℕ
+skipped_of (Accepted ops skipped) = skipped
+skipped_of (Refused frame) = 0
+
+abbrev pub refused_of : FrameStep → List RefusedFrame
+refused_of (Accepted ops skipped) = []
+refused_of (Refused frame) = frame ∷ []
+
+-- the updates of accepted frames, in order
+abbrev pub updates : List FrameStep → List Op
+updates steps = flat_map ops_of steps
+
+-- the refused frames, in order
+abbrev pub refusals : List FrameStep → List RefusedFrame
+refusals steps = flat_map refused_of steps
+
+-- a feed of a run, with what was read of it: its number from 1, its router, what each frame came to, and its end
+pub record FeedRead : Type 0 where
+  pub feed_no : ℕ
+  pub router : RouterId
+  pub steps : List FrameStep
+  pub end : FeedEnd
+
+-- what is told of a feed
+abbrev pub told_of : FeedRead → FeedTold
+told_of f = record {
+  feed_no = f.feed_no;
+  router = f.router;
+  updates = length (updates f.steps);
+  skipped = sum (map skipped_of f.steps);
+  refused = refusals f.steps;
+  end = Some f.end;
+}
+
+-- updates of a router's feed as entries of the history
+abbrev pub entries_by : ℕ → RouterId → List Op → List Entry
+entries_by feed_no router ops = map (λ op. record { router = router; feed_no = feed_no; op = op }) ops
+
+abbrev pub entries_of : FeedRead → List Op → List Entry
+entries_of f ops = entries_by f.feed_no f.router ops

@@ -1,0 +1,28 @@
+//! Laws of what is read: a payload and a feed have one reading. Each function is a law: it does nothing, and its
+//! contract says it.
+
+ghost use Rattle.std.specs.Prelude.{◌≡◌, ℕ, List};
+ghost use Rattle.dn_formats.specs.Payload.{IsPayload};
+ghost use Rattle.dn_formats.specs.Feed.{IsReading, IsFaultedReading};
+ghost use Rattle.dn_formats.specs.Steps.{FrameStep};
+ghost use Rattle.dn_formats.specs.declared.told.FeedEnd.{FeedEnd};
+ghost use Rattle.dn_formats.specs.declared.payload.Payload.{Payload};
+ghost use Rattle.dn_model.specs.declared.ids.RouterId.{RouterId};
+ghost use Rattle.dn_model.specs.declared.topology.Topology.{Topology};
+
+/// The bytes of a payload say one thing.
+pub fn payloads_are_unique()
+    ensures { (bytes : List ℕ) (x y : Payload) → IsPayload bytes x → IsPayload bytes y → x ≡ y }
+{}
+
+/// A feed has one reading: its bytes, up to a limit, come to one list of steps and one end.
+pub fn feeds_have_one_reading()
+    ensures { (t : Topology) (r : RouterId) (bytes : List ℕ) (limit : ℕ) (xs ys : List FrameStep) (e f : FeedEnd)
+        → IsReading t r bytes limit xs e → IsReading t r bytes limit ys f → (xs ≡ ys) × (e ≡ f) }
+{}
+
+/// A feed that failed has one reading.
+pub fn failed_feeds_have_one_reading()
+    ensures { (t : Topology) (r : RouterId) (bytes : List ℕ) (xs ys : List FrameStep)
+        → IsFaultedReading t r bytes xs → IsFaultedReading t r bytes ys → xs ≡ ys }
+{}

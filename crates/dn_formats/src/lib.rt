@@ -1,0 +1,34 @@
+//! What `deltanet` reads and prints: the types of feeds, scripts and reports, the definitions that contracts cite of them
+//! (`specs/`), and the printers that the report is made of.
+//!
+//! What a network does stands in `dn_model`, on which this crate stands; no crate that follows routes stands on this one.
+#![tactic(auto)]
+
+pub mod cause;
+mod decimal;
+mod error_line;
+mod laws;
+mod payload;
+mod print;
+#[cfg(test)]
+mod print_tests;
+mod raw_route;
+pub mod refusal;
+mod script;
+mod text;
+mod told;
+mod topology_fault;
+
+pub use decimal::read_number;
+pub use error_line::ErrorLine;
+pub use laws::{failed_feeds_have_one_reading, feeds_have_one_reading, payloads_are_unique};
+pub use payload::{Item, ItemKind, Payload, Refused, Skip};
+pub use print::{
+    print_address, print_prefix, print_run, print_target, push_address, push_bytes, push_decimal,
+    push_labelled, push_link, push_prefix, push_router, push_run, push_target,
+};
+pub use raw_route::{RawRoute, RouteKind};
+pub use script::{Line, Script};
+pub use text::Text;
+pub use told::{FeedEnd, FeedTold, JobTold, Outcome, RefusedFrame, Told};
+pub use topology_fault::{TopoFault, TopoPart, TopoRefused};

@@ -1,0 +1,25 @@
+//! Scripts: what a job does, line by line.
+
+use dn_model::{List, Query, RouterId};
+
+/// A line of a script that does something. Lines count from 1, those that pass included.
+#[derive(Drop)]
+pub enum Line {
+    /// Takes this many frames of the router's feed, or the rest of it where no count is given.
+    Take {
+        line: u32,
+        router: RouterId,
+        count: Option<u32>,
+    },
+    /// Asks a query.
+    Ask {
+        line: u32,
+        query: Query,
+    },
+}
+
+/// A script: its lines that do something, in order.
+#[derive(Drop)]
+pub struct Script {
+    pub lines: List<Line>,
+}

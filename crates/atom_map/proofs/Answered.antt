@@ -3,7 +3,7 @@ use Rattle.std.proofs.Common.{◌≡◌, ℕ, ◌+◌, ◌<◌, ◌≤◌, ◌^�
 use Rattle.std.specs.List.{insert}
 use Rattle.std.proofs.lemmas.Bool.{eq-eqb}
 use Rattle.std.proofs.lemmas.List.Folds.{list_any_at}
-use Rattle.dn_model.specs.Atoms.{AreAtoms, atom_of, bounds_of, atoms_in, low_of, high_of, row_at, row_of, is_boundary, lower_part, upper_part, cut_rows}
+use Rattle.dn_model.specs.Atoms.{AreAtoms, atom_of, bounds_of, atoms_in, atom_low, atom_past, row_at, row_of, is_boundary, lower_part, upper_part, cut_rows}
 use Rattle.dn_model.specs.declared.atom_row.AtomRow.{AtomRow}
 use Rattle.dn_model.specs.declared.ids.AtomId.{AtomId}
 use Rattle.dn_model.proofs.Covers.{high-at}
@@ -18,13 +18,13 @@ pub record Found (rows : List AtomRow) (place a : ℕ) (row : AtomRow) : Type 0 
   pub atoms : AreAtoms rows
   pub inside : place < length rows
   pub is : row ≡ get_or rows place row
-  pub from : low_of (get_or rows place row) ≤ a
-  pub to : a < high_of (get_or rows place row)
+  pub from : atom_low (get_or rows place row) ≤ a
+  pub to : a < atom_past (get_or rows place row)
 
 pub atoms-same : (self items : List AtomRow) → items ≡ self → AreAtoms items → AreAtoms self
 atoms-same self items e h = let A : List AtomRow → Type 0 = λ xs. AreAtoms xs in subst A e h
 
-pub found-in : (self rows : List AtomRow) (place a : ℕ) (row : AtomRow) → rows ≡ self → AreAtoms rows → place < length rows → ((d : AtomRow) → row ≡ get_or rows place d) → ((d : AtomRow) → (get_or rows place d).low ≤ a) → ((d : AtomRow) → a < (get_or rows place d).high) → Found self place a row
+pub found-in : (self rows : List AtomRow) (place a : ℕ) (row : AtomRow) → rows ≡ self → AreAtoms rows → place < length rows → ((d : AtomRow) → row ≡ get_or rows place d) → ((d : AtomRow) → (get_or rows place d).low ≤ a) → ((d : AtomRow) → a < (get_or rows place d).past) → Found self place a row
 found-in self rows place a row e h inside is from to =
     let F : List AtomRow → Type 0 = λ xs. Found xs place a row in
     subst F e (record { atoms = h; inside = inside; is = is row; from = from row; to = to row })
@@ -37,31 +37,31 @@ below-found self place a row f =
     let P : AtomRow → Type 0 = λ r. r.atom.0 < length self in
     subst P (sym f.is) (below-at (length self) self place row f.atoms.below f.inside)
 
-pub high-found : (self : List AtomRow) (place a : ℕ) (row : AtomRow) → Found self place a row → row.high ≤ 2 ^ 32
+pub high-found : (self : List AtomRow) (place a : ℕ) (row : AtomRow) → Found self place a row → row.past ≤ 2 ^ 32
 high-found self place a row f =
-    let P : AtomRow → Type 0 = λ r. high_of r ≤ 2 ^ 32 in
-    subst P (sym f.is) (high-at low_of high_of 0 self place row f.atoms.cover f.inside)
+    let P : AtomRow → Type 0 = λ r. atom_past r ≤ 2 ^ 32 in
+    subst P (sym f.is) (high-at atom_low atom_past 0 self place row f.atoms.cover f.inside)
 
 -- the bounds of a number
-pub bounds-found : (self rows : List AtomRow) (lows : List ℕ) (place low : ℕ) (row : AtomRow) (atom : AtomId) → rows ≡ self → IsIndexed rows lows → Found self place low row → atom.0 < length self → ((d : ℕ) → low ≡ get_or lows atom.0 d) → Contains self (row_of atom row.low row.high)
+pub bounds-found : (self rows : List AtomRow) (lows : List ℕ) (place low : ℕ) (row : AtomRow) (atom : AtomId) → rows ≡ self → IsIndexed rows lows → Found self place low row → atom.0 < length self → ((d : ℕ) → low ≡ get_or lows atom.0 d) → Contains self (row_of atom row.low row.past)
 bounds-found self rows lows place low row atom e x f l start =
     let I : List AtomRow → Type 0 = λ xs. IsIndexed xs lows in
     let h : IsIndexed self lows = subst I e x in
     let n : (get_or self place row).atom.0 ≡ atom.0 = number-at self lows atom.0 place low row h l (start 0) f.inside f.from f.to in
     contained self place row atom f.inside f.is (ap (λ (r : AtomRow). r.atom.0) f.is ∙ n)
 
-pub order-found : (self : List AtomRow) (place a : ℕ) (row : AtomRow) → Found self place a row → row.low < row.high
+pub order-found : (self : List AtomRow) (place a : ℕ) (row : AtomRow) → Found self place a row → row.low < row.past
 order-found self place a row f =
-    let P : AtomRow → Type 0 = λ r. low_of r < high_of r in
-    let from : low_of (get_or self place row) ≤ a = f.from in
-    let to : a < high_of (get_or self place row) = f.to in
+    let P : AtomRow → Type 0 = λ r. atom_low r < atom_past r in
+    let from : atom_low (get_or self place row) ≤ a = f.from in
+    let to : a < atom_past (get_or self place row) = f.to in
     subst P (sym f.is) (omega arith)
 
 -- the atoms of an interval
 no-row : AtomRow
 no-row = row_of (record { 0 = 0 }) 0 0
 
-pub met-found : (self rows : List AtomRow) (got : List AtomId) (place lo hi : ℕ) → rows ≡ self → AreAtoms rows → place < length rows → ((d : AtomRow) → (get_or rows place d).low ≤ lo) → ((d : AtomRow) → lo < (get_or rows place d).high) → lo < hi → got ≡ map atom_of (first_below hi (drop place rows)) → got ≡ atoms_in self lo hi
+pub met-found : (self rows : List AtomRow) (got : List AtomId) (place lo hi : ℕ) → rows ≡ self → AreAtoms rows → place < length rows → ((d : AtomRow) → (get_or rows place d).low ≤ lo) → ((d : AtomRow) → lo < (get_or rows place d).past) → lo < hi → got ≡ map atom_of (first_below hi (drop place rows)) → got ≡ atoms_in self lo hi
 met-found self rows got place lo hi e h inside from to o is =
     is
     ∙ atoms-met lo hi rows place no-row h o inside (from no-row) (to no-row)
@@ -76,17 +76,17 @@ parted rows longer made place at new row d l is e s =
     ∙ ap (λ (r : AtomRow). take place rows ++ lower_part at r ∷ upper_part at new r ∷ drop (place + 1) rows) (is d)
 
 -- a cut in the midst of an atom
-strict : (self : List AtomRow) (place at : ℕ) (row : AtomRow) → Found self place at row → (row.low ≡ at → ⊥) → low_of (get_or self place row) < at
+strict : (self : List AtomRow) (place at : ℕ) (row : AtomRow) → Found self place at row → (row.low ≡ at → ⊥) → atom_low (get_or self place row) < at
 strict self place at row f apart =
-    let q : row.low ≡ low_of (get_or self place row) = ap low_of f.is in
-    let from : low_of (get_or self place row) ≤ at = f.from in
+    let q : row.low ≡ atom_low (get_or self place row) = ap atom_low f.is in
+    let from : atom_low (get_or self place row) ≤ at = f.from in
     omega arith
 
 pub few-found : (self : List AtomRow) (place at : ℕ) (row : AtomRow) → Found self place at row → (row.low ≡ at → ⊥) → length self < 2 ^ 32
 few-found self place at row f apart = few-atoms self place at row f.atoms f.inside (strict self place at row f apart) f.to
 
 pub boundary-found : (self : List AtomRow) (place at : ℕ) (row : AtomRow) → Found self place at row → row.low ≡ at → is_boundary self at ≡ true
-boundary-found self place at row f e = list_any_at (λ (r : AtomRow). eqb r.low at) self place row f.inside (eq-eqb (low_of (get_or self place row)) at (sym (ap low_of f.is) ∙ e))
+boundary-found self place at row f e = list_any_at (λ (r : AtomRow). eqb r.low at) self place row f.inside (eq-eqb (atom_low (get_or self place row)) at (sym (ap atom_low f.is) ∙ e))
 
 pub no-boundary-found : (self : List AtomRow) (place at : ℕ) (row : AtomRow) → Found self place at row → (row.low ≡ at → ⊥) → is_boundary self at ≡ false
 no-boundary-found self place at row f apart = no-boundary self place at row f.atoms f.inside (strict self place at row f apart) f.to

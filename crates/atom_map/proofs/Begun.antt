@@ -5,7 +5,7 @@ use Rattle.std.proofs.lemmas.Bool.{cases_Bool, cases_lt, and_parts, leb-true, ne
 use Rattle.std.proofs.lemmas.List.{get_or_append_left, get_or_push, length_push}
 use Rattle.std.proofs.lemmas.Option.{none-some}
 use Rattle.dn_model.specs.Rows.{is_within, CoverFrom}
-use Rattle.dn_model.specs.Atoms.{AreAtoms, AreBelow, atom_of, low_of, high_of, has_address, row_at, row_of, is_boundary, lower_part, upper_part, cut_rows, part_of}
+use Rattle.dn_model.specs.Atoms.{AreAtoms, AreBelow, atom_of, atom_low, atom_past, has_address, row_at, row_of, is_boundary, lower_part, upper_part, cut_rows, part_of}
 use Rattle.dn_model.specs.declared.atom_row.AtomRow.{AtomRow}
 use Rattle.dn_model.specs.declared.ids.AtomId.{AtomId}
 use Rattle.dn_model.proofs.Covers.{within-yes, holder-first, holder-rest, holder-at, few-rows}
@@ -16,7 +16,7 @@ use Rattle.atom_map.specs.Index.{one_atom, Begins, IsIndexed}
 one-begins : (n : ℕ) → n < length one_atom → Begins one_atom n (get_or (0 ∷ []) n 0)
 one-begins zero l = record {
   row = row_of (record { 0 = 0 }) 0 (2 ^ 32);
-  at = holder-first low_of high_of (row_of (record { 0 = 0 }) 0 (2 ^ 32)) [] 0 (within-yes 0 (2 ^ 32) 0 (omega arith) (lit< tt));
+  at = holder-first atom_low atom_past (row_of (record { 0 = 0 }) 0 (2 ^ 32)) [] 0 (within-yes 0 (2 ^ 32) 0 (omega arith) (lit< tt));
   low = refl;
   is = refl;
 }
@@ -42,14 +42,14 @@ not-boundary : (rows : List AtomRow) (b at : ℕ) (row : AtomRow) → row_at row
 not-boundary [] b at row e n = absurd (none-some row e)
 not-boundary (r ∷ rs) b at row e n =
     ⊎_elim
-    (λ (y : is_within r.low r.high b ≡ true).
-    let s : Some r ≡ Some row = sym (holder-first low_of high_of r rs b y) ∙ e in
+    (λ (y : is_within r.low r.past b ≡ true).
+    let s : Some r ≡ Some row = sym (holder-first atom_low atom_past r rs b y) ∙ e in
     let k : r ≡ row = cc in
     let P : AtomRow → Type 0 = λ x. x.low ≡ at → ⊥ in
     subst P k (boundary-parts r rs at n).0)
-    (λ (y : is_within r.low r.high b ≡ false).
-    not-boundary rs b at row (sym (holder-rest low_of high_of r rs b y) ∙ e) (boundary-parts r rs at n).1)
-    (cases_Bool (is_within r.low r.high b))
+    (λ (y : is_within r.low r.past b ≡ false).
+    not-boundary rs b at row (sym (holder-rest atom_low atom_past r rs b y) ∙ e) (boundary-parts r rs at n).1)
+    (cases_Bool (is_within r.low r.past b))
 
 -- an atom that was there begins where it began
 old-begins : (rows : List AtomRow) (at n b : ℕ) (new : AtomId) → AreAtoms rows → is_boundary rows at ≡ false → Begins rows n b → Begins (cut_rows rows at new) n b
@@ -59,7 +59,7 @@ old-begins rows at n b new h none w =
     let low : w.row.low ≡ b = w.low in
     ⊎_elim
     (λ (y : has_address at w.row ≡ true).
-    let from : w.row.low ≤ at = leb-true w.row.low at (and_parts (leb w.row.low at) (ltb at w.row.high) y).0 in
+    let from : w.row.low ≤ at = leb-true w.row.low at (and_parts (leb w.row.low at) (ltb at w.row.past) y).0 in
     let below : b < at = omega arith in
     record {
       row = lower_part at w.row;
@@ -77,24 +77,24 @@ old-begins rows at n b new h none w =
     (cases_Bool (has_address at w.row))
 
 -- the new one begins at the cut
-new-begins : (rows : List AtomRow) (place at : ℕ) (d : AtomRow) (new : AtomId) → AreAtoms rows → place < length rows → low_of (get_or rows place d) ≤ at → at < high_of (get_or rows place d) → Begins (cut_rows rows at new) new.0 at
+new-begins : (rows : List AtomRow) (place at : ℕ) (d : AtomRow) (new : AtomId) → AreAtoms rows → place < length rows → atom_low (get_or rows place d) ≤ at → at < atom_past (get_or rows place d) → Begins (cut_rows rows at new) new.0 at
 new-begins rows place at d new h l from to =
     let row : AtomRow = get_or rows place d in
-    let has : has_address at (get_or rows place d) ≡ true = within-yes (low_of (get_or rows place d)) (high_of (get_or rows place d)) at from to in
+    let has : has_address at (get_or rows place d) ≡ true = within-yes (atom_low (get_or rows place d)) (atom_past (get_or rows place d)) at from to in
     record {
       row = upper_part at new (get_or rows place d);
       at = row-after-cut 0 rows at new at h.cover
-          ∙ ap (option_map (part_of at new at)) (holder-at low_of high_of 0 rows place d at h.cover l from to)
+          ∙ ap (option_map (part_of at new at)) (holder-at atom_low atom_past 0 rows place d at h.cover l from to)
           ∙ ap (λ (x : AtomRow). Some x) (part-upper at new at (get_or rows place d) has (omega arith));
       low = refl;
       is = refl;
     }
 
 -- a cut in the midst of an atom
-pub no-boundary : (rows : List AtomRow) (place at : ℕ) (d : AtomRow) → AreAtoms rows → place < length rows → low_of (get_or rows place d) < at → at < high_of (get_or rows place d) → is_boundary rows at ≡ false
-no-boundary rows place at d h l from to = boundary-at 0 rows place d at h.cover l (omega arith) to ∙ ne_eqb (low_of (get_or rows place d)) at (λ (q : low_of (get_or rows place d) ≡ at). omega arith)
+pub no-boundary : (rows : List AtomRow) (place at : ℕ) (d : AtomRow) → AreAtoms rows → place < length rows → atom_low (get_or rows place d) < at → at < atom_past (get_or rows place d) → is_boundary rows at ≡ false
+no-boundary rows place at d h l from to = boundary-at 0 rows place d at h.cover l (omega arith) to ∙ ne_eqb (atom_low (get_or rows place d)) at (λ (q : atom_low (get_or rows place d) ≡ at). omega arith)
 
-pub cut-indexed : (rows : List AtomRow) (lows : List ℕ) (place at : ℕ) (d : AtomRow) (new : AtomId) → IsIndexed rows lows → at < 2 ^ 32 → place < length rows → low_of (get_or rows place d) < at → at < high_of (get_or rows place d) → new.0 ≡ length rows → IsIndexed (cut_rows rows at new) (lows ++ at ∷ [])
+pub cut-indexed : (rows : List AtomRow) (lows : List ℕ) (place at : ℕ) (d : AtomRow) (new : AtomId) → IsIndexed rows lows → at < 2 ^ 32 → place < length rows → atom_low (get_or rows place d) < at → at < atom_past (get_or rows place d) → new.0 ≡ length rows → IsIndexed (cut_rows rows at new) (lows ++ at ∷ [])
 cut-indexed rows lows place at d new h b l from to e =
     let none : is_boundary rows at ≡ false = no-boundary rows place at d h.atoms l from to in
     let long : length (cut_rows rows at new) ≡ suc (length rows) = length-after-cut 0 rows at new h.atoms.cover (omega arith) b in
@@ -117,35 +117,35 @@ cut-indexed rows lows place at d new h b l from to e =
     }
 
 -- the atom with a number is the one of the address where it begins
-pub number-at : (rows : List AtomRow) (lows : List ℕ) (n place low : ℕ) (d : AtomRow) → IsIndexed rows lows → n < length rows → low ≡ get_or lows n 0 → place < length rows → low_of (get_or rows place d) ≤ low → low < high_of (get_or rows place d) → (get_or rows place d).atom.0 ≡ n
+pub number-at : (rows : List AtomRow) (lows : List ℕ) (n place low : ℕ) (d : AtomRow) → IsIndexed rows lows → n < length rows → low ≡ get_or lows n 0 → place < length rows → atom_low (get_or rows place d) ≤ low → low < atom_past (get_or rows place d) → (get_or rows place d).atom.0 ≡ n
 number-at rows lows n place low d h l e k from to =
     let w : Begins rows n (get_or lows n 0) = h.begins n l in
-    let p : row_at rows low ≡ Some (get_or rows place d) = holder-at low_of high_of 0 rows place d low h.atoms.cover k from to in
+    let p : row_at rows low ≡ Some (get_or rows place d) = holder-at atom_low atom_past 0 rows place d low h.atoms.cover k from to in
     let q : row_at rows low ≡ Some w.row = ap (λ a. row_at rows a) e ∙ w.at in
     let s : Some (get_or rows place d) ≡ Some w.row = sym p ∙ q in
     let r : get_or rows place d ≡ w.row = cc in
     ap (λ (x : AtomRow). x.atom.0) r ∙ w.is
 
-pub contained : (rows : List AtomRow) (place : ℕ) (row : AtomRow) (atom : AtomId) → place < length rows → row ≡ get_or rows place row → row.atom.0 ≡ atom.0 → Contains rows (row_of atom row.low row.high)
+pub contained : (rows : List AtomRow) (place : ℕ) (row : AtomRow) (atom : AtomId) → place < length rows → row ≡ get_or rows place row → row.atom.0 ≡ atom.0 → Contains rows (row_of atom row.low row.past)
 contained rows place row atom l is e =
     let P : AtomRow → Type 0 = λ r. Contains rows r in
-    let s : row ≡ row_of atom row.low row.high = ap (λ n. row_of (record { 0 = n }) row.low row.high) e in
+    let s : row ≡ row_of atom row.low row.past = ap (λ n. row_of (record { 0 = n }) row.low row.past) e in
     subst P s (place, l, sym is)
 
 -- there are no more atoms than addresses, and fewer where one has two
-few-wide : (start : ℕ) (rows : List AtomRow) (i : ℕ) (d : AtomRow) → CoverFrom low_of high_of start rows → i < length rows → suc (low_of (get_or rows i d)) < high_of (get_or rows i d) → start + length rows < 2 ^ 32
+few-wide : (start : ℕ) (rows : List AtomRow) (i : ℕ) (d : AtomRow) → CoverFrom atom_low atom_past start rows → i < length rows → suc (atom_low (get_or rows i d)) < atom_past (get_or rows i d) → start + length rows < 2 ^ 32
 few-wide start [] i d h l w = absurd (omega arith)
 few-wide start (r ∷ rs) zero d h l w =
     let e : r.low ≡ start = h.0 in
-    let k : r.high + length rs ≤ 2 ^ 32 = few-rows low_of high_of r.high rs h.2 in
+    let k : r.past + length rs ≤ 2 ^ 32 = few-rows atom_low atom_past r.past rs h.2 in
     omega arith
 few-wide start (r ∷ rs) (suc i) d h l w =
     let e : r.low ≡ start = h.0 in
-    let o : r.low < r.high = h.1 in
-    let k : r.high + length rs < 2 ^ 32 = few-wide r.high rs i d h.2 (omega arith) w in
+    let o : r.low < r.past = h.1 in
+    let k : r.past + length rs < 2 ^ 32 = few-wide r.past rs i d h.2 (omega arith) w in
     omega arith
 
-pub few-atoms : (rows : List AtomRow) (place at : ℕ) (d : AtomRow) → AreAtoms rows → place < length rows → low_of (get_or rows place d) < at → at < high_of (get_or rows place d) → length rows < 2 ^ 32
+pub few-atoms : (rows : List AtomRow) (place at : ℕ) (d : AtomRow) → AreAtoms rows → place < length rows → atom_low (get_or rows place d) < at → at < atom_past (get_or rows place d) → length rows < 2 ^ 32
 few-atoms rows place at d h l from to = let k : 0 + length rows < 2 ^ 32 = few-wide 0 rows place d h.cover l (omega arith) in omega arith
 
 -- the number of an atom is below their count
@@ -155,5 +155,5 @@ below-at n (r ∷ rs) zero d h l = h.0
 below-at n (r ∷ rs) (suc i) d h l = below-at n rs i d h.1 (omega arith)
 
 -- the atom of an address, by place
-pub atom-at : (rows : List AtomRow) (place a : ℕ) (row : AtomRow) → AreAtoms rows → place < length rows → row ≡ get_or rows place row → low_of (get_or rows place row) ≤ a → a < high_of (get_or rows place row) → option_map atom_of (row_at rows a) ≡ Some row.atom
-atom-at rows place a row h l is from to = ap (option_map atom_of) (holder-at low_of high_of 0 rows place row a h.cover l from to) ∙ ap (λ (x : AtomRow). Some x.atom) (sym is)
+pub atom-at : (rows : List AtomRow) (place a : ℕ) (row : AtomRow) → AreAtoms rows → place < length rows → row ≡ get_or rows place row → atom_low (get_or rows place row) ≤ a → a < atom_past (get_or rows place row) → option_map atom_of (row_at rows a) ≡ Some row.atom
+atom-at rows place a row h l is from to = ap (option_map atom_of) (holder-at atom_low atom_past 0 rows place row a h.cover l from to) ∙ ap (λ (x : AtomRow). Some x.atom) (sym is)

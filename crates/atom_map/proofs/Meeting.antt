@@ -3,27 +3,27 @@ use Rattle.std.proofs.Common.{◌≡◌, ℕ, ◌+◌, ◌<◌, ◌≤◌, ◌^�
 use Rattle.std.proofs.lemmas.Bool.{cases_lt, lt-ltb, le-ltb, and_from, and_left, and_right}
 use Rattle.std.proofs.lemmas.List.{append-nil, drop_all}
 use Rattle.dn_model.specs.Rows.{CoverFrom}
-use Rattle.dn_model.specs.Atoms.{AreAtoms, low_of, high_of, meets, atoms_in, atom_of}
+use Rattle.dn_model.specs.Atoms.{AreAtoms, atom_low, atom_past, meets, atoms_in, atom_of}
 use Rattle.dn_model.specs.declared.atom_row.AtomRow.{AtomRow}
 use Rattle.dn_model.specs.declared.ids.AtomId.{AtomId}
 use Rattle.dn_model.proofs.Covers.{low-at, starts-below}
 use Rattle.atom_map.specs.Index.{first_below}
 
 abbrev Cover : ℕ → List AtomRow → Type 0
-Cover start rows = CoverFrom low_of high_of start rows
+Cover start rows = CoverFrom atom_low atom_past start rows
 
 -- when an atom is met
-meets-all : (lo hi : ℕ) (r : AtomRow) → lo < hi → r.low < hi → lo < r.high → meets lo hi r ≡ true
-meets-all lo hi r a b c = and_from (ltb lo hi) (ltb r.low hi && ltb lo r.high) (lt-ltb lo hi a) (and_from (ltb r.low hi) (ltb lo r.high) (lt-ltb r.low hi b) (lt-ltb lo r.high c))
+meets-all : (lo hi : ℕ) (r : AtomRow) → lo < hi → r.low < hi → lo < r.past → meets lo hi r ≡ true
+meets-all lo hi r a b c = and_from (ltb lo hi) (ltb r.low hi && ltb lo r.past) (lt-ltb lo hi a) (and_from (ltb r.low hi) (ltb lo r.past) (lt-ltb r.low hi b) (lt-ltb lo r.past c))
 
 meets-none : (lo hi : ℕ) (r : AtomRow) → hi ≤ lo → meets lo hi r ≡ false
-meets-none lo hi r a = and_left (ltb lo hi) (ltb r.low hi && ltb lo r.high) (le-ltb lo hi a)
+meets-none lo hi r a = and_left (ltb lo hi) (ltb r.low hi && ltb lo r.past) (le-ltb lo hi a)
 
 meets-above : (lo hi : ℕ) (r : AtomRow) → hi ≤ r.low → meets lo hi r ≡ false
-meets-above lo hi r a = and_right (ltb lo hi) (ltb r.low hi && ltb lo r.high) (and_left (ltb r.low hi) (ltb lo r.high) (le-ltb r.low hi a))
+meets-above lo hi r a = and_right (ltb lo hi) (ltb r.low hi && ltb lo r.past) (and_left (ltb r.low hi) (ltb lo r.past) (le-ltb r.low hi a))
 
-meets-below : (lo hi : ℕ) (r : AtomRow) → r.high ≤ lo → meets lo hi r ≡ false
-meets-below lo hi r a = and_right (ltb lo hi) (ltb r.low hi && ltb lo r.high) (and_right (ltb r.low hi) (ltb lo r.high) (le-ltb lo r.high a))
+meets-below : (lo hi : ℕ) (r : AtomRow) → r.past ≤ lo → meets lo hi r ≡ false
+meets-below lo hi r a = and_right (ltb lo hi) (ltb r.low hi && ltb lo r.past) (and_right (ltb r.low hi) (ltb lo r.past) (le-ltb lo r.past a))
 
 -- a filter at one more
 kept : (lo hi : ℕ) (r : AtomRow) (rs : List AtomRow) → meets lo hi r ≡ true → filter (meets lo hi) (r ∷ rs) ≡ r ∷ filter (meets lo hi) rs
@@ -75,48 +75,48 @@ none-of-none lo hi (r ∷ rs) h = left-out lo hi r rs (meets-none lo hi r h) ∙
 pub none-past : (start lo hi : ℕ) (rows : List AtomRow) → Cover start rows → 2 ^ 32 ≤ lo → filter (meets lo hi) rows ≡ []
 none-past start lo hi [] h l = refl
 none-past start lo hi (r ∷ rs) h l =
-    let b : r.high ≤ 2 ^ 32 = starts-below low_of high_of r.high rs h.2 in
-    left-out lo hi r rs (meets-below lo hi r (omega arith)) ∙ none-past r.high lo hi rs h.2 l
+    let b : r.past ≤ 2 ^ 32 = starts-below atom_low atom_past r.past rs h.2 in
+    left-out lo hi r rs (meets-below lo hi r (omega arith)) ∙ none-past r.past lo hi rs h.2 l
 
 -- no atom that begins past the interval's end
 none-above : (start lo hi : ℕ) (rows : List AtomRow) → Cover start rows → hi ≤ start → filter (meets lo hi) rows ≡ []
 none-above start lo hi [] h l = refl
 none-above start lo hi (r ∷ rs) h l =
     let e : r.low ≡ start = h.0 in
-    let o : r.low < r.high = h.1 in
-    left-out lo hi r rs (meets-above lo hi r (omega arith)) ∙ none-above r.high lo hi rs h.2 (omega arith)
+    let o : r.low < r.past = h.1 in
+    left-out lo hi r rs (meets-above lo hi r (omega arith)) ∙ none-above r.past lo hi rs h.2 (omega arith)
 
 -- from an atom on that ends above the interval's first address
 met-from : (start lo hi : ℕ) (rows : List AtomRow) → Cover start rows → lo < hi → lo < start → filter (meets lo hi) rows ≡ first_below hi rows
 met-from start lo hi [] h o l = refl
 met-from start lo hi (r ∷ rs) h o l =
     let e : r.low ≡ start = h.0 in
-    let w : r.low < r.high = h.1 in
+    let w : r.low < r.past = h.1 in
     ⊎_elim
     (λ (b : r.low < hi).
     kept lo hi r rs (meets-all lo hi r o b (omega arith))
-    ∙ ap (λ (xs : List AtomRow). r ∷ xs) (met-from r.high lo hi rs h.2 o (omega arith))
+    ∙ ap (λ (xs : List AtomRow). r ∷ xs) (met-from r.past lo hi rs h.2 o (omega arith))
     ∙ sym (taken hi r rs b))
     (λ (b : hi ≤ r.low).
     left-out lo hi r rs (meets-above lo hi r b)
-    ∙ none-above r.high lo hi rs h.2 (omega arith)
+    ∙ none-above r.past lo hi rs h.2 (omega arith)
     ∙ sym (not-taken hi r rs b))
     (cases_lt r.low hi)
 
 -- from the atom of the interval's first address on
-pub met-at : (start lo hi : ℕ) (rows : List AtomRow) (i : ℕ) (d : AtomRow) → Cover start rows → lo < hi → i < length rows → low_of (get_or rows i d) ≤ lo → lo < high_of (get_or rows i d) → filter (meets lo hi) rows ≡ first_below hi (drop i rows)
+pub met-at : (start lo hi : ℕ) (rows : List AtomRow) (i : ℕ) (d : AtomRow) → Cover start rows → lo < hi → i < length rows → atom_low (get_or rows i d) ≤ lo → lo < atom_past (get_or rows i d) → filter (meets lo hi) rows ≡ first_below hi (drop i rows)
 met-at start lo hi [] i d h o l from to = absurd (omega arith)
 met-at start lo hi (r ∷ rs) zero d h o l from to =
     kept lo hi r rs (meets-all lo hi r o (omega arith) to)
-    ∙ ap (λ (xs : List AtomRow). r ∷ xs) (met-from r.high lo hi rs h.2 o to)
+    ∙ ap (λ (xs : List AtomRow). r ∷ xs) (met-from r.past lo hi rs h.2 o to)
     ∙ sym (taken hi r rs (omega arith))
 met-at start lo hi (r ∷ rs) (suc i) d h o l from to =
-    let k : r.high ≤ low_of (get_or rs i d) = low-at low_of high_of r.high rs i d h.2 (omega arith) in
+    let k : r.past ≤ atom_low (get_or rs i d) = low-at atom_low atom_past r.past rs i d h.2 (omega arith) in
     left-out lo hi r rs (meets-below lo hi r (omega arith))
-    ∙ met-at r.high lo hi rs i d h.2 o (omega arith) from to
+    ∙ met-at r.past lo hi rs i d h.2 o (omega arith) from to
 
 -- as the answers are stated
-pub atoms-met : (lo hi : ℕ) (rows : List AtomRow) (i : ℕ) (d : AtomRow) → AreAtoms rows → lo < hi → i < length rows → low_of (get_or rows i d) ≤ lo → lo < high_of (get_or rows i d) → map atom_of (first_below hi (drop i rows)) ≡ atoms_in rows lo hi
+pub atoms-met : (lo hi : ℕ) (rows : List AtomRow) (i : ℕ) (d : AtomRow) → AreAtoms rows → lo < hi → i < length rows → atom_low (get_or rows i d) ≤ lo → lo < atom_past (get_or rows i d) → map atom_of (first_below hi (drop i rows)) ≡ atoms_in rows lo hi
 atoms-met lo hi rows i d h o l from to = ap (λ (xs : List AtomRow). map atom_of xs) (sym (met-at 0 lo hi rows i d h.cover o l from to))
 
 pub no-atoms-met : (lo hi : ℕ) (rows : List AtomRow) → AreAtoms rows → (hi ≤ lo) ⊎ (2 ^ 32 ≤ lo) → [] ≡ atoms_in rows lo hi

@@ -2,17 +2,17 @@
 use Rattle.std.proofs.Common.{◌≡◌, ℕ, ◌+◌, ◌<◌, ◌≤◌, ◌^◌, ◌∙◌, suc, List, [], ◌∷◌, ◌++◌, length, get_or, set, take, drop, ap, subst, append_assoc, arith, lit<}
 use Rattle.std.specs.List.{insert}
 use Rattle.std.proofs.lemmas.List.{get_or_read, take_more, set_at, length-take-le}
-use Rattle.dn_model.specs.Atoms.{AreAtoms, low_of, high_of}
+use Rattle.dn_model.specs.Atoms.{AreAtoms, atom_low, atom_past}
 use Rattle.dn_model.specs.declared.atom_row.AtomRow.{AtomRow}
 use Rattle.dn_model.proofs.Covers.{some-row, first-low, halved}
 use Rattle.atom_map.specs.Index.{IsLeft}
 
 pub some-atom : (rows : List AtomRow) → AreAtoms rows → 0 < length rows
-some-atom rows h = some-row low_of high_of 0 rows h.cover (lit< tt)
+some-atom rows h = some-row atom_low atom_past 0 rows h.cover (lit< tt)
 
-pub first-from : (rows : List AtomRow) (a : ℕ) (d : AtomRow) → AreAtoms rows → low_of (get_or rows 0 d) ≤ a
+pub first-from : (rows : List AtomRow) (a : ℕ) (d : AtomRow) → AreAtoms rows → atom_low (get_or rows 0 d) ≤ a
 first-from rows a d h =
-    let e : low_of (get_or rows 0 d) ≡ 0 = first-low low_of high_of 0 rows d h.cover (some-atom rows h) in
+    let e : atom_low (get_or rows 0 d) ≡ 0 = first-low atom_low atom_past 0 rows d h.cover (some-atom rows h) in
     omega arith
 
 pub all-left : (rows : List AtomRow) (a past : ℕ) → AreAtoms rows → past ≡ length rows → IsLeft rows a 0 past
@@ -45,8 +45,8 @@ left-below rows a place past middle row h o l is to =
       next = λ d k. let P : AtomRow → Type 0 = λ r. a < r.low in subst P (get_or_read rows middle row (omega arith) is d) to;
     }
 
-pub found-to : (rows : List AtomRow) (place past a : ℕ) (d : AtomRow) → AreAtoms rows → IsLeft rows a place past → past ≤ suc place → a < 2 ^ 32 → a < high_of (get_or rows place d)
-found-to rows place past a d h left near b = halved low_of high_of rows place past d a h.cover left.order near left.inside b (left.next d)
+pub found-to : (rows : List AtomRow) (place past a : ℕ) (d : AtomRow) → AreAtoms rows → IsLeft rows a place past → past ≤ suc place → a < 2 ^ 32 → a < atom_past (get_or rows place d)
+found-to rows place past a d h left near b = halved atom_low atom_past rows place past d a h.cover left.order near left.inside b (left.next d)
 
 -- one element in the place of another, and one after it
 pub two-for-one : {X : Type 0} (xs : List X) (i : ℕ) (d lower upper : X) → i < length xs → set (insert xs (i + 1) upper) i lower ≡ take i xs ++ lower ∷ upper ∷ drop (i + 1) xs

@@ -42,7 +42,7 @@ impl AtomMap {
         let row = AtomRow {
             atom: AtomId(0),
             low: 0,
-            high: END,
+            past: END,
         };
         let rows = Pages::new().insert(alloc, 0, row)?;
         let lows = Pages::new().insert(alloc, 0, 0)?;
@@ -91,7 +91,7 @@ impl AtomMap {
     pub fn place_of(&self, a: u32) -> u64
         ensures inside { result < length self.now }
         ensures from { (d : AtomRow) → (slice_index_or self.now result d).low ≤ a }
-        ensures to { (d : AtomRow) → a < (slice_index_or self.now result d).high }
+        ensures to { (d : AtomRow) → a < (slice_index_or self.now result d).past }
     {
         place_of(&self.rows, a)
     }
@@ -115,7 +115,7 @@ impl AtomMap {
         let low = read(&self.lows, atom.0 as u64);
         let place = place_of(&self.rows, low);
         let row = read(&self.rows, place);
-        (row.low, row.high)
+        (row.low, row.past)
     }
 
     /// The atoms that have one of the addresses from `lo` up to, and without, `hi`, in order.
@@ -139,7 +139,7 @@ impl AtomMap {
         let mut rows = Vec::new(alloc);
         for i in 0..self.rows.len() {
             let row = read(&self.rows, i);
-            rows.push((row.atom, row.low, row.high))?;
+            rows.push((row.atom, row.low, row.past))?;
         }
         Ok(List::from_vec(rows))
     }

@@ -39,7 +39,7 @@ pub fn place_of(rows: &Pages<AtomRow>, a: u32) -> u64
     requires { AreAtoms rows.now }
     ensures inside { result < length rows.now }
     ensures from { (d : AtomRow) → (slice_index_or rows.now result d).low ≤ a }
-    ensures to { (d : AtomRow) → a < (slice_index_or rows.now result d).high }
+    ensures to { (d : AtomRow) → a < (slice_index_or rows.now result d).past }
 {
     let mut left = (0, rows.len());
     'halving: while left.1 - left.0 > 1 {
@@ -88,12 +88,12 @@ pub fn part(
     let lower = AtomRow {
         atom: row.atom,
         low: row.low,
-        high: at as u64,
+        past: at as u64,
     };
     let upper = AtomRow {
         atom: new,
         low: at as u64,
-        high: row.high,
+        past: row.past,
     };
     let longer = rows.insert(alloc, place + 1, upper)?;
     let parted = longer.set(alloc, place, lower)?;

@@ -36,7 +36,7 @@ fn the_parts_of_a_cut_are_told(rt: HostRuntime) -> Result<(), Fail> {
     let second = AtomRow {
         atom: AtomId(1),
         low: 167_772_160,
-        high: 4_294_967_296,
+        past: 4_294_967_296,
     };
     assert_eq!(rt; copy.at(copy.place_of(167_772_160)), second);
     let rows = copy.rows(rt.alloc())?;

@@ -5,30 +5,30 @@ use Rattle.dn_model.specs.Rows.{is_within, CoverFrom, holder}
 use Rattle.dn_model.specs.declared.atom_row.AtomRow.{AtomRow}
 use Rattle.dn_model.specs.declared.ids.AtomId.{AtomId}
 
-abbrev pub low_of : AtomRow → ℕ
-low_of r = r.low
+abbrev pub atom_low : AtomRow → ℕ
+atom_low r = r.low
 
-abbrev pub high_of : AtomRow → ℕ
-high_of r = r.high
+abbrev pub atom_past : AtomRow → ℕ
+atom_past r = r.past
 
 abbrev pub atom_of : AtomRow → AtomId
 atom_of r = r.atom
 
 -- an atom of this number with these bounds
 abbrev pub row_of : AtomId → ℕ → ℕ → AtomRow
-row_of atom low high = record { atom = atom; low = low; high = high }
+row_of atom low high = record { atom = atom; low = low; past = high }
 
 -- an atom with its two bounds
 abbrev pub bounds_of : AtomRow → AtomId × ℕ × ℕ
-bounds_of r = (r.atom, r.low, r.high)
+bounds_of r = (r.atom, r.low, r.past)
 
 -- whether an atom has an address
 abbrev pub has_address : ℕ → AtomRow → Bool
-has_address a r = is_within r.low r.high a
+has_address a r = is_within r.low r.past a
 
 -- the atom of an address, with its bounds
 abbrev pub row_at : List AtomRow → ℕ → Option AtomRow
-row_at rows a = holder low_of high_of rows a
+row_at rows a = holder atom_low atom_past rows a
 
 -- whether an atom begins at an address
 abbrev pub is_boundary : List AtomRow → ℕ → Bool
@@ -36,7 +36,7 @@ is_boundary rows at = list_any (λ r. r.low == at) rows
 
 -- whether an atom has one of the addresses from `lo` up to, and without, `hi`
 abbrev pub meets : ℕ → ℕ → AtomRow → Bool
-meets lo hi r = nat_lt lo hi && (nat_lt r.low hi && nat_lt lo r.high)
+meets lo hi r = nat_lt lo hi && (nat_lt r.low hi && nat_lt lo r.past)
 
 -- the atoms that have one of these addresses, in order
 abbrev pub atoms_in : List AtomRow → ℕ → ℕ → List AtomId
@@ -59,17 +59,17 @@ AreOnce (r ∷ rs) = HasNone r.atom rs × AreOnce rs
 
 -- atoms in order, which cover the addresses from 0 to 2^32 once, and whose numbers are those below their count
 pub record AreAtoms (rows : List AtomRow) : Type 0 where
-  pub cover : CoverFrom low_of high_of 0 rows
+  pub cover : CoverFrom atom_low atom_past 0 rows
   pub below : AreBelow (length rows) rows
   pub once : AreOnce rows
 
 -- an atom's part below an address, which keeps its number
 abbrev pub lower_part : ℕ → AtomRow → AtomRow
-lower_part at r = record { atom = r.atom; low = r.low; high = at }
+lower_part at r = record { atom = r.atom; low = r.low; past = at }
 
 -- an atom's part from an address on, which has a number of its own
 abbrev pub upper_part : ℕ → AtomId → AtomRow → AtomRow
-upper_part at new r = record { atom = new; low = at; high = r.high }
+upper_part at new r = record { atom = new; low = at; past = r.past }
 
 -- the atoms, where the one that has an address is cut in two there
 abbrev pub cut_rows : List AtomRow → ℕ → AtomId → List AtomRow

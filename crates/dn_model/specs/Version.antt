@@ -3,7 +3,7 @@
 use Rattle.std.specs.Prelude.{ℕ, Bool, false, List, [], Option, None, Some, length, map, slice_index_or, ◌≡◌, ◌+◌, ◌<◌, ◌^◌, ◌==◌, ◌||◌}
 use Rattle.std.specs.List.{list_any}
 use Rattle.dn_model.specs.Cidr.{Cidr, size}
-use Rattle.dn_model.specs.Labels.{StandsFor, target_of}
+use Rattle.dn_model.specs.Forwarding.{StandsFor, target_of}
 use Rattle.dn_model.specs.Routes.{SameRoutes}
 use Rattle.dn_model.specs.Rows.{holder}
 use Rattle.dn_model.specs.Rules.{OwnersOf}
@@ -13,7 +13,7 @@ use Rattle.dn_model.specs.declared.entry.Op.{Op}
 use Rattle.dn_model.specs.declared.entry.Op.TheVariants.{Set, Clear}
 use Rattle.dn_model.specs.declared.entry.Route.{Route}
 use Rattle.dn_model.specs.declared.ids.RouterId.{RouterId}
-use Rattle.dn_model.specs.declared.label_row.LabelRow.{LabelRow}
+use Rattle.dn_model.specs.declared.forwarding_row.ForwardingRow.{ForwardingRow}
 use Rattle.dn_model.specs.declared.rule.Rule.{Rule}
 use Rattle.dn_model.specs.declared.target.Target.{Target}
 use Rattle.dn_model.specs.declared.target.Target.TheVariants.{NoRoute}
@@ -21,14 +21,14 @@ use Rattle.dn_model.specs.declared.topology.Topology.{Topology}
 
 -- an atom: its addresses with what each router does with them, and each router's rules there
 pub record Atom : Type 0 where
-  pub label : LabelRow
+  pub label : ForwardingRow
   pub owners : List (List Rule)
 
 abbrev pub first_of : Atom → ℕ
-first_of x = x.label.lo
+first_of x = x.row.low
 
 abbrev pub past_of : Atom → ℕ
-past_of x = x.label.hi
+past_of x = x.row.past
 
 -- the atom that has an address
 abbrev pub atom_at : List Atom → ℕ → Option Atom
@@ -36,10 +36,10 @@ atom_at atoms a = holder first_of past_of atoms a
 
 -- whether an atom begins at an address
 abbrev pub begins_at : List Atom → ℕ → Bool
-begins_at atoms a = list_any (λ x. x.label.lo == a) atoms
+begins_at atoms a = list_any (λ x. x.row.low == a) atoms
 
-abbrev pub labels_of : List Atom → List LabelRow
-labels_of atoms = map (λ x. x.label) atoms
+abbrev pub forwarding_of : List Atom → List ForwardingRow
+forwarding_of atoms = map (λ x. x.row) atoms
 
 abbrev pub rules_in : Option Atom → RouterId → List Rule
 rules_in None r = []
@@ -51,7 +51,7 @@ rules_at atoms r a = rules_in (atom_at atoms a) r
 
 abbrev pub target_in_atom : Option Atom → RouterId → Target
 target_in_atom None r = NoRoute
-target_in_atom (Some x) r = target_of x.label r
+target_in_atom (Some x) r = target_of x.row r
 
 -- what a router does with an address
 abbrev pub target_at : List Atom → RouterId → ℕ → Target
@@ -79,7 +79,7 @@ pub record Kept : Type 0 where
 -- What is kept stands for a history: its rows do; each router's routes are its table, in some order; the rules of each
 -- router at each address are those of its routes that cover it; and the atoms begin at the history's boundaries.
 pub record KeptStandsFor (kept : Kept) (history : List Entry) : Type 0 where
-  pub rows : StandsFor (length kept.topology.routers) (labels_of kept.atoms) history
+  pub rows : StandsFor (length kept.topology.routers) (forwarding_of kept.atoms) history
   pub routes : (r : RouterId) → SameRoutes (slice_index_or kept.routes r.0 []) (table history r)
   pub owners : (r : RouterId) (a : ℕ) → r.0 < length kept.topology.routers → a < 2 ^ 32 → OwnersOf (rules_at kept.atoms r a) (table history r) a
   pub boundaries : (a : ℕ) → a < 2 ^ 32 → begins_at kept.atoms a ≡ is_boundary_after history a

@@ -11,5 +11,5 @@ pub struct AtomRow {
     /// Its first address.
     pub low: u64,
     /// The address after its last.
-    pub high: u64,
+    pub past: u64,
 }

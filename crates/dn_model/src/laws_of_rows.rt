@@ -18,10 +18,10 @@ pub fn cuts_keep_all_other_rows()
 
 /// An address is of one atom: that at any place whose bounds it is within.
 pub fn addresses_have_one_place()
-    ensures { (rows : List AtomRow) (place : ℕ) (a : ℕ) (row : AtomRow) → AreAtoms rows → place < length rows → slice_index_or rows place row ≡ row → row.low ≤ a → a < row.high → row_at rows a ≡ Some row }
+    ensures { (rows : List AtomRow) (place : ℕ) (a : ℕ) (row : AtomRow) → AreAtoms rows → place < length rows → slice_index_or rows place row ≡ row → row.low ≤ a → a < row.past → row_at rows a ≡ Some row }
 {}
 
 /// An atom meets an interval exactly where an address is of both.
 pub fn meeting_is_sharing()
-    ensures { (row : AtomRow) (lo hi : ℕ) → row.low < row.high → (meets lo hi row ≡ true) ↔ ((a : ℕ) × (row.low ≤ a) × (a < row.high) × (lo ≤ a) × (a < hi)) }
+    ensures { (row : AtomRow) (lo hi : ℕ) → row.low < row.past → (meets lo hi row ≡ true) ↔ ((a : ℕ) × (row.low ≤ a) × (a < row.past) × (lo ≤ a) × (a < hi)) }
 {}

@@ -4,7 +4,7 @@ use Rattle.std.specs.List.{All}
 use Rattle.std.proofs.lemmas.List.{get_or_past}
 use Rattle.dn_model.specs.Delta.{IsDelta}
 use Rattle.dn_model.specs.Entry.{IsEntryOf, IsOpOf}
-use Rattle.dn_model.specs.Labels.{AreEachLabels, DoesAfter, IsLabel, StandsFor, hi_of, label_at, lo_of, target_of}
+use Rattle.dn_model.specs.Forwarding.{AreEachForwarding, DoesAfter, IsForwarding, StandsFor, row_past, forwarding_at, row_low, target_of}
 use Rattle.dn_model.specs.Version.{Kept, KeptStandsFor}
 use Rattle.dn_model.specs.Walk.{next, without}
 use Rattle.dn_model.specs.declared.change.Change.{Change}
@@ -12,7 +12,7 @@ use Rattle.dn_model.specs.declared.entry.Entry.{Entry}
 use Rattle.dn_model.specs.declared.entry.Op.{Op}
 use Rattle.dn_model.specs.declared.ids.LinkId.{LinkId}
 use Rattle.dn_model.specs.declared.ids.RouterId.{RouterId}
-use Rattle.dn_model.specs.declared.label_row.LabelRow.{LabelRow}
+use Rattle.dn_model.specs.declared.forwarding_row.ForwardingRow.{ForwardingRow}
 use Rattle.dn_model.specs.declared.target.Target.TheVariants.{NoRoute}
 use Rattle.dn_model.specs.declared.topology.Topology.{Topology}
 use Rattle.dn_model.proofs.Covers.{high-at, holder-at}
@@ -46,22 +46,22 @@ delta-none changes is = subst (λ (cs : List Change). IsDelta [] cs) (sym is) (r
 
 -- ---- rows
 
-each-at : (n : ℕ) (rows : List LabelRow) (i : ℕ) (d : LabelRow) → AreEachLabels n rows → i < length rows → IsLabel n (get_or rows i d)
+each-at : (n : ℕ) (rows : List ForwardingRow) (i : ℕ) (d : ForwardingRow) → AreEachForwarding n rows → i < length rows → IsForwarding n (get_or rows i d)
 each-at n [] i d each lt = absurd (omega arith)
 each-at n (row ∷ rows) zero d each lt = each.0
 each-at n (row ∷ rows) (suc i) d each lt = each-at n rows i d each.1 (omega arith)
 
 -- a router that the rows don't have has no route
-pub none-in-row : (n : ℕ) (rows : List LabelRow) (down : List LinkId) (i : ℕ) (r : RouterId) (d : LabelRow) → AreEachLabels n rows → i < length rows → n ≤ r.0 → NoRoute ≡ without down (target_of (get_or rows i d) r)
+pub none-in-row : (n : ℕ) (rows : List ForwardingRow) (down : List LinkId) (i : ℕ) (r : RouterId) (d : ForwardingRow) → AreEachForwarding n rows → i < length rows → n ≤ r.0 → NoRoute ≡ without down (target_of (get_or rows i d) r)
 none-in-row n rows down i r d each lt past =
     let all : length (get_or rows i d).targets ≡ n = (each-at n rows i d each lt).all in
     ap (without down) (sym (get_or_past (get_or rows i d).targets r.0 NoRoute (omega arith)))
 
 -- what the row that has an address says is so over the history
-pub next-in-row : (n : ℕ) (rows : List LabelRow) (history : List Entry) (down : List LinkId) (i a : ℕ) (r : RouterId) (d : LabelRow) → StandsFor n rows history → i < length rows → (get_or rows i d).lo ≤ a → a < (get_or rows i d).hi →
+pub next-in-row : (n : ℕ) (rows : List ForwardingRow) (history : List Entry) (down : List LinkId) (i a : ℕ) (r : RouterId) (d : ForwardingRow) → StandsFor n rows history → i < length rows → (get_or rows i d).low ≤ a → a < (get_or rows i d).past →
     without down (target_of (get_or rows i d) r) ≡ next history down a r
 next-in-row n rows history down i a r d stands lt lo hi =
-    let high : (get_or rows i d).hi ≤ 2 ^ 32 = high-at lo_of hi_of 0 rows i d stands.form.cover lt in
-    let at : label_at rows a ≡ Some (get_or rows i d) = holder-at lo_of hi_of 0 rows i d a stands.form.cover lt lo hi in
-    let P : Option LabelRow → Type 0 = λ o. DoesAfter o history r a in
+    let high : (get_or rows i d).past ≤ 2 ^ 32 = high-at row_low row_past 0 rows i d stands.form.cover lt in
+    let at : forwarding_at rows a ≡ Some (get_or rows i d) = holder-at row_low row_past 0 rows i d a stands.form.cover lt lo hi in
+    let P : Option ForwardingRow → Type 0 = λ o. DoesAfter o history r a in
     ap (without down) (subst P at (stands.exact r a (omega arith)))

@@ -1,10 +1,10 @@
 //! The walk of an address, by a view of what all routers do.
 
 ghost use Rattle.std.specs.Prelude.{◌≡◌, ◌<◌, ◌^◌, List, IfOk, length, slice_index_or};
-ghost use Rattle.dn_model.specs.Labels.{StandsFor, target_of};
+ghost use Rattle.dn_model.specs.Forwarding.{StandsFor, target_of};
 ghost use Rattle.dn_model.specs.Walk.{is_down, without, next, walk, walk_end};
 ghost use Rattle.dn_model.specs.declared.entry.Entry.{Entry};
-ghost use Rattle.dn_model.specs.declared.label_row.LabelRow.{LabelRow};
+ghost use Rattle.dn_model.specs.declared.forwarding_row.ForwardingRow.{ForwardingRow};
 
 use dn_model::{LinkId, List, OutOfMemory, PathEnd, RouterId, Target};
 use label_view::LabelView;
@@ -37,7 +37,7 @@ fn with_links_down(down: &[LinkId], target: Target) -> Target
 /// have has no route.
 fn next_in_row<V: LabelView>(view: &V, down: &[LinkId], place: u64, router: RouterId) -> Target
     requires { place < length (V.labels view.now) }
-    ensures { (d : LabelRow) → result ≡ without down.now (target_of (slice_index_or (V.labels view.now) place d) router) }
+    ensures { (d : ForwardingRow) → result ≡ without down.now (target_of (slice_index_or (V.labels view.now) place d) router) }
 {
     if u32::from(router.0) >= view.routers() {
         return Target::NoRoute;

@@ -1,36 +1,36 @@
 //! A view of rows in a list.
 
 ghost use Rattle.std.specs.Prelude.{◌≡◌, ◌<◌, ◌≤◌, length, slice_index_or};
-ghost use Rattle.dn_model.specs.Labels.{AreLabels, lo_of, hi_of};
+ghost use Rattle.dn_model.specs.Forwarding.{AreForwarding, row_low, row_past};
 ghost use Rattle.dn_model.specs.Rows.{CoverFrom};
-ghost use Rattle.dn_model.specs.declared.label_row.LabelRow.{LabelRow};
+ghost use Rattle.dn_model.specs.declared.forwarding_row.ForwardingRow.{ForwardingRow};
 
 use crate::view::LabelView;
-use dn_model::{LabelRow, List, RouterId, Target};
+use dn_model::{ForwardingRow, List, RouterId, Target};
 use std::marker::Model;
 
 /// A view of rows that are in a list. It is small and plain: it finds the row of an address by looking at each.
 #[derive(Drop)]
 pub struct ListView {
     routers: u32,
-    rows: List<LabelRow>,
+    rows: List<ForwardingRow>,
 }
 
 impl Model for ListView {
-    ghost use Rattle.dn_model.specs.Labels.{AreLabels};
+    ghost use Rattle.dn_model.specs.Forwarding.{AreForwarding};
     ghost use Rattle.label_view.specs.Listed.{Listed};
 
     ghost Value = { Listed };
 
     ghost view = { λ v. record { routers = v.routers; rows = v.rows } };
 
-    ghost invariant = { λ v. AreLabels v.routers v.rows };
+    ghost invariant = { λ v. AreForwarding v.routers v.rows };
 }
 
 impl ListView {
     /// The view of these rows of so many routers.
-    pub fn new(routers: u32, rows: List<LabelRow>) -> Self
-        requires { AreLabels routers rows }
+    pub fn new(routers: u32, rows: List<ForwardingRow>) -> Self
+        requires { AreForwarding routers rows }
         ensures routers { result.routers ≡ routers }
         ensures rows { result.rows ≡ rows }
     {
@@ -53,7 +53,7 @@ impl LabelView for ListView {
 
     fn bounds(&self, i: u64) -> (u64, u64) {
         let row = &self.rows.as_slice()[i as usize];
-        (row.lo, row.hi)
+        (row.low, row.past)
     }
 
     fn atom_of(&self, a: u32) -> u64 {
@@ -66,14 +66,14 @@ impl LabelView for ListView {
 }
 
 /// Which of all rows, by place, has an address.
-fn place_of(rows: &[LabelRow], a: u32) -> usize
-    requires { CoverFrom lo_of hi_of 0 rows.now }
+fn place_of(rows: &[ForwardingRow], a: u32) -> usize
+    requires { CoverFrom row_low row_past 0 rows.now }
     ensures inside { result < length rows.now }
-    ensures from { (d : LabelRow) → (slice_index_or rows.now result d).lo ≤ a }
-    ensures to { (d : LabelRow) → a < (slice_index_or rows.now result d).hi }
+    ensures from { (d : ForwardingRow) → (slice_index_or rows.now result d).low ≤ a }
+    ensures to { (d : ForwardingRow) → a < (slice_index_or rows.now result d).past }
 {
     let mut place = 0;
-    'search: while rows[place].hi <= a as u64 {
+    'search: while rows[place].past <= a as u64 {
         place += 1;
     }
     place

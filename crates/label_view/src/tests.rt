@@ -1,7 +1,7 @@
 //! A view of no router and one row.
 
 use super::{LabelView, ListView};
-use dn_model::{LabelRow, List, OutOfMemory, RouterId, Target};
+use dn_model::{ForwardingRow, List, OutOfMemory, RouterId, Target};
 use std::alloc::Global;
 use std::test::Fail;
 
@@ -18,9 +18,9 @@ fn target_at<V: LabelView>(view: &V, r: RouterId, a: u32) -> Option<Target> {
 
 fn whole(alloc: Global) -> Result<ListView, OutOfMemory> {
     let mut rows = List::new(alloc);
-    rows.push(LabelRow {
-        lo: 0,
-        hi: 4_294_967_296,
+    rows.push(ForwardingRow {
+        low: 0,
+        past: 4_294_967_296,
         targets: List::new(alloc),
     })?;
     Ok(ListView::new(0, rows))

@@ -1,8 +1,8 @@
 //! Rows of labels, by place.
 
 ghost use Rattle.std.specs.Prelude.{◌≡◌, ℕ, ◌<◌, ◌≤◌, List, length, slice_index_or};
-ghost use Rattle.dn_model.specs.Labels.{AreLabels, target_of};
-ghost use Rattle.dn_model.specs.declared.label_row.LabelRow.{LabelRow};
+ghost use Rattle.dn_model.specs.Forwarding.{AreForwarding, target_of};
+ghost use Rattle.dn_model.specs.declared.forwarding_row.ForwardingRow.{ForwardingRow};
 
 use dn_model::{RouterId, Target};
 
@@ -13,33 +13,33 @@ pub trait LabelView {
     ghost width: { Self → ℕ };
 
     // The rows, in order.
-    ghost labels: { Self → List LabelRow };
+    ghost labels: { Self → List ForwardingRow };
 
     /// How many routers there are, which is at most 1,024.
     fn routers(&self) -> u32
         ensures value { result ≡ width self.now }
-        ensures form { AreLabels (width self.now) (labels self.now) };
+        ensures form { AreForwarding (width self.now) (labels self.now) };
 
     /// How many rows there are.
     fn atoms(&self) -> u64
         ensures value { result ≡ length (labels self.now) }
-        ensures form { AreLabels (width self.now) (labels self.now) };
+        ensures form { AreForwarding (width self.now) (labels self.now) };
 
     /// The bounds of the row at a place: its first address, and the one after its last, which is at most 2^32.
     fn bounds(&self, i: u64) -> (u64, u64)
         requires { i < length (labels self.now) }
-        ensures lo { (d : LabelRow) → result.0 ≡ (slice_index_or (labels self.now) i d).lo }
-        ensures hi { (d : LabelRow) → result.1 ≡ (slice_index_or (labels self.now) i d).hi };
+        ensures lo { (d : ForwardingRow) → result.0 ≡ (slice_index_or (labels self.now) i d).low }
+        ensures hi { (d : ForwardingRow) → result.1 ≡ (slice_index_or (labels self.now) i d).past };
 
     /// The place of the row that has an address.
     fn atom_of(&self, a: u32) -> u64
         ensures inside { result < length (labels self.now) }
-        ensures from { (d : LabelRow) → (slice_index_or (labels self.now) result d).lo ≤ a }
-        ensures to { (d : LabelRow) → a < (slice_index_or (labels self.now) result d).hi };
+        ensures from { (d : ForwardingRow) → (slice_index_or (labels self.now) result d).low ≤ a }
+        ensures to { (d : ForwardingRow) → a < (slice_index_or (labels self.now) result d).past };
 
     /// What a router does with the addresses of the row at a place.
     fn target(&self, r: RouterId, i: u64) -> Target
         requires router { r.0 < width self.now }
         requires place { i < length (labels self.now) }
-        ensures { (d : LabelRow) → result ≡ target_of (slice_index_or (labels self.now) i d) r };
+        ensures { (d : ForwardingRow) → result ≡ target_of (slice_index_or (labels self.now) i d) r };
 }

@@ -15,31 +15,31 @@ use Rattle.net_engine.proofs.Owned.{Alike}
 pub none-begins_before : (start : ℕ) (xs : List Atom) (b : ℕ) → CoverFrom first_of past_of start xs → b < start → begins_at xs b ≡ false
 none-begins_before start [] b h l = refl
 none-begins_before start (x ∷ xs) b h l =
-    let first : x.label.lo ≡ start = h.0 in
-    let order : x.label.lo < x.label.hi = h.1 in
-    let apart : x.label.lo ≡ b → ⊥ = λ e. omega arith in
-    or_from (eqb x.label.lo b) (begins_at xs b) (ne_eqb x.label.lo b apart) (none-begins_before x.label.hi xs b h.2 (omega arith))
+    let first : x.row.low ≡ start = h.0 in
+    let order : x.row.low < x.row.past = h.1 in
+    let apart : x.row.low ≡ b → ⊥ = λ e. omega arith in
+    or_from (eqb x.row.low b) (begins_at xs b) (ne_eqb x.row.low b apart) (none-begins_before x.row.past xs b h.2 (omega arith))
 
 -- nor inside one
 pub none-begins_inside : (start : ℕ) (xs : List Atom) (a b : ℕ) (y : Atom) → CoverFrom first_of past_of start xs → atom_at xs a ≡ Some y → first_of y < b → b < past_of y → begins_at xs b ≡ false
 none-begins_inside start [] a b y h e l m = refl
 none-begins_inside start (x ∷ xs) a b y h e l m =
-    let first : x.label.lo ≡ start = h.0 in
-    let order : x.label.lo < x.label.hi = h.1 in
+    let first : x.row.low ≡ start = h.0 in
+    let order : x.row.low < x.row.past = h.1 in
     ⊎_elim
-    (λ (t : is_within x.label.lo x.label.hi a ≡ true).
+    (λ (t : is_within x.row.low x.row.past a ≡ true).
     let same : Some x ≡ Some y = sym (holder-first first_of past_of x xs a t) ∙ e in
     let one : x ≡ y = cc in
-    let from : x.label.lo ≡ y.label.lo = ap (λ (z : Atom). z.label.lo) one in
-    let to : x.label.hi ≡ y.label.hi = ap (λ (z : Atom). z.label.hi) one in
-    let apart : x.label.lo ≡ b → ⊥ = λ f. omega arith in
-    or_from (eqb x.label.lo b) (begins_at xs b) (ne_eqb x.label.lo b apart) (none-begins_before x.label.hi xs b h.2 (omega arith)))
-    (λ (f : is_within x.label.lo x.label.hi a ≡ false).
+    let from : x.row.low ≡ y.row.low = ap (λ (z : Atom). z.row.low) one in
+    let to : x.row.past ≡ y.row.past = ap (λ (z : Atom). z.row.past) one in
+    let apart : x.row.low ≡ b → ⊥ = λ f. omega arith in
+    or_from (eqb x.row.low b) (begins_at xs b) (ne_eqb x.row.low b apart) (none-begins_before x.row.past xs b h.2 (omega arith)))
+    (λ (f : is_within x.row.low x.row.past a ≡ false).
     let there : atom_at xs a ≡ Some y = sym (holder-rest first_of past_of x xs a f) ∙ e in
-    let after : x.label.hi ≤ y.label.lo = (held first_of past_of x.label.hi xs a y h.2 there).start in
-    let apart : x.label.lo ≡ b → ⊥ = λ g. omega arith in
-    or_from (eqb x.label.lo b) (begins_at xs b) (ne_eqb x.label.lo b apart) (none-begins_inside x.label.hi xs a b y h.2 there l m))
-    (cases_Bool (is_within x.label.lo x.label.hi a))
+    let after : x.row.past ≤ y.row.low = (held first_of past_of x.row.past xs a y h.2 there).start in
+    let apart : x.row.low ≡ b → ⊥ = λ g. omega arith in
+    or_from (eqb x.row.low b) (begins_at xs b) (ne_eqb x.row.low b apart) (none-begins_inside x.row.past xs a b y h.2 there l m))
+    (cases_Bool (is_within x.row.low x.row.past a))
 
 -- two addresses on one side of a bound
 leb-along : (f p l a b : ℕ) → f ≤ a → a < p → f ≤ b → b < p → (f < l → l < p → ⊥) → leb l a ≡ leb l b
@@ -71,15 +71,15 @@ module _ (atoms : List Atom) (x : Route) (cover : CoverFrom first_of past_of 0 a
   pub covers-within : (a b : ℕ) (y : Atom) → atom_at atoms a ≡ Some y → first_of y ≤ b → b < past_of y → covers x.prefix a ≡ covers x.prefix b
   covers-within a b y e l m =
       let h : Held first_of past_of 0 a y = held first_of past_of 0 atoms a y cover e in
-      let from : y.label.lo ≤ a = h.from in
-      let to : a < y.label.hi = h.to in
-      let last : y.label.hi ≤ 2 ^ 32 = h.ends in
+      let from : y.row.low ≤ a = h.from in
+      let to : a < y.row.past = h.to in
+      let last : y.row.past ≤ 2 ^ 32 = h.ends in
       let first : ℕ = x.prefix.base in
       let past : ℕ = x.prefix.base + size x.prefix in
-      let none_first : y.label.lo < first → first < y.label.hi → ⊥ = λ u v. both_ways (begins_at atoms first) (none-begins_inside 0 atoms a first y cover e u v) ends.first in
-      let none_past : y.label.lo < past → past < y.label.hi → ⊥ = λ u v. both_ways (begins_at atoms past) (none-begins_inside 0 atoms a past y cover e u v) (ends.past (omega arith)) in
-      ap (λ c. c && ltb a past) (leb-along y.label.lo y.label.hi first a b from to l m none_first)
-      ∙ ap (λ c. leb first b && c) (ltb-along y.label.lo y.label.hi past a b from to l m none_past)
+      let none_first : y.row.low < first → first < y.row.past → ⊥ = λ u v. both_ways (begins_at atoms first) (none-begins_inside 0 atoms a first y cover e u v) ends.first in
+      let none_past : y.row.low < past → past < y.row.past → ⊥ = λ u v. both_ways (begins_at atoms past) (none-begins_inside 0 atoms a past y cover e u v) (ends.past (omega arith)) in
+      ap (λ c. c && ltb a past) (leb-along y.row.low y.row.past first a b from to l m none_first)
+      ∙ ap (λ c. leb first b && c) (ltb-along y.row.low y.row.past past a b from to l m none_past)
 
   -- two addresses that have the same atom
   pub covers-along : (a b : ℕ) → a < 2 ^ 32 → atom_at atoms a ≡ atom_at atoms b → covers x.prefix a ≡ covers x.prefix b

@@ -4,7 +4,7 @@ use Rattle.std.proofs.lemmas.Bool.{cases_Bool, cases_lt, eq-eqb, eqb-true, ne_eq
 use Rattle.std.proofs.lemmas.Bool.Decides.{nat_tests}
 use Rattle.std.proofs.lemmas.List.{get_or_append_left, get_or_push, get_or_read, length_push}
 use Rattle.std.proofs.lemmas.Option.{none-some}
-use Rattle.dn_model.specs.Atoms.{AreAtoms, AreBelow, IsCut, atom_of, cut_rows, has_address, high_of, is_boundary, low_of, row_at, upper_part}
+use Rattle.dn_model.specs.Atoms.{AreAtoms, AreBelow, IsCut, atom_of, cut_rows, has_address, atom_past, is_boundary, atom_low, row_at, upper_part}
 use Rattle.dn_model.specs.Rows.{CoverFrom, is_within}
 use Rattle.dn_model.specs.Version.{Atom, begins_at, first_of, past_of}
 use Rattle.dn_model.specs.declared.atom_row.AtomRow.{AtomRow}
@@ -119,7 +119,7 @@ new-owners x y os ps from to g =
 same-rows : (x y : Labels) (os ps : AllRules) (from to : ℕ) (rows : List AtomRow) → Grows x y os ps from to → AreBelow to rows → map (numbered y ps) rows ≡ map (numbered x os) rows
 same-rows x y os ps from to [] g h = refl
 same-rows x y os ps from to (r ∷ rs) g h =
-    ap (λ (a : Atom). a ∷ map (numbered y ps) rs) (same-parts r.low r.high _ _ _ _ (old-targets x y os ps from to r.atom.0 g h.0) (old-owners x y os ps from to r.atom.0 g h.0))
+    ap (λ (a : Atom). a ∷ map (numbered y ps) rs) (same-parts r.low r.past _ _ _ _ (old-targets x y os ps from to r.atom.0 g h.0) (old-owners x y os ps from to r.atom.0 g h.0))
     ∙ ap (λ (zs : List Atom). numbered x os r ∷ zs) (same-rows x y os ps from to rs g h.1)
 
 -- the two parts have what the whole has
@@ -129,19 +129,19 @@ cut-numbered x y os ps from to (r ∷ rs) at g h n f =
     let k : (r.low ≡ at → ⊥) × (is_boundary rs at ≡ false) = boundary-parts r rs at n in
     ⊎_elim
     (λ (e : has_address at r ≡ true).
-    let q : r.atom.0 ≡ from = f r (holder-first low_of high_of r rs at e) in
+    let q : r.atom.0 ≡ from = f r (holder-first atom_low atom_past r rs at e) in
     ap (λ (zs : List AtomRow). map (numbered y ps) zs) (cut-first r rs at to e)
     ∙ ap (λ (a : Atom). a ∷ numbered y ps (upper_part at to r) ∷ map (numbered y ps) rs)
     (same-parts r.low at (targets_of y r.atom.0) (targets_of x r.atom.0) (get_or ps r.atom.0 []) (get_or os r.atom.0 []) (old-targets x y os ps from to.0 r.atom.0 g h.0) (old-owners x y os ps from to.0 r.atom.0 g h.0))
     ∙ ap (λ (a : Atom). between r.low at (numbered x os r) ∷ a ∷ map (numbered y ps) rs)
-    (same-parts at r.high (targets_of y to.0) (targets_of x r.atom.0) (get_or ps to.0 []) (get_or os r.atom.0 []) (new-targets x y os ps from to.0 g ∙ ap (λ j. targets_of x j) (sym q)) (new-owners x y os ps from to.0 g ∙ ap (λ j. get_or os j []) (sym q)))
-    ∙ ap (λ (zs : List Atom). between r.low at (numbered x os r) ∷ between at r.high (numbered x os r) ∷ zs) (same-rows x y os ps from to.0 rs g h.1)
+    (same-parts at r.past (targets_of y to.0) (targets_of x r.atom.0) (get_or ps to.0 []) (get_or os r.atom.0 []) (new-targets x y os ps from to.0 g ∙ ap (λ j. targets_of x j) (sym q)) (new-owners x y os ps from to.0 g ∙ ap (λ j. get_or os j []) (sym q)))
+    ∙ ap (λ (zs : List Atom). between r.low at (numbered x os r) ∷ between at r.past (numbered x os r) ∷ zs) (same-rows x y os ps from to.0 rs g h.1)
     ∙ sym (cut-atom (numbered x os r) (map (numbered x os) rs) at e (ne_eqb r.low at k.0)))
     (λ (e : has_address at r ≡ false).
     ap (λ (zs : List AtomRow). map (numbered y ps) zs) (cut-rest r rs at to e)
     ∙ ap (λ (a : Atom). a ∷ map (numbered y ps) (cut_rows rs at to))
-    (same-parts r.low r.high (targets_of y r.atom.0) (targets_of x r.atom.0) (get_or ps r.atom.0 []) (get_or os r.atom.0 []) (old-targets x y os ps from to.0 r.atom.0 g h.0) (old-owners x y os ps from to.0 r.atom.0 g h.0))
-    ∙ ap (λ (zs : List Atom). numbered x os r ∷ zs) (cut-numbered x y os ps from to rs at g h.1 k.1 (λ s p. f s (holder-rest low_of high_of r rs at e ∙ p)))
+    (same-parts r.low r.past (targets_of y r.atom.0) (targets_of x r.atom.0) (get_or ps r.atom.0 []) (get_or os r.atom.0 []) (old-targets x y os ps from to.0 r.atom.0 g h.0) (old-owners x y os ps from to.0 r.atom.0 g h.0))
+    ∙ ap (λ (zs : List Atom). numbered x os r ∷ zs) (cut-numbered x y os ps from to rs at g h.1 k.1 (λ s p. f s (holder-rest atom_low atom_past r rs at e ∙ p)))
     ∙ sym (uncut-atom (numbered x os r) (map (numbered x os) rs) at e))
     (cases_Bool (has_address at r))
 
@@ -152,11 +152,11 @@ number-of-cut n [] at atom h e = absurd (none-some atom e)
 number-of-cut n (r ∷ rs) at atom h e =
     ⊎_elim
     (λ (y : has_address at r ≡ true).
-    let s : Some r.atom ≡ Some atom = sym (ap (option_map atom_of) (holder-first low_of high_of r rs at y)) ∙ e in
+    let s : Some r.atom ≡ Some atom = sym (ap (option_map atom_of) (holder-first atom_low atom_past r rs at y)) ∙ e in
     let k : r.atom ≡ atom = cc in
     subst (λ (a : AtomId). a.0 < n) k h.0)
     (λ (y : has_address at r ≡ false).
-    number-of-cut n rs at atom h.1 (sym (ap (option_map atom_of) (holder-rest low_of high_of r rs at y)) ∙ e))
+    number-of-cut n rs at atom h.1 (sym (ap (option_map atom_of) (holder-rest atom_low atom_past r rs at y)) ∙ e))
     (cases_Bool (has_address at r))
 
 row-of-cut : (rows : List AtomRow) (at : ℕ) (atom : AtomId) → option_map atom_of (row_at rows at) ≡ Some atom → (r : AtomRow) → row_at rows at ≡ Some r → r.atom.0 ≡ atom.0

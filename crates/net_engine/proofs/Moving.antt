@@ -3,7 +3,7 @@ use Rattle.std.proofs.Common.{◌≡◌, ℕ, ◌<◌, ◌≤◌, ◌∙◌, ◌
 use Rattle.std.proofs.lemmas.Bool.{cases_Bool, eq-eqb, eqb-true, eqb-false, ne_eqb}
 use Rattle.std.proofs.lemmas.List.{ext_get_or, get_or_read, get_or-set_other, get_or-set_same, length-set}
 use Rattle.std.proofs.lemmas.Option.{none-some}
-use Rattle.dn_model.specs.Atoms.{AreOnce, HasNone, has_address, high_of, low_of, row_at}
+use Rattle.dn_model.specs.Atoms.{AreOnce, HasNone, has_address, atom_past, atom_low, row_at}
 use Rattle.dn_model.specs.Rows.{is_within}
 use Rattle.dn_model.specs.Rules.{after_rule_op, IsTop}
 use Rattle.dn_model.specs.Version.{Atom, atom_at, first_of, past_of}
@@ -35,13 +35,13 @@ atom-numbered labels owners [] at row e = absurd (none-some row e)
 atom-numbered labels owners (r ∷ rs) at row e =
     ⊎_elim
     (λ (y : has_address at r ≡ true).
-    let s : Some r ≡ Some row = sym (holder-first low_of high_of r rs at y) ∙ e in
+    let s : Some r ≡ Some row = sym (holder-first atom_low atom_past r rs at y) ∙ e in
     let k : r ≡ row = cc in
     holder-first first_of past_of (numbered labels owners r) (map (numbered labels owners) rs) at y
     ∙ ap (λ (x : AtomRow). Some (numbered labels owners x)) k)
     (λ (n : has_address at r ≡ false).
     holder-rest first_of past_of (numbered labels owners r) (map (numbered labels owners) rs) at n
-    ∙ atom-numbered labels owners rs at row (sym (holder-rest low_of high_of r rs at n) ∙ e))
+    ∙ atom-numbered labels owners rs at row (sym (holder-rest atom_low atom_past r rs at n) ∙ e))
     (cases_Bool (has_address at r))
 
 -- no row has a number that none has
@@ -50,10 +50,10 @@ none-at atom [] at row h e same = none-some row e
 none-at atom (r ∷ rs) at row h e same =
     ⊎_elim
     (λ (y : has_address at r ≡ true).
-    let s : Some r ≡ Some row = sym (holder-first low_of high_of r rs at y) ∙ e in
+    let s : Some r ≡ Some row = sym (holder-first atom_low atom_past r rs at y) ∙ e in
     let k : r ≡ row = cc in
     h.0 (ap (λ (x : AtomRow). x.atom) k ∙ same))
-    (λ (n : has_address at r ≡ false). none-at atom rs at row h.1 (sym (holder-rest low_of high_of r rs at n) ∙ e) same)
+    (λ (n : has_address at r ≡ false). none-at atom rs at row h.1 (sym (holder-rest atom_low atom_past r rs at n) ∙ e) same)
     (cases_Bool (has_address at r))
 
 same-number : (x y : AtomId) → x.0 ≡ y.0 → x ≡ y
@@ -83,7 +83,7 @@ and-both b c x y e f = ap (λ d. cond (d && c) x y) e ∙ ap (λ d. cond d x y) 
 
 other-number : (x y : Labels) (os ps : AllRules) (r number : ℕ) (rules : List Rule) (after : Target) (row : AtomRow) → Moves x y os ps r number rules after → (row.atom.0 ≡ number → ⊥) → numbered y ps row ≡ numbered x os row
 other-number x y os ps r number rules after row m apart =
-    same-parts row.low row.high (targets_of y row.atom.0) (targets_of x row.atom.0) (get_or ps row.atom.0 []) (get_or os row.atom.0 [])
+    same-parts row.low row.past (targets_of y row.atom.0) (targets_of x row.atom.0) (get_or ps row.atom.0 []) (get_or os row.atom.0 [])
     (same-targets x y row.atom.0 row.atom.0 m.labels.routers (λ q. m.labels.targets q row.atom.0 ∙ and-none (eqb q r) (eqb row.atom.0 number) after (target_at x q row.atom.0) (ne_eqb row.atom.0 number apart)))
     (ap (λ (zs : AllRules). get_or zs row.atom.0 []) m.owners ∙ get_or-set_other os number row.atom.0 (set (get_or os number []) r rules) [] apart)
 
@@ -111,7 +111,7 @@ moved-targets x y os ps r number rules after m =
 
 moved-number : (x y : Labels) (os ps : AllRules) (r : ℕ) (rules : List Rule) (after : Target) (row : AtomRow) → Moves x y os ps r row.atom.0 rules after → numbered y ps row ≡ with_rules (numbered x os row) r rules after
 moved-number x y os ps r rules after row m =
-    same-parts row.low row.high (targets_of y row.atom.0) (set (targets_of x row.atom.0) r after) (get_or ps row.atom.0 []) (set (get_or os row.atom.0 []) r rules)
+    same-parts row.low row.past (targets_of y row.atom.0) (set (targets_of x row.atom.0) r after) (get_or ps row.atom.0 []) (set (get_or os row.atom.0 []) r rules)
     (moved-targets x y os ps r row.atom.0 rules after m)
     (ap (λ (zs : AllRules). get_or zs row.atom.0 []) m.owners ∙ get_or-set_same os row.atom.0 (set (get_or os row.atom.0 []) r rules) [] m.inside)
 
@@ -127,14 +127,14 @@ moved-numbered x y os ps r rules after [] at row m h e = refl
 moved-numbered x y os ps r rules after (s ∷ rows) at row m h e =
     ⊎_elim
     (λ (y' : has_address at s ≡ true).
-    let p : Some s ≡ Some row = sym (holder-first low_of high_of s rows at y') ∙ e in
+    let p : Some s ≡ Some row = sym (holder-first atom_low atom_past s rows at y') ∙ e in
     let k : s ≡ row = cc in
     ap (λ (z : AtomRow). numbered y ps z ∷ map (numbered y ps) rows) k
     ∙ ap (λ (z : Atom). z ∷ map (numbered y ps) rows) (moved-number x y os ps r rules after row m)
     ∙ ap (λ (zs : List Atom). with_rules (numbered x os row) r rules after ∷ zs) (rest-same x y os ps r rules after row.atom rows m (subst (λ (z : AtomRow). HasNone z.atom rows) k h.0))
     ∙ sym (with-first (numbered x os s) (with_rules (numbered x os row) r rules after) (map (numbered x os) rows) at y'))
     (λ (n : has_address at s ≡ false).
-    let q : row_at rows at ≡ Some row = sym (holder-rest low_of high_of s rows at n) ∙ e in
+    let q : row_at rows at ≡ Some row = sym (holder-rest atom_low atom_past s rows at n) ∙ e in
     ap (λ (z : Atom). z ∷ map (numbered y ps) rows) (other-number x y os ps r row.atom.0 rules after s m (λ o. none-at s.atom rows at row h.0 q (same-number row.atom s.atom (sym o))))
     ∙ ap (λ (zs : List Atom). numbered x os s ∷ zs) (moved-numbered x y os ps r rules after rows at row m h.1 q)
     ∙ sym (with-rest (numbered x os s) (with_rules (numbered x os row) r rules after) (map (numbered x os) rows) at n))
@@ -146,8 +146,8 @@ moved-numbered x y os ps r rules after (s ∷ rows) at row m h e =
 pub record Touches (rows : List AtomRow) (x y : Labels) (os ps : AllRules) (place at : ℕ) (row : AtomRow) (r : ℕ) (op : Op) (found changed : List (List Rule)) (before after : Target) : Type 0 where
   pub inside : place < length rows
   pub row_is : row ≡ get_or rows place row
-  pub from : low_of (get_or rows place row) ≤ at
-  pub to : at < high_of (get_or rows place row)
+  pub from : atom_low (get_or rows place row) ≤ at
+  pub to : at < atom_past (get_or rows place row)
   pub router : r < length x.targets
   pub before_is : before ≡ target_at x r row.atom.0
   pub found_is : found ≡ get_or os row.atom.0 found
@@ -206,9 +206,9 @@ numbered-after-touch routers rows x y os ps place at row r op found changed befo
           (cases_Bool (eqb n row.atom.0));
     }
 
-pub touched-now : (net : Net) (routers : ℕ) (rows : List AtomRow) (x y : Labels) (os ps : AllRules) (place at : ℕ) (row : AtomRow) (r : RouterId) (op : Op) (found changed : List (List Rule)) (before after : Target) → net_of routers rows x os ≡ net → AreNumbered routers rows x os → Touches rows x y os ps place at row r.0 op found changed before after → IsTouched net.atoms (map (numbered y ps) rows) r at op row.high before after
+pub touched-now : (net : Net) (routers : ℕ) (rows : List AtomRow) (x y : Labels) (os ps : AllRules) (place at : ℕ) (row : AtomRow) (r : RouterId) (op : Op) (found changed : List (List Rule)) (before after : Target) → net_of routers rows x os ≡ net → AreNumbered routers rows x os → Touches rows x y os ps place at row r.0 op found changed before after → IsTouched net.atoms (map (numbered y ps) rows) r at op row.past before after
 touched-now net routers rows x y os ps place at row r op found changed before after e h t =
-    subst (λ (n : Net). IsTouched n.atoms (map (numbered y ps) rows) r at op row.high before after) e
+    subst (λ (n : Net). IsTouched n.atoms (map (numbered y ps) rows) r at op row.past before after) e
     (record {
       atom = numbered x os row;
       has = atom-numbered x os rows at row row-there;
@@ -223,7 +223,7 @@ touched-now net routers rows x y os ps place at row r op found changed before af
     })
   where
     row-there : row_at rows at ≡ Some row
-    row-there = holder-at low_of high_of 0 rows place row at h.atoms.cover t.inside t.from t.to ∙ ap (λ (z : AtomRow). Some z) (sym t.row_is)
+    row-there = holder-at atom_low atom_past 0 rows place row at h.atoms.cover t.inside t.from t.to ∙ ap (λ (z : AtomRow). Some z) (sym t.row_is)
 
     below : row.atom.0 < length rows
     below = number-below rows place row h.atoms t.inside t.row_is

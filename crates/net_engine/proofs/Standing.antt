@@ -4,8 +4,8 @@ use Rattle.std.proofs.lemmas.Bool.{lt-ltb}
 use Rattle.std.proofs.lemmas.Bool.Decides.{nat_tests}
 use Rattle.std.proofs.lemmas.List.{ext_get_or, get_or-replicate, length-map, length-replicate, get_or-map as get_or-map_below}
 use Rattle.std.proofs.Math.ListN.{get_or-map}
-use Rattle.dn_model.specs.Atoms.{AreAtoms, AreBelow, low_of, high_of}
-use Rattle.dn_model.specs.Labels.{target_of as target_of_row}
+use Rattle.dn_model.specs.Atoms.{AreAtoms, AreBelow, atom_low, atom_past}
+use Rattle.dn_model.specs.Forwarding.{target_of as target_of_row}
 use Rattle.dn_model.specs.Rows.{CoverFrom}
 use Rattle.dn_model.specs.Version.{Atom, first_of, past_of}
 use Rattle.dn_model.specs.declared.atom_row.AtomRow.{AtomRow}
@@ -25,7 +25,7 @@ AllRules = List (List (List Rule))
 
 -- an atom from its parts
 abbrev pub atom_of_parts : ℕ → ℕ → List Target → List (List Rule) → Atom
-atom_of_parts lo hi targets owners = record { label = record { lo = lo; hi = hi; targets = targets }; owners = owners }
+atom_of_parts lo hi targets owners = record { row = record { low = lo; past = hi; targets = targets }; owners = owners }
 
 pub same-parts : (lo hi : ℕ) (ts us : List Target) (xs ys : List (List Rule)) → ts ≡ us → xs ≡ ys → atom_of_parts lo hi ts xs ≡ atom_of_parts lo hi us ys
 same-parts lo hi ts us xs ys t o = ap (λ zs. atom_of_parts lo hi zs xs) t ∙ ap (λ zs. atom_of_parts lo hi us zs) o
@@ -47,9 +47,9 @@ same-targets x y a b n h =
 
 -- ---- the form
 
-cover-numbered : (labels : Labels) (owners : AllRules) (start : ℕ) (rows : List AtomRow) → CoverFrom low_of high_of start rows → CoverFrom first_of past_of start (map (numbered labels owners) rows)
+cover-numbered : (labels : Labels) (owners : AllRules) (start : ℕ) (rows : List AtomRow) → CoverFrom atom_low atom_past start rows → CoverFrom first_of past_of start (map (numbered labels owners) rows)
 cover-numbered labels owners start [] h = h
-cover-numbered labels owners start (r ∷ rs) h = (h.0, h.1, cover-numbered labels owners r.high rs h.2)
+cover-numbered labels owners start (r ∷ rs) h = (h.0, h.1, cover-numbered labels owners r.past rs h.2)
 
 wide-numbered : (routers n : ℕ) (labels : Labels) (owners : AllRules) (rows : List AtomRow) → length labels.targets ≡ routers → ((k : ℕ) → k < n → length (get_or owners k []) ≡ routers) → AreBelow n rows → AreWide routers (map (numbered labels owners) rows)
 wide-numbered routers n labels owners [] wide full below = tt
@@ -96,14 +96,14 @@ atom-at-place net routers rows labels owners i d row e l is =
     ∙ sym (get_or-map_below (numbered labels owners) rows i row d l)
     ∙ ap (λ (n : Net). get_or n.atoms i d) e
 
-pub target-at-place : (net : Net) (routers : ℕ) (rows : List AtomRow) (labels : Labels) (owners : AllRules) (i : ℕ) (d : Atom) (row : AtomRow) (r : RouterId) → net_of routers rows labels owners ≡ net → i < length rows → row ≡ get_or rows i row → target_at labels r.0 row.atom.0 ≡ target_of_row (get_or net.atoms i d).label r
+pub target-at-place : (net : Net) (routers : ℕ) (rows : List AtomRow) (labels : Labels) (owners : AllRules) (i : ℕ) (d : Atom) (row : AtomRow) (r : RouterId) → net_of routers rows labels owners ≡ net → i < length rows → row ≡ get_or rows i row → target_at labels r.0 row.atom.0 ≡ target_of_row (get_or net.atoms i d).row r
 target-at-place net routers rows labels owners i d row r e l is =
     sym (read-target labels row.atom.0 r.0)
-    ∙ ap (λ (x : Atom). target_of_row x.label r) (atom-at-place net routers rows labels owners i d row e l is)
+    ∙ ap (λ (x : Atom). target_of_row x.row r) (atom-at-place net routers rows labels owners i d row e l is)
 
 -- the atom that a row at a place is there
 some-row : AtomRow
-some-row = record { atom = record { 0 = 0 }; low = 0; high = 0 }
+some-row = record { atom = record { 0 = 0 }; low = 0; past = 0 }
 
 pub low-at-place : (net : Net) (routers : ℕ) (rows : List AtomRow) (labels : Labels) (owners : AllRules) (i a : ℕ) (d : Atom) → net_of routers rows labels owners ≡ net → i < length rows → ((e : AtomRow) → (get_or rows i e).low ≤ a) → first_of (get_or net.atoms i d) ≤ a
 low-at-place net routers rows labels owners i a d e l from =
@@ -111,7 +111,7 @@ low-at-place net routers rows labels owners i a d e l from =
     (sym (get_or-map_below (numbered labels owners) rows i some-row d l) ∙ ap (λ (n : Net). get_or n.atoms i d) e)
     (from some-row)
 
-pub high-at-place : (net : Net) (routers : ℕ) (rows : List AtomRow) (labels : Labels) (owners : AllRules) (i a : ℕ) (d : Atom) → net_of routers rows labels owners ≡ net → i < length rows → ((e : AtomRow) → a < (get_or rows i e).high) → a < past_of (get_or net.atoms i d)
+pub high-at-place : (net : Net) (routers : ℕ) (rows : List AtomRow) (labels : Labels) (owners : AllRules) (i a : ℕ) (d : Atom) → net_of routers rows labels owners ≡ net → i < length rows → ((e : AtomRow) → a < (get_or rows i e).past) → a < past_of (get_or net.atoms i d)
 high-at-place net routers rows labels owners i a d e l to =
     subst (λ (x : Atom). a < past_of x)
     (sym (get_or-map_below (numbered labels owners) rows i some-row d l) ∙ ap (λ (n : Net). get_or n.atoms i d) e)

@@ -4,16 +4,16 @@ use Rattle.std.specs.List.{list_any}
 use Rattle.std.proofs.lemmas.Bool.{cases_Bool, cases_lt}
 use Rattle.std.proofs.lemmas.List.{get_or_past}
 use Rattle.std.proofs.lemmas.List.Folds.{list_any-append}
-use Rattle.dn_model.specs.Labels.{AreEachLabels, AreLabels, DoesAfter, IsLabel, hi_of, label_at, lo_of}
+use Rattle.dn_model.specs.Forwarding.{AreEachForwarding, AreForwarding, DoesAfter, IsForwarding, row_past, forwarding_at, row_low}
 use Rattle.dn_model.specs.Routes.{IsTable, SameRoutes}
 use Rattle.dn_model.specs.Rows.{is_within, CoverFrom}
 use Rattle.dn_model.specs.Table.{best, table, target}
-use Rattle.dn_model.specs.Version.{Atom, Kept, KeptStandsFor, atom_at, begins_at, first_of, is_boundary_after, labels_of, past_of, rules_at, sets_end, target_at, target_in_atom}
+use Rattle.dn_model.specs.Version.{Atom, Kept, KeptStandsFor, atom_at, begins_at, first_of, is_boundary_after, forwarding_of, past_of, rules_at, sets_end, target_at, target_in_atom}
 use Rattle.dn_model.specs.declared.entry.Entry.{Entry}
 use Rattle.dn_model.specs.declared.entry.Route.{Route}
 use Rattle.dn_model.specs.declared.ids.LinkId.{LinkId}
 use Rattle.dn_model.specs.declared.ids.RouterId.{RouterId}
-use Rattle.dn_model.specs.declared.label_row.LabelRow.{LabelRow}
+use Rattle.dn_model.specs.declared.forwarding_row.ForwardingRow.{ForwardingRow}
 use Rattle.dn_model.specs.declared.target.Target.TheVariants.{NoRoute, To}
 use Rattle.dn_model.proofs.Best.{best-is, contains-none}
 use Rattle.dn_model.proofs.Covers.{holder-first, holder-rest, starts-below, within-above, within-yes}
@@ -43,16 +43,16 @@ boundary-after history e a =
 -- ---- labels
 
 -- the row of an address is the label of its atom
-pub label-of_atom : (xs : List Atom) (a : ℕ) → label_at (labels_of xs) a ≡ option_map (λ (x : Atom). x.label) (atom_at xs a)
+pub label-of_atom : (xs : List Atom) (a : ℕ) → forwarding_at (forwarding_of xs) a ≡ option_map (λ (x : Atom). x.row) (atom_at xs a)
 label-of_atom [] a = refl
 label-of_atom (x ∷ xs) a = ⊎_elim
-    (λ (t : is_within x.label.lo x.label.hi a ≡ true).
-    holder-first lo_of hi_of x.label (labels_of xs) a t ∙ sym (ap (option_map (λ (z : Atom). z.label)) (holder-first first_of past_of x xs a t)))
-    (λ (f : is_within x.label.lo x.label.hi a ≡ false).
-    holder-rest lo_of hi_of x.label (labels_of xs) a f ∙ label-of_atom xs a ∙ sym (ap (option_map (λ (z : Atom). z.label)) (holder-rest first_of past_of x xs a f)))
-    (cases_Bool (is_within x.label.lo x.label.hi a))
+    (λ (t : is_within x.row.low x.row.past a ≡ true).
+    holder-first row_low row_past x.row (forwarding_of xs) a t ∙ sym (ap (option_map (λ (z : Atom). z.row)) (holder-first first_of past_of x xs a t)))
+    (λ (f : is_within x.row.low x.row.past a ≡ false).
+    holder-rest row_low row_past x.row (forwarding_of xs) a f ∙ label-of_atom xs a ∙ sym (ap (option_map (λ (z : Atom). z.row)) (holder-rest first_of past_of x xs a f)))
+    (cases_Bool (is_within x.row.low x.row.past a))
 
-labels-cover : (start : ℕ) (xs : List Atom) → CoverFrom first_of past_of start xs → CoverFrom lo_of hi_of start (labels_of xs)
+labels-cover : (start : ℕ) (xs : List Atom) → CoverFrom first_of past_of start xs → CoverFrom row_low row_past start (forwarding_of xs)
 labels-cover start [] h = h
 labels-cover start (x ∷ xs) h = (h.0, h.1, labels-cover (past_of x) xs h.2)
 
@@ -60,13 +60,13 @@ labels-cover start (x ∷ xs) h = (h.0, h.1, labels-cover (past_of x) xs h.2)
 abbrev LeadWithin : ℕ → ℕ → List Atom → Type 0
 LeadWithin routers start xs = (r s : RouterId) (l : LinkId) (a : ℕ) → start ≤ a → a < 2 ^ 32 → target_at xs r a ≡ To s l → s.0 < routers
 
-each-labels : (routers start : ℕ) (xs : List Atom) → CoverFrom first_of past_of start xs → AreWide routers xs → LeadWithin routers start xs → AreEachLabels routers (labels_of xs)
+each-labels : (routers start : ℕ) (xs : List Atom) → CoverFrom first_of past_of start xs → AreWide routers xs → LeadWithin routers start xs → AreEachForwarding routers (forwarding_of xs)
 each-labels routers start [] h wide lead = tt
 each-labels routers start (x ∷ xs) h wide lead =
     let begins : first_of x ≡ start = h.0 in
     let order : first_of x < past_of x = h.1 in
     let ends : past_of x ≤ 2 ^ 32 = starts-below first_of past_of (past_of x) xs h.2 in
-    let here : IsLabel routers x.label = record {
+    let here : IsForwarding routers x.row = record {
       all = wide.0.targets;
       within = λ r s l e. lead r s l (first_of x) (omega arith) (omega arith)
           (ap (λ o. target_in_atom o r) (holder-first first_of past_of x xs (first_of x) (within-yes (first_of x) (past_of x) (first_of x) (omega arith) order)) ∙ e);
@@ -81,7 +81,7 @@ target-past routers xs r a wide past = by (atom_at xs a) refl
   where
     by : (o : Option Atom) → atom_at xs a ≡ o → target_in_atom o r ≡ NoRoute
     by None e = refl
-    by (Some x) e = let w : length x.label.targets ≡ routers = (wide-at routers xs a x wide e).targets in get_or_past x.label.targets r.0 NoRoute (omega arith)
+    by (Some x) e = let w : length x.row.targets ≡ routers = (wide-at routers xs a x wide e).targets in get_or_past x.row.targets r.0 NoRoute (omega arith)
 
 no-route-to : (s : RouterId) (l : LinkId) → NoRoute ≡ To s l → ⊥
 no-route-to s l e = cc
@@ -96,7 +96,7 @@ module _ (kept : Kept) (whole : IsWhole kept) where
       (cases_lt r.0 (length kept.topology.routers))
 
   -- the atoms' labels are labels
-  pub are-labels : AreLabels (length kept.topology.routers) (labels_of kept.atoms)
+  pub are-labels : AreForwarding (length kept.topology.routers) (forwarding_of kept.atoms)
   are-labels = record {
     few = whole.few;
     cover = labels-cover 0 kept.atoms whole.cover;
@@ -124,11 +124,11 @@ module _ (kept : Kept) (whole : IsWhole kept) where
         (λ (o : length kept.topology.routers ≤ r.0). target-past (length kept.topology.routers) kept.atoms r a whole.wide o ∙ past-target r a o)
         (cases_lt r.0 (length kept.topology.routers))
 
-    row-does : (r : RouterId) (a : ℕ) → a < 2 ^ 32 → DoesAfter (label_at (labels_of kept.atoms) a) history r a
+    row-does : (r : RouterId) (a : ℕ) → a < 2 ^ 32 → DoesAfter (forwarding_at (forwarding_of kept.atoms) a) history r a
     row-does r a below =
         let w : Holds first_of past_of kept.atoms a = holds first_of past_of 0 kept.atoms a whole.cover (omega arith) below in
-        let row : label_at (labels_of kept.atoms) a ≡ Some w.row.label = label-of_atom kept.atoms a ∙ ap (option_map (λ (x : Atom). x.label)) w.is in
-        let P : Option LabelRow → Type 0 = λ o. DoesAfter o history r a in
+        let row : forwarding_at (forwarding_of kept.atoms) a ≡ Some w.row.row = label-of_atom kept.atoms a ∙ ap (option_map (λ (x : Atom). x.row)) w.is in
+        let P : Option ForwardingRow → Type 0 = λ o. DoesAfter o history r a in
         subst P (sym row) (ap (λ o. target_in_atom o r) (sym w.is) ∙ does-after r a below)
 
     pub stands : ((a : ℕ) → a < 2 ^ 32 → begins_at kept.atoms a ≡ is_boundary_after history a) → KeptStandsFor kept history

@@ -168,7 +168,7 @@ module _ (old new : List Atom) (r : RouterId) (at : ℕ) (op : Op) (past : ℕ) 
   touch-wide routers wide =
       let w : IsWide routers t.atom = wide-at routers old at t.atom wide t.has in
       let mine : IsWide routers (with_rules t.atom r.0 t.rules after) = record {
-        targets = length-set t.atom.label.targets r.0 after ∙ w.targets;
+        targets = length-set t.atom.row.targets r.0 after ∙ w.targets;
         owners = length-set t.atom.owners r.0 t.rules ∙ w.owners;
       } in
       let P : List Atom → Type 0 = λ xs. AreWide routers xs in
@@ -222,7 +222,7 @@ module _ (old new : List Atom) (r : RouterId) (at : ℕ) (op : Op) (past : ℕ) 
     pub touch-target_other : (q : RouterId) (a : ℕ) → q.0 ≢ r.0 → target_at new q a ≡ target_at old q a
     touch-target_other q a other = ⊎_elim
         (λ (i : is_within (first_of t.atom) (past_of t.atom) a ≡ true).
-        ap (λ o. target_in_atom o q) (are a i) ∙ get_or-set_other t.atom.label.targets r.0 q.0 after NoRoute other ∙ ap (λ o. target_in_atom o q) (sym (were a i)))
+        ap (λ o. target_in_atom o q) (are a i) ∙ get_or-set_other t.atom.row.targets r.0 q.0 after NoRoute other ∙ ap (λ o. target_in_atom o q) (sym (were a i)))
         (λ (n : is_within (first_of t.atom) (past_of t.atom) a ≡ false). touch-target_away q a n)
         (cases_Bool (is_within (first_of t.atom) (past_of t.atom) a))
 
@@ -231,7 +231,7 @@ module _ (old new : List Atom) (r : RouterId) (at : ℕ) (op : Op) (past : ℕ) 
     touch-rules_before q a same i = ap (λ o. rules_in o q) (were a i) ∙ ap (λ n. get_or t.atom.owners n []) same
 
     pub touch-target_before : (q : RouterId) (a : ℕ) → q.0 ≡ r.0 → is_within (first_of t.atom) (past_of t.atom) a ≡ true → target_at old q a ≡ before
-    touch-target_before q a same i = ap (λ o. target_in_atom o q) (were a i) ∙ ap (λ n. get_or t.atom.label.targets n NoRoute) same ∙ sym t.before_is
+    touch-target_before q a same i = ap (λ o. target_in_atom o q) (were a i) ∙ ap (λ n. get_or t.atom.row.targets n NoRoute) same ∙ sym t.before_is
 
     -- and after
     module _ (routers : ℕ) (wide : AreWide routers old) (inside : r.0 < routers) (q : RouterId) (a : ℕ) (same : q.0 ≡ r.0) (i : is_within (first_of t.atom) (past_of t.atom) a ≡ true) where
@@ -243,9 +243,9 @@ module _ (old new : List Atom) (r : RouterId) (at : ℕ) (op : Op) (past : ℕ) 
 
       pub touch-target_here : target_at new q a ≡ after
       touch-target_here =
-          let w : length t.atom.label.targets ≡ routers = (wide-at routers old at t.atom wide t.has).targets in
-          let l : r.0 < length t.atom.label.targets = omega arith in
-          ap (λ o. target_in_atom o q) (are a i) ∙ ap (λ n. get_or (set t.atom.label.targets r.0 after) n NoRoute) same ∙ get_or-set_same t.atom.label.targets r.0 after NoRoute l
+          let w : length t.atom.row.targets ≡ routers = (wide-at routers old at t.atom wide t.has).targets in
+          let l : r.0 < length t.atom.row.targets = omega arith in
+          ap (λ o. target_in_atom o q) (are a i) ∙ ap (λ n. get_or (set t.atom.row.targets r.0 after) n NoRoute) same ∙ get_or-set_same t.atom.row.targets r.0 after NoRoute l
 
       -- the rules are what the update makes of those before, in some order
       pub touch-rules_moved : IsPermutation (rules_at new q a) (after_rule_op (rules_at old q a) op)

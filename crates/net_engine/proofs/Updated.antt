@@ -4,15 +4,15 @@ use Rattle.std.specs.List.Sorted.{IsPermutation}
 use Rattle.std.proofs.lemmas.Bool.{cases_eq}
 use Rattle.std.proofs.lemmas.List.{get_or-set_other, get_or-set_same, take_at}
 use Rattle.dn_model.specs.Delta.{AreChanges, IsDelta, TellsChange, change_at, less_last}
-use Rattle.dn_model.specs.Labels.{DoesAfter, label_at}
+use Rattle.dn_model.specs.Forwarding.{DoesAfter, forwarding_at}
 use Rattle.dn_model.specs.Routes.{SameRoutes}
 use Rattle.dn_model.specs.Table.{after_op, table, target}
-use Rattle.dn_model.specs.Version.{Atom, Kept, KeptStandsFor, atom_at, begins_at, labels_of, sets_end, target_at, target_in_atom}
+use Rattle.dn_model.specs.Version.{Atom, Kept, KeptStandsFor, atom_at, begins_at, forwarding_of, sets_end, target_at, target_in_atom}
 use Rattle.dn_model.specs.declared.change.Change.{Change}
 use Rattle.dn_model.specs.declared.entry.Entry.{Entry}
 use Rattle.dn_model.specs.declared.entry.Route.{Route}
 use Rattle.dn_model.specs.declared.ids.RouterId.{RouterId}
-use Rattle.dn_model.specs.declared.label_row.LabelRow.{LabelRow}
+use Rattle.dn_model.specs.declared.forwarding_row.ForwardingRow.{ForwardingRow}
 use Rattle.dn_model.specs.declared.target.Target.{Target}
 use Rattle.net_engine.specs.Whole.{IsWhole}
 use Rattle.net_engine.proofs.StandingFor.{boundary-after, label-of_atom, other-table, own-table, stands}
@@ -35,13 +35,13 @@ tables-after old new made history e inside moved placed same r = ⊎_elim
 
 -- ---- targets
 
-does-at : (o : Option Atom) (row : Option LabelRow) (history : List Entry) (r : RouterId) (a : ℕ) → row ≡ option_map (λ (x : Atom). x.label) o → DoesAfter row history r a → target_in_atom o r ≡ target history r a
-does-at None row history r a is h = absurd (let P : Option LabelRow → Type 0 = λ w. DoesAfter w history r a in subst P is h)
-does-at (Some x) row history r a is h = let P : Option LabelRow → Type 0 = λ w. DoesAfter w history r a in subst P is h
+does-at : (o : Option Atom) (row : Option ForwardingRow) (history : List Entry) (r : RouterId) (a : ℕ) → row ≡ option_map (λ (x : Atom). x.row) o → DoesAfter row history r a → target_in_atom o r ≡ target history r a
+does-at None row history r a is h = absurd (let P : Option ForwardingRow → Type 0 = λ w. DoesAfter w history r a in subst P is h)
+does-at (Some x) row history r a is h = let P : Option ForwardingRow → Type 0 = λ w. DoesAfter w history r a in subst P is h
 
 -- what is kept for a history has what each router does after it
 pub target-after : (kept : Kept) (history : List Entry) (r : RouterId) (a : ℕ) → KeptStandsFor kept history → a < 2 ^ 32 → target_at kept.atoms r a ≡ target history r a
-target-after kept history r a h l = does-at (atom_at kept.atoms a) (label_at (labels_of kept.atoms) a) history r a (label-of_atom kept.atoms a) (h.rows.exact r a l)
+target-after kept history r a h l = does-at (atom_at kept.atoms a) (forwarding_at (forwarding_of kept.atoms) a) history r a (label-of_atom kept.atoms a) (h.rows.exact r a l)
 
 -- ---- after one entry more
 

@@ -3,7 +3,7 @@
 use Rattle.std.specs.Prelude.{ℕ, List, [], ◌∷◌, Option, length, replicate, slice_set, slice_index_or, IsPermutation, Some, ◌≡◌, ◌^◌, ◌&&◌, ◌==◌, not, if◌then◌else◌}
 use Rattle.dn_model.specs.Rows.{is_within, CoverFrom}
 use Rattle.dn_model.specs.Rules.{after_rule_op, target_of as target_of_rule, IsTop}
-use Rattle.dn_model.specs.Labels.{target_of}
+use Rattle.dn_model.specs.Forwarding.{target_of}
 use Rattle.dn_model.specs.Version.{Atom, atom_at, first_of, past_of}
 use Rattle.dn_model.specs.declared.entry.Op.{Op}
 use Rattle.dn_model.specs.declared.ids.RouterId.{RouterId}
@@ -18,7 +18,7 @@ pub record Net : Type 0 where
 
 -- an atom has a target and a list of rules for each of so many routers
 pub record IsWide (routers : ℕ) (x : Atom) : Type 0 where
-  pub targets : length x.label.targets ≡ routers
+  pub targets : length x.row.targets ≡ routers
   pub owners : length x.owners ≡ routers
 
 abbrev pub AreWide : ℕ → List Atom → Type 0
@@ -33,13 +33,13 @@ pub record IsNet (net : Net) : Type 0 where
 -- one atom of all addresses, for which no router has a rule
 abbrev pub first_atom : ℕ → Atom
 first_atom routers = record {
-  label = record { lo = 0; hi = 2 ^ 32; targets = replicate routers NoRoute };
+  row = record { low = 0; past = 2 ^ 32; targets = replicate routers NoRoute };
   owners = replicate routers [];
 }
 
 -- an atom with other bounds
 abbrev pub between : ℕ → ℕ → Atom → Atom
-between lo hi x = record { label = record { lo = lo; hi = hi; targets = x.label.targets }; owners = x.owners }
+between lo hi x = record { row = record { low = lo; past = hi; targets = x.row.targets }; owners = x.owners }
 
 -- the atoms, where the one that has an address is cut in two there, if it doesn't begin there: both parts have the
 -- targets and the rules of the whole
@@ -58,7 +58,7 @@ with_atom (x ∷ xs) at y = if is_within (first_of x) (past_of x) at then y ∷ 
 -- an atom where one router has other rules and does something else
 abbrev pub with_rules : Atom → ℕ → List Rule → Target → Atom
 with_rules x r rules target = record {
-  label = record { lo = x.label.lo; hi = x.label.hi; targets = slice_set x.label.targets r target };
+  row = record { low = x.row.low; past = x.row.past; targets = slice_set x.row.targets r target };
   owners = slice_set x.owners r rules;
 }
 
@@ -69,7 +69,7 @@ pub record IsTouched (old new : List Atom) (r : RouterId) (at : ℕ) (op : Op) (
   pub atom : Atom
   pub has : atom_at old at ≡ Some atom
   pub past_is : past ≡ past_of atom
-  pub before_is : before ≡ target_of atom.label r
+  pub before_is : before ≡ target_of atom.row r
   pub rules : List Rule
   pub rules_are : IsPermutation rules (after_rule_op (slice_index_or atom.owners r.0 []) op)
   pub top : Option Rule

@@ -18,7 +18,7 @@ targets_of labels number = map (λ t. target_of t number) labels.targets
 -- the atom of a row, with the targets and the rules of its number
 abbrev pub numbered : Labels → List (List (List Rule)) → AtomRow → Atom
 numbered labels owners row = record {
-  label = record { lo = row.low; hi = row.high; targets = targets_of labels row.atom.0 };
+  row = record { low = row.low; past = row.past; targets = targets_of labels row.atom.0 };
   owners = slice_index_or owners row.atom.0 [];
 }
 

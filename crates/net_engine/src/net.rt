@@ -1,7 +1,7 @@
 //! Atoms with what each router does there and the rules that it has there.
 
 ghost use Rattle.std.specs.Prelude.{◌≡◌, ◌<◌, ◌≤◌, ◌∷◌, [], IfOk, length, slice_index_or};
-ghost use Rattle.dn_model.specs.Labels.{target_of};
+ghost use Rattle.dn_model.specs.Forwarding.{target_of};
 ghost use Rattle.dn_model.specs.Version.{Atom, first_of, past_of};
 ghost use Rattle.net_engine.specs.Net.{cut_atoms, first_atom, IsNet, IsTouched};
 
@@ -126,7 +126,7 @@ impl Net {
             owners,
         };
         let touched = Touched {
-            past: row.high,
+            past: row.past,
             before,
             after,
         };
@@ -183,14 +183,14 @@ impl Net {
         ensures form { IsNet self.now }
     {
         let row = self.atoms.at(i);
-        (row.low, row.high)
+        (row.low, row.past)
     }
 
     /// What a router does with the addresses of the atom at a place.
     pub fn target(&self, r: RouterId, i: u64) -> Target
         requires router { r.0 < self.now.routers }
         requires place { i < length self.now.atoms }
-        ensures value { (d : Atom) → result ≡ target_of (slice_index_or self.now.atoms i d).label r }
+        ensures value { (d : Atom) → result ≡ target_of (slice_index_or self.now.atoms i d).row r }
         ensures form { IsNet self.now }
     {
         let row = self.atoms.at(i);

@@ -4,7 +4,7 @@ ghost use Rattle.std.specs.Prelude.{◌≡◌, ◌<◌, ◌++◌, ◌∷◌, [],
 ghost use Rattle.std.specs.Arc.{arc_value};
 ghost use Rattle.dn_model.specs.Delta.{IsDelta};
 ghost use Rattle.dn_model.specs.Entry.{IsEntryOf, IsOpOf};
-ghost use Rattle.dn_model.specs.Version.{KeptStandsFor, labels_of};
+ghost use Rattle.dn_model.specs.Version.{KeptStandsFor, forwarding_of};
 ghost use Rattle.dn_model.specs.declared.entry.Entry.{Entry as EntryIs};
 ghost use Rattle.net_engine.specs.Steps.{prefix_of_op};
 ghost use Rattle.net_engine.specs.Walked.{BeginsAtEnds, IsClearOf, IsCutAt, IsSetOf, IsRemade, IsUpdated};
@@ -197,7 +197,7 @@ impl Version {
 impl LabelView for Version {
     ghost width = { λ v. length v.topology.routers };
 
-    ghost labels = { λ v. labels_of v.atoms };
+    ghost labels = { λ v. forwarding_of v.atoms };
 
     fn routers(&self) -> u32 {
         self.net.routers()

@@ -3,15 +3,15 @@ use Rattle.dn_model.specs.Walk.{next}
 use Rattle.dn_model.specs.declared.answer.PathEnd.TheVariants.{At}
 use Rattle.dn_model.specs.declared.ids.LinkId.{LinkId}
 use Rattle.dn_model.specs.declared.ids.RouterId.{RouterId}
-use Rattle.dn_model.specs.declared.label_row.LabelRow.{LabelRow}
+use Rattle.dn_model.specs.declared.forwarding_row.ForwardingRow.{ForwardingRow}
 use Rattle.dn_model.specs.declared.target.Target.TheVariants.{To}
 use Rattle.dn_model.proofs.Walks.{walk_end-to, walk_end-last, walked-to, walked-last}
 use Rattle.dn_run.proofs.LatestLemmas.{next-in-row}
 use Rattle.dn_run.proofs.walk.walk_by.Goals as goal
 
 -- any row
-some_row : LabelRow
-some_row = record { lo = 0; hi = 0; targets = [] }
+some_row : ForwardingRow
+some_row = record { low = 0; past = 0; targets = [] }
 
 pub returns-in_default : goal.returns-in_default
 returns-in_default g c = record {

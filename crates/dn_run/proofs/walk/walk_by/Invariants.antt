@@ -1,5 +1,5 @@
 use Rattle.std.proofs.Common.{◌≡◌, ◌++◌, List}
-use Rattle.dn_model.specs.Labels.{StandsFor}
+use Rattle.dn_model.specs.Forwarding.{StandsFor}
 use Rattle.dn_model.specs.Walk.{next, walk, walk_end}
 use Rattle.dn_model.specs.declared.entry.Entry.{Entry}
 use Rattle.dn_run.proofs.walk.walk_by.Given as goal

@@ -1,10 +1,10 @@
 use Rattle.std.proofs.Common.{◌≡◌}
-use Rattle.dn_model.specs.declared.label_row.LabelRow.{LabelRow}
+use Rattle.dn_model.specs.declared.forwarding_row.ForwardingRow.{ForwardingRow}
 use Rattle.net_engine.proofs.Labelled.{labelled, row-at}
 use Rattle.net_engine.proofs.version.VersionLabelView.bounds.Goals as goal
 
 pub returns-clause-lo : goal.returns-clause-lo
-returns-clause-lo c d = row-at (λ (row : LabelRow). c.bounds.result.0 ≡ row.lo) _ _ c.args.i d c.self.view_is (c.bounds.ensures.lo (labelled d))
+returns-clause-lo c d = row-at (λ (row : ForwardingRow). c.bounds.result.0 ≡ row.low) _ _ c.args.i d c.self.view_is (c.bounds.ensures.lo (labelled d))
 
 pub returns-clause-hi : goal.returns-clause-hi
-returns-clause-hi c d = row-at (λ (row : LabelRow). c.bounds.result.1 ≡ row.hi) _ _ c.args.i d c.self.view_is (c.bounds.ensures.hi (labelled d))
+returns-clause-hi c d = row-at (λ (row : ForwardingRow). c.bounds.result.1 ≡ row.past) _ _ c.args.i d c.self.view_is (c.bounds.ensures.hi (labelled d))

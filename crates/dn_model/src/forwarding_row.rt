@@ -6,7 +6,7 @@ use crate::target::Target;
 /// What each router does with the addresses from `lo` up to, and without, `hi`, which is at most 2^32. It is the same
 /// for all of them.
 #[derive(Drop)]
-pub struct LabelRow {
+pub struct ForwardingRow {
     /// The first address.
     pub lo: u64,
     /// The address after the last.

@@ -3,11 +3,9 @@ use Rattle.std.proofs.Common.{◌≡◌, ℕ, ◌+◌, ◌<◌, ◌≤◌, ◌^�
 use Rattle.std.proofs.lemmas.Bool.{and_from, and_left, and_right, cases_lt, cases_order, eq-eqb, ne_eqb}
 use Rattle.std.specs.Option.{unwrap_or}
 use Rattle.std.proofs.lemmas.Option.{none-some}
-use Rattle.dn_model.specs.Delta.{AreChanges, GoesBefore, IsApartFromFirst, IsChange, IsDelta, TellsChange, Told, change_at, interval_of, is_change_at, less_last, targets_of, told, told_of}
+use Rattle.dn_model.specs.Delta.{AreChanges, GoesBefore, IsApartFromFirst, IsChange, IsDelta, TellsChange, change_at, is_change_at, targets_of}
 use Rattle.dn_model.specs.Runs.{holds}
-use Rattle.dn_model.specs.Table.{target}
 use Rattle.dn_model.specs.declared.change.Change.{Change}
-use Rattle.dn_model.specs.declared.entry.Entry.{Entry}
 use Rattle.dn_model.specs.declared.ids.RouterId.{RouterId}
 use Rattle.dn_model.specs.declared.target.Target.{Target}
 use Rattle.dn_model.proofs.RunsOnce.{holds-in, holds-below, holds-above}
@@ -18,16 +16,16 @@ some_inj : {X : Type 0} (x y : X) → Some x ≡ Some y → x ≡ y
 some_inj {X} x y h = ap (λ (o : Option X). unwrap_or o x) h
 
 pub within : (r : RouterId) (a : ℕ) (c : Change) → c.router.0 ≡ r.0 → c.run.lo ≤ a → a ≤ c.run.hi → is_change_at r a c ≡ true
-within r a c e l h = and_from (eqb c.router.0 r.0) (holds a (interval_of c.run)) (eq-eqb c.router.0 r.0 e) (holds-in a (interval_of c.run) l h)
+within r a c e l h = and_from (eqb c.router.0 r.0) (holds a c.run) (eq-eqb c.router.0 r.0 e) (holds-in a c.run l h)
 
 pub elsewhere : (r : RouterId) (a : ℕ) (c : Change) → (c.router.0 ≡ r.0 → ⊥) → is_change_at r a c ≡ false
-elsewhere r a c n = and_left (eqb c.router.0 r.0) (holds a (interval_of c.run)) (ne_eqb c.router.0 r.0 n)
+elsewhere r a c n = and_left (eqb c.router.0 r.0) (holds a c.run) (ne_eqb c.router.0 r.0 n)
 
 pub under : (r : RouterId) (a : ℕ) (c : Change) → a < c.run.lo → is_change_at r a c ≡ false
-under r a c l = and_right (eqb c.router.0 r.0) (holds a (interval_of c.run)) (holds-below a (interval_of c.run) l)
+under r a c l = and_right (eqb c.router.0 r.0) (holds a c.run) (holds-below a c.run l)
 
 pub over : (r : RouterId) (a : ℕ) (c : Change) → c.run.hi < a → is_change_at r a c ≡ false
-over r a c l = and_right (eqb c.router.0 r.0) (holds a (interval_of c.run)) (holds-above a (interval_of c.run) l)
+over r a c l = and_right (eqb c.router.0 r.0) (holds a c.run) (holds-above a c.run l)
 
 -- an address of a router that comes before a change's end, and before its first address
 abbrev pub UpTo : RouterId → ℕ → Change → Type 0
@@ -154,13 +152,13 @@ same-hi c d cs ds h k same r lo targets = ⊎_elim
     o)
     (cases_order c.run.hi d.run.hi)
 
-same-first : (c d : Change) (cs ds : List Change) → AreChanges (c ∷ cs) → AreChanges (d ∷ ds) → TellSame (c ∷ cs) (d ∷ ds) → told_of c ≡ told_of d
+same-first : (c d : Change) (cs ds : List Change) → AreChanges (c ∷ cs) → AreChanges (d ∷ ds) → TellSame (c ∷ cs) (d ∷ ds) → c ≡ d
 same-first c d cs ds h k same =
     let r : c.router.0 ≡ d.router.0 = same-router c d cs ds h k same in
     let lo : c.run.lo ≡ d.run.lo = same-lo c d cs ds h k same r in
     let targets : targets_of c ≡ targets_of d = same-targets c d cs ds h k same r lo in
     let hi : c.run.hi ≡ d.run.hi = same-hi c d cs ds h k same r lo targets in
-    let T : ℕ → ℕ → ℕ → Target × Target → Told = λ n l m p. record { router = n; lo = l; hi = m; before = p.0; after = p.1 } in
+    let T : ℕ → ℕ → ℕ → Target × Target → Change = λ n l m p. record { router = record { 0 = n }; run = record { lo = l; hi = m }; before = p.0; after = p.1 } in
     ap (λ n. T n c.run.lo c.run.hi (c.before, c.after)) r ∙ ap (λ l. T d.router.0 l c.run.hi (c.before, c.after)) lo
     ∙ ap (λ m. T d.router.0 d.run.lo m (c.before, c.after)) hi ∙ ap (λ p. T d.router.0 d.run.lo d.run.hi p) targets
 
@@ -184,27 +182,27 @@ past-not r a c h = ⊎_elim
     h
 
 -- what is left after the first ones
-same-rest : (c d : Change) (cs ds : List Change) → AreChanges (c ∷ cs) → AreChanges (d ∷ ds) → TellSame (c ∷ cs) (d ∷ ds) → told_of c ≡ told_of d → TellSame cs ds
+same-rest : (c d : Change) (cs ds : List Change) → AreChanges (c ∷ cs) → AreChanges (d ∷ ds) → TellSame (c ∷ cs) (d ∷ ds) → c ≡ d → TellSame cs ds
 same-rest c d cs ds h k same e r a l = ⊎_elim
     (λ (u : UpTo r a c).
-    let P : Told → Type 0 = λ x. (r.0 < x.router) ⊎ ((r.0 ≡ x.router) × (a ≤ x.hi)) in
+    let P : Change → Type 0 = λ x. (r.0 < x.router.0) ⊎ ((r.0 ≡ x.router.0) × (a ≤ x.run.hi)) in
     none-later r a c cs h.1 h.2 u ∙ sym (none-later r a d ds k.1 k.2 (subst P e u)))
     (λ (p : (c.router.0 < r.0) ⊎ ((c.router.0 ≡ r.0) × (c.run.hi < a))).
-    let P : Told → Type 0 = λ x. (x.router < r.0) ⊎ ((x.router ≡ r.0) × (x.hi < a)) in
+    let P : Change → Type 0 = λ x. (x.router.0 < r.0) ⊎ ((x.router.0 ≡ r.0) × (x.run.hi < a)) in
     sym (not-first r a c cs (past-not r a c p)) ∙ same r a l ∙ not-first r a d ds (past-not r a d (subst P e p)))
     (sides r a c)
 
--- lists of changes that tell the same are told in the same way
-pub changes-once : (xs ys : List Change) → AreChanges xs → AreChanges ys → TellSame xs ys → told xs ≡ told ys
+-- lists of changes that tell the same are the same
+pub changes-once : (xs ys : List Change) → AreChanges xs → AreChanges ys → TellSame xs ys → xs ≡ ys
 changes-once [] [] h k same = refl
 changes-once [] (d ∷ ds) h k same = absurd (none-some (d.before, d.after) (same d.router d.run.lo (low-bound d k.0) ∙ starts d ds k.0))
 changes-once (c ∷ cs) [] h k same = absurd (none-some (c.before, c.after) (sym (same c.router c.run.lo (low-bound c h.0)) ∙ starts c cs h.0))
 changes-once (c ∷ cs) (d ∷ ds) h k same =
-    let first : told_of c ≡ told_of d = same-first c d cs ds h k same in
-    let rest : told cs ≡ told ds = changes-once cs ds h.2 k.2 (same-rest c d cs ds h k same first) in
-    ap (λ x. x ∷ told cs) first ∙ ap (λ xs. told_of d ∷ xs) rest
+    let first : c ≡ d = same-first c d cs ds h k same in
+    let rest : cs ≡ ds = changes-once cs ds h.2 k.2 (same-rest c d cs ds h k same first) in
+    ap (λ x. x ∷ cs) first ∙ ap (λ xs. d ∷ xs) rest
 
--- ---- the changes of a history's last entry
+-- ---- the changes between two moments
 
 tells-once : (before after : Target) (o p : Option (Target × Target)) → TellsChange before after o → TellsChange before after p → o ≡ p
 tells-once before after None None h k = refl
@@ -212,6 +210,6 @@ tells-once before after None (Some y) h k = absurd (k.1 h)
 tells-once before after (Some x) None h k = absurd (h.1 k)
 tells-once before after (Some x) (Some y) h k = ap (λ (z : Target × Target). Some z) (h.0 ∙ sym k.0)
 
-pub delta-once : (history : List Entry) (xs ys : List Change) → IsDelta history xs → IsDelta history ys → told xs ≡ told ys
-delta-once history xs ys h k = changes-once xs ys h.form k.form
-    (λ r a l. tells-once (target (less_last history) r a) (target history r a) (change_at xs r a) (change_at ys r a) (h.exact r a l) (k.exact r a l))
+pub delta-once : (before after : RouterId → ℕ → Target) (xs ys : List Change) → IsDelta before after xs → IsDelta before after ys → xs ≡ ys
+delta-once before after xs ys h k = changes-once xs ys h.form k.form
+    (λ r a l. tells-once (before r a) (after r a) (change_at xs r a) (change_at ys r a) (h.exact r a l) (k.exact r a l))

@@ -7,14 +7,16 @@ use Rattle.std.specs.List.{All}
 use Rattle.dn_model.specs.Cidr.{covers}
 use Rattle.dn_model.specs.Delta.{AreChanges, IsDelta, TellsChange, change_at, less_last}
 use Rattle.dn_model.specs.DeltaFrom.{CoversAlike, IsFrom, BeginFrom, IsPutFirst, TellsPart, IsDeltaFrom}
-use Rattle.dn_model.specs.Entry.{IsEntryOf}
-use Rattle.dn_model.specs.Table.{after_op, better, is_of_router, table, target, target_in, target_or_none}
+use Rattle.dn_model.specs.Entry.{IsEntryOf, op_on}
+use Rattle.dn_model.specs.Table.{after_op, better, does_after, ops_on, target_in, target_or_none}
 use Rattle.dn_model.specs.declared.change.Change.{Change}
 use Rattle.dn_model.specs.declared.entry.Entry.{Entry}
+use Rattle.dn_model.specs.declared.entry.Op.{Op}
 use Rattle.dn_model.specs.declared.entry.Route.{Route}
 use Rattle.dn_model.specs.declared.ids.RouterId.{RouterId}
 use Rattle.dn_model.specs.declared.target.Target.{Target}
 use Rattle.dn_model.specs.declared.topology.Topology.{Topology}
+use Rattle.dn_model.proofs.Tables.{op-other}
 use Rattle.dn_model.proofs.DeltaOnce.{within, first-is, not-first, past-not, none-below}
 
 -- ---- routes on an interval without ends
@@ -105,8 +107,8 @@ part-of_targets router low past lo hi x y before after old new el eh b f h =
 same-router : (r s : RouterId) → r.0 ≡ s.0 → r ≡ s
 same-router r s e = let make : ℕ → RouterId = λ n. record { 0 = n } in ap make e
 
-pub from-part : (history : List Entry) (router : RouterId) (low past : ℕ) (before after : List Route) (old new : List Change) → low < past → before ≡ table (less_last history) router → after ≡ table history router → IsDeltaFrom history router.0 past old → TellsPart router.0 low past (target_in before) (target_in after) old new → IsDeltaFrom history router.0 low new
-from-part history router low past before after old new l eb ea h k = record {
+pub from-part : (f g : RouterId → ℕ → Target) (router : RouterId) (low past : ℕ) (before after : List Route) (old new : List Change) → low < past → ((a : ℕ) → f router a ≡ target_in before a) → ((a : ℕ) → g router a ≡ target_in after a) → IsDeltaFrom f g router.0 past old → TellsPart router.0 low past (target_in before) (target_in after) old new → IsDeltaFrom f g router.0 low new
+from-part f g router low past before after old new l eb ea h k = record {
   form = k.form;
   begin = k.begin;
   exact = λ r a s b. ⊎_elim
@@ -114,9 +116,9 @@ from-part history router low past before after old new l eb ea h k = record {
       (λ (p : (router.0 ≡ r.0) × (low ≤ a)). ⊎_elim
       (λ (m : a < past).
       let same : router ≡ r = same-router router r p.0 in
-      let earlier : target (less_last history) r a ≡ target_in before a = ap (λ (x : RouterId). target (less_last history) x a) (sym same) ∙ ap (λ rs. target_in rs a) (sym eb) in
-      let later : target history r a ≡ target_in after a = ap (λ (x : RouterId). target history x a) (sym same) ∙ ap (λ rs. target_in rs a) (sym ea) in
-      tells-of (target_in before a) (target_in after a) (target (less_last history) r a) (target history r a) (change_at new r a) earlier later (k.part r a (sym p.0) p.1 m))
+      let earlier : f r a ≡ target_in before a = ap (λ (x : RouterId). f x a) (sym same) ∙ eb a in
+      let later : g r a ≡ target_in after a = ap (λ (x : RouterId). g x a) (sym same) ∙ ea a in
+      tells-of (target_in before a) (target_in after a) (f r a) (g r a) (change_at new r a) earlier later (k.part r a (sym p.0) p.1 m))
       (λ (m : past ≤ a). tells-along _ _ _ _ (k.rest r a (inr (p.0, m))) (h.exact r a (inr (p.0, m)) b))
       (cases_lt a past))
       s;
@@ -136,8 +138,8 @@ from-order router r a l = ⊎_elim
     (cases_lt (router + 1) r)
 
 -- all of the routers after one is all from its end on
-pub from-next : (history : List Entry) (router : ℕ) (cs : List Change) → IsDeltaFrom history (router + 1) 0 cs → IsDeltaFrom history router (2 ^ 32) cs
-from-next history router cs h = record {
+pub from-next : (f g : RouterId → ℕ → Target) (router : ℕ) (cs : List Change) → IsDeltaFrom f g (router + 1) 0 cs → IsDeltaFrom f g router (2 ^ 32) cs
+from-next f g router cs h = record {
   form = h.form;
   begin = begin-next router (2 ^ 32) cs h.begin;
   exact = λ r a s b. h.exact r a (⊎_elim
@@ -147,8 +149,8 @@ from-next history router cs h = record {
 }
 
 -- from the first router's first address on it is all
-pub from-all : (history : List Entry) (cs : List Change) → IsDeltaFrom history 0 0 cs → IsDelta history cs
-from-all history cs h = record {
+pub from-all : (f g : RouterId → ℕ → Target) (cs : List Change) → IsDeltaFrom f g 0 0 cs → IsDelta f g cs
+from-all f g cs h = record {
   form = h.form;
   exact = λ r a b. h.exact r a (⊎_elim
       (λ (m : 0 < r.0). inl m)
@@ -156,19 +158,20 @@ from-all history cs h = record {
       (cases_lt 0 r.0)) b;
 }
 
-no-entry : (t : Topology) (history : List Entry) (r : RouterId) → All (IsEntryOf t) history → length t.routers ≤ r.0 → filter (is_of_router r) history ≡ []
+no-entry : (t : Topology) (history : List Entry) (r : RouterId) → All (IsEntryOf t) history → length t.routers ≤ r.0 → ops_on r history ≡ []
 no-entry t [] r h l = refl
 no-entry t (e ∷ es) r h l =
     let here : IsEntryOf t e = h 0 e (omega arith) in
     let is : e.router.0 < length t.routers = here.router in
-    ap (λ b. cond b (e ∷ filter (is_of_router r) es) (filter (is_of_router r) es)) (ne_eqb e.router.0 r.0 (λ s. let n : ⊥ = omega arith in n))
-    ∙ no-entry t es r (λ i d m. h (suc i) d (omega arith)) l
+    let other : op_on r e ≡ None = op-other e r (λ s. let n : ⊥ = omega arith in n) in
+    let rest : ops_on r es ≡ [] = no-entry t es r (λ i d m. h (suc i) d (omega arith)) l in
+    rw (other, rest) refl
 
-no-target : (t : Topology) (history : List Entry) (r : RouterId) (a : ℕ) → All (IsEntryOf t) history → length t.routers ≤ r.0 → target history r a ≡ target [] r a
-no-target t history r a h l = ap (λ (es : List Entry). target_in (fold after_op [] (map (λ (e : Entry). e.op) es)) a) (no-entry t history r h l)
+no-target : (t : Topology) (history : List Entry) (r : RouterId) (a : ℕ) → All (IsEntryOf t) history → length t.routers ≤ r.0 → does_after t history r a ≡ does_after t [] r a
+no-target t history r a h l = ap (λ (ops : List Op). target_in (fold after_op [] ops) a) (no-entry t history r h l)
 
 -- routers that there are not change nothing
-pub from-none : (t : Topology) (history : List Entry) → All (IsEntryOf t) history → IsDeltaFrom history (length t.routers) 0 []
+pub from-none : (t : Topology) (history : List Entry) → All (IsEntryOf t) history → IsDeltaFrom (does_after t (less_last history)) (does_after t history) (length t.routers) 0 []
 from-none t history h = record {
   form = tt;
   begin = tt;

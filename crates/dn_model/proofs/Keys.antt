@@ -14,7 +14,8 @@ use Rattle.dn_model.specs.declared.entry.Entry.{Entry}
 use Rattle.dn_model.specs.declared.entry.Op.{Op}
 use Rattle.dn_model.specs.declared.entry.Op.TheVariants.{Set, Clear}
 use Rattle.dn_model.specs.declared.entry.Route.{Route}
-use Rattle.dn_model.specs.Table.{goes_before, best, is_of_prefix, has_key, same_key, after_op, table, is_of_router, HasKeysOnce, IsBest}
+use Rattle.dn_model.specs.declared.topology.Topology.{Topology}
+use Rattle.dn_model.specs.Table.{goes_before, best, is_of_prefix, has_key, same_key, after_op, ops_on, table, HasKeysOnce, IsBest}
 use Rattle.dn_model.proofs.Best.{best-is, contains-cases, contains-none}
 
 -- ---- tests that no two elements pass
@@ -82,8 +83,8 @@ keys-fold routes [] h = h
 keys-fold routes (op ∷ ops) h = keys-fold (after_op routes op) ops (keys-after routes op h)
 
 -- a table has each key once
-pub table-keys : (history : List Entry) (r : RouterId) → HasKeysOnce (table history r)
-table-keys history r = keys-fold [] (map (λ (e : Entry). e.op) (filter (is_of_router r) history)) refl
+pub table-keys : (t : Topology) (history : List Entry) (r : RouterId) → HasKeysOnce (table t history r)
+table-keys t history r = keys-fold [] (ops_on r history) refl
 
 -- ---- one route for each key
 

@@ -8,6 +8,7 @@ pub mod Filtered
 pub mod KeyOrder
 pub mod Keyed
 pub mod Keys
+pub mod Known
 pub mod Lookups
 pub mod Loops
 pub mod Meets

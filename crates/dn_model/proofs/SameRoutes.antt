@@ -11,11 +11,17 @@ use Rattle.dn_model.specs.declared.entry.Entry.{Entry}
 use Rattle.dn_model.specs.declared.entry.Op.{Op}
 use Rattle.dn_model.specs.declared.entry.Op.TheVariants.{Set, Clear}
 use Rattle.dn_model.specs.declared.entry.Route.{Route}
-use Rattle.dn_model.specs.Routes.{IsTable, SameRoutes}
-use Rattle.dn_model.specs.Table.{is_of_prefix, has_key, after_op, table, best, target, target_in, target_or_none, IsBest}
+use Rattle.dn_model.specs.declared.topology.Topology.{Topology}
+use Rattle.dn_model.specs.Routes.{IsTable}
+use Rattle.dn_model.specs.Table.{is_of_prefix, has_key, after_op, table, best, does_after, target_in, target_or_none, IsBest}
 use Rattle.dn_model.proofs.Best.{best-is, contains-filter, filter-contains, contains-here}
 use Rattle.dn_model.proofs.Keys.{best-once}
 use Rattle.dn_model.proofs.Tables.{table-push_own, table-push_other}
+
+-- two lists have the same routes
+pub record SameRoutes (xs ys : List Route) : Type 0 where
+  pub there : (r : Route) → Contains xs r → Contains ys r
+  pub back : (r : Route) → Contains ys r → Contains xs r
 
 pub same-refl : (xs : List Route) → SameRoutes xs xs
 same-refl xs = record {
@@ -58,25 +64,25 @@ same-after xs ys op h = record {
 
 -- what has a router's routes after a history, and is then updated as one more entry says, has its routes after that
 -- entry too
-pub same-own : (history : List Entry) (e : Entry) (r : RouterId) (now new : List Route) → e.router.0 ≡ r.0 → SameRoutes now (table history r) → IsPermutation new (after_op now e.op) → SameRoutes new (table (history ++ e ∷ []) r)
-same-own history e r now new is h moved =
-    let after : SameRoutes new (after_op (table history r) e.op) = same-trans new (after_op now e.op) (after_op (table history r) e.op) (same-permutation new (after_op now e.op) moved) (same-after now (table history r) e.op h) in
-    subst (λ rs. SameRoutes new rs) (sym (table-push_own history e r is)) after
+pub same-own : (t : Topology) (history : List Entry) (e : Entry) (r : RouterId) (now new : List Route) → e.router.0 ≡ r.0 → SameRoutes now (table t history r) → IsPermutation new (after_op now e.op) → SameRoutes new (table t (history ++ e ∷ []) r)
+same-own t history e r now new is h moved =
+    let after : SameRoutes new (after_op (table t history r) e.op) = same-trans new (after_op now e.op) (after_op (table t history r) e.op) (same-permutation new (after_op now e.op) moved) (same-after now (table t history r) e.op h) in
+    subst (λ rs. SameRoutes new rs) (sym (table-push_own t history e r is)) after
 
 -- the same where it is updated exactly as the entry says, order included
-pub same-own_exact : (history : List Entry) (e : Entry) (r : RouterId) (now new : List Route) → e.router.0 ≡ r.0 → SameRoutes now (table history r) → new ≡ after_op now e.op → SameRoutes new (table (history ++ e ∷ []) r)
-same-own_exact history e r now new is h moved = same-own history e r now new is h (subst (λ rs. IsPermutation new rs) moved (IsPermutation-refl new))
+pub same-own_exact : (t : Topology) (history : List Entry) (e : Entry) (r : RouterId) (now new : List Route) → e.router.0 ≡ r.0 → SameRoutes now (table t history r) → new ≡ after_op now e.op → SameRoutes new (table t (history ++ e ∷ []) r)
+same-own_exact t history e r now new is h moved = same-own t history e r now new is h (subst (λ rs. IsPermutation new rs) moved (IsPermutation-refl new))
 
 -- of another router's entry it keeps them
-pub same-other : (history : List Entry) (e : Entry) (r : RouterId) (now : List Route) → e.router.0 ≢ r.0 → SameRoutes now (table history r) → SameRoutes now (table (history ++ e ∷ []) r)
-same-other history e r now other h = subst (λ rs. SameRoutes now rs) (sym (table-push_other history e r other)) h
+pub same-other : (t : Topology) (history : List Entry) (e : Entry) (r : RouterId) (now : List Route) → e.router.0 ≢ r.0 → SameRoutes now (table t history r) → SameRoutes now (table t (history ++ e ∷ []) r)
+same-other t history e r now other h = subst (λ rs. SameRoutes now rs) (sym (table-push_other t history e r other)) h
 
 -- the same routes have the same route of each address
 pub same-best : (xs ys : List Route) (a : ℕ) → IsTable xs → SameRoutes xs ys → best xs a ≡ best ys a
 same-best xs ys a sound h = best-once xs ys a h.there h.back sound.prefixes sound.keys (best xs a) (best ys a) (best-is xs a) (best-is ys a)
 
-pub same-target : (xs : List Route) (history : List Entry) (r : RouterId) (a : ℕ) → IsTable xs → SameRoutes xs (table history r) → target_in xs a ≡ target history r a
-same-target xs history r a sound h = ap target_or_none (same-best xs (table history r) a sound h)
+pub same-target : (t : Topology) (xs : List Route) (history : List Entry) (r : RouterId) (a : ℕ) → IsTable xs → SameRoutes xs (table t history r) → target_in xs a ≡ does_after t history r a
+same-target t xs history r a sound h = ap target_or_none (same-best xs (table t history r) a sound h)
 
 -- a route that goes before all others is the route of the address
 pub only-best : (xs : List Route) (a : ℕ) (o : Option Route) → IsTable xs → IsBest xs a o → o ≡ best xs a

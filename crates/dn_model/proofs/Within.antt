@@ -1,7 +1,7 @@
 -- The routes of a network's updates stay within it.
-use Rattle.std.proofs.Common.{◌≡◌, ℕ, ◌<◌, not, Bool, Option, Some, None, List, [], ◌∷◌, length, filter, fold, map, subst, ⊎_elim}
+use Rattle.std.proofs.Common.{◌≡◌, ◌≢◌, ℕ, ◌<◌, not, Option, Some, None, List, [], ◌∷◌, length, filter, fold, refl, sym, subst, ⊎_elim}
 use Rattle.std.specs.List.{Contains, All}
-use Rattle.std.proofs.lemmas.Bool.{cond_both}
+use Rattle.std.proofs.lemmas.Bool.{cases_eq, cond_both}
 use Rattle.std.proofs.lemmas.List.Elements.{Contains-append_cases, All-contains}
 use Rattle.dn_model.specs.Entry.{IsTargetOf, IsOpOf, IsEntryOf}
 use Rattle.dn_model.specs.declared.ids.RouterId.{RouterId}
@@ -13,8 +13,9 @@ use Rattle.dn_model.specs.declared.entry.Op.{Op}
 use Rattle.dn_model.specs.declared.entry.Op.TheVariants.{Set, Clear}
 use Rattle.dn_model.specs.declared.entry.Route.{Route}
 use Rattle.dn_model.specs.declared.topology.Topology.{Topology}
-use Rattle.dn_model.specs.Table.{is_of_prefix, has_key, after_op, table, is_of_router, best, target_or_none, IsBest}
-use Rattle.dn_model.specs.Walk.{is_down, without, next, LeadsWithin}
+use Rattle.dn_model.specs.Table.{is_of_prefix, has_key, after_op, ops_on, table, best, target_or_none, IsBest}
+use Rattle.dn_model.specs.Walk.{at_address, is_down, without, next, LeadsWithin}
+use Rattle.dn_model.proofs.Tables.{op-own, op-other}
 use Rattle.dn_model.proofs.Best.{best-is, contains-here, contains-there, contains-cases, contains-none, filter-contains}
 
 -- each route has a target that the network has
@@ -32,14 +33,20 @@ within-after t routes (Set p m target) h k = λ r i. ⊎_elim
 within-after t routes (Clear p None) h k = λ r i. h r (filter-contains (λ x. not (is_of_prefix p x)) r routes i).0
 within-after t routes (Clear p (Some m)) h k = λ r i. h r (filter-contains (λ x. not (has_key p m x)) r routes i).0
 
-within-fold : (t : Topology) (own : Entry → Bool) (routes : List Route) (es : List Entry) → AreWithin t routes → ((e : Entry) → Contains es e → IsEntryOf t e) → AreWithin t (fold after_op routes (map (λ (e : Entry). e.op) (filter own es)))
-within-fold t own routes [] h k = h
-within-fold t own routes (e ∷ es) h k =
+within-fold : (t : Topology) (r : RouterId) (routes : List Route) (es : List Entry) → AreWithin t routes → ((e : Entry) → Contains es e → IsEntryOf t e) → AreWithin t (fold after_op routes (ops_on r es))
+within-fold t r routes [] h k = h
+within-fold t r routes (e ∷ es) h k =
     let rest : (x : Entry) → Contains es x → IsEntryOf t x = λ x i. k x (contains-there e x es i) in
-    let P : List Entry → Type 0 = λ xs. AreWithin t (fold after_op routes (map (λ (x : Entry). x.op) xs)) in
-    cond_both (own e) (e ∷ filter own es) (filter own es) P
-    (λ y. within-fold t own (after_op routes e.op) es (within-after t routes e.op h (k e (contains-here e es)).op) rest)
-    (λ n. within-fold t own routes es h rest)
+    ⊎_elim
+    (λ (own : e.router.0 ≡ r.0).
+    let P : List Op → Type 0 = λ ops. AreWithin t (fold after_op routes ops) in
+    let first : ops_on r (e ∷ es) ≡ e.op ∷ ops_on r es = rw (op-own e r own) refl in
+    subst P (sym first) (within-fold t r (after_op routes e.op) es (within-after t routes e.op h (k e (contains-here e es)).op) rest))
+    (λ (other : e.router.0 ≢ r.0).
+    let P : List Op → Type 0 = λ ops. AreWithin t (fold after_op routes ops) in
+    let first : ops_on r (e ∷ es) ≡ ops_on r es = rw (op-other e r other) refl in
+    subst P (sym first) (within-fold t r routes es h rest))
+    (cases_eq e.router.0 r.0)
 
 without-to : (down : List LinkId) (target : Target) (s : RouterId) (l : LinkId) → without down target ≡ To s l → target ≡ To s l
 without-to down NoRoute s l h = cc
@@ -59,9 +66,9 @@ within-best t routes a (Some r) s l h k e =
     (subst P e (h r k.0)).0
 
 -- after a network's updates each router goes on to one of the network, if to any
-pub history-within : (t : Topology) (history : List Entry) (down : List LinkId) (a : ℕ) → All (IsEntryOf t) history → LeadsWithin (length t.routers) (next history down a)
+pub history-within : (t : Topology) (history : List Entry) (down : List LinkId) (a : ℕ) → All (IsEntryOf t) history → LeadsWithin (length t.routers) (at_address (next t history down) a)
 history-within t history down a h = λ r s l in' e.
-    within-best t (table history r) a (best (table history r) a) s l
-    (within-fold t (is_of_router r) [] history (λ x i. absurd (contains-none x i)) (λ x i. All-contains (IsEntryOf t) history x h i))
-    (best-is (table history r) a)
-    (without-to down (target_or_none (best (table history r) a)) s l e)
+    within-best t (table t history r) a (best (table t history r) a) s l
+    (within-fold t r [] history (λ x i. absurd (contains-none x i)) (λ x i. All-contains (IsEntryOf t) history x h i))
+    (best-is (table t history r) a)
+    (without-to down (target_or_none (best (table t history r) a)) s l e)

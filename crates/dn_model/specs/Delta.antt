@@ -1,20 +1,17 @@
 -- Where an update changes what the routers do: per router, the runs of addresses whose target is another one after it
 -- than before it (the delta-graph of Delta-net, NSDI 2017).
-use Rattle.std.specs.Prelude.{ℕ, Bool, List, [], ◌∷◌, Option, None, Some, length, take, map, ◌≡◌, ◌+◌, ◌-◌, ◌<◌, ◌≤◌, ◌^◌, ◌&&◌, ◌==◌, ◌⊎◌, if◌then◌else◌}
-use Rattle.dn_model.specs.Runs.{Interval, holds}
-use Rattle.dn_model.specs.Table.{target}
+use Rattle.std.specs.Prelude.{ℕ, Bool, List, [], ◌∷◌, Option, None, Some, length, take, ◌≡◌, ◌+◌, ◌-◌, ◌<◌, ◌≤◌, ◌^◌, ◌&&◌, ◌==◌, ◌⊎◌, if◌then◌else◌}
+use Rattle.dn_model.specs.Runs.{holds}
+use Rattle.dn_model.specs.Table.{does_after}
 use Rattle.dn_model.specs.declared.change.Change.{Change}
 use Rattle.dn_model.specs.declared.entry.Entry.{Entry}
 use Rattle.dn_model.specs.declared.ids.RouterId.{RouterId}
-use Rattle.dn_model.specs.declared.run.Run.{Run}
 use Rattle.dn_model.specs.declared.target.Target.{Target}
-
-abbrev pub interval_of : Run → Interval
-interval_of run = record { lo = run.lo; hi = run.hi }
+use Rattle.dn_model.specs.declared.topology.Topology.{Topology}
 
 -- whether a change is one of this router at this address
 abbrev pub is_change_at : RouterId → ℕ → Change → Bool
-is_change_at r a c = (c.router.0 == r.0) && holds a (interval_of c.run)
+is_change_at r a c = (c.router.0 == r.0) && holds a c.run
 
 -- the two targets of a change
 abbrev pub targets_of : Change → Target × Target
@@ -61,25 +58,15 @@ abbrev pub TellsChange : Target → Target → Option (Target × Target) → Typ
 TellsChange before after None = before ≡ after
 TellsChange before after (Some p) = (p ≡ (before, after)) × (before ≡ after → ⊥)
 
+-- where what routers do with addresses differs between two moments, before and after
+pub record IsDelta (before after : RouterId → ℕ → Target) (changes : List Change) : Type 0 where
+  pub form : AreChanges changes
+  pub exact : (r : RouterId) (a : ℕ) → a < 2 ^ 32 → TellsChange (before r a) (after r a) (change_at changes r a)
+
 -- a history without its last entry
 abbrev pub less_last : List Entry → List Entry
 less_last history = take (length history - 1) history
 
 -- the changes that the last entry of a history makes, which are none for the empty history
-pub record IsDelta (history : List Entry) (changes : List Change) : Type 0 where
-  pub form : AreChanges changes
-  pub exact : (r : RouterId) (a : ℕ) → a < 2 ^ 32 → TellsChange (target (less_last history) r a) (target history r a) (change_at changes r a)
-
--- what a change says, as it is printed
-pub record Told : Type 0 where
-  pub router : ℕ
-  pub lo : ℕ
-  pub hi : ℕ
-  pub before : Target
-  pub after : Target
-
-abbrev pub told_of : Change → Told
-told_of c = record { router = c.router.0; lo = c.run.lo; hi = c.run.hi; before = c.before; after = c.after }
-
-abbrev pub told : List Change → List Told
-told changes = map told_of changes
+abbrev pub IsDeltaOf : Topology → List Entry → List Change → Type 0
+IsDeltaOf t history changes = IsDelta (does_after t (less_last history)) (does_after t history) changes

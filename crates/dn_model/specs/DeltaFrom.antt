@@ -1,10 +1,8 @@
--- What changes from a router's address on: a part of what the last entry of a history changes.
+-- What changes from a router's address on: a part of what changes between two moments.
 use Rattle.std.specs.Prelude.{ℕ, List, [], ◌∷◌, ◌≡◌, ◌-◌, ◌<◌, ◌≤◌, ◌^◌, ◌⊎◌}
 use Rattle.dn_model.specs.Cidr.{Cidr, covers}
-use Rattle.dn_model.specs.Delta.{AreChanges, TellsChange, change_at, less_last}
-use Rattle.dn_model.specs.Table.{target}
+use Rattle.dn_model.specs.Delta.{AreChanges, TellsChange, change_at}
 use Rattle.dn_model.specs.declared.change.Change.{Change}
-use Rattle.dn_model.specs.declared.entry.Entry.{Entry}
 use Rattle.dn_model.specs.declared.ids.RouterId.{RouterId}
 use Rattle.dn_model.specs.declared.target.Target.{Target}
 
@@ -43,8 +41,8 @@ pub record TellsPart (router low past : ℕ) (before after : ℕ → Target) (ol
   pub part : (r : RouterId) (a : ℕ) → r.0 ≡ router → low ≤ a → a < past → TellsChange (before a) (after a) (change_at new r a)
   pub rest : (r : RouterId) (a : ℕ) → IsFrom router past r.0 a → change_at new r a ≡ change_at old r a
 
--- the changes of a history's last entry from a router's address on
-pub record IsDeltaFrom (history : List Entry) (router at : ℕ) (changes : List Change) : Type 0 where
+-- the changes between two moments from a router's address on
+pub record IsDeltaFrom (before after : RouterId → ℕ → Target) (router at : ℕ) (changes : List Change) : Type 0 where
   pub form : AreChanges changes
   pub begin : BeginFrom router at changes
-  pub exact : (r : RouterId) (a : ℕ) → IsFrom router at r.0 a → a < 2 ^ 32 → TellsChange (target (less_last history) r a) (target history r a) (change_at changes r a)
+  pub exact : (r : RouterId) (a : ℕ) → IsFrom router at r.0 a → a < 2 ^ 32 → TellsChange (before r a) (after r a) (change_at changes r a)

@@ -1,5 +1,7 @@
--- Entries of a history, and which can come of a network: those whose routers and links it has.
-use Rattle.std.specs.Prelude.{◌<◌, List, length, map}
+-- Entries of a history: how each is read, and which are a network's.
+use Rattle.std.specs.Prelude.{ℕ, Bool, false, ◌<◌, ◌+◌, ◌==◌, ◌||◌, List, length, map, Option, None, Some, if◌then◌else◌}
+use Rattle.dn_model.specs.Cidr.{Cidr, size}
+use Rattle.dn_model.specs.declared.ids.RouterId.{RouterId}
 use Rattle.dn_model.specs.declared.target.Target.{Target}
 use Rattle.dn_model.specs.declared.target.Target.TheVariants.{NoRoute, Dropped, Local, Exit, OnLink, To, LinkDown}
 use Rattle.dn_model.specs.declared.entry.Entry.{Entry}
@@ -8,21 +10,47 @@ use Rattle.dn_model.specs.declared.entry.Op.{Op}
 use Rattle.dn_model.specs.declared.entry.Op.TheVariants.{Set, Clear}
 use Rattle.dn_model.specs.declared.topology.Topology.{Topology}
 
--- what a route may do with an address: it goes on to a router and over a link that there are, or ends at its router
+-- what an entry does to a router's table, where it is of that router
+abbrev pub op_on : RouterId → Entry → Option Op
+op_on r e = if e.router.0 == r.0 then Some e.op else None
+
+-- whether an entry came from the feed of this number
+abbrev pub is_of_feed : ℕ → Entry → Bool
+is_of_feed n e = e.feed_no == n
+
+-- whether a prefix begins at an address, or ends before it
+abbrev pub is_end_of : Cidr → ℕ → Bool
+is_end_of p a = (p.base == a) || ((p.base + size p) == a)
+
+-- the prefix of the routes that an update sets or clears
+abbrev pub prefix_of_op : Op → Cidr
+prefix_of_op (Set p m t) = p
+prefix_of_op (Clear p m) = p
+
+-- whether an update sets a route whose prefix begins at an address, or ends before it
+abbrev pub op_sets_end : ℕ → Op → Bool
+op_sets_end a (Set p m t) = is_end_of p a
+op_sets_end a (Clear p m) = false
+
+-- the same of an entry
+abbrev pub sets_end : ℕ → Entry → Bool
+sets_end a e = op_sets_end a e.op
+
+-- a router and a link that a target names are the network's
 abbrev pub IsTargetOf : Topology → Target → Type 0
-IsTargetOf t NoRoute = ⊥
+IsTargetOf t NoRoute = Unit {0}
 IsTargetOf t (Dropped kind) = Unit {0}
 IsTargetOf t Local = Unit {0}
 IsTargetOf t (Exit i) = Unit {0}
 IsTargetOf t (OnLink i) = Unit {0}
 IsTargetOf t (To s l) = (s.0 < length t.routers) × (l.0 < length t.links)
-IsTargetOf t (LinkDown l) = ⊥
+IsTargetOf t (LinkDown l) = Unit {0}
 
 abbrev pub IsOpOf : Topology → Op → Type 0
 IsOpOf t (Set p m target) = IsTargetOf t target
 IsOpOf t (Clear p m) = Unit {0}
 
--- an update of one of the network's routers, whose target it may have
+-- an entry of the network: its router is there, and so are the router and the link that it goes on to
 pub record IsEntryOf (t : Topology) (e : Entry) : Type 0 where
   pub router : e.router.0 < length t.routers
   pub op : IsOpOf t e.op

@@ -1,13 +1,14 @@
 -- What all routers do with all addresses, as rows: intervals with what each router does with their addresses.
 use Rattle.std.specs.Prelude.{ℕ, List, [], ◌∷◌, Option, None, Some, length, ◌≡◌, ◌<◌, ◌≤◌, ◌^◌, slice_index_or}
 use Rattle.dn_model.specs.Rows.{CoverFrom, holder}
-use Rattle.dn_model.specs.Table.{target}
+use Rattle.dn_model.specs.Table.{does_after}
 use Rattle.dn_model.specs.declared.entry.Entry.{Entry}
 use Rattle.dn_model.specs.declared.ids.LinkId.{LinkId}
 use Rattle.dn_model.specs.declared.ids.RouterId.{RouterId}
 use Rattle.dn_model.specs.declared.forwarding_row.ForwardingRow.{ForwardingRow}
 use Rattle.dn_model.specs.declared.target.Target.{Target}
 use Rattle.dn_model.specs.declared.target.Target.TheVariants.{NoRoute, To}
+use Rattle.dn_model.specs.declared.topology.Topology.{Topology}
 
 abbrev pub row_low : ForwardingRow → ℕ
 row_low row = row.low
@@ -38,13 +39,17 @@ pub record AreForwarding (routers : ℕ) (rows : List ForwardingRow) : Type 0 wh
   pub cover : CoverFrom row_low row_past 0 rows
   pub each : AreEachForwarding routers rows
 
--- the row that has the address does what the history comes to
-abbrev pub DoesAfter : Option ForwardingRow → List Entry → RouterId → ℕ → Type 0
-DoesAfter None history r a = ⊥
-DoesAfter (Some row) history r a = target_of row r ≡ target history r a
+-- what a router does by the row that has an address; where no row has it, it has no route
+abbrev pub target_in_row : Option ForwardingRow → RouterId → Target
+target_in_row None r = NoRoute
+target_in_row (Some row) r = target_of row r
 
--- rows stand for a history: they are in order and cover the addresses once, and for each router and address the row
--- that has the address has what the router does with it after the history
-pub record StandsFor (routers : ℕ) (rows : List ForwardingRow) (history : List Entry) : Type 0 where
-  pub form : AreForwarding routers rows
-  pub exact : (r : RouterId) (a : ℕ) → a < 2 ^ 32 → DoesAfter (forwarding_at rows a) history r a
+-- what each router does with each address, by the rows
+abbrev pub does : List ForwardingRow → RouterId → ℕ → Target
+does rows r a = target_in_row (forwarding_at rows a) r
+
+-- Rows stand for a network's history: they are in order and cover the addresses once, and show for each router and
+-- address what the router does with it after the history.
+pub record StandsFor (t : Topology) (rows : List ForwardingRow) (history : List Entry) : Type 0 where
+  pub form : AreForwarding (length t.routers) rows
+  pub exact : (r : RouterId) (a : ℕ) → a < 2 ^ 32 → does rows r a ≡ does_after t history r a

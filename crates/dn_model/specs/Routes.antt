@@ -8,8 +8,3 @@ use Rattle.dn_model.specs.declared.entry.Route.{Route}
 pub record IsTable (routes : List Route) : Type 0 where
   pub keys : HasKeysOnce routes
   pub prefixes : (r : Route) → Contains routes r → IsCidr r.prefix
-
--- two lists have the same routes. Of two that have each key once it says that one is the other in another order.
-pub record SameRoutes (xs ys : List Route) : Type 0 where
-  pub there : (r : Route) → Contains xs r → Contains ys r
-  pub back : (r : Route) → Contains ys r → Contains xs r

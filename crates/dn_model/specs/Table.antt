@@ -1,7 +1,9 @@
 -- Routing tables as route lists: what updates make of them (rtnetlink(7)), and the route of an address
 -- (longest prefix, then least metric: RFC 1812, and the priority of rules in Delta-net, NSDI 2017).
-use Rattle.std.specs.Prelude.{ℕ, Bool, List, [], ◌∷◌, ◌++◌, Option, None, Some, filter, fold, map, not, nat_lt, slice_index_or, Contains, IsTrue, IsFalse, ◌≡◌, ◌&&◌, ◌||◌, ◌==◌, if◌then◌else◌}
+use Rattle.std.specs.Prelude.{ℕ, Bool, List, [], ◌∷◌, ◌++◌, Option, None, Some, filter, fold, not, nat_lt, Contains, IsTrue, IsFalse, ◌≡◌, ◌&&◌, ◌||◌, ◌==◌, if◌then◌else◌}
+use Rattle.std.specs.List.{filter_map}
 use Rattle.dn_model.specs.Cidr.{Cidr, covers}
+use Rattle.dn_model.specs.Entry.{op_on}
 use Rattle.dn_model.specs.Topology.{all_differ}
 use Rattle.dn_model.specs.declared.ids.RouterId.{RouterId}
 use Rattle.dn_model.specs.declared.target.Target.{Target}
@@ -10,6 +12,7 @@ use Rattle.dn_model.specs.declared.entry.Entry.{Entry}
 use Rattle.dn_model.specs.declared.entry.Op.{Op}
 use Rattle.dn_model.specs.declared.entry.Op.TheVariants.{Set, Clear}
 use Rattle.dn_model.specs.declared.entry.Route.{Route}
+use Rattle.dn_model.specs.declared.topology.Topology.{Topology}
 
 -- whether a route has this prefix
 abbrev pub is_of_prefix : Cidr → Route → Bool
@@ -26,13 +29,13 @@ after_op routes (Set p m t) = filter (λ r. not (has_key p m r)) routes ++ recor
 after_op routes (Clear p None) = filter (λ r. not (is_of_prefix p r)) routes
 after_op routes (Clear p (Some m)) = filter (λ r. not (has_key p m r)) routes
 
--- whether an entry is of this router
-abbrev pub is_of_router : RouterId → Entry → Bool
-is_of_router r e = e.router.0 == r.0
+-- what a history does to a router's table, in order
+abbrev pub ops_on : RouterId → List Entry → List Op
+ops_on r history = filter_map (op_on r) history
 
--- a router's routes after a history
-abbrev pub table : List Entry → RouterId → List Route
-table history r = fold after_op [] (map (λ e. e.op) (filter (is_of_router r) history))
+-- a router's routes after a history of a network
+abbrev pub table : Topology → List Entry → RouterId → List Route
+table t history r = fold after_op [] (ops_on r history)
 
 -- whether a route goes before another: the longer prefix, and of equal lengths the lesser metric
 abbrev pub goes_before : Route → Route → Bool
@@ -55,9 +58,9 @@ target_or_none (Some r) = r.target
 abbrev pub target_in : List Route → ℕ → Target
 target_in routes a = target_or_none (best routes a)
 
--- what a router does with an address after a history
-abbrev pub target : List Entry → RouterId → ℕ → Target
-target history r a = target_in (table history r) a
+-- what each router does with each address after a history
+abbrev pub does_after : Topology → List Entry → RouterId → ℕ → Target
+does_after t history r a = target_in (table t history r) a
 
 -- whether two routes have one key
 abbrev pub same_key : Route → Route → Bool
@@ -71,8 +74,3 @@ HasKeysOnce routes = IsTrue (all_differ same_key routes)
 abbrev pub IsBest : List Route → ℕ → Option Route → Type 0
 IsBest routes a None = (r : Route) → Contains routes r → IsFalse (covers r.prefix a)
 IsBest routes a (Some b) = Contains routes b × IsTrue (covers b.prefix a) × ((r : Route) → Contains routes r → IsTrue (covers r.prefix a) → IsFalse (goes_before r b))
-
--- lists by router, of which each is its router's table after a history; of a router that has no list the history has
--- no route
-pub record TablesOf (tables : List (List Route)) (history : List Entry) : Type 0 where
-  pub each : (r : RouterId) → slice_index_or tables r.0 [] ≡ table history r

@@ -1,16 +1,13 @@
 -- What a version of a network keeps, and the history that it stands for (Delta-net, NSDI 2017): atoms, with what each
 -- router does with their addresses and the rules that it has there; and each router's routes.
-use Rattle.std.specs.Prelude.{ℕ, Bool, false, List, [], Option, None, Some, length, map, slice_index_or, ◌≡◌, ◌+◌, ◌<◌, ◌^◌, ◌==◌, ◌||◌}
+use Rattle.std.specs.Prelude.{ℕ, Bool, List, [], Option, None, Some, length, map, slice_index_or, IsPermutation, ◌≡◌, ◌<◌, ◌^◌, ◌==◌, ◌||◌}
 use Rattle.std.specs.List.{list_any}
-use Rattle.dn_model.specs.Cidr.{Cidr, size}
+use Rattle.dn_model.specs.Entry.{sets_end}
 use Rattle.dn_model.specs.Forwarding.{StandsFor, target_of}
-use Rattle.dn_model.specs.Routes.{SameRoutes}
 use Rattle.dn_model.specs.Rows.{holder}
 use Rattle.dn_model.specs.Rules.{OwnersOf}
 use Rattle.dn_model.specs.Table.{table}
 use Rattle.dn_model.specs.declared.entry.Entry.{Entry}
-use Rattle.dn_model.specs.declared.entry.Op.{Op}
-use Rattle.dn_model.specs.declared.entry.Op.TheVariants.{Set, Clear}
 use Rattle.dn_model.specs.declared.entry.Route.{Route}
 use Rattle.dn_model.specs.declared.ids.RouterId.{RouterId}
 use Rattle.dn_model.specs.declared.forwarding_row.ForwardingRow.{ForwardingRow}
@@ -21,7 +18,7 @@ use Rattle.dn_model.specs.declared.topology.Topology.{Topology}
 
 -- an atom: its addresses with what each router does with them, and each router's rules there
 pub record Atom : Type 0 where
-  pub label : ForwardingRow
+  pub row : ForwardingRow
   pub owners : List (List Rule)
 
 abbrev pub first_of : Atom → ℕ
@@ -57,18 +54,9 @@ target_in_atom (Some x) r = target_of x.row r
 abbrev pub target_at : List Atom → RouterId → ℕ → Target
 target_at atoms r a = target_in_atom (atom_at atoms a) r
 
--- whether a prefix begins at an address, or ends before it
-abbrev pub is_end_of : Cidr → ℕ → Bool
-is_end_of p a = (p.base == a) || ((p.base + size p) == a)
-
--- whether an update sets a route whose prefix begins at an address, or ends before it
-abbrev pub sets_end : ℕ → Op → Bool
-sets_end a (Set p m t) = is_end_of p a
-sets_end a (Clear p m) = false
-
 -- the boundaries after a history: 0, and the two ends of each prefix that was ever set
 abbrev pub is_boundary_after : List Entry → ℕ → Bool
-is_boundary_after history a = (a == 0) || list_any (λ e. sets_end a e.op) history
+is_boundary_after history a = (a == 0) || list_any (sets_end a) history
 
 -- a network's atoms in order, and its routers' routes
 pub record Kept : Type 0 where
@@ -79,7 +67,7 @@ pub record Kept : Type 0 where
 -- What is kept stands for a history: its rows do; each router's routes are its table, in some order; the rules of each
 -- router at each address are those of its routes that cover it; and the atoms begin at the history's boundaries.
 pub record KeptStandsFor (kept : Kept) (history : List Entry) : Type 0 where
-  pub rows : StandsFor (length kept.topology.routers) (forwarding_of kept.atoms) history
-  pub routes : (r : RouterId) → SameRoutes (slice_index_or kept.routes r.0 []) (table history r)
-  pub owners : (r : RouterId) (a : ℕ) → r.0 < length kept.topology.routers → a < 2 ^ 32 → OwnersOf (rules_at kept.atoms r a) (table history r) a
+  pub rows : StandsFor kept.topology (forwarding_of kept.atoms) history
+  pub routes : (r : RouterId) → IsPermutation (slice_index_or kept.routes r.0 []) (table kept.topology history r)
+  pub owners : (r : RouterId) (a : ℕ) → r.0 < length kept.topology.routers → a < 2 ^ 32 → OwnersOf (rules_at kept.atoms r a) (table kept.topology history r) a
   pub boundaries : (a : ℕ) → a < 2 ^ 32 → begins_at kept.atoms a ≡ is_boundary_after history a

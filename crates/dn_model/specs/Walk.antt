@@ -1,5 +1,5 @@
 -- Following an address hop by hop, with links taken as down.
-use Rattle.std.specs.Prelude.{ℕ, zero, suc, Bool, List, [], ◌∷◌, ◌++◌, ◌≡◌, ◌<◌, ◌==◌, if◌then◌else◌, slice_index_or}
+use Rattle.std.specs.Prelude.{ℕ, zero, suc, Bool, List, [], ◌∷◌, ◌++◌, ◌≡◌, ◌<◌, ◌==◌, if◌then◌else◌}
 use Rattle.std.specs.List.{list_any}
 use Rattle.dn_model.specs.declared.ids.RouterId.{RouterId}
 use Rattle.dn_model.specs.declared.ids.LinkId.{LinkId}
@@ -7,9 +7,9 @@ use Rattle.dn_model.specs.declared.target.Target.{Target}
 use Rattle.dn_model.specs.declared.target.Target.TheVariants.{NoRoute, Dropped, Local, Exit, OnLink, To, LinkDown}
 use Rattle.dn_model.specs.declared.answer.PathEnd.{PathEnd}
 use Rattle.dn_model.specs.declared.answer.PathEnd.TheVariants.{At, Loop}
-use Rattle.dn_model.specs.Table.{target, target_in}
+use Rattle.dn_model.specs.Table.{does_after}
 use Rattle.dn_model.specs.declared.entry.Entry.{Entry}
-use Rattle.dn_model.specs.declared.entry.Route.{Route}
+use Rattle.dn_model.specs.declared.topology.Topology.{Topology}
 
 -- whether a link is one of these
 abbrev pub is_down : List LinkId → LinkId → Bool
@@ -25,13 +25,17 @@ without down (OnLink i) = OnLink i
 without down (To s l) = if is_down down l then LinkDown l else To s l
 without down (LinkDown l) = LinkDown l
 
--- what a router does with an address after a history, with these links down
-abbrev pub next : List Entry → List LinkId → ℕ → RouterId → Target
-next history down a r = without down (target history r a)
+-- what each router does with each address, with these links down
+abbrev pub with_down : List LinkId → (RouterId → ℕ → Target) → RouterId → ℕ → Target
+with_down down does r a = without down (does r a)
 
--- what a router does with an address by the lists of all routers, with these links down
-abbrev pub next_in : List (List Route) → List LinkId → ℕ → RouterId → Target
-next_in tables down a r = without down (target_in (slice_index_or tables r.0 []) a)
+-- what each router does with each address after a history, with these links down
+abbrev pub next : Topology → List Entry → List LinkId → RouterId → ℕ → Target
+next t history down r a = without down (does_after t history r a)
+
+-- what each router does with one address
+abbrev pub at_address : (RouterId → ℕ → Target) → ℕ → RouterId → Target
+at_address does a r = does r a
 
 -- what is made of the router that a target goes on to, or of none
 abbrev pub on_far : {A : Type 0} → Target → A → (RouterId → A) → A
@@ -52,6 +56,11 @@ walk target_at (suc hops) r = r ∷ on_far (target_at r) [] (λ s. walk target_a
 abbrev pub walk_end : (RouterId → Target) → ℕ → RouterId → PathEnd
 walk_end target_at zero r = Loop
 walk_end target_at (suc hops) r = on_far (target_at r) (At (target_at r)) (λ s. walk_end target_at hops s)
+
+-- the last router of a walk of at most so many hops
+abbrev pub walk_last : (RouterId → Target) → ℕ → RouterId → RouterId
+walk_last target_at zero r = r
+walk_last target_at (suc hops) r = on_far (target_at r) r (λ s. walk_last target_at hops s)
 
 -- of so many routers each goes on to one of them, if to any
 abbrev pub LeadsWithin : ℕ → (RouterId → Target) → Type 0

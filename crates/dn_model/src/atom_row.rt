@@ -2,7 +2,7 @@
 
 use crate::ids::AtomId;
 
-/// An atom and its addresses: those from `low` up to, and without, `high`, which is at most 2^32. An atom is a
+/// An atom and its addresses: those from `low` up to, and without, `past`, which is at most 2^32. An atom is a
 /// half-closed interval between two boundaries of prefixes (Delta-net, NSDI 2017).
 #[derive(Clone, Copy, Debug, PartialEq, Eq)]
 pub struct AtomRow {

@@ -1,5 +1,8 @@
 //! Updates of routing tables, and the history of a run.
 
+ghost use Rattle.std.specs.Prelude.{◌≡◌};
+ghost use Rattle.dn_model.specs.Entry.{op_on, prefix_of_op};
+
 use crate::ids::RouterId;
 use crate::prefix::Prefix;
 use crate::target::Target;
@@ -8,7 +11,7 @@ use crate::target::Target;
 #[derive(Clone, Copy, Debug, PartialEq, Eq)]
 pub enum Op {
     /// Sets the route of this prefix and metric, in place of the one that has them. The target of one that a
-    /// feed gives is neither `NoRoute` nor `LinkDown`.
+    /// feed gives is neither `NoRoute` nor `LinkDown`; no definition asks that.
     Set {
         prefix: Prefix,
         metric: u32,
@@ -43,4 +46,28 @@ pub struct Route {
     pub prefix: Prefix,
     pub metric: u32,
     pub target: Target,
+}
+
+impl Op {
+    /// The prefix of the routes that the update sets or clears.
+    pub fn prefix(&self) -> Prefix
+        ensures { result ≡ prefix_of_op self.now }
+    {
+        match self {
+            Op::Set { prefix, .. } | Op::Clear { prefix, .. } => *prefix,
+        }
+    }
+}
+
+impl Entry {
+    /// What the entry does to a router's table; None exactly where it is another router's.
+    pub fn op_on(&self, router: RouterId) -> Option<Op>
+        ensures { result ≡ op_on router self.now }
+    {
+        if self.router.0 == router.0 {
+            Some(self.op)
+        } else {
+            None
+        }
+    }
 }

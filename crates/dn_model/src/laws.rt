@@ -3,17 +3,18 @@
 
 ghost use Rattle.std.specs.Prelude.{◌≡◌, ◌<◌, ℕ, Bool, List, Contains, All, IsPermutation, length};
 ghost use Rattle.dn_model.specs.Cidr.{IsCidr};
-ghost use Rattle.dn_model.specs.Delta.{IsDelta, told};
+ghost use Rattle.dn_model.specs.Delta.{IsDeltaOf};
 ghost use Rattle.dn_model.specs.Entry.{IsEntryOf};
-ghost use Rattle.dn_model.specs.Runs.{Interval, AreRuns};
+ghost use Rattle.dn_model.specs.Runs.{AreRuns};
 ghost use Rattle.dn_model.specs.Table.{table, best, HasKeysOnce, IsBest};
-ghost use Rattle.dn_model.specs.Walk.{next, walk, walk_end, LeadsWithin, EndsWith};
+ghost use Rattle.dn_model.specs.Walk.{at_address, next, walk, walk_end, LeadsWithin, EndsWith};
 ghost use Rattle.dn_model.specs.declared.answer.PathEnd.TheVariants.{At, Loop};
 ghost use Rattle.dn_model.specs.declared.change.Change.{Change};
 ghost use Rattle.dn_model.specs.declared.entry.Entry.{Entry};
 ghost use Rattle.dn_model.specs.declared.entry.Route.{Route};
 ghost use Rattle.dn_model.specs.declared.ids.LinkId.{LinkId};
 ghost use Rattle.dn_model.specs.declared.ids.RouterId.{RouterId};
+ghost use Rattle.dn_model.specs.declared.run.Run.{Run};
 ghost use Rattle.dn_model.specs.declared.target.Target.{Target};
 ghost use Rattle.dn_model.specs.declared.topology.Topology.{Topology};
 
@@ -25,7 +26,7 @@ pub fn best_goes_first()
 
 /// A table has each prefix and metric once.
 pub fn tables_have_keys_once()
-    ensures { (history : List Entry) (router : RouterId) → HasKeysOnce (table history router) }
+    ensures { (t : Topology) (history : List Entry) (router : RouterId) → HasKeysOnce (table t history router) }
 {}
 
 /// The order of a table that has each prefix and metric once doesn't matter to the route of an address.
@@ -35,7 +36,7 @@ pub fn best_has_no_order()
 
 /// After a network's updates each of its routers goes on to one of its routers, if to any.
 pub fn histories_lead_within()
-    ensures { (t : Topology) (history : List Entry) (down : List LinkId) (a : ℕ) → All (IsEntryOf t) history → LeadsWithin (length t.routers) (next history down a) }
+    ensures { (t : Topology) (history : List Entry) (down : List LinkId) (a : ℕ) → All (IsEntryOf t) history → LeadsWithin (length t.routers) (at_address (next t history down) a) }
 {}
 
 /// A walk that is told to be in a loop is in a true one: if each of so many routers goes on to one of them, and a
@@ -51,10 +52,10 @@ pub fn walks_end_at_the_last_router()
 
 /// A set of addresses has one list of runs.
 pub fn runs_are_unique()
-    ensures { (xs ys : List Interval) (test : ℕ → Bool) → AreRuns xs test → AreRuns ys test → xs ≡ ys }
+    ensures { (xs ys : List Run) (test : ℕ → Bool) → AreRuns xs test → AreRuns ys test → xs ≡ ys }
 {}
 
-/// The last update of a history makes one list of changes, as they are printed.
+/// The last update of a history makes one list of changes.
 pub fn changes_are_unique()
-    ensures { (history : List Entry) (xs ys : List Change) → IsDelta history xs → IsDelta history ys → told xs ≡ told ys }
+    ensures { (t : Topology) (history : List Entry) (xs ys : List Change) → IsDeltaOf t history xs → IsDeltaOf t history ys → xs ≡ ys }
 {}

@@ -7,8 +7,8 @@ mod answer;
 mod atom_row;
 mod change;
 mod entry;
-mod ids;
 mod forwarding_row;
+mod ids;
 mod laws;
 mod laws_of_rows;
 mod list;
@@ -32,12 +32,12 @@ mod test_network;
 mod topology;
 mod unknown;
 
-pub use answer::{Answer, PathEnd};
+pub use answer::{Answer, Cycle, Hole, PathEnd};
 pub use atom_row::AtomRow;
 pub use change::Change;
 pub use entry::{Entry, Op, Posted, Route};
-pub use ids::{AtomId, LinkId, RouterId};
 pub use forwarding_row::ForwardingRow;
+pub use ids::{AtomId, LinkId, RouterId};
 pub use laws::{
     best_goes_first, best_has_no_order, changes_are_unique, histories_lead_within, loops_are_true,
     runs_are_unique, tables_have_keys_once, walks_end_at_the_last_router,

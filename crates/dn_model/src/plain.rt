@@ -2,12 +2,14 @@
 //! and simple, and shares no code with the engines that are tested against it.
 
 ghost use Rattle.std.specs.Prelude.{◌≡◌, IfOk, OnOk, length, filter, not, None, Some, IsSome, IsSomeAnd, All, ◌++◌, ◌∷◌, []};
-ghost use Rattle.dn_model.specs.Answer.{unknown_of, links_of, path_answer, IsAnswer};
+ghost use Rattle.dn_model.specs.Answer.{links_of, path_answer, IsAnswer};
 ghost use Rattle.dn_model.specs.Cidr.{covers};
 ghost use Rattle.dn_model.specs.Entry.{IsEntryOf};
 ghost use Rattle.dn_model.specs.Lookup.{router_of, link_of};
+ghost use Rattle.dn_model.specs.Query.{unknown_of};
 ghost use Rattle.dn_model.specs.Table.{is_of_prefix, has_key, after_op, table, goes_before, better, best, target_or_none, target_in};
-ghost use Rattle.dn_model.specs.Walk.{is_down, without, next, walk, walk_end};
+ghost use Rattle.dn_model.specs.Walk.{at_address, is_down, without, next, walk, walk_end};
+ghost use Rattle.dn_model.specs.declared.topology.Topology.{Topology as TopologyIs};
 
 use crate::answer::{Answer, PathEnd};
 use crate::entry::{Entry, Op, Route};
@@ -95,12 +97,12 @@ pub fn plain_routes(
     entries: &[Entry],
     router: RouterId,
 ) -> Result<List<Route>, OutOfMemory>
-    ensures { IfOk result (λ routes. routes ≡ table entries.now router) }
+    ensures { IfOk result (λ routes. (t : TopologyIs) → routes ≡ table t entries.now router) }
 {
     let mut routes = Vec::new(alloc);
     for entry in entries {
-        if entry.router.0 == router.0 {
-            make_update(&mut routes, &entry.op)?;
+        if let Some(op) = entry.op_on(router) {
+            make_update(&mut routes, &op)?;
         }
     }
     Ok(List::from_vec(routes))
@@ -203,7 +205,7 @@ fn plain_next(
     a: u32,
     router: RouterId,
 ) -> Result<Target, OutOfMemory>
-    ensures { IfOk result (λ target. target ≡ next entries.now down.now a router) }
+    ensures { IfOk result (λ target. (t : TopologyIs) → target ≡ next t entries.now down.now router a) }
 {
     let routes = plain_routes(alloc, entries, router)?;
     Ok(plain_target(routes.as_slice(), down, a))
@@ -220,8 +222,8 @@ pub fn plain_walk(
     first: RouterId,
     a: u32,
 ) -> Result<(List<RouterId>, PathEnd), OutOfMemory>
-    ensures routers { IfOk result (λ answer. answer.0 ≡ walk (next entries.now down.now a) (length t.now.routers) first) }
-    ensures end { IfOk result (λ answer. answer.1 ≡ walk_end (next entries.now down.now a) (length t.now.routers) first) }
+    ensures routers { IfOk result (λ answer. answer.0 ≡ walk (at_address (next t.now entries.now down.now) a) (length t.now.routers) first) }
+    ensures end { IfOk result (λ answer. answer.1 ≡ walk_end (at_address (next t.now entries.now down.now) a) (length t.now.routers) first) }
 {
     let mut routers = Vec::new(alloc);
     let mut router = first;
@@ -261,7 +263,7 @@ fn plain_path(
     a: u32,
 ) -> Result<Answer, OutOfMemory>
     requires { IsSome (router_of t.now name.now) }
-    ensures { IfOk result (λ answer. IsSomeAnd (router_of t.now name.now) (λ r. answer ≡ path_answer t.now entries.now down.now r a)) }
+    ensures { IfOk result (λ answer. IsSomeAnd (router_of t.now name.now) (λ r. answer ≡ path_answer (length t.now.routers) (next t.now entries.now down.now) r a)) }
 {
     let Some(first) = router(t, name) else {
         unreachable!()
@@ -282,9 +284,14 @@ pub fn plain_answer(
     requires entries { All (IsEntryOf t.now) entries.now }
     ensures { IfOk result (λ answer. IsAnswer t.now entries.now query.now answer) }
 {
-    let down = links_named(alloc, t, query.without.as_slice())?;
-    match &query.ask {
+    let down = links_named(alloc, t, query.without())?;
+    match query.ask() {
         Ask::Path(name, a) => plain_path(alloc, t, entries, down.as_slice(), name, *a),
         Ask::Delta => Ok(Answer::Delta(plain_delta(alloc, t, entries)?)),
+        Ask::Reach(_, _)
+        | Ask::Uses(_)
+        | Ask::Loops
+        | Ask::Blackholes(_)
+        | Ask::Waypoint(_, _, _) => { Err(OutOfMemory) }
     }
 }

@@ -2,10 +2,10 @@
 //! intervals between the ends of its routes' prefixes, from the last interval of the last router down.
 
 ghost use Rattle.std.specs.Prelude.{◌≡◌, ◌+◌, ◌-◌, ◌<◌, ◌≤◌, ◌^◌, ◌∷◌, ℕ, IsTrue, IsFalse, IfOk, OnOk, All};
-ghost use Rattle.dn_model.specs.Delta.{AreChanges, GoesOn, IsChange, IsDelta, less_last};
+ghost use Rattle.dn_model.specs.Delta.{AreChanges, GoesOn, IsChange, IsDeltaOf, less_last};
 ghost use Rattle.dn_model.specs.DeltaFrom.{CoversAlike, BeginFrom, IsJoined, IsPutFirst, TellsPart, IsDeltaFrom};
 ghost use Rattle.dn_model.specs.Entry.{IsEntryOf};
-ghost use Rattle.dn_model.specs.Table.{target_in};
+ghost use Rattle.dn_model.specs.Table.{does_after, target_in};
 
 use crate::change::Change;
 use crate::entry::{Entry, Route};
@@ -113,6 +113,7 @@ fn tell_run(
     before: Target,
     after: Target,
 ) -> Result<(), OutOfMemory>
+    requires order { run.lo ≤ run.hi }
     requires form { AreChanges changes.old.items }
     requires begin { BeginFrom router.0 (run.hi + 1) changes.old.items }
     ensures { OnOk result (TellsPart router.0 run.lo (run.hi + 1) (λ _. before) (λ _. after) changes.old.items changes.new.items) }
@@ -174,12 +175,13 @@ fn all_but_last(entries: &[Entry]) -> &[Entry]
 /// Puts the changes of a router before those of the routers after it.
 fn tell_router(
     alloc: Global,
+    t: &Topology,
     changes: &mut Vec<Change>,
     router: RouterId,
     entries: &[Entry],
 ) -> Result<(), OutOfMemory>
-    requires { IsDeltaFrom entries.now (router.0 + 1) 0 changes.old.items }
-    ensures { OnOk result (IsDeltaFrom entries.now router.0 0 changes.new.items) }
+    requires { IsDeltaFrom (does_after t.now (less_last entries.now)) (does_after t.now entries.now) (router.0 + 1) 0 changes.old.items }
+    ensures { OnOk result (IsDeltaFrom (does_after t.now (less_last entries.now)) (does_after t.now entries.now) router.0 0 changes.new.items) }
 {
     let before = plain_routes(alloc, all_but_last(entries), router)?;
     let after = plain_routes(alloc, entries, router)?;
@@ -197,13 +199,13 @@ pub fn plain_delta(
     entries: &[Entry],
 ) -> Result<List<Change>, OutOfMemory>
     requires { All (IsEntryOf t.now) entries.now }
-    ensures { IfOk result (λ changes. IsDelta entries.now changes) }
+    ensures { IfOk result (λ changes. IsDeltaOf t.now entries.now changes) }
 {
     let mut changes = Vec::new(alloc);
     let mut left = t.router_count() as u16;
     while left > 0 {
         left -= 1;
-        tell_router(alloc, &mut changes, RouterId(left), entries)?;
+        tell_router(alloc, t, &mut changes, RouterId(left), entries)?;
     }
     Ok(List::from_vec(changes))
 }

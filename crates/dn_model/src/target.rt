@@ -3,7 +3,7 @@
 use crate::ids::{LinkId, RouterId};
 
 /// Why a route drops its packets: the route types of rtnetlink(7) that discard.
-#[derive(Clone, Copy, Debug, PartialEq, Eq)]
+#[derive(Clone, Copy, Debug, PartialEq, Eq, PartialOrd, Ord)]
 pub enum DropKind {
     /// Dropped in silence (RTN_BLACKHOLE).
     Blackhole,
@@ -13,8 +13,9 @@ pub enum DropKind {
     Prohibit,
 }
 
-/// What a router does with an address.
-#[derive(Clone, Copy, Debug, PartialEq, Eq)]
+/// What a router does with an address. Targets are ordered by kind, then by what they name: among the causes of black
+/// holes this is the order in which they are told.
+#[derive(Clone, Copy, Debug, PartialEq, Eq, PartialOrd, Ord)]
 pub enum Target {
     /// No route covers the address.
     NoRoute,

@@ -1,5 +1,7 @@
+use Rattle.dn_model.specs.Delta.{less_last}
+use Rattle.dn_model.specs.Table.{does_after}
 use Rattle.dn_model.proofs.DeltaOnce.{delta-once}
 use Rattle.dn_model.proofs.laws.changes_are_unique.Goals as goal
 
 pub returns : goal.returns
-returns c = delta-once
+returns c = λ t history. delta-once (does_after t (less_last history)) (does_after t history)

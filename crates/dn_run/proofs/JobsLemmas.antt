@@ -25,7 +25,7 @@ use Rattle.dn_formats.specs.declared.script.Script.{Script}
 use Rattle.dn_run.specs.Takes.{tag_of}
 use Rattle.dn_run.specs.Jobs.{scripts_of, IsFresh, AreNumbered, HaveRoutersApart, same_router, AreReadBy, HasRun}
 use Rattle.dn_run.specs.Network.{entries, StandsBy, CountsBy, CountsFaults, IsCount}
-use Rattle.dn_run.specs.Tracks.{IsShort, tags_of, Ready, Strand, end_or, feed_of, GoesOn, Stands, AreApart, AllApart, Tracks, script_jobs, is_own, own_told, WhateverOwn, Owns}
+use Rattle.dn_run.specs.Tracks.{tags_of, Ready, Strand, end_or, feed_of, GoesOn, Stands, AreApart, AllApart, Tracks, script_jobs, is_own, own_told, WhateverOwn, Owns}
 use Rattle.dn_run.specs.declared.take.Book.{Book}
 use Rattle.dn_run.proofs.StrandLemmas.{All-unmap, eqb-back, nows}
 use Rattle.dn_run.proofs.TakesLemmas.{later-nil}
@@ -220,7 +220,3 @@ same-length place xs ys same = sym (length-map xs (tag_of place)) ∙ ap length 
 
 pub script-is : (script : Option (Bor Script)) (s : Bor Script) (lines : List Line) → script ≡ Some s → lines ≡ s.now.lines → scripts_of (option_copied script) ≡ lines ∷ []
 script-is script s lines is same = ap (λ (o : Option (Bor Script)). scripts_of (option_copied o)) is ∙ ap (λ ls. ls ∷ []) (sym same)
-
-pub script-short : (script : Option (Bor Script)) (s : Bor Script) (lines : List Line) → script ≡ Some s → lines ≡ s.now.lines → All (All IsShort) (scripts_of (option_copied script)) → All IsShort lines
-script-short script s lines is same short =
-    All-head (All IsShort) lines [] (subst (λ (ls : List (List Line)). All (All IsShort) ls) (script-is script s lines is same) short)

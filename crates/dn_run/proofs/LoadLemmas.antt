@@ -12,7 +12,7 @@ use Rattle.dn_formats.specs.declared.script.Script.{Script}
 use Rattle.dn_model.specs.declared.topology.Topology.{Topology}
 use Rattle.dn_run.specs.Loaded.{SaysTopology, SaysScript, Loads, LoadsTopology, LoadsScript}
 use Rattle.dn_io.specs.Told.{with_front}
-use Rattle.dn_run.specs.Opened.{WasRead, ComesFrom, IsReadFront, MayNameOne}
+use Rattle.dn_run.specs.Opened.{WasRead, ComesFrom, IsReadUpTo, MayNameOne}
 use Rattle.dn_run.specs.declared.load.Loaded.{Loaded}
 use Rattle.dn_run.specs.declared.load.Loaded.TheVariants.{Read, Refused, Failed}
 use Rattle.dn_run.proofs.CallsLemmas.{names_of-append}
@@ -55,13 +55,13 @@ says-script t routers taken part bytes Failed says = says
 -- what is said of the bytes that were read is said of the file's, of which no more than one past the limit were read
 good-of : (good : List ℕ → Type 0) (file : Option (List ℕ)) (bytes : List ℕ) (left : Option (List ℕ)) → ((all : List ℕ) → good (take (16777216 + 1) all) → good all) →
     IsSomeAnd file (λ all. (Some all ≡ with_front bytes left) × (bytes ≡ take (16777216 + 1) all)) → good bytes →
-    IsSomeAnd file (λ all. IsReadFront all (16777216 + 1) left × good all)
+    IsSomeAnd file (λ all. IsReadUpTo all (16777216 + 1) left × good all)
 good-of good None bytes left cut is said = absurd is
 good-of good (Some all) bytes left cut is said =
-    ((bytes, subst (λ (b : List ℕ). length b ≤ 16777216 + 1) (sym is.1) (length-take-most (16777216 + 1) all), is.0), cut all (subst good is.1 said))
+    (is.0 ∙ ap (λ (b : List ℕ). with_front b left) is.1, cut all (subst good is.1 said))
 
 good-all : (good : List ℕ → Type 0) (files : Option Files) (name bytes : List ℕ) (left : Option (List ℕ)) → ((all : List ℕ) → good (take (16777216 + 1) all) → good all) →
-    ComesFrom files name 16777216 bytes left → good bytes → IfSome files (λ fs. IsSomeAnd (bytes_of fs name) (λ all. IsReadFront all (16777216 + 1) left × good all))
+    ComesFrom files name 16777216 bytes left → good bytes → IfSome files (λ fs. IsSomeAnd (bytes_of fs name) (λ all. IsReadUpTo all (16777216 + 1) left × good all))
 good-all good None name bytes left cut is said = tt
 good-all good (Some fs) name bytes left cut is said = good-of good (bytes_of fs name) bytes left cut is said
 

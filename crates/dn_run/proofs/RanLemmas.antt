@@ -18,7 +18,7 @@ use Rattle.dn_formats.specs.declared.told.JobTold.{JobTold}
 use Rattle.dn_run.specs.Feeds.{opened, AreLeft, some_rose, routers_of_readers}
 use Rattle.dn_run.specs.Jobs.{AreNumbered, IsReadBy, AreReadBy, HasRun}
 use Rattle.dn_run.specs.Network.{StandsBy, CountsBy, CountsFaults}
-use Rattle.dn_run.specs.Run.{IsReadOf, AreReadOf, IsRunOf, verdict_of, is_faulted, some_faulted, all_well, feed_limit}
+use Rattle.dn_run.specs.Run.{IsReadOf, AreReadOf, IsReadToEnd, IsRunOf, verdict_of, is_faulted, some_faulted, all_well, feed_limit}
 use Rattle.dn_run.specs.Stage.{is_fault}
 use Rattle.dn_run.specs.Takes.{tag_of}
 use Rattle.dn_run.specs.Tracks.{tags_of}
@@ -71,12 +71,13 @@ module _ {S : Type 0} where
 
   ended : (t : Topology) (reader : Reader S) (bytes : List ℕ) (faults : ℕ) (left : Option (List ℕ)) (f : FeedRead) (end : FeedEnd) →
       f.feed_no ≡ reader.told.feed_no → f.router ≡ reader.told.router → reader.limit ≡ feed_limit → f.end ≡ end →
-      HasEnded t reader left bytes f.steps end → faults ≡ 0 → ReadAs t reader bytes faults left f
-  ended t reader bytes faults left f end numbered router limit is has none = record {
+      HasEnded t reader left bytes f.steps end → IsReadToEnd end left → faults ≡ 0 → ReadAs t reader bytes faults left f
+  ended t reader bytes faults left f end numbered router limit is has all none = record {
     read = rw none (
       subst (λ e. IsReading t f.router bytes feed_limit f.steps e) (sym is) (subst (λ r. IsReading t r bytes feed_limit f.steps end) (sym router)
           (subst (λ l. IsReading t reader.told.router bytes l f.steps end) limit has.reading)),
       (has.read.0, subst (λ l. length has.read.0 ≤ l + 1) limit has.read.1, has.read.2),
+      subst (λ e. IsReadToEnd e left) (sym is) all,
     );
     told = has.counted ∙ rw (sym numbered, sym router, sym is) refl;
   }
@@ -99,10 +100,10 @@ module _ {S : Type 0} where
   by-end : (t : Topology) (reader : Reader S) (bytes : List ℕ) (faults : ℕ) (left : Option (List ℕ)) (f : FeedRead) (end : FeedEnd) →
       f.feed_no ≡ reader.told.feed_no → f.router ≡ reader.told.router → reader.limit ≡ feed_limit → f.end ≡ end →
       StandsBy (Some end) t reader left bytes f.steps → CountsBy (Some end) faults → ReadAs t reader bytes faults left f
-  by-end t reader bytes faults left f ends.End numbered router limit is has counts = ended t reader bytes faults left f ends.End numbered router limit is has counts
-  by-end t reader bytes faults left f (ends.CutShort o) numbered router limit is has counts = ended t reader bytes faults left f (ends.CutShort o) numbered router limit is has counts
-  by-end t reader bytes faults left f (ends.Lost o cause) numbered router limit is has counts = ended t reader bytes faults left f (ends.Lost o cause) numbered router limit is has counts
-  by-end t reader bytes faults left f ends.TooLong numbered router limit is has counts = ended t reader bytes faults left f ends.TooLong numbered router limit is has counts
+  by-end t reader bytes faults left f ends.End numbered router limit is has counts = ended t reader bytes faults left f ends.End numbered router limit is has.0 has.1 counts
+  by-end t reader bytes faults left f (ends.CutShort o) numbered router limit is has counts = ended t reader bytes faults left f (ends.CutShort o) numbered router limit is has.0 has.1 counts
+  by-end t reader bytes faults left f (ends.Lost o cause) numbered router limit is has counts = ended t reader bytes faults left f (ends.Lost o cause) numbered router limit is has tt counts
+  by-end t reader bytes faults left f ends.TooLong numbered router limit is has counts = ended t reader bytes faults left f ends.TooLong numbered router limit is has tt counts
   by-end t reader bytes faults left f ends.Full numbered router limit is has counts = absurd has
   by-end t reader bytes faults left f ends.Faulted numbered router limit is has counts = faulted t reader bytes faults left f numbered router limit is has counts
 

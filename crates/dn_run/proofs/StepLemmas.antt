@@ -16,7 +16,7 @@ use Rattle.dn_formats.specs.declared.error_line.ErrorLine.{ErrorLine}
 use Rattle.dn_formats.specs.declared.error_line.ErrorLine.TheVariants as errors
 use Rattle.dn_run.specs.Feeds.{Opens}
 use Rattle.dn_run.specs.Loaded.{SaysTopology, SaysScript}
-use Rattle.dn_run.specs.Opened.{text_limit, IsReadFront, FailsAt}
+use Rattle.dn_run.specs.Opened.{text_limit, IsReadUpTo, FailsAt}
 use Rattle.dn_run.specs.Run.{IsErrorLine, FromJobs, FromScripts, FromRouters, FromTopology, feed_files, untaken, most_jobs, taken_by_scripts, routers_of}
 use Rattle.dn_run.specs.Stage.{Stage}
 use Rattle.dn_run.specs.Tracks.{tags_of}
@@ -85,13 +85,13 @@ module _ {S : Type 0} where
 -- ---- the script
 
 pub script-read : (fs : Files) (t : Topology) (routers : List RouterId) (part : ℕ) (file : List ℕ) (feeds : List (ℕ × FeedWords)) (script : Script) (left : Option (List ℕ)) (more : List Call) (verdict : Verdict) (text : List ℕ) →
-    IsSomeAnd (bytes_of fs file) (λ bytes. IsReadFront bytes (text_limit + 1) left × SaysScript t routers [] part bytes (loaded.Read script)) →
+    IsSomeAnd (bytes_of fs file) (λ bytes. IsReadUpTo bytes (text_limit + 1) left × SaysScript t routers [] part bytes (loaded.Read script)) →
     FromJobs fs t routers (script.lines ∷ []) feeds more verdict text →
     FromScripts fs t routers [] ((part, file) ∷ []) feeds (call_of file (Back false left) ∷ more) verdict text
 script-read fs t routers part file feeds script left more verdict text says after = (
   refl,
-  some-and (λ bytes. IsReadFront bytes (text_limit + 1) left × SaysScript t routers [] part bytes (loaded.Read script))
-      (λ bytes. IsReadFront bytes (text_limit + 1) left
+  some-and (λ bytes. IsReadUpTo bytes (text_limit + 1) left × SaysScript t routers [] part bytes (loaded.Read script))
+      (λ bytes. IsReadUpTo bytes (text_limit + 1) left
       × MatchResult (script_of t.routers routers (taken_by_scripts []) bytes) (λ lines. FromScripts fs t routers ([] ++ lines ∷ []) [] feeds more verdict text)
       (λ fault. IsErrorLine verdict text more BadScript (errors.Script part fault.line fault.cause)))
       (bytes_of fs file)
@@ -105,13 +105,13 @@ script-read fs t routers part file feeds script left more verdict text says afte
 )
 
 pub script-refused : (fs : Files) (t : Topology) (routers : List RouterId) (part : ℕ) (file : List ℕ) (feeds : List (ℕ × FeedWords)) (line : ErrorLine) (left : Option (List ℕ)) (verdict : Verdict) (text : List ℕ) →
-    IsSomeAnd (bytes_of fs file) (λ bytes. IsReadFront bytes (text_limit + 1) left × SaysScript t routers [] part bytes (loaded.Refused line)) →
+    IsSomeAnd (bytes_of fs file) (λ bytes. IsReadUpTo bytes (text_limit + 1) left × SaysScript t routers [] part bytes (loaded.Refused line)) →
     verdict ≡ BadScript → text ≡ error_text line →
     FromScripts fs t routers [] ((part, file) ∷ []) feeds (call_of file (Back false left) ∷ []) verdict text
 script-refused fs t routers part file feeds line left verdict text says is prints = (
   refl,
-  some-and (λ bytes. IsReadFront bytes (text_limit + 1) left × SaysScript t routers [] part bytes (loaded.Refused line))
-      (λ bytes. IsReadFront bytes (text_limit + 1) left
+  some-and (λ bytes. IsReadUpTo bytes (text_limit + 1) left × SaysScript t routers [] part bytes (loaded.Refused line))
+      (λ bytes. IsReadUpTo bytes (text_limit + 1) left
       × MatchResult (script_of t.routers routers (taken_by_scripts []) bytes) (λ lines. FromScripts fs t routers ([] ++ lines ∷ []) [] feeds [] verdict text)
       (λ fault. IsErrorLine verdict text [] BadScript (errors.Script part fault.line fault.cause)))
       (bytes_of fs file)
@@ -133,12 +133,12 @@ script-failed fs t routers part file feeds state verdict text fails is prints =
 -- ---- the topology
 
 pub topology-read : (fs : Files) (file : List ℕ) (said : PartsSaid) (t : Topology) (left : Option (List ℕ)) (more : List Call) (verdict : Verdict) (text : List ℕ) →
-    IsSomeAnd (bytes_of fs file) (λ bytes. IsReadFront bytes (text_limit + 1) left × SaysTopology bytes (loaded.Read t)) →
+    IsSomeAnd (bytes_of fs file) (λ bytes. IsReadUpTo bytes (text_limit + 1) left × SaysTopology bytes (loaded.Read t)) →
     FromRouters said fs t more verdict text → FromTopology file said fs (call_of file (Back false left) ∷ more) verdict text
 topology-read fs file said t left more verdict text says after = (
   refl,
-  some-and (λ bytes. IsReadFront bytes (text_limit + 1) left × SaysTopology bytes (loaded.Read t))
-      (λ bytes. IsReadFront bytes (text_limit + 1) left
+  some-and (λ bytes. IsReadUpTo bytes (text_limit + 1) left × SaysTopology bytes (loaded.Read t))
+      (λ bytes. IsReadUpTo bytes (text_limit + 1) left
       × MatchResult (topology_of bytes) (λ network. (u : Topology) × (parts u ≡ network) × FromRouters said fs u more verdict text)
       (λ fault. IsErrorLine verdict text more BadTopology (errors.Topology fault)))
       (bytes_of fs file)
@@ -152,12 +152,12 @@ topology-read fs file said t left more verdict text says after = (
 )
 
 pub topology-refused : (fs : Files) (file : List ℕ) (said : PartsSaid) (line : ErrorLine) (left : Option (List ℕ)) (verdict : Verdict) (text : List ℕ) →
-    IsSomeAnd (bytes_of fs file) (λ bytes. IsReadFront bytes (text_limit + 1) left × SaysTopology bytes (loaded.Refused line)) →
+    IsSomeAnd (bytes_of fs file) (λ bytes. IsReadUpTo bytes (text_limit + 1) left × SaysTopology bytes (loaded.Refused line)) →
     verdict ≡ BadTopology → text ≡ error_text line → FromTopology file said fs (call_of file (Back false left) ∷ []) verdict text
 topology-refused fs file said line left verdict text says is prints = (
   refl,
-  some-and (λ bytes. IsReadFront bytes (text_limit + 1) left × SaysTopology bytes (loaded.Refused line))
-      (λ bytes. IsReadFront bytes (text_limit + 1) left
+  some-and (λ bytes. IsReadUpTo bytes (text_limit + 1) left × SaysTopology bytes (loaded.Refused line))
+      (λ bytes. IsReadUpTo bytes (text_limit + 1) left
       × MatchResult (topology_of bytes) (λ network. (u : Topology) × (parts u ≡ network) × FromRouters said fs u [] verdict text)
       (λ fault. IsErrorLine verdict text [] BadTopology (errors.Topology fault)))
       (bytes_of fs file)

@@ -8,11 +8,10 @@ use Rattle.std.proofs.lemmas.List.Elements.{All-filter}
 use Rattle.dn_model.specs.Answer.{IsAnswer}
 use Rattle.dn_formats.specs.Lawful.{Tells, IsOutcome, HoldsWhatWasTaken, asked, asked_by, both_counts, front_of, taken, pin_after, is_from}
 use Rattle.dn_formats.specs.Steps.{FrameStep, FeedRead, updates, entries_of, entries_by}
-use Rattle.dn_run.specs.Latest.{After, Latest}
 use Rattle.dn_model.specs.declared.entry.Entry.{Entry}
 use Rattle.dn_model.specs.declared.entry.Posted.{Posted}
 use Rattle.dn_model.specs.declared.ids.RouterId.{RouterId}
-use Rattle.dn_model.specs.declared.query.Query.{Query}
+use Rattle.dn_model.specs.Query.{Question}
 use Rattle.dn_formats.specs.declared.script.Line.{Line}
 use Rattle.dn_formats.specs.declared.script.Line.TheVariants as line
 use Rattle.dn_model.specs.declared.topology.Topology.{Topology}
@@ -38,7 +37,7 @@ Tells-take t h feeds before last (line.Ask m q ∷ lines) (x ∷ xs) l r count t
     (told.0, told.1, told.2, Tells-take t h feeds (before ++ line.Ask m q ∷ []) (pin_after last x.outcome) lines xs l r count told.3)
 
 pub Tells-ask : (t : Topology) (h : List Entry) (feeds : List FeedRead) (before : List Line) (last : ℕ) (lines : List Line) (tolds : List Told)
-    (l : ℕ) (q : Query) (told : Told) → told.line ≡ l → told.query ≡ q →
+    (l : ℕ) (q : Question) (told : Told) → told.line ≡ l → told.query ≡ q →
     IsOutcome t h feeds (before ++ lines) (fold (λ p told. pin_after p told.outcome) last tolds) q told.outcome →
     Tells t h feeds before last lines tolds → Tells t h feeds before last (lines ++ line.Ask l q ∷ []) (tolds ++ told ∷ [])
 Tells-ask t h feeds before last [] [] l q told is-line is-query good rest =
@@ -57,7 +56,7 @@ Tells-ask t h feeds before last (line.Ask m p ∷ lines) (x ∷ xs) l q told is-
 )
 
 -- what is right of some feeds is right of fewer
-outcome-fewer : (t : Topology) (h : List Entry) (p : FeedRead → Bool) (feeds : List FeedRead) (before : List Line) (last : ℕ) (q : Query) (o : Outcome) →
+outcome-fewer : (t : Topology) (h : List Entry) (p : FeedRead → Bool) (feeds : List FeedRead) (before : List Line) (last : ℕ) (q : Question) (o : Outcome) →
     IsOutcome t h feeds before last q o → IsOutcome t h (filter p feeds) before last q o
 outcome-fewer t h p feeds before last q (Unknown u) is = is
 outcome-fewer t h p feeds before last q (Answered n answer) is =
@@ -123,9 +122,9 @@ pub length-entries : (history : List Posted) → length (entries history) ≡ le
 length-entries [] = refl
 length-entries (p ∷ ps) = ap suc (length-entries ps)
 
-pub pin-now : (t : Topology) (latest : Latest) (number last : ℕ) (q : Query) (o : Outcome) → IsOutcomeNow t latest number q o → last ≤ number → pin_after last o ≤ number
-pin-now t latest number last q (Unknown u) is below = below
-pin-now t latest number last q (Answered n answer) is below = omega (arith, is.1)
+pub pin-now : (t : Topology) (history : List Entry) (number last : ℕ) (q : Question) (o : Outcome) → IsOutcomeNow t history number q o → last ≤ number → pin_after last o ≤ number
+pin-now t history number last q (Unknown u) is below = below
+pin-now t history number last q (Answered n answer) is below = omega (arith, is.1)
 
 holds-now : {S : Type 0} (t : Topology) (left : S → Option (List ℕ)) (faults : S → ℕ) (h : List Entry) (before : List Line) (ss : List (Strand S)) (fs : List FeedRead) →
     AllZip GoesOn ss fs → All (Stands t left faults h) ss → All (λ s. IsCount (asked s.now.told.router before) (length s.steps) s.now.told.end) ss → HoldsWhatWasTaken fs before h
@@ -138,16 +137,16 @@ holds-now {S = S} t left faults h before ss fs zip stands counted =
     ∙ ap (λ ss. entries_by f.feed_no f.router (updates ss)) (sym (taken-is s f before g p.1)))
     zip (λ k d l. (stands k d l, counted k d l))
 
-pub outcome-whatever : {S : Type 0} (t : Topology) (left : S → Option (List ℕ)) (faults : S → ℕ) (latest : Latest) (history more : List Entry) (ss : List (Strand S)) (fs : List FeedRead) (before : List Line) (last : ℕ) (q : Query) (o : Outcome) →
-    IsOutcomeNow t latest (length history) q o → After latest history → last ≤ length history →
+pub outcome-whatever : {S : Type 0} (t : Topology) (left : S → Option (List ℕ)) (faults : S → ℕ) (history more : List Entry) (ss : List (Strand S)) (fs : List FeedRead) (before : List Line) (last : ℕ) (q : Question) (o : Outcome) →
+    IsOutcomeNow t history (length history) q o → last ≤ length history →
     AllZip GoesOn ss fs → All (Stands t left faults history) ss → All (λ s. IsCount (asked s.now.told.router before) (length s.steps) s.now.told.end) ss →
     IsOutcome t (history ++ more) fs before last q o
-outcome-whatever t left faults latest history more ss fs before last q (Unknown u) is of below zip stands counted = is
-outcome-whatever t left faults latest history more ss fs before last q (Answered n answer) is of below zip stands counted =
+outcome-whatever t left faults history more ss fs before last q (Unknown u) is below zip stands counted = is
+outcome-whatever t left faults history more ss fs before last q (Answered n answer) is below zip stands counted =
     let seen : take n (history ++ more) ≡ history = ap (λ m. take m (history ++ more)) is.1 ∙ take-append_seam history more in (
       is.0,
       omega (arith, is.1, below),
       omega (arith, is.1, length-append history more),
       subst (λ (h : List Entry). HoldsWhatWasTaken fs before h) (sym seen) (holds-now t left faults history before ss fs zip stands counted),
-      subst (λ (h : List Entry). IsAnswer t h q answer) (sym seen) (is.2 history of),
+      subst (λ (h : List Entry). IsAnswer t h q answer) (sym seen) is.2,
     )

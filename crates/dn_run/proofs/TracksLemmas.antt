@@ -9,11 +9,10 @@ use Rattle.std.proofs.lemmas.List.Quantifiers.{position-Some}
 use Rattle.std.proofs.lemmas.Bool.{eqb-true, ltb-false}
 use Rattle.dn_formats.specs.Lawful.{Tells, asked, asked_by, both_counts, taken_by, taken_along, takes, pin_after}
 use Rattle.dn_formats.specs.Steps.{FrameStep, FeedRead, updates, entries_by}
-use Rattle.dn_run.specs.Latest.{After, Latest}
 use Rattle.dn_model.specs.declared.entry.Entry.{Entry}
 use Rattle.dn_model.specs.declared.entry.Posted.{Posted}
 use Rattle.dn_model.specs.declared.ids.RouterId.{RouterId}
-use Rattle.dn_model.specs.declared.query.Query.{Query}
+use Rattle.dn_model.specs.Query.{Question}
 use Rattle.dn_formats.specs.declared.script.Line.{Line}
 use Rattle.dn_formats.specs.declared.script.Line.TheVariants as line
 use Rattle.dn_model.specs.declared.topology.Topology.{Topology}
@@ -182,20 +181,20 @@ tracks-at {S = S} t left faults olds news news' h h' before tolds l r count (Som
 
 -- ---- a line that asks
 
-tracks-ask : {S : Type 0} (t : Topology) (left : S → Option (List ℕ)) (faults : S → ℕ) (olds news : List (Reader S)) (history : List Posted) (latest : Latest) (before : List Line) (tolds tolds' : List Told)
-    (l : ℕ) (q : Query) → After latest (entries history) → Adds tolds tolds' l q (IsOutcomeNow t latest (length history) q) →
+tracks-ask : {S : Type 0} (t : Topology) (left : S → Option (List ℕ)) (faults : S → ℕ) (olds news : List (Reader S)) (history : List Posted) (before : List Line) (tolds tolds' : List Told)
+    (l : ℕ) (q : Question) → Adds tolds tolds' l q (IsOutcomeNow t (entries history) (length history) q) →
     Tracks t left faults olds news (entries history) before tolds → Tracks t left faults olds news (entries history) (before ++ line.Ask l q ∷ []) tolds'
-tracks-ask {S = S} t left faults olds news history latest before tolds tolds' l q of adds tracks =
+tracks-ask {S = S} t left faults olds news history before tolds tolds' l q adds tracks =
     let h : List Entry = entries history in
     let a : Line = line.Ask l q in
-    let now : IsOutcomeNow t latest (length h) q adds.told.outcome = subst (λ (n : ℕ). IsOutcomeNow t latest n q adds.told.outcome) (sym (length-entries history)) adds.good in
+    let now : IsOutcomeNow t h (length h) q adds.told.outcome = subst (λ (n : ℕ). IsOutcomeNow t h n q adds.told.outcome) (sym (length-entries history)) adds.good in
     record {
       strands = tracks.strands;
       woven = tracks.woven;
       counted = λ k d i. counted-other before a (get_or tracks.strands k d) refl (tracks.counted k d i);
       pinned = subst (λ (xs : List Told). last_pin xs ≤ length h) (sym adds.added)
           (subst (λ (n : ℕ). n ≤ length h) (sym (fold-append (λ p told. pin_after p told.outcome) 0 tolds (adds.told ∷ [])))
-          (pin-now t latest (length h) (last_pin tolds) q adds.told.outcome now tracks.pinned));
+          (pin-now t h (length h) (last_pin tolds) q adds.told.outcome now tracks.pinned));
       whatever = λ fs zip.
           let w : Whatever t h before tolds fs = tracks.whatever fs zip in
           record {
@@ -205,7 +204,7 @@ tracks-ask {S = S} t left faults olds news history latest before tolds tolds' l 
             tells = λ later.
                 subst (λ (xs : List Told). Tells t (h ++ later) fs [] 0 (before ++ a ∷ []) xs) (sym adds.added)
                 (Tells-ask t (h ++ later) fs [] 0 before tolds l q adds.told adds.line_is adds.query_is
-                (outcome-whatever t left faults latest h later tracks.strands fs before (last_pin tolds) q adds.told.outcome now of tracks.pinned zip tracks.woven.each tracks.counted)
+                (outcome-whatever t left faults h later tracks.strands fs before (last_pin tolds) q adds.told.outcome now tracks.pinned zip tracks.woven.each tracks.counted)
                 (w.tells later));
           };
     }
@@ -220,9 +219,9 @@ tracks-took (Ok o) t left faults news news' h h' tolds a l r count is x = λ old
     subst (λ (b : Line). Tracks t left faults olds news' h' (before ++ b ∷ []) tolds) (sym is)
     (tracks-at t left faults olds news news' h h' before tolds l r count (position (reads r) news) refl x tracks)
 
-pub tracks-asked : {S A E : Type 0} (result : Result A E) (t : Topology) (left : S → Option (List ℕ)) (faults : S → ℕ) (news : List (Reader S)) (history : List Posted) (latest : Latest) (tolds tolds' : List Told)
-    (a : Line) (l : ℕ) (q : Query) → a ≡ line.Ask l q → After latest (entries history) → OnOk result (Adds tolds tolds' l q (IsOutcomeNow t latest (length history) q)) →
+pub tracks-asked : {S A E : Type 0} (result : Result A E) (t : Topology) (left : S → Option (List ℕ)) (faults : S → ℕ) (news : List (Reader S)) (history : List Posted) (tolds tolds' : List Told)
+    (a : Line) (l : ℕ) (q : Question) → a ≡ line.Ask l q → OnOk result (Adds tolds tolds' l q (IsOutcomeNow t (entries history) (length history) q)) →
     OnOk result ((olds : List (Reader S)) (before : List Line) → Tracks t left faults olds news (entries history) before tolds → Tracks t left faults olds news (entries history) (before ++ a ∷ []) tolds')
-tracks-asked (Err e) t left faults news history latest tolds tolds' a l q is of adds = tt
-tracks-asked (Ok o) t left faults news history latest tolds tolds' a l q is of adds = λ olds before tracks.
-    subst (λ (b : Line). Tracks t left faults olds news (entries history) (before ++ b ∷ []) tolds') (sym is) (tracks-ask t left faults olds news history latest before tolds tolds' l q of adds tracks)
+tracks-asked (Err e) t left faults news history tolds tolds' a l q is adds = tt
+tracks-asked (Ok o) t left faults news history tolds tolds' a l q is adds = λ olds before tracks.
+    subst (λ (b : Line). Tracks t left faults olds news (entries history) (before ++ b ∷ []) tolds') (sym is) (tracks-ask t left faults olds news history before tolds tolds' l q adds tracks)

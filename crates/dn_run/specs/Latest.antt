@@ -1,6 +1,6 @@
 -- The version of a network after a history, with the changes that its last entry made.
 use Rattle.std.specs.Prelude.{◌≡◌, ℕ, List, All, Option, None, Some}
-use Rattle.dn_model.specs.Delta.{IsDelta}
+use Rattle.dn_model.specs.Delta.{IsDeltaOf}
 use Rattle.dn_model.specs.Entry.{IsEntryOf}
 use Rattle.dn_model.specs.Version.{Kept, KeptStandsFor}
 use Rattle.dn_model.specs.declared.change.Change.{Change}
@@ -33,9 +33,10 @@ CanMake (Some kept) e = IsEntryOf kept.topology e
 abbrev pub CanMakeAll : Option Kept → ℕ → RouterId → List Op → Type 0
 CanMakeAll version feed_no router ops = All (λ op. CanMake version (record { router = router; feed_no = feed_no; op = op })) ops
 
--- the version stands for this history, and the changes are those that its last entry made
+-- the version stands for this history of its network, and the changes are those that its last entry made
 pub record After (latest : Latest) (history : List Entry) : Type 0 where
   pub kept : Kept
   pub there : latest.version ≡ Some kept
   pub stands : KeptStandsFor kept history
-  pub delta : IsDelta history latest.changes
+  pub delta : IsDeltaOf kept.topology history latest.changes
+  pub own : All (IsEntryOf kept.topology) history

@@ -3,13 +3,13 @@ use Rattle.std.specs.Prelude.{◌≡◌, ◌+◌, ℕ, List, [], ◌∷◌, ◌+
 use Rattle.dn_io.specs.Calls.{Call, Back, call_of}
 use Rattle.dn_io.specs.Files.{Files, bytes_of}
 use Rattle.dn_formats.specs.TopologyText.{topology_of, parts}
-use Rattle.dn_formats.specs.ScriptText.{ScriptFault, script_of, IsShort}
+use Rattle.dn_formats.specs.ScriptText.{ScriptFault, script_of}
 use Rattle.dn_model.specs.declared.ids.RouterId.{RouterId}
 use Rattle.dn_formats.specs.declared.script.Script.{Script}
 use Rattle.dn_formats.specs.declared.error_line.ErrorLine.TheVariants as errors
 use Rattle.dn_model.specs.declared.topology.Topology.{Topology}
 use Rattle.dn_formats.specs.declared.topology_fault.TopoFault.{TopoFault}
-use Rattle.dn_run.specs.Opened.{text_limit, IsReadFront, WasFault}
+use Rattle.dn_run.specs.Opened.{text_limit, IsReadUpTo, WasFault}
 use Rattle.dn_run.specs.declared.load.Loaded.{Loaded}
 use Rattle.dn_run.specs.declared.load.Loaded.TheVariants.{Read, Refused, Failed}
 
@@ -30,7 +30,7 @@ SaysScript t routers taken part bytes Failed = ⊥
 abbrev pub LoadsBytes : Option Files → List Call → List ℕ → List Call → (List ℕ → Type 0) → Type 0
 LoadsBytes files old name new good =
     (left : Option (List ℕ)) × (new ≡ old ++ call_of name (Back false left) ∷ [])
-    × IfSome files (λ fs. IsSomeAnd (bytes_of fs name) (λ bytes. IsReadFront bytes (text_limit + 1) left × good bytes))
+    × IfSome files (λ fs. IsSomeAnd (bytes_of fs name) (λ bytes. IsReadUpTo bytes (text_limit + 1) left × good bytes))
 
 -- what a file came to: its text says so, or it failed
 abbrev pub Loads : {T : Type 0} → (List ℕ → Loaded T → Type 0) → Option Files → List Call → List ℕ → List Call → Loaded T → Type 0
@@ -43,9 +43,3 @@ LoadsTopology = Loads SaysTopology
 
 abbrev pub LoadsScript : Topology → List RouterId → List RouterId → ℕ → Option Files → List Call → List ℕ → List Call → Loaded Script → Type 0
 LoadsScript t routers taken part = Loads (SaysScript t routers taken part)
-
--- the queries of a script that was read name few links
-abbrev pub IsShortScript : Loaded Script → Type 0
-IsShortScript (Read script) = All IsShort script.lines
-IsShortScript (Refused line) = Unit {0}
-IsShortScript Failed = Unit {0}

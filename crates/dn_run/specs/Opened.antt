@@ -12,6 +12,10 @@ text_limit = 16777216
 abbrev pub IsReadFront : List ℕ → ℕ → Option (List ℕ) → Type 0
 IsReadFront bytes most left = (front : List ℕ) × (length front ≤ most) × (Some bytes ≡ with_front front left)
 
+-- of these bytes exactly the first so many were read, or all where they are fewer, and the rest is left
+abbrev pub IsReadUpTo : List ℕ → ℕ → Option (List ℕ) → Type 0
+IsReadUpTo bytes most left = Some bytes ≡ with_front (take most bytes) left
+
 -- what came of the file of this name, where the world tells it: these first bytes, to its end or one past the limit
 abbrev pub ComesFrom : Option Files → List ℕ → ℕ → List ℕ → Option (List ℕ) → Type 0
 ComesFrom files name limit bytes left =

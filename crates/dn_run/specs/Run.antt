@@ -3,7 +3,7 @@ use Rattle.std.specs.Prelude.{ℕ, suc, Bool, true, false, List, [], ◌∷◌, 
 use Rattle.std.specs.List.{list_all, list_any, filter_map, flat_map}
 use Rattle.std.specs.Option.{option_to_list}
 use Rattle.std.specs.Bool.{MatchBool}
-use Rattle.dn_io.specs.Told.{with_end}
+use Rattle.dn_io.specs.Told.{with_end, NothingLeft}
 use Rattle.dn_io.specs.Files.{Files, bytes_of}
 use Rattle.dn_io.specs.Calls.{Call, CallState, Out, Refused, Back}
 use Rattle.dn_formats.specs.Words.{FeedWords, PartsSaid, parts_of, unless_faulty}
@@ -26,7 +26,7 @@ use Rattle.dn_formats.specs.declared.told.JobTold.{JobTold}
 use Rattle.dn_formats.specs.declared.error_line.ErrorLine.{ErrorLine}
 use Rattle.dn_formats.specs.declared.error_line.ErrorLine.TheVariants as errors
 use Rattle.dn_run.specs.CommandLine.{RunWords, command_of}
-use Rattle.dn_run.specs.Opened.{text_limit, IsReadFront, FailsAt}
+use Rattle.dn_run.specs.Opened.{text_limit, IsReadFront, IsReadUpTo, FailsAt}
 use Rattle.dn_run.specs.declared.status.Verdict.{Verdict}
 use Rattle.dn_run.specs.declared.status.Verdict.TheVariants.{Done, Refusals, BadWords, BadTopology, BadScript, ReadFault}
 use Rattle.dn_run.specs.declared.status.Status.{Status}
@@ -92,12 +92,22 @@ pub record IsReported (t : Topology) (scripts : List (List Line)) (feeds : List 
   pub tells : TellsAll t history 1 (jobs_of scripts feeds) told
   pub text_is : text ≡ report t (map told_of feeds) history told
 
+-- of a feed that ended of itself, or inside a frame, nothing is left
+abbrev pub IsReadToEnd : FeedEnd → Option (List ℕ) → Type 0
+IsReadToEnd ends.End left = NothingLeft left
+IsReadToEnd (ends.CutShort o) left = NothingLeft left
+IsReadToEnd (ends.Lost o cause) left = Unit {0}
+IsReadToEnd ends.TooLong left = Unit {0}
+IsReadToEnd ends.Full left = Unit {0}
+IsReadToEnd ends.Faulted left = Unit {0}
+
 -- What was read of a feed whose file has these bytes: all of it up to the limit, or where reading failed what came
 -- before the bytes that are left. No byte past one beyond the limit is read.
 abbrev pub IsReadOf : Topology → List ℕ → CallState → FeedRead → Type 0
 IsReadOf t bytes Out f = ⊥
 IsReadOf t bytes Refused f = ⊥
-IsReadOf t bytes (Back false left) f = IsReading t f.router bytes feed_limit f.steps f.end × IsReadFront bytes (feed_limit + 1) left
+IsReadOf t bytes (Back false left) f =
+    IsReading t f.router bytes feed_limit f.steps f.end × IsReadFront bytes (feed_limit + 1) left × IsReadToEnd f.end left
 IsReadOf t bytes (Back true None) f = ⊥
 IsReadOf t bytes (Back true (Some left)) f = (read : List ℕ) × (bytes ≡ read ++ left) × (length read ≤ feed_limit) × IsFaultedReading t f.router read f.steps × (f.end ≡ ends.Faulted)
 
@@ -132,7 +142,7 @@ abbrev pub OnFile : Files → List ℕ → CallState → Type 0 → (List ℕ �
 OnFile files name Out fault good = ⊥
 OnFile files name Refused fault good = fault
 OnFile files name (Back true left) fault good = fault × FailsAt files name text_limit (Back true left)
-OnFile files name (Back false left) fault good = IsSomeAnd (bytes_of files name) (λ bytes. IsReadFront bytes (text_limit + 1) left × good bytes)
+OnFile files name (Back false left) fault good = IsSomeAnd (bytes_of files name) (λ bytes. IsReadUpTo bytes (text_limit + 1) left × good bytes)
 
 -- a feed that was opened and given back, of which nothing was read
 abbrev pub IsUntouched : OpenedFeed → Type 0

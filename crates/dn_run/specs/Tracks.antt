@@ -1,14 +1,13 @@
 -- What a job over several feeds has taken and told so far.
 use Rattle.std.specs.Prelude.{◌≡◌, ℕ, ◌*◌, ◌<◌, ◌≤◌, ◌^◌, ◌==◌, zero, suc, Bool, true, false, not, List, [], ◌∷◌, ◌++◌, length, map, filter, fold, sum, take, All, Option, None, Some, IsSome, IsTrue}
 use Rattle.std.specs.List.{AllZip, list_any, flat_map, position}
-use Rattle.dn_model.specs.Answer.{unknown_of, IsAnswer}
+use Rattle.dn_model.specs.Answer.{IsAnswer}
+use Rattle.dn_model.specs.Query.{Question, unknown_of}
 use Rattle.dn_formats.specs.Lawful.{Job, Tells, TellsAll, KeepsOrder, asked, takes, takes_feed, pin_after, is_from, is_from_some, taken_along, first_taken, left_by}
-pub use Rattle.dn_formats.specs.ScriptText.{IsShort}
 use Rattle.dn_formats.specs.Steps.{FrameStep, FeedRead, updates, entries_by}
 use Rattle.dn_run.specs.Latest.{After, IsOf, Latest}
 use Rattle.dn_model.specs.declared.entry.Entry.{Entry}
 use Rattle.dn_model.specs.declared.ids.RouterId.{RouterId}
-use Rattle.dn_model.specs.declared.query.Query.{Query}
 use Rattle.dn_formats.specs.declared.script.Line.{Line}
 use Rattle.dn_model.specs.declared.topology.Topology.{Topology}
 use Rattle.dn_formats.specs.declared.told.FeedEnd.{FeedEnd}
@@ -155,14 +154,13 @@ pub record Rests {S : Type 0} (t : Topology) (left : S → Option (List ℕ)) (f
   pub counted : All (λ s. IsRest (list_any (takes s.now.told.router) done) (asked s.now.told.router lines) (length s.steps) s.now.told.end) strands
   pub whatever : (feeds : List FeedRead) → AllZip GoesOn strands feeds → WhateverRest t history lines done tolds feeds
 
--- the outcome of a query over the latest version, with the length of the history as its pin
-abbrev pub IsOutcomeNow : Topology → Latest → ℕ → Query → Outcome → Type 0
-IsOutcomeNow t latest number q (Unknown u) = unknown_of t q ≡ Some u
-IsOutcomeNow t latest number q (Answered n answer) =
-    (unknown_of t q ≡ None) × (n ≡ number) × ((history : List Entry) → After latest history → IsAnswer t history q answer)
+-- the outcome of a query over the history so far, with its length as the pin
+abbrev pub IsOutcomeNow : Topology → List Entry → ℕ → Question → Outcome → Type 0
+IsOutcomeNow t history number q (Unknown u) = unknown_of t q ≡ Some u
+IsOutcomeNow t history number q (Answered n answer) = (unknown_of t q ≡ None) × (n ≡ number) × IsAnswer t history q answer
 
 -- one more is told, of this line and this query, with such an outcome
-pub record Adds (old new : List Told) (l : ℕ) (q : Query) (IsGood : Outcome → Type 0) : Type 0 where
+pub record Adds (old new : List Told) (l : ℕ) (q : Question) (IsGood : Outcome → Type 0) : Type 0 where
   pub told : Told
   pub added : new ≡ old ++ told ∷ []
   pub line_is : told.line ≡ l

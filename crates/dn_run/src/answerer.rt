@@ -1,15 +1,19 @@
-//! Answers to queries, from the latest version and its changes.
+//! Answers to queries over the history so far: `path` and `delta` from the latest version and its changes, the others
+//! by the plain evaluator.
 
-ghost use Rattle.std.specs.Prelude.{◌≡◌, ◌+◌, ◌<◌, ◌^◌, List, length, IfOk, IsSome, None};
-ghost use Rattle.dn_model.specs.Answer.{unknown_of, links_of, IsAnswer, IsDeltaAnswer, path_answer};
-ghost use Rattle.dn_model.specs.Lookup.{router_of};
-ghost use Rattle.dn_model.specs.declared.entry.Entry.{Entry};
+ghost use Rattle.std.specs.Prelude.{◌≡◌, IfOk, None, length};
+ghost use Rattle.dn_model.specs.Answer.{links_of, IsAnswer, IsDeltaAnswer, path_answer};
+ghost use Rattle.dn_model.specs.Query.{unknown_of};
+ghost use Rattle.dn_model.specs.Walk.{next};
 ghost use Rattle.dn_run.specs.Latest.{After, IsOf};
+ghost use Rattle.dn_run.specs.Network.{entries};
 
 use crate::latest::Latest;
+use crate::take::Book;
 use crate::walk::walk_by;
 use dn_model::{
-    Answer, Ask, LinkId, List, Name, OutOfMemory, Query, RouterId, Topology, link, router,
+    Answer, Ask, Entry, LinkId, List, Name, OutOfMemory, Posted, Query, RouterId, Topology, link,
+    plain_answer, router,
 };
 use std::alloc::Global;
 
@@ -30,49 +34,83 @@ fn links_named(
     Ok(links)
 }
 
+/// The entries of a history.
+fn entries_copied(alloc: Global, history: &[Posted]) -> Result<Vec<Entry>, OutOfMemory>
+    ensures { IfOk result (λ copied. copied.items ≡ entries history.now) }
+{
+    let mut copied = Vec::new(alloc);
+    for posted in history {
+        copied.push(posted.entry)?;
+    }
+    Ok(copied)
+}
+
 /// The walk of an address from a router, as an answer.
 fn path(
     alloc: Global,
     topology: &Topology,
-    latest: &Latest,
+    book: &Book,
     down: &[LinkId],
     first: RouterId,
     address: u32,
 ) -> Result<Answer, OutOfMemory>
-    requires { IsOf topology.now latest.now.version }
-    ensures { IfOk result (λ answer. (history : List Entry) → After latest.now history →
-        answer ≡ path_answer topology.now history down.now first address) }
+    requires version { IsOf topology.now book.now.latest.version }
+    requires follows { After book.now.latest (entries book.now.history) }
+    ensures { IfOk result (λ answer. answer ≡ path_answer (length topology.now.routers) (next topology.now (entries book.now.history) down.now) first address) }
 {
     let _ = topology;
-    let (hops, end) = walk_by(alloc, latest.version(), down, first, address)?;
+    let (hops, end) = walk_by(alloc, book.latest.version(), down, first, address)?;
     Ok(Answer::Path { hops, end })
 }
 
 /// The changes of the last update, as an answer.
-fn delta(alloc: Global, latest: &Latest) -> Result<Answer, OutOfMemory>
-    ensures { IfOk result (λ answer. (history : List Entry) → After latest.now history → IsDeltaAnswer history answer) }
+fn delta(alloc: Global, topology: &Topology, book: &Book) -> Result<Answer, OutOfMemory>
+    requires version { IsOf topology.now book.now.latest.version }
+    requires follows { After book.now.latest (entries book.now.history) }
+    ensures { IfOk result (λ answer. IsDeltaAnswer topology.now (entries book.now.history) answer) }
 {
-    let changes = Vec::from_slice(alloc, latest.changes())?;
+    let _ = topology;
+    let changes = Vec::from_slice(alloc, book.latest.changes())?;
     Ok(Answer::Delta(List::from_vec(changes)))
 }
 
-/// The answer to a query whose names the topology has, over the history after which the latest version is.
-pub fn answer(
+/// The answer of the plain evaluator.
+fn plainly(
     alloc: Global,
     topology: &Topology,
-    latest: &Latest,
+    book: &Book,
     query: &Query,
 ) -> Result<Answer, OutOfMemory>
     requires known { unknown_of topology.now query.now ≡ None }
-    requires version { IsOf topology.now latest.now.version }
-    ensures { IfOk result (λ answer. (history : List Entry) → After latest.now history → IsAnswer topology.now history query.now answer) }
+    requires version { IsOf topology.now book.now.latest.version }
+    requires follows { After book.now.latest (entries book.now.history) }
+    ensures { IfOk result (λ answer. IsAnswer topology.now (entries book.now.history) query.now answer) }
 {
-    let down = links_named(alloc, topology, query.without.as_slice())?;
-    match &query.ask {
-        Ask::Path(name, address) => match router(topology, name) {
-            Some(first) => path(alloc, topology, latest, down.as_slice(), first, *address),
-            None => unreachable!(),
-        },
-        Ask::Delta => delta(alloc, latest),
+    let history = entries_copied(alloc, book.history.as_slice())?;
+    plain_answer(alloc, topology, history.as_slice(), query)
+}
+
+/// The answer to a query whose names the topology has, over the history so far.
+pub fn answer(
+    alloc: Global,
+    topology: &Topology,
+    book: &Book,
+    query: &Query,
+) -> Result<Answer, OutOfMemory>
+    requires known { unknown_of topology.now query.now ≡ None }
+    requires version { IsOf topology.now book.now.latest.version }
+    requires follows { After book.now.latest (entries book.now.history) }
+    ensures { IfOk result (λ answer. IsAnswer topology.now (entries book.now.history) query.now answer) }
+{
+    match query.ask() {
+        Ask::Path(name, address) => {
+            let down = links_named(alloc, topology, query.without())?;
+            match router(topology, name) {
+                Some(first) => path(alloc, topology, book, down.as_slice(), first, *address),
+                None => unreachable!(),
+            }
+        }
+        Ask::Delta => delta(alloc, topology, book),
+        _ => plainly(alloc, topology, book, query),
     }
 }

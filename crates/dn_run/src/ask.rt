@@ -1,7 +1,8 @@
 //! A query of a script is asked over the history so far.
 
 ghost use Rattle.std.specs.Prelude.{◌≡◌, ◌<◌, ◌≤◌, ◌^◌, length, IfOk, OnOk};
-ghost use Rattle.dn_run.specs.Latest.{IsOf};
+ghost use Rattle.dn_run.specs.Latest.{After, IsOf};
+ghost use Rattle.dn_run.specs.Network.{entries};
 ghost use Rattle.dn_run.specs.Tracks.{IsOutcomeNow, Adds};
 
 use crate::answerer::answer;
@@ -21,17 +22,17 @@ fn outcome<G: Gate>(
     gate: &G,
     job: u32,
 ) -> Result<Outcome, OutOfMemory>
-    requires few { length query.now.without ≤ 4096 }
     requires version { IsOf topology.now book.now.latest.version }
+    requires follows { After book.now.latest (entries book.now.history) }
     requires fits { length book.now.history < 2 ^ 32 }
-    ensures { IfOk result (IsOutcomeNow topology.now book.now.latest (length book.now.history) query.now) }
+    ensures { IfOk result (IsOutcomeNow topology.now (entries book.now.history) (length book.now.history) query.now) }
 {
     if let Some(unknown) = query.unknown(topology) {
         return Ok(Outcome::Unknown(unknown));
     }
     let number = book.history.len() as u32;
     gate.at(job, Point::AfterPin);
-    let answer = answer(alloc, topology, &book.latest, query)?;
+    let answer = answer(alloc, topology, book, query)?;
     gate.at(job, Point::AfterAnswer);
     Ok(Outcome::Answered { number, answer })
 }
@@ -47,10 +48,10 @@ pub fn ask<G: Gate>(
     gate: &G,
     job: u32,
 ) -> Result<(), OutOfMemory>
-    requires few { length query.now.without ≤ 4096 }
     requires version { IsOf topology.now book.now.latest.version }
+    requires follows { After book.now.latest (entries book.now.history) }
     requires fits { length book.now.history < 2 ^ 32 }
-    ensures { OnOk result (Adds told.old told.new line query.now (IsOutcomeNow topology.now book.now.latest (length book.now.history) query.now)) }
+    ensures { OnOk result (Adds told.old told.new line query.now (IsOutcomeNow topology.now (entries book.now.history) (length book.now.history) query.now)) }
 {
     let outcome = outcome(alloc, topology, book, query, gate, job)?;
     let query = query.copy(alloc)?;

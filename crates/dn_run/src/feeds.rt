@@ -4,7 +4,6 @@ ghost use Rattle.std.specs.Prelude.{◌≡◌, ◌+◌, ◌<◌, ◌≤◌, ◌+
 ghost use Rattle.std.specs.Arc.{arc_value};
 ghost use Rattle.std.specs.Option.{option_copied};
 ghost use Rattle.dn_io.specs.Calls.{names_of, back_with, with_state, state_at};
-ghost use Rattle.dn_formats.specs.ScriptText.{IsShort};
 ghost use Rattle.dn_run.specs.Feeds.{Appends, AreOpen, AreLeft, Opens, opened, some_rose, routers_of_readers};
 ghost use Rattle.dn_run.specs.Jobs.{scripts_of};
 ghost use Rattle.dn_run.specs.PartsRead.{feed_texts};
@@ -64,7 +63,6 @@ fn run_readers<S: Source, G: Gate>(
     gate: &G,
 ) -> Result<Ruling, OutOfMemory>
     requires open { AreOpen (arc_value topology.now) S.faults readers.old.items [] }
-    requires short { All (All IsShort) (scripts_of (option_copied script)) }
     ensures same { tags_of S.place readers.new.items ≡ tags_of S.place readers.old.items }
     ensures ran { IfOk result (λ ruling. (files : List (List ℕ)) → AreLeft S.left readers.old.items files →
         IsRunOf (arc_value topology.now) (routers_of_readers readers.old.items) (scripts_of (option_copied script.entry)) (opened S.faults S.left files readers.new.items) ruling.verdict ruling.text.items) }
@@ -110,7 +108,6 @@ pub fn from_feeds<W: World, G: Gate>(
     requires room { length (W.calls world.old) + length feeds.now ≤ 2 ^ 32 }
     requires as_many { length routers.now ≡ length feeds.now }
     requires open { AreOpen (arc_value topology.now) W.Src.faults readers.old.items routers.now }
-    requires short { All (All IsShort) (scripts_of (option_copied script)) }
     ensures same { tags_of W.Src.place readers.new.items ≡ tags_of W.Src.place readers.old.items }
     ensures opens { IfOk result (λ ruling. Opens (arc_value topology.now) W.Src.faults W.Src.left (W.files world.old) routers.now (scripts_of (option_copied script.entry))
         readers.old.items readers.new.items (map feed_texts feeds.now) (W.calls world.old) (W.calls world.new) ruling.verdict ruling.text.items) }

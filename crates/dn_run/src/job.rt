@@ -6,7 +6,7 @@ ghost use Rattle.dn_formats.specs.declared.script.Line.{Line};
 ghost use Rattle.dn_formats.specs.declared.told.Told.{Told};
 ghost use Rattle.route_feed.specs.FeedReader.{Reader};
 ghost use Rattle.dn_run.specs.Network.{entries};
-ghost use Rattle.dn_run.specs.Tracks.{Ready, tags_of, reads, TakesFrom, TakesOf, Tracks, Rests, IsShort};
+ghost use Rattle.dn_run.specs.Tracks.{Ready, tags_of, reads, TakesFrom, TakesOf, Tracks, Rests};
 
 use crate::ask::ask;
 use crate::take::{Book, take};
@@ -56,7 +56,7 @@ fn take_of<S: Source, G: Gate>(
     gate: &G,
     job: u32,
 ) -> Result<(), OutOfMemory>
-    requires ready { Ready topology.now readers.old.items book.old }
+    requires { Ready topology.now readers.old.items book.old }
     ensures ready { OnOk result (Ready topology.now readers.new.items book.new) }
     ensures took { OnOk result (TakesOf router count topology.now S.left S.faults readers.old.items readers.new.items (entries book.old.history) (entries book.new.history)) }
     ensures same { tags_of S.place readers.new.items ≡ tags_of S.place readers.old.items }
@@ -78,8 +78,7 @@ fn do_line<S: Source, G: Gate>(
     gate: &G,
     job: u32,
 ) -> Result<(), OutOfMemory>
-    requires short { IsShort line.now }
-    requires ready { Ready topology.now readers.old.items book.old }
+    requires { Ready topology.now readers.old.items book.old }
     ensures ready { OnOk result (Ready topology.now readers.new.items book.new) }
     ensures tracks { OnOk result ((olds : List (Reader S)) (before : List Line) →
         Tracks topology.now S.left S.faults olds readers.old.items (entries book.old.history) before told.old →
@@ -104,8 +103,7 @@ fn do_lines<S: Source, G: Gate>(
     gate: &G,
     job: u32,
 ) -> Result<List<Told>, OutOfMemory>
-    requires short { All IsShort lines.now }
-    requires ready { Ready topology.now readers.old.items book.old }
+    requires { Ready topology.now readers.old.items book.old }
     ensures ready { OnOk result (Ready topology.now readers.new.items book.new) }
     ensures tracks { IfOk result (λ told. (olds : List (Reader S)) →
         Tracks topology.now S.left S.faults olds readers.old.items (entries book.old.history) [] [] →
@@ -129,7 +127,7 @@ fn take_rest_of<S: Source, G: Gate>(
     gate: &G,
     job: u32,
 ) -> Result<(), OutOfMemory>
-    requires ready { Ready topology.now readers.old.items book.old }
+    requires { Ready topology.now readers.old.items book.old }
     ensures ready { OnOk result (Ready topology.now readers.new.items book.new) }
     ensures rests { OnOk result ((olds : List (Reader S)) (lines done : List Line) (told : List Told) →
         Rests topology.now S.left S.faults olds readers.old.items (entries book.old.history) lines done told →
@@ -154,7 +152,7 @@ fn take_rests<S: Source, G: Gate>(
     gate: &G,
     job: u32,
 ) -> Result<(), OutOfMemory>
-    requires ready { Ready topology.now readers.old.items book.old }
+    requires { Ready topology.now readers.old.items book.old }
     ensures ready { OnOk result (Ready topology.now readers.new.items book.new) }
     ensures rests { OnOk result ((olds : List (Reader S)) (all : List Line) (told : List Told) →
         Rests topology.now S.left S.faults olds readers.old.items (entries book.old.history) all [] told →
@@ -178,8 +176,7 @@ pub fn do_script<S: Source, G: Gate>(
     gate: &G,
     job: u32,
 ) -> Result<List<Told>, OutOfMemory>
-    requires short { All IsShort lines.now }
-    requires ready { Ready topology.now readers.old.items book.old }
+    requires { Ready topology.now readers.old.items book.old }
     ensures ready { OnOk result (Ready topology.now readers.new.items book.new) }
     ensures rests { IfOk result (λ told. (olds : List (Reader S)) →
         Tracks topology.now S.left S.faults olds readers.old.items (entries book.old.history) [] [] →

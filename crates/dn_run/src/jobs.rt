@@ -8,7 +8,7 @@ ghost use Rattle.route_feed.specs.FeedReader.{Reader};
 ghost use Rattle.dn_run.specs.Jobs.{scripts_of, IsFresh, AreNumbered, HaveRoutersApart, HasRun};
 ghost use Rattle.dn_run.specs.Latest.{After, IsOf};
 ghost use Rattle.dn_run.specs.Network.{entries, CountsFaults};
-ghost use Rattle.dn_run.specs.Tracks.{Ready, tags_of, Tracks, Owns, IsShort};
+ghost use Rattle.dn_run.specs.Tracks.{Ready, tags_of, Tracks, Owns};
 
 use crate::job::{do_script, take_at};
 use crate::latest::Latest;
@@ -46,8 +46,7 @@ fn run_script<S: Source, G: Gate>(
     book: &mut Book,
     gate: &G,
 ) -> Result<Vec<JobTold>, OutOfMemory>
-    requires short { All (All IsShort) (scripts_of (option_copied script)) }
-    requires ready { Ready topology.now readers.old.items book.old }
+    requires { Ready topology.now readers.old.items book.old }
     ensures ready { OnOk result (Ready topology.now readers.new.items book.new) }
     ensures few { IfOk result (λ jobs. length jobs.items ≤ 1) }
     ensures owns { IfOk result (λ jobs. (olds : List (Reader S)) →
@@ -138,7 +137,6 @@ fn run_all<S: Source, G: Gate>(
     mut book: Book,
     gate: &G,
 ) -> Result<JobsDone, OutOfMemory>
-    requires short { All (All IsShort) (scripts_of (option_copied script)) }
     requires fresh { All (IsFresh topology.now S.faults) readers.old.items }
     requires numbered { AreNumbered 1 readers.old.items }
     requires apart { HaveRoutersApart readers.old.items }
@@ -175,7 +173,6 @@ pub fn run_jobs<S: Source, G: Gate>(
     readers: &mut Vec<FeedReader<S>>,
     gate: &G,
 ) -> Result<JobsDone, OutOfMemory>
-    requires short { All (All IsShort) (scripts_of (option_copied script)) }
     requires fresh { All (IsFresh (arc_value topology.now) S.faults) readers.old.items }
     requires numbered { AreNumbered 1 readers.old.items }
     requires apart { HaveRoutersApart readers.old.items }

@@ -5,7 +5,6 @@ ghost use Rattle.std.specs.Prelude.{All};
 ghost use Rattle.std.specs.Arc.{arc_value};
 ghost use Rattle.std.specs.Option.{option_copied};
 ghost use Rattle.dn_run.specs.Jobs.{scripts_of};
-ghost use Rattle.dn_run.specs.Tracks.{IsShort};
 
 use crate::jobs::{JobsDone, run_jobs};
 use dn_formats::{Line, Outcome, Script, Told};
@@ -68,7 +67,6 @@ fn source(alloc: Global, count: u8) -> Result<MemSource, OutOfMemory>
 
 /// A line that takes frames of a router's feed.
 fn take_line(line: u32, router: u16, count: Option<u32>) -> Line
-    ensures { IsShort result }
 {
     Line::Take {
         line,
@@ -79,14 +77,13 @@ fn take_line(line: u32, router: u16, count: Option<u32>) -> Line
 
 /// A line that asks for the path of 10.0.0.1 from `r1`.
 fn path_line(alloc: Global, line: u32) -> Result<Line, OutOfMemory>
-    ensures { IfOk result IsShort }
 {
     Ok(Line::Ask {
         line,
-        query: Query {
-            without: List::new(alloc),
-            ask: Ask::Path(Name::from_text(alloc, b"r1")?, 0x0A00_0001),
-        },
+        query: Query::of(
+            alloc,
+            Ask::Path(Name::from_text(alloc, b"r1")?, 0x0A00_0001),
+        ),
     })
 }
 
@@ -116,7 +113,6 @@ fn run_three(
     counts: [u8; 3],
     script: Option<&Script>,
 ) -> Result<JobsDone, OutOfMemory>
-    requires { All (All IsShort) (scripts_of (option_copied script)) }
 {
     let topology = three_routers(alloc)?;
     let [first, second, third] = counts;

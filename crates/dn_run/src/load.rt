@@ -2,7 +2,7 @@
 
 ghost use Rattle.std.specs.Prelude.{◌≡◌, ◌<◌, ◌^◌, length, IfOk, OnErr};
 ghost use Rattle.dn_run.specs.Opened.{MayNameOne};
-ghost use Rattle.dn_run.specs.Loaded.{LoadsTopology, SaysTopology, LoadsScript, SaysScript, IsShortScript};
+ghost use Rattle.dn_run.specs.Loaded.{LoadsTopology, SaysTopology, LoadsScript, SaysScript};
 
 use crate::files::{FileRefused, read_file};
 use dn_formats::{ErrorLine, Script, TopoRefused};
@@ -65,8 +65,7 @@ fn script_in(
     taken: &[RouterId],
     part: u32,
 ) -> Result<Loaded<Script>, OutOfMemory>
-    ensures says { IfOk result (SaysScript topology.now routers.now taken.now part bytes.now) }
-    ensures short { IfOk result IsShortScript }
+    ensures { IfOk result (SaysScript topology.now routers.now taken.now part bytes.now) }
 {
     match read_script(alloc, bytes, topology, routers, taken) {
         Ok(script) => Ok(Loaded::Read(script)),
@@ -89,7 +88,6 @@ pub fn load_script<W: World>(
     world: &mut W,
 ) -> Result<Loaded<Script>, OutOfMemory>
     requires { length (W.calls world.old) < 2 ^ 32 }
-    ensures short { IfOk result IsShortScript }
     ensures loads { IfOk result (LoadsScript topology.now routers.now taken.now part (W.files world.old) (W.calls world.old) name.now (W.calls world.new)) }
     ensures memory { OnErr result (MayNameOne (W.calls world.old) name.now (W.calls world.new)) }
     ensures same_files { W.files world.new ≡ W.files world.old }

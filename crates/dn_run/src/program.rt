@@ -6,7 +6,6 @@ ghost use Rattle.std.specs.Option.{option_copied};
 ghost use Rattle.std.specs.String.{string_bytes};
 ghost use Rattle.dn_io.specs.Calls.{names_of};
 ghost use Rattle.dn_io.specs.Files.{Files};
-ghost use Rattle.dn_formats.specs.ScriptText.{IsShort};
 ghost use Rattle.dn_model.specs.Topology.{all_differ};
 ghost use Rattle.dn_run.specs.Jobs.{scripts_of, same_router};
 ghost use Rattle.dn_run.specs.PartsRead.{feed_texts, script_texts, parts_texts};
@@ -45,7 +44,6 @@ fn from_jobs<W: World, G: Gate>(
     requires few { length feeds.now ≤ 64 }
     requires known { All (λ r. r.0 < length (arc_value topology.now).routers) routers.now }
     requires apart { IsTrue (all_differ same_router routers.now) }
-    requires short { All (All IsShort) (scripts_of (option_copied script)) }
     ensures stage { IfOk result (λ ruling. Stage (W.calls world.old) (W.calls world.new) (feed_files (map feed_texts feeds.now)) ruling.verdict (W.files world.old)
         (λ files calls. FromJobs files (arc_value topology.now) routers.now (scripts_of (option_copied script.entry)) (map feed_texts feeds.now) calls ruling.verdict ruling.text.items)) }
     ensures memory { OnErr result (Names (W.calls world.old) (W.calls world.new) (feed_files (map feed_texts feeds.now))) }

@@ -1,9 +1,8 @@
 //! The walk of an address, by a view of what all routers do.
 
-ghost use Rattle.std.specs.Prelude.{◌≡◌, ◌<◌, ◌^◌, List, IfOk, length, slice_index_or};
-ghost use Rattle.dn_model.specs.Forwarding.{StandsFor, target_of};
-ghost use Rattle.dn_model.specs.Walk.{is_down, without, next, walk, walk_end};
-ghost use Rattle.dn_model.specs.declared.entry.Entry.{Entry};
+ghost use Rattle.std.specs.Prelude.{◌≡◌, ◌<◌, IfOk, length, slice_index_or};
+ghost use Rattle.dn_model.specs.Forwarding.{does, target_of};
+ghost use Rattle.dn_model.specs.Walk.{at_address, is_down, with_down, without, walk, walk_end};
 ghost use Rattle.dn_model.specs.declared.forwarding_row.ForwardingRow.{ForwardingRow};
 
 use dn_model::{LinkId, List, OutOfMemory, PathEnd, RouterId, Target};
@@ -36,8 +35,8 @@ fn with_links_down(down: &[LinkId], target: Target) -> Target
 /// What a router does with the addresses of the row at a place, where these links are down. One that the view doesn't
 /// have has no route.
 fn next_in_row<V: LabelView>(view: &V, down: &[LinkId], place: u64, router: RouterId) -> Target
-    requires { place < length (V.labels view.now) }
-    ensures { (d : ForwardingRow) → result ≡ without down.now (target_of (slice_index_or (V.labels view.now) place d) router) }
+    requires { place < length (V.rows view.now) }
+    ensures { (d : ForwardingRow) → result ≡ without down.now (target_of (slice_index_or (V.rows view.now) place d) router) }
 {
     if u32::from(router.0) >= view.routers() {
         return Target::NoRoute;
@@ -54,8 +53,8 @@ pub fn walk_by<V: LabelView>(
     first: RouterId,
     a: u32,
 ) -> Result<(List<RouterId>, PathEnd), OutOfMemory>
-    ensures hops { IfOk result (λ answer. (history : List Entry) → StandsFor (V.width view.now) (V.labels view.now) history → answer.0 ≡ walk (next history down.now a) (V.width view.now) first) }
-    ensures end { IfOk result (λ answer. (history : List Entry) → StandsFor (V.width view.now) (V.labels view.now) history → answer.1 ≡ walk_end (next history down.now a) (V.width view.now) first) }
+    ensures hops { IfOk result (λ answer. answer.0 ≡ walk (at_address (with_down down.now (does (V.rows view.now))) a) (V.width view.now) first) }
+    ensures end { IfOk result (λ answer. answer.1 ≡ walk_end (at_address (with_down down.now (does (V.rows view.now))) a) (V.width view.now) first) }
 {
     let place = view.atom_of(a);
     let mut hops = Vec::new(alloc);

@@ -10,8 +10,8 @@ returns-in-Take-clause-tracks g c =
 
 pub returns-in-Ask-clause-tracks : goal.returns-in-Ask-clause-tracks
 returns-in-Ask-clause-tracks g c =
-    tracks-asked c.ask.result c.args.topology.now g.S.Source.left g.S.Source.faults c.args.readers.now.items c.args.book.now.history c.args.book.now.latest c.args.told.now c.ask.new.told
-    c.args.line.now c.in-Ask.line c.in-Ask.query c.in-Ask.is c.requires.ready.follows c.ask.ensures
+    tracks-asked c.ask.result c.args.topology.now g.S.Source.left g.S.Source.faults c.args.readers.now.items c.args.book.now.history c.args.told.now c.ask.new.told
+    c.args.line.now c.in-Ask.line c.in-Ask.query c.in-Ask.is c.ask.ensures
 
 pub ask-requires-clause-fits : goal.ask-requires-clause-fits
-ask-requires-clause-fits g c = λ more kept. few_entries c.args.topology.now c.args.readers.now.items c.args.book.now c.requires.ready
+ask-requires-clause-fits g c = λ more kept. few_entries c.args.topology.now c.args.readers.now.items c.args.book.now c.requires

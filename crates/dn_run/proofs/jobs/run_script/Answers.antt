@@ -3,13 +3,9 @@ use Rattle.std.proofs.lemmas.Result.{IfOk-weaker}
 use Rattle.dn_formats.specs.declared.script.Line.{Line}
 use Rattle.dn_run.specs.Network.{entries}
 use Rattle.dn_run.specs.Tracks.{Owns}
-use Rattle.dn_run.proofs.JobsLemmas.{script-is, script-short}
+use Rattle.dn_run.proofs.JobsLemmas.{script-is}
 use Rattle.dn_run.proofs.OwnLemmas.{owns-script}
 use Rattle.dn_run.proofs.jobs.run_script.Goals as goal
-
-pub do_script-requires-clause-short : goal.do_script-requires-clause-short
-do_script-requires-clause-short g c κs within =
-    script-short c.args.script c.in-Some.script c.as_slice-lines.result.now c.in-Some.is c.as_slice-lines.ensures.value c.requires.short
 
 pub returns-in_ok-told-in-Some-clause-owns : goal.returns-in_ok-told-in-Some-clause-owns
 returns-in_ok-told-in-Some-clause-owns g c =

@@ -66,8 +66,7 @@ fn source(alloc: Global, count: u8) -> Result<MemSource, OutOfMemory>
 }
 
 /// A line that takes frames of a router's feed.
-fn take_line(line: u32, router: u16, count: Option<u32>) -> Line
-{
+fn take_line(line: u32, router: u16, count: Option<u32>) -> Line {
     Line::Take {
         line,
         router: RouterId(router),
@@ -76,8 +75,7 @@ fn take_line(line: u32, router: u16, count: Option<u32>) -> Line
 }
 
 /// A line that asks for the path of 10.0.0.1 from `r1`.
-fn path_line(alloc: Global, line: u32) -> Result<Line, OutOfMemory>
-{
+fn path_line(alloc: Global, line: u32) -> Result<Line, OutOfMemory> {
     Ok(Line::Ask {
         line,
         query: Query::of(
@@ -112,8 +110,7 @@ fn run_three(
     alloc: Global,
     counts: [u8; 3],
     script: Option<&Script>,
-) -> Result<JobsDone, OutOfMemory>
-{
+) -> Result<JobsDone, OutOfMemory> {
     let topology = three_routers(alloc)?;
     let [first, second, third] = counts;
     let mut readers = Vec::from_array(

@@ -13,6 +13,8 @@ mod latest;
 mod load;
 mod parts;
 mod program;
+#[cfg(test)]
+mod query_tests;
 mod routers;
 mod ruling;
 #[cfg(test)]

@@ -9,7 +9,7 @@ use std::alloc::{AllocError, Global};
 use std::test::Fail;
 
 /// Three routers in a ring: each has an edge at its interface 1, and links at 2 and 3.
-const RING: &str =
+pub(crate) const RING: &str =
     "routers = [\"r1\", \"r2\", \"r3\"]\n[[link]]\nname = \"a\"\nends = [\"r1:2\", \"r2:2\"]\n[[link]]\nname = \"b\"\nends = [\"r2:3\", \"r3:2\"]\n[[link]]\nname = \"c\"\nends = [\"r3:3\", \"r1:3\"]\n[[edge]]\nat = \"r1:1\"\n[[edge]]\nat = \"r2:1\"\n[[edge]]\nat = \"r3:1\"\n";
 
 /// The ring, but link `b` uses the end of link `a` at `r1` again.
@@ -25,7 +25,7 @@ const USUAL: [&str; 5] = ["deltanet", "run", "topology", "r1=f1", "@script"];
 const FEED_ALONE: [&str; 4] = ["deltanet", "run", "topology", "r1=f1"];
 
 /// A frame that sets a prefix over interface `oif`, with this metric and the gateway 192.0.2.1.
-fn frame_of(base: [u8; 4], len: u8, metric: u8, oif: u8) -> [u8; 64] {
+pub(crate) fn frame_of(base: [u8; 4], len: u8, metric: u8, oif: u8) -> [u8; 64] {
     let [a, b, c, d] = base;
     [
         1, 1, 0, 64, 60, 0, 0, 0, 24, 0, 1, 5, 0, 0, 0, 0, 0, 0, 0, 0, 2, len, 0, 0, 254, 11, 0, 1,
@@ -35,7 +35,7 @@ fn frame_of(base: [u8; 4], len: u8, metric: u8, oif: u8) -> [u8; 64] {
 }
 
 /// A frame that sets 10.`second`.0.0 of this length over interface `oif`, with metric 20.
-fn set_frame(second: u8, len: u8, oif: u8) -> [u8; 64] {
+pub(crate) fn set_frame(second: u8, len: u8, oif: u8) -> [u8; 64] {
     frame_of([10, second, 0, 0], len, 20, oif)
 }
 
@@ -81,7 +81,7 @@ const CLEAR: [u8; 40] = [
 ];
 
 /// A file that gives `step` bytes at a time, of which these reads fail.
-fn file(
+pub(crate) fn file(
     alloc: Global,
     name: &str,
     bytes: &[u8],

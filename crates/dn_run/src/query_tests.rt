@@ -1,0 +1,194 @@
+//! Whole runs that ask every query over three feeds, against answers worked out by hand.
+
+use crate::program::run;
+use crate::run_tests::{RING, file, frame_of, set_frame};
+use crate::status::Status;
+use dn_io::{MemSink, MemWorld, NoGate};
+use std::alloc::{AllocError, Global};
+use std::test::Fail;
+
+/// The ring, but link `a` is unnumbered.
+const UNNUMBERED: &str =
+    "routers = [\"r1\", \"r2\", \"r3\"]\n[[link]]\nname = \"a\"\nends = [\"r1:2\", \"r2:2\"]\nunnumbered = true\n[[link]]\nname = \"b\"\nends = [\"r2:3\", \"r3:2\"]\n[[link]]\nname = \"c\"\nends = [\"r3:3\", \"r1:3\"]\n[[edge]]\nat = \"r1:1\"\n[[edge]]\nat = \"r2:1\"\n[[edge]]\nat = \"r3:1\"\n";
+
+/// Takes all of r1, r3 and r2, in this order.
+const TAKES: &str = "take r1 all\ntake r3 all\ntake r2 all\n";
+
+/// A frame that sets 10.0.0.0/30 over interface 2, with metric 0 and no gateway.
+const ON_LINK: [u8; 56] = [
+    1, 1, 0, 56, 52, 0, 0, 0, 24, 0, 1, 5, 0, 0, 0, 0, 0, 0, 0, 0, 2, 30, 0, 0, 254, 11, 0, 1, 0,
+    0, 0, 0, 8, 0, 1, 0, 10, 0, 0, 0, 8, 0, 4, 0, 2, 0, 0, 0, 8, 0, 6, 0, 0, 0, 0, 0,
+];
+
+/// A frame that clears 10.1.0.0/16 of any metric.
+const CLEAR: [u8; 40] = [
+    1, 1, 0, 40, 36, 0, 0, 0, 25, 0, 1, 0, 0, 0, 0, 0, 0, 0, 0, 0, 2, 16, 0, 0, 254, 11, 0, 1, 0,
+    0, 0, 0, 8, 0, 1, 0, 10, 1, 0, 0,
+];
+
+/// The bytes of frames, one after another.
+fn bytes_of(alloc: Global, frames: &[&[u8]]) -> Result<Vec<u8>, AllocError> {
+    let mut bytes = Vec::new(alloc);
+    for frame in frames {
+        bytes.extend_from_slice(frame)?;
+    }
+    Ok(bytes)
+}
+
+/// What is printed of a script's queries over this topology and the feeds of r1, r2 and r3: the report from the line
+/// after `job 1` to the line before `done`. Nothing where the run didn't end well.
+fn answers_over(
+    alloc: Global,
+    topology: &str,
+    feeds: [&[u8]; 3],
+    script: &str,
+) -> Result<Vec<u8>, AllocError> {
+    let mut words = Vec::new(alloc);
+    for word in [
+        "deltanet", "run", "topology", "@script", "r1=f1", "r2=f2", "r3=f3",
+    ] {
+        words.push(String::from_str(alloc, word)?)?;
+    }
+    let [first, second, third] = feeds;
+    let files = Vec::from_array(
+        alloc,
+        [
+            file(alloc, "topology", topology.as_bytes(), 4096, &[])?,
+            file(alloc, "script", script.as_bytes(), 4096, &[])?,
+            file(alloc, "f1", first, 4096, &[])?,
+            file(alloc, "f2", second, 4096, &[])?,
+            file(alloc, "f3", third, 4096, &[])?,
+        ],
+    )?;
+    let mut world = MemWorld::new(alloc, files, Vec::new(alloc));
+    let mut sink = MemSink::new(alloc, 4096, Vec::new(alloc));
+    let status = run(alloc, words.as_slice(), &mut world, &mut sink, &NoGate);
+    if status != Status::Done {
+        return Ok(Vec::new(alloc));
+    }
+    Vec::from_slice(alloc, between(sink.written(), b"job 1\n", b"done\n"))
+}
+
+/// What stands in a text after the first `head` and before the `tail` at its end; nothing where it has no such parts.
+fn between<'a>(text: &'a [u8], head: &[u8], tail: &[u8]) -> &'a [u8] {
+    let mut rest = text;
+    while let [_, after @ ..] = rest {
+        if let Some(found) = rest.strip_prefix(head) {
+            return found.strip_suffix(tail).unwrap_or(&[]);
+        }
+        rest = after;
+    }
+    &[]
+}
+
+#[test]
+fn addresses_that_reach_and_that_use_a_link(rt: HostRuntime) -> Result<(), Fail> {
+    let alloc = rt.alloc();
+    let (first, second, third) = (set_frame(0, 8, 2), set_frame(0, 8, 3), set_frame(0, 8, 1));
+    let cases: [(&str, &str); 8] = [
+        ("reach r1 r3", "10.0.0.0-10.255.255.255\n"),
+        ("reach r1 r1", "0.0.0.0-255.255.255.255\n"),
+        (
+            "uses a",
+            "from r1\n10.0.0.0-10.255.255.255\nfrom r2\nnone\n",
+        ),
+        ("loops", "none\n"),
+        ("waypoint r1 r3 r2", "none\n"),
+        ("waypoint r1 r2 r3", "10.0.0.0-10.255.255.255\n"),
+        ("without b,b reach r1 r3", "none\n"),
+        (
+            "without b blackholes r1",
+            "at r1 noroute\n0.0.0.0-9.255.255.255\n11.0.0.0-255.255.255.255\nat r2 linkdown b\n10.0.0.0-10.255.255.255\n",
+        ),
+    ];
+    for (query, lines) in cases {
+        let script = format!(in alloc; "{TAKES}{query}\n")?;
+        let got = answers_over(alloc, RING, [&first, &second, &third], script.as_str())?;
+        let want = format!(in alloc; "line 4 at 3 {query}\n{lines}")?;
+        assert_eq!(rt; got.as_slice(), want.as_bytes(), "{query}");
+    }
+    Ok(())
+}
+
+#[test]
+fn a_cycle_comes_and_goes(rt: HostRuntime) -> Result<(), Fail> {
+    let alloc = rt.alloc();
+    let (first, third) = (set_frame(0, 8, 2), set_frame(0, 8, 1));
+    let round = bytes_of(alloc, &[&set_frame(0, 8, 3), &set_frame(1, 16, 2)])?;
+    let script =
+        "take r1 all\ntake r2 all\ntake r3 all\nloops\npath r1 10.1.2.3\nreach r1 r2\nblackholes r1\n";
+    let got = answers_over(alloc, RING, [&first, round.as_slice(), &third], script)?;
+    assert_eq!(rt;
+        got.as_slice(),
+        b"line 4 at 4 loops\ncycle r1 r2 least 10.1.0.0 addresses 65536\nline 5 at 4 path r1 10.1.2.3\nhops r1 r2 r1 r2\nend loop\nline 6 at 4 reach r1 r2\n10.0.0.0-10.255.255.255\nline 7 at 4 blackholes r1\nat r1 noroute\n0.0.0.0-9.255.255.255\n11.0.0.0-255.255.255.255\n".as_slice()
+    );
+    let gone = bytes_of(alloc, &[&set_frame(0, 8, 3), &set_frame(1, 16, 2), &CLEAR])?;
+    let script = format!(in alloc; "{TAKES}loops\nreach r1 r3\ndelta\n")?;
+    let got = answers_over(
+        alloc,
+        RING,
+        [&first, gone.as_slice(), &third],
+        script.as_str(),
+    )?;
+    assert_eq!(rt;
+        got.as_slice(),
+        b"line 4 at 5 loops\nnone\nline 5 at 5 reach r1 r3\n10.0.0.0-10.255.255.255\nline 6 at 5 delta\nr2 10.1.0.0-10.1.255.255 to r1 by a -> to r3 by b\n".as_slice()
+    );
+    Ok(())
+}
+
+#[test]
+fn a_route_without_a_gateway_over_a_link(rt: HostRuntime) -> Result<(), Fail> {
+    let alloc = rt.alloc();
+    let script = format!(in alloc; "{TAKES}loops\npath r1 10.0.0.1\n")?;
+    let got = answers_over(alloc, RING, [&ON_LINK, &ON_LINK, &[]], script.as_str())?;
+    assert_eq!(rt;
+        got.as_slice(),
+        b"line 4 at 2 loops\nnone\nline 5 at 2 path r1 10.0.0.1\nhops r1\nend onlink 2\n".as_slice()
+    );
+    let got = answers_over(
+        alloc,
+        UNNUMBERED,
+        [&ON_LINK, &ON_LINK, &[]],
+        script.as_str(),
+    )?;
+    assert_eq!(rt;
+        got.as_slice(),
+        b"line 4 at 2 loops\ncycle r1 r2 least 10.0.0.0 addresses 4\nline 5 at 2 path r1 10.0.0.1\nhops r1 r2 r1 r2\nend loop\n".as_slice()
+    );
+    Ok(())
+}
+
+#[test]
+fn addresses_that_pass_by_a_waypoint(rt: HostRuntime) -> Result<(), Fail> {
+    let alloc = rt.alloc();
+    let first = bytes_of(
+        alloc,
+        &[&set_frame(0, 8, 2), &frame_of([10, 9, 0, 0], 24, 20, 3)],
+    )?;
+    let (second, third) = (set_frame(0, 8, 3), set_frame(0, 8, 1));
+    let script = format!(in alloc; "{TAKES}waypoint r1 r3 r2\n")?;
+    let got = answers_over(
+        alloc,
+        RING,
+        [first.as_slice(), &second, &third],
+        script.as_str(),
+    )?;
+    assert_eq!(rt;
+        got.as_slice(),
+        b"line 4 at 4 waypoint r1 r3 r2\n10.9.0.0-10.9.0.255\n".as_slice()
+    );
+    Ok(())
+}
+
+#[test]
+fn queries_before_any_update_and_of_unknown_names(rt: HostRuntime) -> Result<(), Fail> {
+    let alloc = rt.alloc();
+    let script = "loops\ndelta\nblackholes r1\nreach r1 r9\nwithout z reach r9 r1\nuses b\n";
+    let got = answers_over(alloc, RING, [&[], &[], &[]], script)?;
+    assert_eq!(rt;
+        got.as_slice(),
+        b"line 1 at 0 loops\nnone\nline 2 at 0 delta\nnone\nline 3 at 0 blackholes r1\nat r1 noroute\n0.0.0.0-255.255.255.255\nline 4 reach r1 r9\nunknown router r9\nline 5 without z reach r9 r1\nunknown link z\nline 6 at 0 uses b\nfrom r2\nnone\nfrom r3\nnone\n".as_slice()
+    );
+    Ok(())
+}

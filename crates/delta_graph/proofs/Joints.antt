@@ -3,7 +3,7 @@ use Rattle.std.proofs.Common.{◌≡◌, ℕ, ◌+◌, ◌<◌, ◌≤◌, ◌^�
 use Rattle.std.proofs.Math.Seq.{drop-cons}
 use Rattle.std.proofs.lemmas.Bool.{and_parts, both_ways, cases_Bool, cases_lt, eqb-true, false_from_ne_true, leb-true}
 use Rattle.std.proofs.lemmas.List.{take-append-drop}
-use Rattle.dn_model.specs.Delta.{AreChanges, GoesOn, IsApartFromFirst, IsChange, change_at, interval_of, is_change_at, targets_of}
+use Rattle.dn_model.specs.Delta.{AreChanges, GoesOn, IsApartFromFirst, IsChange, change_at, is_change_at, targets_of}
 use Rattle.dn_model.specs.Runs.{holds}
 use Rattle.dn_model.specs.declared.change.Change.{Change}
 use Rattle.dn_model.specs.declared.ids.RouterId.{RouterId}
@@ -20,7 +20,7 @@ pub record IsAt (r : RouterId) (a : ℕ) (c : Change) : Type 0 where
 
 pub is-at : (r : RouterId) (a : ℕ) (c : Change) → is_change_at r a c ≡ true → IsAt r a c
 is-at r a c t =
-    let parts : (eqb c.router.0 r.0 ≡ true) × (holds a (interval_of c.run) ≡ true) = and_parts (eqb c.router.0 r.0) (holds a (interval_of c.run)) t in
+    let parts : (eqb c.router.0 r.0 ≡ true) × (holds a c.run ≡ true) = and_parts (eqb c.router.0 r.0) (holds a c.run) t in
     let ends : (leb c.run.lo a ≡ true) × (leb a c.run.hi ≡ true) = and_parts (leb c.run.lo a) (leb a c.run.hi) parts.1 in
     record { router = eqb-true c.router.0 r.0 parts.0; low = leb-true c.run.lo a ends.0; high = leb-true a c.run.hi ends.1 }
 

@@ -3,7 +3,7 @@ use Rattle.std.proofs.Common.{◌≡◌, ℕ, ◌-◌, ◌<◌, ◌≤◌, ◌�
 use Rattle.std.proofs.Math.Seq.{drop-cons, take-suc}
 use Rattle.std.proofs.lemmas.Bool.{and_from, both_ways, cases_Bool, cases_lt, cases_order, le-leb}
 use Rattle.std.proofs.lemmas.List.{drop_all, get_or_default, take-append-drop}
-use Rattle.dn_model.specs.Delta.{AreChanges, GoesBefore, IsApart, IsApartFromFirst, IsChange, change_at, interval_of, is_change_at, targets_of}
+use Rattle.dn_model.specs.Delta.{AreChanges, GoesBefore, IsApart, IsApartFromFirst, IsChange, change_at, is_change_at, targets_of}
 use Rattle.dn_model.specs.Runs.{holds}
 use Rattle.dn_model.specs.declared.change.Change.{Change}
 use Rattle.dn_model.specs.declared.ids.RouterId.{RouterId}
@@ -66,7 +66,7 @@ goes-first xs place c lt form ends apart not_before =
   where
     meet : (d : Change) (a : ℕ) → take place xs ++ d ∷ drop (suc place) xs ≡ xs → c.router.0 ≡ d.router.0 → c.run.lo ≤ a → a ≤ c.run.hi → d.run.lo ≤ a → a ≤ d.run.hi → ⊥
     meet d a split e l h m n =
-        let inside : holds a (interval_of c.run) ≡ true = and_from (leb c.run.lo a) (leb a c.run.hi) (le-leb c.run.lo a l) (le-leb a c.run.hi h) in
+        let inside : holds a c.run ≡ true = and_from (leb c.run.lo a) (leb a c.run.hi) (le-leb c.run.lo a l) (le-leb a c.run.hi h) in
         let gone : change_at (take place xs ++ d ∷ drop (suc place) xs) c.router a ≡ None = ap (λ ys. change_at ys c.router a) split ∙ apart a inside in
         both_ways (is_change_at c.router a d) (none-at (take place xs) d (drop (suc place) xs) c.router a gone) (within c.router a d (sym e) m n)
 
@@ -102,7 +102,7 @@ module _ (xs : List Change) (c : Change) (place from to : ℕ) (left right : Cha
   put-here : (n : RouterId) (a : ℕ) → is_change_at n a c ≡ true → change_at (take from xs ++ right ∷ drop to xs) n a ≡ Some (targets_of c)
   put-here n a t =
       let at : IsAt n a c = is-at n a c t in
-      let held : holds a (interval_of c.run) ≡ true = and_from (leb c.run.lo a) (leb a c.run.hi) (le-leb c.run.lo a at.low) (le-leb a c.run.hi at.high) in
+      let held : holds a c.run ≡ true = and_from (leb c.run.lo a) (leb a c.run.hi) (le-leb c.run.lo a at.low) (le-leb a c.run.hi at.high) in
       let gone : change_at (take from xs ++ drop from xs) n a ≡ None = ap (λ ys. change_at ys n a) (take-append-drop from xs) ∙ same-number xs n c.router a (sym at.router) ∙ apart a held in
       none-front (take from xs) (drop from xs) (right ∷ drop to xs) n a gone
       ∙ first-is n a right (drop to xs) (r.here n a (l.here n a t))

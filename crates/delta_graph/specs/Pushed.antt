@@ -1,6 +1,6 @@
 -- What a push and a merge make of changes.
 use Rattle.std.specs.Prelude.{ℕ, List, Option, None, Some, IsSome, IsTrue, filter, map, ◌≡◌, ◌==◌, if◌then◌else◌}
-use Rattle.dn_model.specs.Delta.{AreChanges, change_at, interval_of, is_change_at}
+use Rattle.dn_model.specs.Delta.{AreChanges, change_at, is_change_at}
 use Rattle.dn_model.specs.Runs.{holds}
 use Rattle.dn_model.specs.declared.change.Change.{Change}
 use Rattle.dn_model.specs.declared.ids.RouterId.{RouterId}
@@ -9,7 +9,7 @@ use Rattle.dn_model.specs.declared.target.Target.{Target}
 
 -- no kept run of the change's router meets its run
 abbrev pub MeetsNone : List Change → Change → Type 0
-MeetsNone changes c = (a : ℕ) → IsTrue (holds a (interval_of c.run)) → change_at changes c.router a ≡ None
+MeetsNone changes c = (a : ℕ) → IsTrue (holds a c.run) → change_at changes c.router a ≡ None
 
 -- the changes with one more: as before but where the new one is, with its two targets there
 pub record IsPushed (old new : List Change) (c : Change) : Type 0 where

@@ -75,9 +75,10 @@ impl Delta {
         place
     }
 
-    /// Adds a change. Its two targets differ, and its run meets no kept run of its router. After `OutOfMemory`, for
+    /// Adds a change. Its run has an address, its two targets differ, and its run meets no kept run of its router. After `OutOfMemory`, for
     /// which alone it fails, the changes are as before.
     pub fn push(&mut self, change: Change) -> Result<(), OutOfMemory>
+        requires ends { change.run.lo ≤ change.run.hi }
         requires differ { change.before ≡ change.after → ⊥ }
         requires apart { MeetsNone self.old change }
         ensures ok { OnOk result (IsPushed self.old self.new change) }

@@ -29,7 +29,8 @@ fn change(router: u16, lo: u32, hi: u32) -> Change
 
 /// One change.
 fn one_change(alloc: Global, change: Change) -> Result<Delta, OutOfMemory>
-    requires { change.before ≡ change.after → ⊥ }
+    requires ends { change.run.lo ≤ change.run.hi }
+    requires differ { change.before ≡ change.after → ⊥ }
     ensures { IfOk result (λ delta. IsPushed [] delta change) }
 {
     let mut delta = Delta::new(alloc);

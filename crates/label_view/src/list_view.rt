@@ -41,7 +41,7 @@ impl ListView {
 impl LabelView for ListView {
     ghost width = { λ v. v.routers };
 
-    ghost labels = { λ v. v.rows };
+    ghost rows = { λ v. v.rows };
 
     fn routers(&self) -> u32 {
         self.routers

@@ -1,4 +1,4 @@
-//! Rows of labels, by place.
+//! Rows of forwarding, by place.
 
 ghost use Rattle.std.specs.Prelude.{◌≡◌, ℕ, ◌<◌, ◌≤◌, List, length, slice_index_or};
 ghost use Rattle.dn_model.specs.Forwarding.{AreForwarding, target_of};
@@ -13,33 +13,33 @@ pub trait LabelView {
     ghost width: { Self → ℕ };
 
     // The rows, in order.
-    ghost labels: { Self → List ForwardingRow };
+    ghost rows: { Self → List ForwardingRow };
 
     /// How many routers there are, which is at most 1,024.
     fn routers(&self) -> u32
         ensures value { result ≡ width self.now }
-        ensures form { AreForwarding (width self.now) (labels self.now) };
+        ensures form { AreForwarding (width self.now) (rows self.now) };
 
     /// How many rows there are.
     fn atoms(&self) -> u64
-        ensures value { result ≡ length (labels self.now) }
-        ensures form { AreForwarding (width self.now) (labels self.now) };
+        ensures value { result ≡ length (rows self.now) }
+        ensures form { AreForwarding (width self.now) (rows self.now) };
 
     /// The bounds of the row at a place: its first address, and the one after its last, which is at most 2^32.
     fn bounds(&self, i: u64) -> (u64, u64)
-        requires { i < length (labels self.now) }
-        ensures lo { (d : ForwardingRow) → result.0 ≡ (slice_index_or (labels self.now) i d).low }
-        ensures hi { (d : ForwardingRow) → result.1 ≡ (slice_index_or (labels self.now) i d).past };
+        requires { i < length (rows self.now) }
+        ensures low { (d : ForwardingRow) → result.0 ≡ (slice_index_or (rows self.now) i d).low }
+        ensures past { (d : ForwardingRow) → result.1 ≡ (slice_index_or (rows self.now) i d).past };
 
     /// The place of the row that has an address.
     fn atom_of(&self, a: u32) -> u64
-        ensures inside { result < length (labels self.now) }
-        ensures from { (d : ForwardingRow) → (slice_index_or (labels self.now) result d).low ≤ a }
-        ensures to { (d : ForwardingRow) → a < (slice_index_or (labels self.now) result d).past };
+        ensures inside { result < length (rows self.now) }
+        ensures from { (d : ForwardingRow) → (slice_index_or (rows self.now) result d).low ≤ a }
+        ensures to { (d : ForwardingRow) → a < (slice_index_or (rows self.now) result d).past };
 
     /// What a router does with the addresses of the row at a place.
     fn target(&self, r: RouterId, i: u64) -> Target
         requires router { r.0 < width self.now }
-        requires place { i < length (labels self.now) }
-        ensures { (d : ForwardingRow) → result ≡ target_of (slice_index_or (labels self.now) i d) r };
+        requires place { i < length (rows self.now) }
+        ensures { (d : ForwardingRow) → result ≡ target_of (slice_index_or (rows self.now) i d) r };
 }

@@ -55,14 +55,21 @@ impl Owners {
         Ok(())
     }
 
+    /// Removes the rule of a key. It answers whether there was one.
+    fn remove_key(&mut self, key: RuleKey) -> bool
+        ensures found { result ≡ list_any (has_rule_key key.len key.metric) self.old }
+        ensures left { self.new ≡ without_rule self.old key.len key.metric }
+    {
+        let removed = self.rules.remove(&key);
+        removed.is_some()
+    }
+
     /// Removes the rule of this length and metric. It answers whether there was one.
     pub fn remove(&mut self, len: u8, metric: u32) -> bool
         ensures found { result ≡ list_any (has_rule_key len metric) self.old }
-        ensures left { self.new ≡ without_rule self.old len metric }
+        ensures left { IsPermutation self.new (without_rule self.old len metric) }
     {
-        let key = RuleKey { len, metric };
-        let removed = self.rules.remove(&key);
-        removed.is_some()
+        self.remove_key(RuleKey { len, metric })
     }
 
     /// A rule of this length, if there is one.
@@ -85,18 +92,21 @@ impl Owners {
         ensures { self.new ≡ without_length self.old len }
     {
         while let Some(rule) = self.of_length(len) {
-            let _found = self.remove(len, rule.metric);
+            let _found = self.remove_key(RuleKey {
+                len,
+                metric: rule.metric,
+            });
         }
     }
 
     /// Removes the rule of this length and metric; without a metric all rules of the length. One that isn't there
     /// changes nothing. It takes no memory.
     pub fn clear(&mut self, len: u8, metric: Option<u32>)
-        ensures { self.new ≡ cleared_rules self.old len metric }
+        ensures { IsPermutation self.new (cleared_rules self.old len metric) }
     {
         match metric {
             Some(metric) => {
-                let _found = self.remove(len, metric);
+                let _found = self.remove_key(RuleKey { len, metric });
             }
             None => self.remove_length(len),
         }

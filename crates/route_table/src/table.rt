@@ -95,7 +95,7 @@ impl RouteTable {
     /// Removes the route of this prefix and metric; without a metric all routes of the prefix. One that isn't there
     /// changes nothing.
     pub fn clear(&mut self, prefix: Prefix, metric: Option<u32>)
-        ensures { self.new ≡ after_op self.old (Clear prefix metric) }
+        ensures { IsPermutation self.new (after_op self.old (Clear prefix metric)) }
     {
         match metric {
             Some(metric) => self.remove_key(prefix, metric),

@@ -2,12 +2,13 @@
 -- pin holds exactly what its job's earlier lines took.
 use Rattle.std.specs.Prelude.{ℕ, Bool, false, List, [], ◌∷◌, ◌++◌, ◌≡◌, ◌≤◌, ◌==◌, suc, not, All, length, map, filter, take, drop, fold, ◌+◌, ◌&&◌, Option, None, Some, if◌then◌else◌, IsTrue}
 use Rattle.std.specs.List.{list_any, flat_map}
-use Rattle.dn_model.specs.Answer.{unknown_of, IsAnswer}
+use Rattle.dn_model.specs.Answer.{IsAnswer}
+use Rattle.dn_model.specs.Entry.{is_of_feed}
+use Rattle.dn_model.specs.Query.{Question, unknown_of}
 use Rattle.dn_formats.specs.Steps.{FrameStep, updates, FeedRead, entries_of}
 use Rattle.dn_model.specs.declared.ids.RouterId.{RouterId}
 use Rattle.dn_model.specs.declared.topology.Topology.{Topology}
 use Rattle.dn_model.specs.declared.entry.Entry.{Entry}
-use Rattle.dn_model.specs.declared.query.Query.{Query}
 use Rattle.dn_formats.specs.declared.script.Line.{Line}
 use Rattle.dn_formats.specs.declared.script.Line.TheVariants.{Take, Ask}
 use Rattle.dn_formats.specs.declared.told.Outcome.{Outcome}
@@ -17,7 +18,7 @@ use Rattle.dn_formats.specs.declared.told.JobTold.{JobTold}
 
 -- whether an entry came from a feed
 abbrev pub is_from : FeedRead → Entry → Bool
-is_from f e = e.feed_no == f.feed_no
+is_from f e = is_of_feed f.feed_no e
 
 -- whether an entry came from one of these feeds
 abbrev pub is_from_some : List FeedRead → Entry → Bool
@@ -76,9 +77,9 @@ jobs_of scripts feeds =
 abbrev pub HoldsWhatWasTaken : List FeedRead → List Line → List Entry → Type 0
 HoldsWhatWasTaken feeds before seen = All (λ f. filter (is_from f) seen ≡ entries_of f (updates (taken before f))) feeds
 
--- What is told of a query of a job with these feeds after some lines, where the last pin was `last`: its first unknown name, or the answer over
--- the first entries of the history, up to its pin.
-abbrev pub IsOutcome : Topology → List Entry → List FeedRead → List Line → ℕ → Query → Outcome → Type 0
+-- What is told of a query of a job with these feeds after some lines, where the last pin was `last`: its first unknown
+-- name, or the answer over the first entries of the history, up to its pin.
+abbrev pub IsOutcome : Topology → List Entry → List FeedRead → List Line → ℕ → Question → Outcome → Type 0
 IsOutcome t history feeds before last q (Unknown u) = unknown_of t q ≡ Some u
 IsOutcome t history feeds before last q (Answered n answer) =
     (unknown_of t q ≡ None) × (last ≤ n) × (n ≤ length history)

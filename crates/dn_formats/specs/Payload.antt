@@ -7,7 +7,7 @@ use Rattle.std.specs.Int.{w16, w32, from_le_bytes}
 use Rattle.dn_model.specs.Cidr.{Cidr, IsCidr}
 use Rattle.dn_formats.specs.Attributes.{Attribute, padded, attributes_of, has, number_of, address_of, is_bad, rta_dst, rta_oif, rta_gateway, rta_priority, rta_multipath, rta_table, rta_via, rta_newdst, rta_encap_type, rta_encap, rta_nh_id}
 use Rattle.dn_formats.specs.Message.{NumberFits}
-use Rattle.dn_formats.specs.declared.refusal.TheConstants.{BAD_LENGTH, SHORT, BAD_ATTR, BAD_PREFIX_LENGTH, SOURCE_OR_TOS, NO_DESTINATION, HOST_BITS, ROUTE_TYPE, MULTIPATH, ENCAP, NEXT_HOP_ID, NO_INTERFACE}
+use Rattle.dn_formats.specs.declared.frame_cause.TheConstants.{BAD_LENGTH, SHORT, BAD_ATTR, BAD_PREFIX_LENGTH, SOURCE_OR_TOS, NO_DESTINATION, HOST_BITS, ROUTE_TYPE, MULTIPATH, ENCAP, NEXT_HOP_ID, NO_INTERFACE}
 use Rattle.dn_formats.specs.declared.payload.Payload.{Payload}
 use Rattle.dn_formats.specs.declared.payload.Item.{Item}
 use Rattle.dn_formats.specs.declared.payload.ItemKind.{ItemKind}

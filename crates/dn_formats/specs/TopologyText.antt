@@ -6,7 +6,7 @@ use Rattle.std.specs.Option.{option_map_or}
 use Rattle.std.specs.Str.{is_utf8}
 use Rattle.toml.specs.Data.{Data, Items, no_items, item, Members, no_members, member, get_member, as_str, as_bool, as_array, as_table}
 use Rattle.toml.specs.Parse.{parse_document}
-use Rattle.dn_formats.specs.declared.cause.TheConstants.{NOT_TOML, UNKNOWN_KEY, MISSING_KEY, BAD_NAME, TWICE_NAMED, BAD_END, END_TWICE, SELF_LINK, TOO_MANY, TOO_LONG}
+use Rattle.dn_formats.specs.declared.topology_cause.TheConstants.{NOT_TOML, UNKNOWN_KEY, MISSING_KEY, BAD_NAME, TWICE_NAMED, BAD_END, END_TWICE, SELF_LINK, TOO_MANY, TOO_LONG}
 use Rattle.dn_model.specs.declared.topology.TopoEnd.{TopoEnd}
 use Rattle.dn_model.specs.declared.topology.TopoLink.{TopoLink}
 use Rattle.dn_model.specs.declared.topology.Topology.{Topology}

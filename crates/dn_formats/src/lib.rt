@@ -4,19 +4,20 @@
 //! What a network does stands in `dn_model`, on which this crate stands; no crate that follows routes stands on this one.
 #![tactic(auto)]
 
-pub mod cause;
 mod decimal;
 mod error_line;
+pub mod frame_cause;
 mod laws;
 mod payload;
 mod print;
 #[cfg(test)]
 mod print_tests;
 mod raw_route;
-pub mod refusal;
 mod script;
+pub mod script_cause;
 mod text;
 mod told;
+pub mod topology_cause;
 mod topology_fault;
 
 pub use decimal::read_number;

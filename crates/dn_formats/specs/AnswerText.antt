@@ -75,7 +75,8 @@ path_end_text t Loop = codes "loop"
 
 -- the routers of a walk, and how it ends
 abbrev pub path_lines : Topology → List RouterId → PathEnd → List ℕ
-path_lines t hops end = line (codes "hops" ++ flat_map (hop_text t) hops) ++ line (codes "end " ++ path_end_text t end)
+path_lines t hops end =
+    line (codes "hops" ++ flat_map (hop_text t) hops) ++ line (codes "end " ++ path_end_text t end)
 
 -- the addresses that a router at an end of a link sends over it
 abbrev pub end_lines : Topology → RouterId → List Run → List ℕ
@@ -99,15 +100,19 @@ link_asked t Delta = None
 -- a cycle: its routers, its least address, and how many addresses go round
 abbrev pub cycle_line : Topology → Cycle → List ℕ
 cycle_line t c =
-    line (codes "cycle" ++ flat_map (hop_text t) c.routers ++ codes " least " ++ address_text c.least ++ codes " addresses " ++ decimal c.addresses)
+    line (codes "cycle" ++ flat_map (hop_text t) c.routers ++ codes " least " ++ address_text c.least
+    ++ codes " addresses " ++ decimal c.addresses)
 
 -- a black hole: its router, the cause, and the addresses that end there
 abbrev pub hole_lines : Topology → Hole → List ℕ
-hole_lines t h = line (codes "at " ++ name_of_router t h.router ++ codes " " ++ target_text t h.cause) ++ flat_map run_line h.runs
+hole_lines t h =
+    line (codes "at " ++ name_of_router t h.router ++ codes " " ++ target_text t h.cause) ++ flat_map run_line h.runs
 
 -- a router, its run of addresses, and what it does with them before and after
 abbrev pub change_line : Topology → Change → List ℕ
-change_line t c = line (name_of_router t c.router ++ codes " " ++ run_text c.run ++ codes " " ++ target_text t c.before ++ codes " -> " ++ target_text t c.after)
+change_line t c =
+    line (name_of_router t c.router ++ codes " " ++ run_text c.run ++ codes " " ++ target_text t c.before
+    ++ codes " -> " ++ target_text t c.after)
 
 -- the answer to what was asked
 abbrev pub answer_lines : Topology → Ask → Answer → List ℕ
@@ -122,8 +127,11 @@ answer_lines t ask (answer.Delta changes) = lines_or_none (change_line t) change
 
 -- a query's line with its pin and its answer, or without a pin and with its first unknown name
 abbrev pub outcome_lines : Topology → ℕ → Question → Outcome → List ℕ
-outcome_lines t l q (outcome.Answered n answer) = line (codes "line " ++ decimal l ++ codes " at " ++ decimal n ++ codes " " ++ query_text q) ++ answer_lines t q.ask answer
-outcome_lines t l q (outcome.Unknown unknown) = line (codes "line " ++ decimal l ++ codes " " ++ query_text q) ++ unknown_line q unknown
+outcome_lines t l q (outcome.Answered n answer) =
+    line (codes "line " ++ decimal l ++ codes " at " ++ decimal n ++ codes " " ++ query_text q)
+    ++ answer_lines t q.ask answer
+outcome_lines t l q (outcome.Unknown unknown) =
+    line (codes "line " ++ decimal l ++ codes " " ++ query_text q) ++ unknown_line q unknown
 
 abbrev pub told_lines : Topology → Told → List ℕ
 told_lines t told = outcome_lines t told.line told.query told.outcome

@@ -71,7 +71,8 @@ takes_feed lines f = list_any (takes f.router) lines
 abbrev pub jobs_of : List (List Line) → List FeedRead → List Job
 jobs_of scripts feeds =
     map (λ lines. record { lines = lines; feeds = filter (takes_feed lines) feeds }) scripts
-    ++ map (λ f. record { lines = []; feeds = f ∷ [] }) (filter (λ f. not (list_any (λ lines. takes_feed lines f) scripts)) feeds)
+    ++ map (λ f. record { lines = []; feeds = f ∷ [] })
+    (filter (λ f. not (list_any (λ lines. takes_feed lines f) scripts)) feeds)
 
 -- the history as a query's pin shows it holds of each feed of the job exactly the updates that the lines before took
 abbrev pub HoldsWhatWasTaken : List FeedRead → List Line → List Entry → Type 0
@@ -116,7 +117,8 @@ left_by lines f = entries_of f (updates (drop (length (taken lines f)) f.steps))
 abbrev pub entries_of_job : Job → List Entry
 entries_of_job job =
     taken_along job.feeds [] job.lines
-    ++ flat_map (left_by job.lines) (first_taken job.feeds [] job.lines ++ filter (λ f. not (takes_feed job.lines f)) job.feeds)
+    ++ flat_map (left_by job.lines)
+    (first_taken job.feeds [] job.lines ++ filter (λ f. not (takes_feed job.lines f)) job.feeds)
 
 -- in the history a job's own entries stand in this order
 abbrev pub KeepsOrder : List Entry → Job → Type 0
@@ -128,7 +130,8 @@ KeepsOrder history job = filter (is_from_some job.feeds) history ≡ entries_of_
 abbrev pub Tells : Topology → List Entry → List FeedRead → List Line → ℕ → List Line → List Told → Type 0
 Tells t history feeds before last [] [] = Unit {0}
 Tells t history feeds before last [] (told ∷ rest) = ⊥
-Tells t history feeds before last (Take l q count ∷ lines) tolds = Tells t history feeds (before ++ Take l q count ∷ []) last lines tolds
+Tells t history feeds before last (Take l q count ∷ lines) tolds =
+    Tells t history feeds (before ++ Take l q count ∷ []) last lines tolds
 Tells t history feeds before last (Ask l query ∷ lines) [] = ⊥
 Tells t history feeds before last (Ask l query ∷ lines) (told ∷ rest) =
     (told.line ≡ l) × (told.query ≡ query) × IsOutcome t history feeds before last query told.outcome
@@ -140,4 +143,5 @@ TellsAll t history number [] [] = Unit {0}
 TellsAll t history number [] (told ∷ rest) = ⊥
 TellsAll t history number (job ∷ jobs) [] = ⊥
 TellsAll t history number (job ∷ jobs) (told ∷ rest) =
-    (told.number ≡ number) × Tells t history job.feeds [] 0 job.lines told.told × TellsAll t history (suc number) jobs rest
+    (told.number ≡ number) × Tells t history job.feeds [] 0 job.lines told.told
+    × TellsAll t history (suc number) jobs rest

@@ -37,7 +37,8 @@ blackholes_of _ = None
 
 -- `waypoint R S W`
 abbrev pub waypoint_of : List (List ℕ) → Option Ask
-waypoint_of (r ∷ s ∷ w ∷ []) = if is_name_text r && is_name_text s && is_name_text w then Some (Waypoint r s w) else None
+waypoint_of (r ∷ s ∷ w ∷ []) =
+    if is_name_text r && is_name_text s && is_name_text w then Some (Waypoint r s w) else None
 waypoint_of _ = None
 
 -- `delta`

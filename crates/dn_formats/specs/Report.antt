@@ -20,7 +20,8 @@ use Rattle.dn_formats.specs.declared.error_line.ErrorLine.{ErrorLine}
 use Rattle.dn_formats.specs.declared.error_line.ErrorLine.TheVariants as errors
 
 abbrev pub op_text : Topology → Op → List ℕ
-op_text t (Set p m target) = codes "set " ++ prefix_text p ++ codes " metric " ++ decimal m ++ codes " " ++ target_text t target
+op_text t (Set p m target) =
+    codes "set " ++ prefix_text p ++ codes " metric " ++ decimal m ++ codes " " ++ target_text t target
 op_text t (Clear p (Some m)) = codes "clear " ++ prefix_text p ++ codes " metric " ++ decimal m
 op_text t (Clear p None) = codes "clear " ++ prefix_text p
 
@@ -34,18 +35,25 @@ end_text (Some Full) = codes "full"
 end_text (Some Faulted) = codes "readfault"
 
 abbrev pub refused_line : RefusedFrame → List ℕ
-refused_line f = line (codes "refused offset " ++ decimal f.offset ++ codes " message " ++ decimal f.at ++ codes " cause " ++ decimal f.cause ++ codes " " ++ cause_text f.cause)
+refused_line f =
+    line (codes "refused offset " ++ decimal f.offset ++ codes " message " ++ decimal f.at ++ codes " cause "
+    ++ decimal f.cause ++ codes " " ++ cause_text f.cause)
 
 abbrev pub feed_line : Topology → FeedTold → List ℕ
-feed_line t f = line (codes "feed " ++ decimal f.feed_no ++ codes " " ++ name_of_router t f.router ++ codes " updates " ++ decimal f.updates
-    ++ codes " skipped " ++ decimal f.skipped ++ codes " refused " ++ decimal (length f.refused) ++ codes " " ++ end_text f.end)
+feed_line t f =
+    line (codes "feed " ++ decimal f.feed_no ++ codes " " ++ name_of_router t f.router ++ codes " updates "
+    ++ decimal f.updates
+    ++ codes " skipped " ++ decimal f.skipped ++ codes " refused " ++ decimal (length f.refused) ++ codes " "
+    ++ end_text f.end)
 
 -- a feed's line, and one for each of its refused frames
 abbrev pub feed_lines : Topology → FeedTold → List ℕ
 feed_lines t f = feed_line t f ++ flat_map refused_line f.refused
 
 abbrev pub entry_line : Topology → ℕ → Entry → List ℕ
-entry_line t i e = line (decimal i ++ codes " feed " ++ decimal e.feed_no ++ codes " " ++ name_of_router t e.router ++ codes " " ++ op_text t e.op)
+entry_line t i e =
+    line (decimal i ++ codes " feed " ++ decimal e.feed_no ++ codes " " ++ name_of_router t e.router ++ codes " "
+    ++ op_text t e.op)
 
 -- the entries, the first of which is at position i
 abbrev pub entry_lines : Topology → ℕ → List Entry → List ℕ
@@ -61,7 +69,8 @@ job_lines t j = line (codes "job " ++ decimal j.number) ++ flat_map (told_lines 
 
 -- the whole report
 abbrev pub report : Topology → List FeedTold → List Entry → List JobTold → List ℕ
-report t feeds history jobs = flat_map (feed_lines t) feeds ++ history_lines t history ++ flat_map (job_lines t) jobs ++ line (codes "done")
+report t feeds history jobs =
+    flat_map (feed_lines t) feeds ++ history_lines t history ++ flat_map (job_lines t) jobs ++ line (codes "done")
 
 abbrev pub topology_part_text : TopoPart → List ℕ
 topology_part_text parts.Top = codes "top"
@@ -75,11 +84,14 @@ cause_words names cause = decimal cause ++ codes " " ++ name_of_cause names caus
 
 -- where a topology is refused, and why
 abbrev pub topology_fault_words : TopoFault → List ℕ
-topology_fault_words f = codes "topology " ++ topology_part_text f.part ++ codes " " ++ decimal f.entry ++ codes " " ++ cause_words topology_causes f.cause
+topology_fault_words f =
+    codes "topology " ++ topology_part_text f.part ++ codes " " ++ decimal f.entry ++ codes " "
+    ++ cause_words topology_causes f.cause
 
 -- where a script is refused, and why
 abbrev pub script_fault_words : ℕ → ℕ → ℕ → List ℕ
-script_fault_words i l cause = codes "script " ++ decimal i ++ codes " line " ++ decimal l ++ codes " " ++ cause_words script_causes cause
+script_fault_words i l cause =
+    codes "script " ++ decimal i ++ codes " line " ++ decimal l ++ codes " " ++ cause_words script_causes cause
 
 abbrev pub part_words : ℕ → List ℕ → List ℕ
 part_words i why = codes "part " ++ decimal i ++ codes " " ++ why

@@ -72,15 +72,18 @@ same_router r s = s.0 == r.0
 -- the router to take from must have a feed, and no earlier script may take it
 abbrev pub take_from : ℕ → List RouterId → Option ℕ → Option RouterId → Result (Option Line) ℕ
 take_from n taken count None = Err TAKE_UNKNOWN
-take_from n taken count (Some r) = if list_any (same_router r) taken then Err TAKEN_TWICE else Ok (Some (line.Take n r count))
+take_from n taken count (Some r) =
+    if list_any (same_router r) taken then Err TAKEN_TWICE else Ok (Some (line.Take n r count))
 
-abbrev pub take_count : List (List ℕ) → List RouterId → List RouterId → ℕ → List ℕ → Option (Option ℕ) → Result (Option Line) ℕ
+abbrev pub take_count : List (List ℕ) → List RouterId → List RouterId → ℕ → List ℕ → Option (Option ℕ)
+    → Result (Option Line) ℕ
 take_count routers feeds taken n name None = Err BAD_LINE
 take_count routers feeds taken n name (Some count) =
     if is_name_text name then take_from n taken count (find (is_named routers name) feeds) else Err BAD_LINE
 
 -- `take R N` and `take R all`
-abbrev pub take_meaning : List (List ℕ) → List RouterId → List RouterId → ℕ → Option (List ℕ × List ℕ) → Result (Option Line) ℕ
+abbrev pub take_meaning : List (List ℕ) → List RouterId → List RouterId → ℕ → Option (List ℕ × List ℕ)
+    → Result (Option Line) ℕ
 take_meaning routers feeds taken n None = Err BAD_LINE
 take_meaning routers feeds taken n (Some operands) = take_count routers feeds taken n operands.0 (count_of operands.1)
 
@@ -93,7 +96,8 @@ ask_meaning n (Some query) = Ok (Some (line.Ask n query))
 abbrev pub command_meaning : List (List ℕ) → List RouterId → List RouterId → ℕ → List (List ℕ) → Result (Option Line) ℕ
 command_meaning routers feeds taken n [] = Err BAD_LINE
 command_meaning routers feeds taken n (verb ∷ operands) =
-    if bytes_eq verb (codes "take") then take_meaning routers feeds taken n (two_of operands) else ask_meaning n (query_of verb operands)
+    if bytes_eq verb (codes "take") then take_meaning routers feeds taken n (two_of operands)
+    else ask_meaning n (query_of verb operands)
 
 -- what line n means: what it does, nothing where it passes, or the cause for which it is refused
 abbrev pub line_meaning : List (List ℕ) → List RouterId → List RouterId → ℕ → List ℕ → Result (Option Line) ℕ
@@ -111,7 +115,8 @@ abbrev pub numbered : ℕ → Result (Option Line) ℕ → Result (Option Line) 
 numbered n meaning = if nat_lt 65536 n then Err (record { line = n; cause = TOO_MANY_LINES }) else at_line n meaning
 
 -- a line before the lines after it; the first fault counts
-abbrev pub with_line : Result (Option Line) ScriptFault → Result (List Line) ScriptFault → Result (List Line) ScriptFault
+abbrev pub with_line : Result (Option Line) ScriptFault → Result (List Line) ScriptFault
+    → Result (List Line) ScriptFault
 with_line (Err f) rest = Err f
 with_line (Ok l) (Err f) = Err f
 with_line (Ok l) (Ok ls) = Ok (option_to_list l ++ ls)
@@ -121,7 +126,8 @@ abbrev pub lines_meaning : (ℕ → List ℕ → Result (Option Line) ℕ) → �
 lines_meaning meaning n [] = Ok []
 lines_meaning meaning n (l ∷ ls) = with_line (numbered n (meaning n l)) (lines_meaning meaning (n + 1) ls)
 
--- what a script's bytes mean, given the routers' names, the routers that have a feed, and those that earlier scripts take
+-- what a script's bytes mean, given the routers' names, the routers that have a feed, and those that earlier scripts
+-- take
 abbrev pub script_of : List (List ℕ) → List RouterId → List RouterId → List ℕ → Result (List Line) ScriptFault
 script_of routers feeds taken bytes =
     if nat_lt 16777216 (length bytes) then Err (record { line = 0; cause = TOO_LONG })

@@ -16,7 +16,9 @@ line text = text ++ 10 ∷ []
 
 -- four decimal numbers parted by dots
 abbrev pub address_text : ℕ → List ℕ
-address_text a = decimal (a / 2 ^ 24) ++ codes "." ++ decimal (a / 2 ^ 16 % 256) ++ codes "." ++ decimal (a / 2 ^ 8 % 256) ++ codes "." ++ decimal (a % 256)
+address_text a =
+    decimal (a / 2 ^ 24) ++ codes "." ++ decimal (a / 2 ^ 16 % 256) ++ codes "." ++ decimal (a / 2 ^ 8 % 256)
+    ++ codes "." ++ decimal (a % 256)
 
 abbrev pub prefix_text : Cidr → List ℕ
 prefix_text p = address_text p.base ++ codes "/" ++ decimal p.len

@@ -1,7 +1,8 @@
-//! What `deltanet` reads and prints: the types of feeds, scripts and reports, the definitions that contracts cite of them
-//! (`specs/`), and the printers that the report is made of.
+//! What `deltanet` reads and prints: the types of feeds, scripts and reports, the definitions that contracts cite of
+//! them (`specs/`), and the printers that the report is made of.
 //!
-//! What a network does stands in `dn_model`, on which this crate stands; no crate that follows routes stands on this one.
+//! What a network does stands in `dn_model`, on which this crate stands; no crate that follows routes stands on this
+//! one.
 #![tactic(auto)]
 
 mod decimal;

@@ -12,7 +12,7 @@ use Rattle.dn_model.specs.declared.topology.TopoEnd.{TopoEnd}
 use Rattle.dn_model.specs.declared.topology.TopoLink.{TopoLink}
 use Rattle.dn_formats.specs.declared.topology_fault.TopoFault.{TopoFault}
 use Rattle.dn_formats.specs.declared.topology_fault.TopoPart.TheVariants.{Routers, Link, Edge}
-use Rattle.dn_formats.specs.declared.cause.TheConstants.{TOO_LONG}
+use Rattle.dn_formats.specs.declared.topology_cause.TheConstants.{TOO_LONG}
 use Rattle.dn_model.specs.Name.{is_name_text}
 use Rattle.dn_model.specs.Topology.{same_text, same_end, all_differ, all_ends, is_end_of, is_link_of, is_sound_topology}
 use Rattle.dn_formats.specs.EndText.{read_end, end_at}

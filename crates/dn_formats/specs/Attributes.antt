@@ -42,7 +42,8 @@ attributes_after left [] = []
 attributes_after (suc left) (byte ∷ bytes) = attributes_after left bytes
 attributes_after zero (byte ∷ bytes) =
     if nat_lt (length (byte ∷ bytes)) 4 then []
-    else followed_by (first_attribute (byte ∷ bytes)) (attributes_after (padded (attribute_length (byte ∷ bytes)) - 1) bytes)
+    else followed_by (first_attribute (byte ∷ bytes))
+    (attributes_after (padded (attribute_length (byte ∷ bytes)) - 1) bytes)
 
 abbrev pub attributes_of : List ℕ → List Attribute
 attributes_of bytes = attributes_after 0 bytes
@@ -114,7 +115,8 @@ address_of kind attributes = option_and_then address_in (last_of kind attributes
 
 -- The attributes whose payload has four bytes: RTA_DST, RTA_PRIORITY and RTA_TABLE, and RTA_OIF where the route is set.
 abbrev pub has_four_bytes : Bool → ℕ → Bool
-has_four_bytes is_set kind = kind == rta_dst || kind == rta_priority || kind == rta_table || (if is_set then kind == rta_oif else false)
+has_four_bytes is_set kind =
+    kind == rta_dst || kind == rta_priority || kind == rta_table || (if is_set then kind == rta_oif else false)
 
 -- an attribute that no message has: of a bad length, or of another size than its type's
 abbrev pub is_bad : Bool → Attribute → Bool

@@ -18,7 +18,8 @@ decimal_value digits = fold (λ n d. 10 * n + (d - 48)) 0 digits
 -- the number from low to high that a text writes, if it writes one
 abbrev pub number_within : ℕ → ℕ → List ℕ → Option ℕ
 number_within low high text =
-    if is_decimal text && (nat_le low (decimal_value text) && nat_le (decimal_value text) high) then Some (decimal_value text) else None
+    if is_decimal text && (nat_le low (decimal_value text) && nat_le (decimal_value text) high)
+    then Some (decimal_value text) else None
 
 abbrev pub octet_of : List ℕ → Option ℕ
 octet_of text = number_within 0 255 text

@@ -10,7 +10,8 @@ end_at (Some place) (Some index) = Some (record { router = record { 0 = place };
 end_at (Some place) None = None
 end_at None index = None
 
--- the end that a text is: what stands before its first colon is one of the routers' names, what stands after it an index
+-- the end that a text is: what stands before its first colon is one of the routers' names, what stands after it
+-- an index
 abbrev pub read_end : List (List ℕ) → List ℕ → Option TopoEnd
 read_end routers text =
     option_and_then

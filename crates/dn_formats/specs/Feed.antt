@@ -14,7 +14,7 @@ use Rattle.dn_formats.specs.declared.payload.ItemKind.{ItemKind}
 use Rattle.dn_formats.specs.declared.payload.ItemKind.TheVariants.{Route, Skipped}
 use Rattle.dn_formats.specs.declared.payload.Payload.{Payload}
 use Rattle.dn_formats.specs.declared.payload.Refused.{Refused as Refusal}
-use Rattle.dn_formats.specs.declared.refusal.TheConstants.{UNKNOWN_INTERFACE, FRAME_TYPE}
+use Rattle.dn_formats.specs.declared.frame_cause.TheConstants.{UNKNOWN_INTERFACE, FRAME_TYPE, BAD_VERSION, BAD_FRAME_LENGTH}
 use Rattle.dn_model.specs.declared.topology.Topology.{Topology}
 use Rattle.dn_formats.specs.declared.told.FeedEnd.{FeedEnd}
 use Rattle.dn_formats.specs.declared.told.FeedEnd.TheVariants.{End, CutShort, Lost, TooLong}
@@ -95,8 +95,8 @@ AreSteps t r offset (f ∷ fs) (s ∷ ss) = IsStep t r offset f s × AreSteps t 
 -- How a feed ends whose rest, at this offset, is of this kind. One that goes on past its limit is too long, unless
 -- the framing was lost before.
 abbrev pub ending : FrameRest → ℕ → Bool → FeedEnd
-ending BadVersion offset is_longer = Lost offset 15
-ending BadFrameLength offset is_longer = Lost offset 16
+ending BadVersion offset is_longer = Lost offset BAD_VERSION
+ending BadFrameLength offset is_longer = Lost offset BAD_FRAME_LENGTH
 ending NoRest offset is_longer = if is_longer then TooLong else End
 ending CutFrame offset is_longer = if is_longer then TooLong else CutShort offset
 

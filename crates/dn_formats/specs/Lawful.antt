@@ -2,12 +2,13 @@
 -- pin holds exactly what its job's earlier lines took.
 use Rattle.std.specs.Prelude.{ℕ, Bool, false, List, [], ◌∷◌, ◌++◌, ◌≡◌, ◌≤◌, ◌==◌, suc, not, All, length, map, filter, take, drop, fold, ◌+◌, ◌&&◌, Option, None, Some, if◌then◌else◌, IsTrue}
 use Rattle.std.specs.List.{list_any, flat_map}
-use Rattle.dn_model.specs.Answer.{unknown_of, IsAnswer}
+use Rattle.dn_model.specs.Answer.{IsAnswer}
+use Rattle.dn_model.specs.Entry.{is_of_feed}
+use Rattle.dn_model.specs.Query.{Question, unknown_of}
 use Rattle.dn_formats.specs.Steps.{FrameStep, updates, FeedRead, entries_of}
 use Rattle.dn_model.specs.declared.ids.RouterId.{RouterId}
 use Rattle.dn_model.specs.declared.topology.Topology.{Topology}
 use Rattle.dn_model.specs.declared.entry.Entry.{Entry}
-use Rattle.dn_model.specs.declared.query.Query.{Query}
 use Rattle.dn_formats.specs.declared.script.Line.{Line}
 use Rattle.dn_formats.specs.declared.script.Line.TheVariants.{Take, Ask}
 use Rattle.dn_formats.specs.declared.told.Outcome.{Outcome}
@@ -17,7 +18,7 @@ use Rattle.dn_formats.specs.declared.told.JobTold.{JobTold}
 
 -- whether an entry came from a feed
 abbrev pub is_from : FeedRead → Entry → Bool
-is_from f e = e.feed_no == f.feed_no
+is_from f e = is_of_feed f.feed_no e
 
 -- whether an entry came from one of these feeds
 abbrev pub is_from_some : List FeedRead → Entry → Bool
@@ -70,15 +71,16 @@ takes_feed lines f = list_any (takes f.router) lines
 abbrev pub jobs_of : List (List Line) → List FeedRead → List Job
 jobs_of scripts feeds =
     map (λ lines. record { lines = lines; feeds = filter (takes_feed lines) feeds }) scripts
-    ++ map (λ f. record { lines = []; feeds = f ∷ [] }) (filter (λ f. not (list_any (λ lines. takes_feed lines f) scripts)) feeds)
+    ++ map (λ f. record { lines = []; feeds = f ∷ [] })
+    (filter (λ f. not (list_any (λ lines. takes_feed lines f) scripts)) feeds)
 
 -- the history as a query's pin shows it holds of each feed of the job exactly the updates that the lines before took
 abbrev pub HoldsWhatWasTaken : List FeedRead → List Line → List Entry → Type 0
 HoldsWhatWasTaken feeds before seen = All (λ f. filter (is_from f) seen ≡ entries_of f (updates (taken before f))) feeds
 
--- What is told of a query of a job with these feeds after some lines, where the last pin was `last`: its first unknown name, or the answer over
--- the first entries of the history, up to its pin.
-abbrev pub IsOutcome : Topology → List Entry → List FeedRead → List Line → ℕ → Query → Outcome → Type 0
+-- What is told of a query of a job with these feeds after some lines, where the last pin was `last`: its first unknown
+-- name, or the answer over the first entries of the history, up to its pin.
+abbrev pub IsOutcome : Topology → List Entry → List FeedRead → List Line → ℕ → Question → Outcome → Type 0
 IsOutcome t history feeds before last q (Unknown u) = unknown_of t q ≡ Some u
 IsOutcome t history feeds before last q (Answered n answer) =
     (unknown_of t q ≡ None) × (last ≤ n) × (n ≤ length history)
@@ -115,7 +117,8 @@ left_by lines f = entries_of f (updates (drop (length (taken lines f)) f.steps))
 abbrev pub entries_of_job : Job → List Entry
 entries_of_job job =
     taken_along job.feeds [] job.lines
-    ++ flat_map (left_by job.lines) (first_taken job.feeds [] job.lines ++ filter (λ f. not (takes_feed job.lines f)) job.feeds)
+    ++ flat_map (left_by job.lines)
+    (first_taken job.feeds [] job.lines ++ filter (λ f. not (takes_feed job.lines f)) job.feeds)
 
 -- in the history a job's own entries stand in this order
 abbrev pub KeepsOrder : List Entry → Job → Type 0
@@ -127,7 +130,8 @@ KeepsOrder history job = filter (is_from_some job.feeds) history ≡ entries_of_
 abbrev pub Tells : Topology → List Entry → List FeedRead → List Line → ℕ → List Line → List Told → Type 0
 Tells t history feeds before last [] [] = Unit {0}
 Tells t history feeds before last [] (told ∷ rest) = ⊥
-Tells t history feeds before last (Take l q count ∷ lines) tolds = Tells t history feeds (before ++ Take l q count ∷ []) last lines tolds
+Tells t history feeds before last (Take l q count ∷ lines) tolds =
+    Tells t history feeds (before ++ Take l q count ∷ []) last lines tolds
 Tells t history feeds before last (Ask l query ∷ lines) [] = ⊥
 Tells t history feeds before last (Ask l query ∷ lines) (told ∷ rest) =
     (told.line ≡ l) × (told.query ≡ query) × IsOutcome t history feeds before last query told.outcome
@@ -139,4 +143,5 @@ TellsAll t history number [] [] = Unit {0}
 TellsAll t history number [] (told ∷ rest) = ⊥
 TellsAll t history number (job ∷ jobs) [] = ⊥
 TellsAll t history number (job ∷ jobs) (told ∷ rest) =
-    (told.number ≡ number) × Tells t history job.feeds [] 0 job.lines told.told × TellsAll t history (suc number) jobs rest
+    (told.number ≡ number) × Tells t history job.feeds [] 0 job.lines told.told
+    × TellsAll t history (suc number) jobs rest

@@ -1,4 +1,6 @@
+pub mod AnswerText
 pub mod Attributes
+pub mod Causes
 pub mod Decimal
 pub mod EndText
 pub mod Feed
@@ -6,8 +8,10 @@ pub mod Frames
 pub mod Lawful
 pub mod Message
 pub mod Payload
+pub mod QueryWords
 pub mod Report
 pub mod ScriptText
 pub mod Steps
+pub mod Texts
 pub mod TopologyText
 pub mod Words

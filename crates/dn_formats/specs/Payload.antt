@@ -1,13 +1,14 @@
 -- What the payload of a frame says: a list of messages of netlink(7) (RFC 3549), of which those of rtnetlink(7) that
 -- set or delete a route (RTM_NEWROUTE, RTM_DELROUTE of linux/rtnetlink.h) are read. Numbers are little-endian, as the
--- sender's are; an address is in network byte order. Which messages are refused or skipped is the project's own profile.
+-- sender's are; an address is in network byte order. Which messages are refused or skipped is the project's own
+-- profile.
 use Rattle.std.specs.Prelude.{◌≡◌, ℕ, zero, suc, ◌+◌, ◌-◌, ◌%◌, ◌^◌, ◌==◌, nat_lt, Bool, true, false, ◌&&◌, ◌||◌, not, if◌then◌else◌, List, [], ◌∷◌, length, take, drop, slice_index, Option, None, Some, is_none, unwrap_or, IsSome}
 use Rattle.std.specs.List.{list_any}
 use Rattle.std.specs.Int.{w16, w32, from_le_bytes}
 use Rattle.dn_model.specs.Cidr.{Cidr, IsCidr}
 use Rattle.dn_formats.specs.Attributes.{Attribute, padded, attributes_of, has, number_of, address_of, is_bad, rta_dst, rta_oif, rta_gateway, rta_priority, rta_multipath, rta_table, rta_via, rta_newdst, rta_encap_type, rta_encap, rta_nh_id}
 use Rattle.dn_formats.specs.Message.{NumberFits}
-use Rattle.dn_formats.specs.declared.refusal.TheConstants.{BAD_LENGTH, SHORT, BAD_ATTR, BAD_PREFIX_LENGTH, SOURCE_OR_TOS, NO_DESTINATION, HOST_BITS, ROUTE_TYPE, MULTIPATH, ENCAP, NEXT_HOP_ID, NO_INTERFACE}
+use Rattle.dn_formats.specs.declared.frame_cause.TheConstants.{BAD_LENGTH, SHORT, BAD_ATTR, BAD_PREFIX_LENGTH, SOURCE_OR_TOS, NO_DESTINATION, HOST_BITS, ROUTE_TYPE, MULTIPATH, ENCAP, NEXT_HOP_ID, NO_INTERFACE}
 use Rattle.dn_formats.specs.declared.payload.Payload.{Payload}
 use Rattle.dn_formats.specs.declared.payload.Item.{Item}
 use Rattle.dn_formats.specs.declared.payload.ItemKind.{ItemKind}
@@ -124,7 +125,8 @@ pub data Ruling : Type 0 where
 -- The first row that holds of a message decides; a message of which none holds says its route.
 abbrev pub message_rows : List (Ruling × (List ℕ → Bool))
 message_rows =
-    (Refuses BAD_LENGTH, λ m. nat_lt (length m) 16 || nat_lt (message_length m) 16 || nat_lt (length m) (message_length m))
+    (Refuses BAD_LENGTH, λ m. nat_lt (length m) 16 || nat_lt (message_length m) 16
+    || nat_lt (length m) (message_length m))
     ∷ (Skips OtherType, λ m. not (is_set m || is_deletion m))
     ∷ (Refuses SHORT, λ m. nat_lt (message_length m) 28)
     ∷ (Skips OtherFamily, λ m. not (family m == 2))
@@ -136,7 +138,8 @@ message_rows =
     ∷ (Refuses HOST_BITS, λ m. not ((prefix_of m).base % 2 ^ (32 - prefix_length m) == 0))
     ∷ (Refuses ROUTE_TYPE, λ m. is_set m && is_none (kind_of (route_type m)))
     ∷ (Refuses MULTIPATH, λ m. is_set m && has rta_multipath (attributes m))
-    ∷ (Refuses ENCAP, λ m. is_set m && (has rta_newdst (attributes m) || has rta_encap_type (attributes m) || has rta_encap (attributes m)))
+    ∷ (Refuses ENCAP, λ m. is_set m
+    && (has rta_newdst (attributes m) || has rta_encap_type (attributes m) || has rta_encap (attributes m)))
     ∷ (Refuses NEXT_HOP_ID, λ m. is_set m && has rta_nh_id (attributes m))
     ∷ (Refuses NO_INTERFACE, λ m. is_set m && route_type m == 1 && is_none (interface m))
     ∷ []
@@ -163,13 +166,15 @@ said at bytes (Some (Skips skip)) more = before (record { at = at; what = Skippe
 said at bytes None more = before (record { at = at; what = Route (route_of bytes) }) more
 
 -- What these bytes say, the first of which stands at this place of the payload, where the first so many are still those
--- of the message before. The next message begins after the message's padding. Fewer than 4 bytes at the end are padding.
+-- of the message before. The next message begins after the message's padding. Fewer than 4 bytes at the end are
+-- padding.
 unfoldable pub said_after : ℕ → ℕ → List ℕ → Payload
 said_after at left [] = nothing_more
 said_after at (suc left) (byte ∷ bytes) = said_after (at + 1) left bytes
 said_after at zero (byte ∷ bytes) =
     if nat_lt (length (byte ∷ bytes)) 4 then nothing_more
-    else said at (byte ∷ bytes) (ruling_of (byte ∷ bytes)) (said_after (at + 1) (padded (message_length (byte ∷ bytes)) - 1) bytes)
+    else said at (byte ∷ bytes) (ruling_of (byte ∷ bytes))
+    (said_after (at + 1) (padded (message_length (byte ∷ bytes)) - 1) bytes)
 
 -- the messages of a payload up to the first that is refused, and that one
 abbrev pub payload_of : List ℕ → Payload

@@ -1,18 +1,18 @@
 -- What the text of a script means: its lines that do something, or its first fault.
-use Rattle.std.specs.Prelude.{ℕ, ◌+◌, ◌≤◌, Bool, true, false, List, [], ◌∷◌, ◌++◌, length, nat_lt, ◌||◌, ◌==◌, if◌then◌else◌, filter, find, slice_get, codes, Option, None, Some, Result, Ok, Err}
+use Rattle.std.specs.Prelude.{ℕ, ◌+◌, Bool, true, false, List, [], ◌∷◌, ◌++◌, length, nat_lt, ◌||◌, ◌==◌, if◌then◌else◌, filter, find, slice_get, codes, Option, None, Some, Result, Ok, Err}
 use Rattle.std.specs.List.{list_any, slice_split}
 use Rattle.std.specs.Option.{option_map, option_to_list}
 use Rattle.std.specs.Str.{bytes_eq}
-use Rattle.dn_formats.specs.Decimal.{number_within, address_of}
+use Rattle.dn_formats.specs.Decimal.{number_within}
+use Rattle.dn_formats.specs.QueryWords.{query_of}
+use Rattle.dn_formats.specs.declared.script_cause.TheConstants.{BAD_LINE, TAKE_UNKNOWN, TAKEN_TWICE, TOO_MANY_LINES, TOO_LONG}
 use Rattle.dn_model.specs.Name.{is_name_text}
+use Rattle.dn_model.specs.Query.{Question}
 use Rattle.dn_model.specs.declared.ids.RouterId.{RouterId}
-use Rattle.dn_model.specs.declared.query.Ask.{Ask}
-use Rattle.dn_model.specs.declared.query.Ask.TheVariants.{Path, Delta}
 use Rattle.dn_formats.specs.declared.script.Line.{Line}
 use Rattle.dn_formats.specs.declared.script.Line.TheVariants as line
 
--- where a script is refused: the line, from 1, or 0 for the whole, and the number of the cause:
--- 1 BadLine, 2 TakeUnknown, 3 TakenTwice, 4 TooManyLines, 5 TooLong
+-- where a script is refused: the line, from 1, or 0 for the whole, and the number of the cause
 pub record ScriptFault : Type 0 where
   pub line : ℕ
   pub cause : ℕ
@@ -71,50 +71,39 @@ same_router r s = s.0 == r.0
 
 -- the router to take from must have a feed, and no earlier script may take it
 abbrev pub take_from : ℕ → List RouterId → Option ℕ → Option RouterId → Result (Option Line) ℕ
-take_from n taken count None = Err 2
-take_from n taken count (Some r) = if list_any (same_router r) taken then Err 3 else Ok (Some (line.Take n r count))
+take_from n taken count None = Err TAKE_UNKNOWN
+take_from n taken count (Some r) =
+    if list_any (same_router r) taken then Err TAKEN_TWICE else Ok (Some (line.Take n r count))
 
-abbrev pub take_count : List (List ℕ) → List RouterId → List RouterId → ℕ → List ℕ → Option (Option ℕ) → Result (Option Line) ℕ
-take_count routers feeds taken n name None = Err 1
+abbrev pub take_count : List (List ℕ) → List RouterId → List RouterId → ℕ → List ℕ → Option (Option ℕ)
+    → Result (Option Line) ℕ
+take_count routers feeds taken n name None = Err BAD_LINE
 take_count routers feeds taken n name (Some count) =
-    if is_name_text name then take_from n taken count (find (is_named routers name) feeds) else Err 1
+    if is_name_text name then take_from n taken count (find (is_named routers name) feeds) else Err BAD_LINE
 
 -- `take R N` and `take R all`
-abbrev pub take_meaning : List (List ℕ) → List RouterId → List RouterId → ℕ → Option (List ℕ × List ℕ) → Result (Option Line) ℕ
-take_meaning routers feeds taken n None = Err 1
+abbrev pub take_meaning : List (List ℕ) → List RouterId → List RouterId → ℕ → Option (List ℕ × List ℕ)
+    → Result (Option Line) ℕ
+take_meaning routers feeds taken n None = Err BAD_LINE
 take_meaning routers feeds taken n (Some operands) = take_count routers feeds taken n operands.0 (count_of operands.1)
 
--- `path R A`
-abbrev pub path_of : Option (List ℕ × List ℕ) → Option Ask
-path_of None = None
-path_of (Some operands) = if is_name_text operands.0 then option_map (λ a. Path operands.0 a) (address_of operands.1) else None
-
--- `delta`
-abbrev pub delta_of : List (List ℕ) → Option Ask
-delta_of [] = Some Delta
-delta_of (word ∷ words) = None
-
--- what a query's words ask
-abbrev pub ask_of : List ℕ → List (List ℕ) → Option Ask
-ask_of verb operands =
-    if bytes_eq verb (codes "path") then path_of (two_of operands)
-    else if bytes_eq verb (codes "delta") then delta_of operands else None
-
-abbrev pub ask_meaning : ℕ → Option Ask → Result (Option Line) ℕ
-ask_meaning n None = Err 1
-ask_meaning n (Some ask) = Ok (Some (line.Ask n (record { without = []; ask = ask })))
+-- a line that asks a query
+abbrev pub ask_meaning : ℕ → Option Question → Result (Option Line) ℕ
+ask_meaning n None = Err BAD_LINE
+ask_meaning n (Some query) = Ok (Some (line.Ask n query))
 
 -- what a line's words mean that doesn't pass
 abbrev pub command_meaning : List (List ℕ) → List RouterId → List RouterId → ℕ → List (List ℕ) → Result (Option Line) ℕ
-command_meaning routers feeds taken n [] = Err 1
+command_meaning routers feeds taken n [] = Err BAD_LINE
 command_meaning routers feeds taken n (verb ∷ operands) =
-    if bytes_eq verb (codes "take") then take_meaning routers feeds taken n (two_of operands) else ask_meaning n (ask_of verb operands)
+    if bytes_eq verb (codes "take") then take_meaning routers feeds taken n (two_of operands)
+    else ask_meaning n (query_of verb operands)
 
 -- what line n means: what it does, nothing where it passes, or the cause for which it is refused
 abbrev pub line_meaning : List (List ℕ) → List RouterId → List RouterId → ℕ → List ℕ → Result (Option Line) ℕ
 line_meaning routers feeds taken n text =
     if passes (words_of text) then Ok None
-    else if nat_lt 1024 (length text) then Err 1
+    else if nat_lt 1024 (length text) then Err BAD_LINE
     else command_meaning routers feeds taken n (words_of text)
 
 abbrev pub at_line : ℕ → Result (Option Line) ℕ → Result (Option Line) ScriptFault
@@ -123,10 +112,11 @@ at_line n (Ok l) = Ok l
 
 -- what line n means within the whole: line 65,537 is refused whatever it says
 abbrev pub numbered : ℕ → Result (Option Line) ℕ → Result (Option Line) ScriptFault
-numbered n meaning = if nat_lt 65536 n then Err (record { line = n; cause = 4 }) else at_line n meaning
+numbered n meaning = if nat_lt 65536 n then Err (record { line = n; cause = TOO_MANY_LINES }) else at_line n meaning
 
 -- a line before the lines after it; the first fault counts
-abbrev pub with_line : Result (Option Line) ScriptFault → Result (List Line) ScriptFault → Result (List Line) ScriptFault
+abbrev pub with_line : Result (Option Line) ScriptFault → Result (List Line) ScriptFault
+    → Result (List Line) ScriptFault
 with_line (Err f) rest = Err f
 with_line (Ok l) (Err f) = Err f
 with_line (Ok l) (Ok ls) = Ok (option_to_list l ++ ls)
@@ -136,13 +126,9 @@ abbrev pub lines_meaning : (ℕ → List ℕ → Result (Option Line) ℕ) → �
 lines_meaning meaning n [] = Ok []
 lines_meaning meaning n (l ∷ ls) = with_line (numbered n (meaning n l)) (lines_meaning meaning (n + 1) ls)
 
--- what a script's bytes mean, given the routers' names, the routers that have a feed, and those that earlier scripts take
+-- what a script's bytes mean, given the routers' names, the routers that have a feed, and those that earlier scripts
+-- take
 abbrev pub script_of : List (List ℕ) → List RouterId → List RouterId → List ℕ → Result (List Line) ScriptFault
 script_of routers feeds taken bytes =
-    if nat_lt 16777216 (length bytes) then Err (record { line = 0; cause = 5 })
+    if nat_lt 16777216 (length bytes) then Err (record { line = 0; cause = TOO_LONG })
     else lines_meaning (line_meaning routers feeds taken) 1 (lines_of bytes)
-
--- A line whose query names few links. A line of a script that was read is so short that it always does.
-abbrev pub IsShort : Line → Type 0
-IsShort (line.Take l r count) = Unit {0}
-IsShort (line.Ask l q) = length q.without ≤ 4096

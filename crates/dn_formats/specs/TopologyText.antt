@@ -6,7 +6,7 @@ use Rattle.std.specs.Option.{option_map_or}
 use Rattle.std.specs.Str.{is_utf8}
 use Rattle.toml.specs.Data.{Data, Items, no_items, item, Members, no_members, member, get_member, as_str, as_bool, as_array, as_table}
 use Rattle.toml.specs.Parse.{parse_document}
-use Rattle.dn_formats.specs.declared.cause.TheConstants.{NOT_TOML, UNKNOWN_KEY, MISSING_KEY, BAD_NAME, TWICE_NAMED, BAD_END, END_TWICE, SELF_LINK, TOO_MANY, TOO_LONG}
+use Rattle.dn_formats.specs.declared.topology_cause.TheConstants.{NOT_TOML, UNKNOWN_KEY, MISSING_KEY, BAD_NAME, TWICE_NAMED, BAD_END, END_TWICE, SELF_LINK, TOO_MANY, TOO_LONG}
 use Rattle.dn_model.specs.declared.topology.TopoEnd.{TopoEnd}
 use Rattle.dn_model.specs.declared.topology.TopoLink.{TopoLink}
 use Rattle.dn_model.specs.declared.topology.Topology.{Topology}
@@ -106,11 +106,13 @@ both_ends (Some first) None = None
 both_ends None second = None
 
 abbrev pub ends_of_table : List (List ℕ) → Members → Option (TopoEnd × TopoEnd)
-ends_of_table routers ms = option_and_then (λ texts. both_ends (read_end routers texts.0) (read_end routers texts.1)) (ends_in ms)
+ends_of_table routers ms =
+    option_and_then (λ texts. both_ends (read_end routers texts.0) (read_end routers texts.1)) (ends_in ms)
 
 -- the link of a name, two ends and a mark
 abbrev pub link_from : Option (List ℕ) → Option (TopoEnd × TopoEnd) → Option Bool → Option TopoLink
-link_from (Some name) (Some ends) (Some unnumbered) = Some (record { name = name; first = ends.0; second = ends.1; unnumbered = unnumbered })
+link_from (Some name) (Some ends) (Some unnumbered) =
+    Some (record { name = name; first = ends.0; second = ends.1; unnumbered = unnumbered })
 link_from (Some name) (Some ends) None = None
 link_from (Some name) None mark = None
 link_from None ends mark = None
@@ -143,7 +145,8 @@ has_end ends end = list_any (λ other. same_end other end) ends
 abbrev pub top_causes : List (ℕ × (Members → Bool))
 top_causes =
     (UNKNOWN_KEY, has_key_besides is_top_key)
-    ∷ (MISSING_KEY, λ doc. is_none (list_at (codes "routers") doc) || is_none (list_or_none_at (codes "link") doc) || is_none (list_or_none_at (codes "edge") doc))
+    ∷ (MISSING_KEY, λ doc. is_none (list_at (codes "routers") doc) || is_none (list_or_none_at (codes "link") doc)
+    || is_none (list_or_none_at (codes "edge") doc))
     ∷ []
 
 -- at an entry of `routers`, which so many entries and these names stand before
@@ -161,7 +164,8 @@ link_causes routers count names ends =
     (TOO_MANY, λ entry. nat_le 4096 count)
     ∷ (MISSING_KEY, λ entry. is_none (as_table entry))
     ∷ (UNKNOWN_KEY, λ entry. passes (has_key_besides is_link_key) (as_table entry))
-    ∷ (MISSING_KEY, λ entry. passes (λ ms. is_none (name_in ms) || is_none (ends_in ms) || is_none (unnumbered_in ms)) (as_table entry))
+    ∷ (MISSING_KEY, λ entry. passes (λ ms. is_none (name_in ms) || is_none (ends_in ms)
+    || is_none (unnumbered_in ms)) (as_table entry))
     ∷ (BAD_NAME, λ entry. passes (λ name. not (is_name_text name)) (name_of_entry entry))
     ∷ (TWICE_NAMED, λ entry. passes (has_text names) (name_of_entry entry))
     ∷ (BAD_END, λ entry. is_none (ends_of_entry routers entry))
@@ -208,7 +212,8 @@ abbrev pub router_table : List Data → List (ℕ × (Data → Bool))
 router_table earlier = router_causes (length earlier) (routers_said earlier)
 
 abbrev pub link_table : List (List ℕ) → List Data → List (ℕ × (Data → Bool))
-link_table routers earlier = link_causes routers (length earlier) (filter_map name_of_entry earlier) (all_ends (links_said routers earlier))
+link_table routers earlier =
+    link_causes routers (length earlier) (filter_map name_of_entry earlier) (all_ends (links_said routers earlier))
 
 abbrev pub edge_table : List (List ℕ) → List TopoLink → List Data → List (ℕ × (Data → Bool))
 edge_table routers links earlier = edge_causes routers (length earlier) (all_ends links ++ edges_said routers earlier)
@@ -225,7 +230,8 @@ list_faults routers links edges =
 
 -- what a document says
 abbrev pub parts_of : Members → Parts
-parts_of doc = parts_said (entries_at (codes "routers") doc) (entries_at (codes "link") doc) (entries_at (codes "edge") doc)
+parts_of doc =
+    parts_said (entries_at (codes "routers") doc) (entries_at (codes "link") doc) (entries_at (codes "edge") doc)
 
 abbrev pub top_fault : ℕ → TopoFault
 top_fault cause = record { part = Top; entry = 0; cause = cause }

@@ -33,7 +33,8 @@ pub data Part : Type 0 where
 -- what a part is, if it is one: a script where it begins with `@`, and else a feed
 abbrev pub part_of : List ℕ → Option Part
 part_of [] = None
-part_of (b ∷ more) = if b == 64 then option_map ScriptPart (script_of_part (b ∷ more)) else option_map FeedPart (feed_of_part (b ∷ more))
+part_of (b ∷ more) =
+    if b == 64 then option_map ScriptPart (script_of_part (b ∷ more)) else option_map FeedPart (feed_of_part (b ∷ more))
 
 -- the most feeds, and the most scripts, that a run takes
 abbrev pub most_feeds : ℕ
@@ -75,14 +76,17 @@ parts_said places = record { feeds = filter_map feed_at places; scripts = filter
 -- the fault of a part by its number and what earlier parts say, if it has one
 abbrev pub fault_of_part : ℕ → PartsSaid → Option Part → Option ErrorLine
 fault_of_part number earlier None = Some (BadPart number)
-fault_of_part number earlier (Some (FeedPart feed)) = if nat_le most_feeds (length earlier.feeds) then Some (TooManyParts number) else None
-fault_of_part number earlier (Some (ScriptPart file)) = if nat_le most_scripts (length earlier.scripts) then Some (TooManyParts number) else None
+fault_of_part number earlier (Some (FeedPart feed)) =
+    if nat_le most_feeds (length earlier.feeds) then Some (TooManyParts number) else None
+fault_of_part number earlier (Some (ScriptPart file)) =
+    if nat_le most_scripts (length earlier.scripts) then Some (TooManyParts number) else None
 
 -- the faults of parts in order, the first of which has the earlier ones before it
 unfoldable pub part_faults : List (ℕ × List ℕ) → List (ℕ × List ℕ) → List ErrorLine
 part_faults earlier [] = []
 part_faults earlier (place ∷ more) =
-    cons_option (fault_of_part place.0 (parts_said earlier) (part_of place.1)) (part_faults (earlier ++ place ∷ []) more)
+    cons_option (fault_of_part place.0 (parts_said earlier) (part_of place.1))
+    (part_faults (earlier ++ place ∷ []) more)
 
 -- the first fault, or else what was said
 abbrev pub unless_faulty : {A : Type 0} → List ErrorLine → A → Result A ErrorLine

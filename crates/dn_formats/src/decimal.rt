@@ -44,8 +44,8 @@ fn value_up_to(digits: &[u8], high: u32) -> Option<u32>
     Some(value as u32)
 }
 
-/// The number from `low` to `high`, both included, that a text writes in digits, without sign or leading zero; None where
-/// it writes none.
+/// The number from `low` to `high`, both included, that a text writes in digits, without sign or leading zero; None
+/// where it writes none.
 pub fn read_number(text: &[u8], low: u32, high: u32) -> Option<u32>
     ensures within { IfSome result (λ n. n ≤ high) }
     ensures value { result ≡ number_within low high text.now }

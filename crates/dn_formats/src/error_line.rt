@@ -19,8 +19,8 @@ pub enum ErrorLine {
     TooManyJobs,
     /// The topology is refused, with its first fault.
     Topology(TopoFault),
-    /// The script that this part names is refused, with the line of its first fault, from 1, or 0 for the whole, and the
-    /// number of the cause.
+    /// The script that this part names is refused, with the line of its first fault, from 1, or 0 for the whole, and
+    /// the number of the cause in the module `script_cause`.
     Script { part: u32, line: u32, cause: u8 },
     /// The topology's file couldn't be read.
     ReadTopology,

@@ -1,22 +1,24 @@
-//! What `deltanet` reads and prints: the types of feeds, scripts and reports, the definitions that contracts cite of them
-//! (`specs/`), and the printers that the report is made of.
+//! What `deltanet` reads and prints: the types of feeds, scripts and reports, the definitions that contracts cite of
+//! them (`specs/`), and the printers that the report is made of.
 //!
-//! What a network does stands in `dn_model`, on which this crate stands; no crate that follows routes stands on this one.
+//! What a network does stands in `dn_model`, on which this crate stands; no crate that follows routes stands on this
+//! one.
 #![tactic(auto)]
 
-pub mod cause;
 mod decimal;
 mod error_line;
+pub mod frame_cause;
 mod laws;
 mod payload;
 mod print;
 #[cfg(test)]
 mod print_tests;
 mod raw_route;
-pub mod refusal;
 mod script;
+pub mod script_cause;
 mod text;
 mod told;
+pub mod topology_cause;
 mod topology_fault;
 
 pub use decimal::read_number;

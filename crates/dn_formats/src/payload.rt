@@ -11,7 +11,7 @@ pub struct Payload {
 }
 
 /// A message that is refused: where it begins, in bytes from the payload's start, and why, by the numbers of the
-/// module `refusal`.
+/// module `frame_cause`.
 #[derive(Clone, Copy, Debug, PartialEq, Eq)]
 pub struct Refused {
     pub at: u32,

@@ -4,8 +4,7 @@
 //! text may have been added.
 
 ghost use Rattle.std.specs.Prelude.{◌≡◌, ◌++◌, OnOk, IfOk, codes, decimal};
-ghost use Rattle.dn_model.specs.Delta.{interval_of};
-ghost use Rattle.dn_formats.specs.Report.{address_text, prefix_text, run_text, target_text, drop_text, name_of_router, name_of_link};
+ghost use Rattle.dn_formats.specs.Texts.{address_text, prefix_text, run_text, target_text, drop_text, name_of_router, name_of_link};
 
 use crate::text::Text;
 use dn_model::{DropKind, LinkId, OutOfMemory, Prefix, RouterId, Run, Target, Topology};
@@ -52,7 +51,7 @@ pub fn push_prefix(out: &mut Vec<u8>, p: Prefix) -> Result<(), OutOfMemory>
 
 /// Adds a run: `LO-HI`, both included, also where they are equal.
 pub fn push_run(out: &mut Vec<u8>, run: Run) -> Result<(), OutOfMemory>
-    ensures { OnOk result (out.new.items ≡ out.old.items ++ run_text (interval_of run)) }
+    ensures { OnOk result (out.new.items ≡ out.old.items ++ run_text run) }
 {
     push_address(out, run.lo)?;
     push_bytes(out, b"-")?;
@@ -164,7 +163,7 @@ pub fn print_prefix(alloc: Global, p: Prefix) -> Result<Text, OutOfMemory>
 
 /// A run as `LO-HI`, both included, also where they are equal.
 pub fn print_run(alloc: Global, run: Run) -> Result<Text, OutOfMemory>
-    ensures { IfOk result (λ text. text ≡ run_text (record { lo = run.lo; hi = run.hi })) }
+    ensures { IfOk result (λ text. text ≡ run_text run) }
 {
     let mut out = Vec::new(alloc);
     push_run(&mut out, run)?;

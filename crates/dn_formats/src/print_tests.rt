@@ -1,6 +1,7 @@
-//! Printed texts, and copies: that they are made where there is memory.
+//! Printed texts: that they are made where there is memory.
 
-use super::*;
+use crate::{print_address, print_prefix, print_run, print_target};
+use dn_model::{DropKind, LinkId, List, Name, Prefix, RouterId, Run, Target, Topology};
 use std::alloc::Global;
 use std::test::Fail;
 
@@ -47,27 +48,5 @@ fn prints_targets(rt: HostRuntime) -> Result<(), Fail> {
         let text = print_target(alloc, &network, target)?;
         assert!(rt; text.as_bytes() == want);
     }
-    Ok(())
-}
-
-#[test]
-fn copies_names_and_queries(rt: HostRuntime) -> Result<(), Fail> {
-    let alloc = rt.alloc();
-    let name = Name::from_text(alloc, b"r1")?;
-    assert_eq!(rt; name.copy(alloc)?.as_bytes(), b"r1".as_slice());
-    let mut without = List::new(alloc);
-    without.push(Name::from_text(alloc, b"a")?)?;
-    let query = Query {
-        without,
-        ask: Ask::Path(name, 7),
-    };
-    let copied = query.copy(alloc)?;
-    let Ask::Path(from, to) = &copied.ask else {
-        return Err(Fail::from("another query"));
-    };
-    assert_eq!(rt; from.as_bytes(), b"r1".as_slice());
-    assert_eq!(rt; *to, 7);
-    assert_eq!(rt; copied.without.len(), 1);
-    assert_eq!(rt; copied.without.as_slice()[0].as_bytes(), b"a".as_slice());
     Ok(())
 }

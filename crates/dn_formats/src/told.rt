@@ -2,7 +2,8 @@
 
 use dn_model::{Answer, List, Query, RouterId, Unknown};
 
-/// A refused frame: where it begins in the feed, where the refused message begins in its payload, and the cause.
+/// A refused frame: where it begins in the feed, where the refused message begins in its payload, and the cause, by its
+/// number in the module `frame_cause`.
 #[derive(Clone, Copy, Debug, PartialEq, Eq)]
 pub struct RefusedFrame {
     pub offset: u64,
@@ -17,7 +18,7 @@ pub enum FeedEnd {
     End,
     /// It ends inside the frame that begins at this offset.
     CutShort { offset: u64 },
-    /// At this offset stands no frame's header: 15 for another version than 1, 16 for a length below 4.
+    /// At this offset stands no frame's header, for this cause: `BAD_VERSION` or `BAD_FRAME_LENGTH` of `frame_cause`.
     Lost { offset: u64, cause: u8 },
     /// It is longer than the limit.
     TooLong,

@@ -21,7 +21,7 @@ pub struct TopoFault {
     pub part: TopoPart,
     /// The entry within the part, from 1; at the top 0.
     pub entry: u32,
-    /// The cause, by its number in the module `cause`.
+    /// The cause, by its number in the module `topology_cause`.
     pub cause: u8,
 }
 

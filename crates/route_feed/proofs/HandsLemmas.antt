@@ -8,7 +8,7 @@ use Rattle.dn_formats.specs.Steps.{FrameStep, Accepted, Refused}
 use Rattle.dn_model.specs.declared.ids.RouterId.{RouterId}
 use Rattle.dn_model.specs.declared.memory.OutOfMemory.{OutOfMemory}
 use Rattle.dn_formats.specs.declared.payload.Payload.{Payload}
-use Rattle.dn_formats.specs.declared.refusal.TheConstants.{FRAME_TYPE}
+use Rattle.dn_formats.specs.declared.frame_cause.TheConstants.{FRAME_TYPE}
 use Rattle.dn_model.specs.declared.topology.Topology.{Topology}
 use Rattle.dn_formats.specs.declared.told.FeedTold.{FeedTold}
 use Rattle.fpm_frame.specs.Answers.{HoldsFrame}

@@ -11,7 +11,7 @@ ghost use Rattle.route_feed.specs.FrameStep.{ComesTo, frame_step, IsOfFrame, Han
 use crate::feed_step::FeedStep;
 use crate::intake::Intake;
 use crate::route_op::op_of;
-use dn_formats::refusal::{FRAME_TYPE, UNKNOWN_INTERFACE};
+use dn_formats::frame_cause::{FRAME_TYPE, UNKNOWN_INTERFACE};
 use dn_formats::{FeedTold, Item, ItemKind, Payload, Refused, RefusedFrame};
 use dn_io::Source;
 use dn_model::{List, Op, OutOfMemory, RouterId, Topology};

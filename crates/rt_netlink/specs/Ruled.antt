@@ -3,7 +3,7 @@ use Rattle.std.specs.Prelude.{◌≡◌, ℕ, ◌%◌, ◌^◌, ◌-◌, ◌==�
 use Rattle.std.specs.List.{list_any}
 use Rattle.dn_formats.specs.Attributes.{has, is_bad, rta_multipath, rta_newdst, rta_encap_type, rta_encap, rta_nh_id}
 use Rattle.dn_formats.specs.Payload.{Ruling, Refuses, Skips, first_ruling, ruling_of, message_length, is_set, is_deletion, family, attributes, table_of, is_main, prefix_length, source_length, service_type, destination, prefix_of, kind_of, route_type, interface}
-use Rattle.dn_formats.specs.declared.refusal.TheConstants.{BAD_LENGTH, SHORT, BAD_ATTR, BAD_PREFIX_LENGTH, SOURCE_OR_TOS, NO_DESTINATION, HOST_BITS, ROUTE_TYPE, MULTIPATH, ENCAP, NEXT_HOP_ID, NO_INTERFACE}
+use Rattle.dn_formats.specs.declared.frame_cause.TheConstants.{BAD_LENGTH, SHORT, BAD_ATTR, BAD_PREFIX_LENGTH, SOURCE_OR_TOS, NO_DESTINATION, HOST_BITS, ROUTE_TYPE, MULTIPATH, ENCAP, NEXT_HOP_ID, NO_INTERFACE}
 use Rattle.dn_formats.specs.declared.payload.Skip.TheVariants.{OtherType, OtherFamily, OtherTable}
 use Rattle.rt_netlink.specs.declared.ruling.Ruling.{Ruling as Answer}
 use Rattle.rt_netlink.specs.declared.ruling.Ruling.TheVariants as answer

@@ -13,7 +13,7 @@ ghost use Rattle.rt_netlink.specs.Read.{IsHeader};
 use crate::attributes::{RouteAttributes, read_attributes};
 use crate::numbers::{number_at, short_at};
 use crate::ruling::Ruling;
-use dn_formats::refusal::{
+use dn_formats::frame_cause::{
     BAD_ATTR, BAD_LENGTH, BAD_PREFIX_LENGTH, ENCAP, HOST_BITS, MULTIPATH, NEXT_HOP_ID,
     NO_DESTINATION, NO_INTERFACE, ROUTE_TYPE, SHORT, SOURCE_OR_TOS,
 };

@@ -8,7 +8,7 @@ ghost use Rattle.topology.specs.Reading.{first_standing, IsFirstFault, IsSaidRef
 
 use crate::lists::{read_edges, read_links, read_routers};
 use crate::value::{has_unknown_top_key, list_at, list_or_none_at};
-use dn_formats::cause::{MISSING_KEY, NOT_TOML, TOO_LONG, UNKNOWN_KEY};
+use dn_formats::topology_cause::{MISSING_KEY, NOT_TOML, TOO_LONG, UNKNOWN_KEY};
 use dn_formats::{TopoFault, TopoPart, TopoRefused};
 use dn_model::{OutOfMemory, Topology};
 use std::alloc::Global;
@@ -135,7 +135,7 @@ fn read_said(alloc: Global, document: Option<Table>) -> Result<Topology, TopoRef
 }
 
 /// The topology that bytes say, or their first fault. The fault has the part, the entry and the number of the cause
-/// (module `cause` of `dn_model`).
+/// (module `topology_cause` of `dn_formats`).
 pub fn read_topology(alloc: Global, bytes: &[u8]) -> Result<Topology, TopoRefused>
     ensures ok { IfOk result (IsTopologyText bytes.now) }
     ensures refused { IfErr result (IsTopologyRefused bytes.now) }

@@ -9,7 +9,7 @@ ghost use Rattle.topology.specs.Reading.{first_standing};
 use crate::end::read_end;
 use crate::taken::TakenEnds;
 use crate::value::{has_unknown_edge_key, text_at};
-use dn_formats::cause::{BAD_END, END_TWICE, MISSING_KEY, TOO_MANY, UNKNOWN_KEY};
+use dn_formats::topology_cause::{BAD_END, END_TWICE, MISSING_KEY, TOO_MANY, UNKNOWN_KEY};
 use dn_model::{Name, TopoEnd};
 use toml::Value;
 

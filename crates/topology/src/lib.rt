@@ -2,7 +2,7 @@
 //! edges of the network.
 //!
 //! A text is read whole or refused with the first of its faults, by the part of the text, the entry within the part and
-//! the number of the cause (module `cause` of `dn_model`).
+//! the number of the cause (module `topology_cause` of `dn_formats`).
 #![tactic(auto)]
 
 mod document;

@@ -10,7 +10,7 @@ ghost use Rattle.topology.specs.Reading.{first_standing};
 use crate::end::read_end;
 use crate::taken::{TakenEnds, has_link_name};
 use crate::value::{flag_or_none_at, has_unknown_link_key, list_at, text_at};
-use dn_formats::cause::{
+use dn_formats::topology_cause::{
     BAD_END, BAD_NAME, END_TWICE, MISSING_KEY, SELF_LINK, TOO_MANY, TWICE_NAMED, UNKNOWN_KEY,
 };
 use dn_model::{Name, TopoEnd, TopoLink, is_name};

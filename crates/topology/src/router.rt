@@ -7,7 +7,7 @@ ghost use Rattle.dn_model.specs.Name.{is_name_text};
 ghost use Rattle.dn_formats.specs.TopologyText.{passes, has_text, router_causes};
 ghost use Rattle.topology.specs.Reading.{first_standing};
 
-use dn_formats::cause::{BAD_NAME, MISSING_KEY, TOO_MANY, TWICE_NAMED};
+use dn_formats::topology_cause::{BAD_NAME, MISSING_KEY, TOO_MANY, TWICE_NAMED};
 use dn_model::{Name, is_name};
 use toml::Value;
 

@@ -1,4 +1,7 @@
-//! The numbers of the causes for which a text is no topology.
+//! The causes for which a text is no topology: their numbers and names.
+
+ghost use Rattle.std.specs.Prelude.{◌≡◌};
+ghost use Rattle.dn_formats.specs.Causes.{name_of_cause, topology_causes};
 
 /// The bytes are no text in UTF-8, or no document of TOML 1.1.
 pub const NOT_TOML: u8 = 1;
@@ -20,3 +23,22 @@ pub const SELF_LINK: u8 = 8;
 pub const TOO_MANY: u8 = 9;
 /// There are more than 16,777,216 bytes.
 pub const TOO_LONG: u8 = 10;
+
+/// The name of a cause, as it is printed; `Unread` for a number that no cause has.
+pub fn name(cause: u8) -> &'static [u8]
+    ensures { result.now ≡ name_of_cause topology_causes cause }
+{
+    match cause {
+        NOT_TOML => b"NotToml",
+        UNKNOWN_KEY => b"UnknownKey",
+        MISSING_KEY => b"MissingKey",
+        BAD_NAME => b"BadName",
+        TWICE_NAMED => b"TwiceNamed",
+        BAD_END => b"BadEnd",
+        END_TWICE => b"EndTwice",
+        SELF_LINK => b"SelfLink",
+        TOO_MANY => b"TooMany",
+        TOO_LONG => b"TooLong",
+        _ => b"Unread",
+    }
+}

@@ -1,0 +1,137 @@
+-- What is printed of a query: its words, and its answer or its first unknown name.
+use Rattle.std.specs.Prelude.{ℕ, List, [], ◌∷◌, ◌++◌, ◌-◌, Option, None, Some, option_and_then, map, codes, decimal, slice_get, unwrap_or}
+use Rattle.std.specs.List.{flat_map, join_with_byte}
+use Rattle.dn_model.specs.Lookup.{link_of}
+use Rattle.dn_model.specs.Query.{Question, names_of, text_of_name}
+use Rattle.dn_model.specs.declared.answer.Answer.{Answer}
+use Rattle.dn_model.specs.declared.answer.Answer.TheVariants as answer
+use Rattle.dn_model.specs.declared.answer.Cycle.{Cycle}
+use Rattle.dn_model.specs.declared.answer.Hole.{Hole}
+use Rattle.dn_model.specs.declared.answer.PathEnd.{PathEnd}
+use Rattle.dn_model.specs.declared.answer.PathEnd.TheVariants.{At, Loop}
+use Rattle.dn_model.specs.declared.change.Change.{Change}
+use Rattle.dn_model.specs.declared.ids.RouterId.{RouterId}
+use Rattle.dn_model.specs.declared.query.Ask.{Ask}
+use Rattle.dn_model.specs.declared.query.Ask.TheVariants.{Path, Reach, Uses, Loops, Blackholes, Waypoint, Delta}
+use Rattle.dn_model.specs.declared.query.Unknown.{Unknown}
+use Rattle.dn_model.specs.declared.query.Unknown.TheVariants.{Router, Link}
+use Rattle.dn_model.specs.declared.run.Run.{Run}
+use Rattle.dn_model.specs.declared.topology.TopoLink.{TopoLink}
+use Rattle.dn_model.specs.declared.topology.Topology.{Topology}
+use Rattle.dn_formats.specs.Texts.{line, address_text, run_text, name_of_router, target_text}
+use Rattle.dn_formats.specs.declared.told.Outcome.{Outcome}
+use Rattle.dn_formats.specs.declared.told.Outcome.TheVariants as outcome
+use Rattle.dn_formats.specs.declared.told.Told.{Told}
+
+-- ---- a query
+
+-- the words of what is asked
+abbrev pub ask_words : Ask → List (List ℕ)
+ask_words (Path r a) = codes "path" ∷ r ∷ address_text a ∷ []
+ask_words (Reach r s) = codes "reach" ∷ r ∷ s ∷ []
+ask_words (Uses l) = codes "uses" ∷ l ∷ []
+ask_words Loops = codes "loops" ∷ []
+ask_words (Blackholes r) = codes "blackholes" ∷ r ∷ []
+ask_words (Waypoint r s w) = codes "waypoint" ∷ r ∷ s ∷ w ∷ []
+ask_words Delta = codes "delta" ∷ []
+
+-- `without` and the links that are taken as down, in one word, parted by commas; nothing where there are none
+abbrev pub without_words : List (List ℕ) → List (List ℕ)
+without_words [] = []
+without_words (l ∷ ls) = codes "without" ∷ join_with_byte 44 (l ∷ ls) ∷ []
+
+-- the words of a query's line, joined by one space
+abbrev pub query_text : Question → List ℕ
+query_text q = join_with_byte 32 (without_words q.without ++ ask_words q.ask)
+
+-- the texts of a query's names, from left to right
+abbrev pub name_texts : Question → List (List ℕ)
+name_texts q = map text_of_name (names_of q)
+
+-- the text of the name at a place, from 1
+abbrev pub name_at : Question → ℕ → List ℕ
+name_at q place = unwrap_or (slice_get (name_texts q) (place - 1)) []
+
+abbrev pub unknown_line : Question → Unknown → List ℕ
+unknown_line q (Router place) = line (codes "unknown router " ++ name_at q place)
+unknown_line q (Link place) = line (codes "unknown link " ++ name_at q place)
+
+-- ---- an answer
+
+-- the lines of each, or the line `none` where there are none
+abbrev pub lines_or_none : {A : Type 0} → (A → List ℕ) → List A → List ℕ
+lines_or_none lines [] = line (codes "none")
+lines_or_none lines (x ∷ xs) = flat_map lines (x ∷ xs)
+
+abbrev pub run_line : Run → List ℕ
+run_line run = line (run_text run)
+
+abbrev pub hop_text : Topology → RouterId → List ℕ
+hop_text t r = codes " " ++ name_of_router t r
+
+abbrev pub path_end_text : Topology → PathEnd → List ℕ
+path_end_text t (At target) = target_text t target
+path_end_text t Loop = codes "loop"
+
+-- the routers of a walk, and how it ends
+abbrev pub path_lines : Topology → List RouterId → PathEnd → List ℕ
+path_lines t hops end =
+    line (codes "hops" ++ flat_map (hop_text t) hops) ++ line (codes "end " ++ path_end_text t end)
+
+-- the addresses that a router at an end of a link sends over it
+abbrev pub end_lines : Topology → RouterId → List Run → List ℕ
+end_lines t r runs = line (codes "from " ++ name_of_router t r) ++ lines_or_none run_line runs
+
+-- the same of both ends, the first one first; a link that isn't there has none
+abbrev pub uses_lines : Topology → Option TopoLink → List Run → List Run → List ℕ
+uses_lines t None first second = []
+uses_lines t (Some link) first second = end_lines t link.first.router first ++ end_lines t link.second.router second
+
+-- the link that a query asks about
+abbrev pub link_asked : Topology → Ask → Option TopoLink
+link_asked t (Uses n) = option_and_then (λ l. slice_get t.links l.0) (link_of t n)
+link_asked t (Path r a) = None
+link_asked t (Reach r s) = None
+link_asked t Loops = None
+link_asked t (Blackholes r) = None
+link_asked t (Waypoint r s w) = None
+link_asked t Delta = None
+
+-- a cycle: its routers, its least address, and how many addresses go round
+abbrev pub cycle_line : Topology → Cycle → List ℕ
+cycle_line t c =
+    line (codes "cycle" ++ flat_map (hop_text t) c.routers ++ codes " least " ++ address_text c.least
+    ++ codes " addresses " ++ decimal c.addresses)
+
+-- a black hole: its router, the cause, and the addresses that end there
+abbrev pub hole_lines : Topology → Hole → List ℕ
+hole_lines t h =
+    line (codes "at " ++ name_of_router t h.router ++ codes " " ++ target_text t h.cause) ++ flat_map run_line h.runs
+
+-- a router, its run of addresses, and what it does with them before and after
+abbrev pub change_line : Topology → Change → List ℕ
+change_line t c =
+    line (name_of_router t c.router ++ codes " " ++ run_text c.run ++ codes " " ++ target_text t c.before
+    ++ codes " -> " ++ target_text t c.after)
+
+-- the answer to what was asked
+abbrev pub answer_lines : Topology → Ask → Answer → List ℕ
+answer_lines t ask (answer.Path hops end) = path_lines t hops end
+answer_lines t ask (answer.Runs runs) = lines_or_none run_line runs
+answer_lines t ask (answer.Uses first second) = uses_lines t (link_asked t ask) first second
+answer_lines t ask (answer.Loops cycles) = lines_or_none (cycle_line t) cycles
+answer_lines t ask (answer.Holes holes) = lines_or_none (hole_lines t) holes
+answer_lines t ask (answer.Delta changes) = lines_or_none (change_line t) changes
+
+-- ---- what is told
+
+-- a query's line with its pin and its answer, or without a pin and with its first unknown name
+abbrev pub outcome_lines : Topology → ℕ → Question → Outcome → List ℕ
+outcome_lines t l q (outcome.Answered n answer) =
+    line (codes "line " ++ decimal l ++ codes " at " ++ decimal n ++ codes " " ++ query_text q)
+    ++ answer_lines t q.ask answer
+outcome_lines t l q (outcome.Unknown unknown) =
+    line (codes "line " ++ decimal l ++ codes " " ++ query_text q) ++ unknown_line q unknown
+
+abbrev pub told_lines : Topology → Told → List ℕ
+told_lines t told = outcome_lines t told.line told.query told.outcome

@@ -104,7 +104,7 @@ part-of_targets router low past lo hi x y before after old new el eh b f h =
 
 -- ---- the whole
 
-same-router : (r s : RouterId) → r.0 ≡ s.0 → r ≡ s
+pub same-router : (r s : RouterId) → r.0 ≡ s.0 → r ≡ s
 same-router r s e = let make : ℕ → RouterId = λ n. record { 0 = n } in ap make e
 
 pub from-part : (f g : RouterId → ℕ → Target) (router : RouterId) (low past : ℕ) (before after : List Route) (old new : List Change) → low < past → ((a : ℕ) → f router a ≡ target_in before a) → ((a : ℕ) → g router a ≡ target_in after a) → IsDeltaFrom f g router.0 past old → TellsPart router.0 low past (target_in before) (target_in after) old new → IsDeltaFrom f g router.0 low new
@@ -167,7 +167,7 @@ no-entry t (e ∷ es) r h l =
     let rest : ops_on r es ≡ [] = no-entry t es r (λ i d m. h (suc i) d (omega arith)) l in
     rw (other, rest) refl
 
-no-target : (t : Topology) (history : List Entry) (r : RouterId) (a : ℕ) → All (IsEntryOf t) history → length t.routers ≤ r.0 → does_after t history r a ≡ does_after t [] r a
+pub no-target : (t : Topology) (history : List Entry) (r : RouterId) (a : ℕ) → All (IsEntryOf t) history → length t.routers ≤ r.0 → does_after t history r a ≡ does_after t [] r a
 no-target t history r a h l = ap (λ (ops : List Op). target_in (fold after_op [] ops) a) (no-entry t history r h l)
 
 -- routers that there are not change nothing

@@ -5,6 +5,7 @@ pub mod DeltaJoined
 pub mod DeltaOnce
 pub mod DeltaParts
 pub mod Filtered
+pub mod GoRound
 pub mod KeyOrder
 pub mod Keyed
 pub mod Keys
@@ -12,6 +13,8 @@ pub mod Known
 pub mod Lookups
 pub mod Loops
 pub mod Meets
+pub mod Passes
+pub mod RunsFrom
 pub mod RunsOnce
 pub mod SameRoutes
 pub mod Tables

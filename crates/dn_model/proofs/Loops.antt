@@ -81,7 +81,7 @@ count-some p (suc n) s l e = ⊎_elim
 
 -- ---- walks that go on
 
-target_cases : (t : Target) → ((s : RouterId) × (l : LinkId) × (t ≡ To s l)) ⊎ ((s : RouterId) (l : LinkId) → t ≡ To s l → ⊥)
+pub target_cases : (t : Target) → ((s : RouterId) × (l : LinkId) × (t ≡ To s l)) ⊎ ((s : RouterId) (l : LinkId) → t ≡ To s l → ⊥)
 target_cases NoRoute = inr (λ s l e. cc)
 target_cases (Dropped kind) = inr (λ s l e. cc)
 target_cases Local = inr (λ s l e. cc)

@@ -16,15 +16,15 @@ pub holds-above : (a : ℕ) (i : Run) → i.hi < a → holds a i ≡ false
 holds-above a i h = and_right (leb i.lo a) (leb a i.hi) (lt-leb a i.hi h)
 
 -- the parts of intervals that are apart
-apart-head : (i : Run) (is : List Run) → AreApart (i ∷ is) → i.lo ≤ i.hi
+pub apart-head : (i : Run) (is : List Run) → AreApart (i ∷ is) → i.lo ≤ i.hi
 apart-head i [] h = h.0
 apart-head i (j ∷ is) h = h.0
 
-apart-tail : (i : Run) (is : List Run) → AreApart (i ∷ is) → AreApart is
+pub apart-tail : (i : Run) (is : List Run) → AreApart (i ∷ is) → AreApart is
 apart-tail i [] h = tt
 apart-tail i (j ∷ is) h = h.2
 
-apart-bound : (i : Run) (is : List Run) → AreApart (i ∷ is) → i.hi < 2 ^ 32
+pub apart-bound : (i : Run) (is : List Run) → AreApart (i ∷ is) → i.hi < 2 ^ 32
 apart-bound i [] h = h.1
 apart-bound i (j ∷ is) h =
     let next : j.hi < 2 ^ 32 = apart-bound j is h.2 in
@@ -33,14 +33,14 @@ apart-bound i (j ∷ is) h =
     omega arith
 
 -- intervals that are apart hold nothing up to the place after the first besides it, and nothing below it
-apart-after : (a : ℕ) (i : Run) (is : List Run) → AreApart (i ∷ is) → a ≤ i.hi + 1 → list_any (holds a) is ≡ false
+pub apart-after : (a : ℕ) (i : Run) (is : List Run) → AreApart (i ∷ is) → a ≤ i.hi + 1 → list_any (holds a) is ≡ false
 apart-after a i [] h l = refl
 apart-after a i (j ∷ is) h l =
     let gap : i.hi + 1 < j.lo = h.1 in
     let low : j.lo ≤ j.hi = apart-head j is h.2 in
     or_from (holds a j) (list_any (holds a) is) (holds-below a j (omega arith)) (apart-after a j is h.2 (omega arith))
 
-apart-below : (a : ℕ) (i : Run) (is : List Run) → AreApart (i ∷ is) → a < i.lo → list_any (holds a) (i ∷ is) ≡ false
+pub apart-below : (a : ℕ) (i : Run) (is : List Run) → AreApart (i ∷ is) → a < i.lo → list_any (holds a) (i ∷ is) ≡ false
 apart-below a i is h l =
     let low : i.lo ≤ i.hi = apart-head i is h in
     or_from (holds a i) (list_any (holds a) is) (holds-below a i l) (apart-after a i is h (omega arith))

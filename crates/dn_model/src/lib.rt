@@ -16,9 +16,14 @@ mod lookup;
 mod memory;
 mod name;
 mod plain;
+mod plain_cycle;
 mod plain_delta;
 #[cfg(test)]
 mod plain_delta_tests;
+mod plain_intervals;
+mod plain_reach;
+mod plain_runs;
+mod plain_test;
 #[cfg(test)]
 mod plain_tests;
 mod ports;

@@ -19,6 +19,7 @@ use crate::lookup::{link, router};
 use crate::memory::OutOfMemory;
 use crate::name::Name;
 use crate::plain_delta::plain_delta;
+use crate::plain_reach::{plain_reach, plain_uses, plain_waypoint};
 use crate::prefix::Prefix;
 use crate::query::{Ask, Query};
 use crate::target::Target;
@@ -198,7 +199,7 @@ pub fn plain_target(routes: &[Route], down: &[LinkId], a: u32) -> Target
 }
 
 /// What a router does with an address after a history.
-fn plain_next(
+pub(crate) fn plain_next(
     alloc: Global,
     entries: &[Entry],
     down: &[LinkId],
@@ -288,10 +289,17 @@ pub fn plain_answer(
     match query.ask() {
         Ask::Path(name, a) => plain_path(alloc, t, entries, down.as_slice(), name, *a),
         Ask::Delta => Ok(Answer::Delta(plain_delta(alloc, t, entries)?)),
-        Ask::Reach(_, _)
-        | Ask::Uses(_)
-        | Ask::Loops
-        | Ask::Blackholes(_)
-        | Ask::Waypoint(_, _, _) => { Err(OutOfMemory) }
+        Ask::Reach(from, to) => plain_reach(alloc, t, entries, down.as_slice(), from, to),
+        Ask::Uses(name) => plain_uses(alloc, t, entries, down.as_slice(), name),
+        Ask::Waypoint(from, to, through) => plain_waypoint(
+            alloc,
+            t,
+            entries,
+            down.as_slice(),
+            from,
+            to,
+            through,
+        ),
+        Ask::Loops | Ask::Blackholes(_) => { Err(OutOfMemory) }
     }
 }

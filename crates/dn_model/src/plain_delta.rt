@@ -39,7 +39,7 @@ fn end_below(prefix: Prefix, low: u64, past: u64) -> u64
 }
 
 /// The last end below `past` of the prefixes of these routes, if it is above `low`; else `low`.
-fn last_end(routes: &[Route], low: u64, past: u64) -> u64
+pub(crate) fn last_end(routes: &[Route], low: u64, past: u64) -> u64
     requires { low < past }
     ensures low { low ≤ result }
     ensures below { result < past }

@@ -13,6 +13,7 @@ pub mod Lookups
 pub mod Loops
 pub mod Meets
 pub mod RunsOnce
+pub mod SamePermutation
 pub mod SameRoutes
 pub mod Tables
 pub mod Walks

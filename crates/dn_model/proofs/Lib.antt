@@ -16,6 +16,7 @@ pub mod Meets
 pub mod Passes
 pub mod RunsFrom
 pub mod RunsOnce
+pub mod SamePermutation
 pub mod SameRoutes
 pub mod Tables
 pub mod Walks

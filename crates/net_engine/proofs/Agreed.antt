@@ -4,7 +4,7 @@ use Rattle.std.specs.List.Sorted.{IsPermutation}
 use Rattle.std.proofs.lemmas.Bool.{cases_Bool, or_left}
 use Rattle.std.proofs.lemmas.List.Sorted.{Contains-permutation}
 use Rattle.dn_model.specs.Cidr.{Cidr, IsCidr, covers, size}
-use Rattle.dn_model.specs.Entry.{IsOpOf}
+use Rattle.dn_model.specs.Entry.{IsOpOf, prefix_of_op}
 use Rattle.dn_model.specs.Routes.{IsTable}
 use Rattle.dn_model.specs.Rules.{IsTop, OwnersOf, after_rule_op, target_of as target_of_rule}
 use Rattle.dn_model.specs.Table.{after_op, target_in}
@@ -16,7 +16,6 @@ use Rattle.dn_model.specs.declared.ids.RouterId.{RouterId}
 use Rattle.dn_model.specs.declared.rule.Rule.{Rule}
 use Rattle.dn_model.specs.declared.target.Target.{Target}
 use Rattle.dn_model.specs.declared.topology.Topology.{Topology}
-use Rattle.net_engine.specs.Steps.{prefix_of_op}
 use Rattle.net_engine.specs.Whole.{Agrees, HasEnds}
 use Rattle.net_engine.proofs.Owned.{after-cases, owners-away, owners-here, prefix-is, table-after, target-away, targets-after, top-target}
 

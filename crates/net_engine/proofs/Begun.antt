@@ -2,7 +2,6 @@
 use Rattle.std.proofs.Common.{◌≡◌, ℕ, ◌<◌, ◌≤◌, ◌^◌, ◌∙◌, ◌||◌, ⊎_elim, false, Some, List, [], ◌∷◌, length, get_or, replicate, refl, ap, sym, subst, arith, eqb}
 use Rattle.std.proofs.lemmas.Bool.{cases_eq, cases_lt, eq-eqb, ne_eqb}
 use Rattle.std.proofs.lemmas.List.{get_or-replicate, get_or_past, length-replicate}
-use Rattle.dn_model.specs.Routes.{SameRoutes}
 use Rattle.dn_model.specs.Rows.{CoverFrom}
 use Rattle.dn_model.specs.Rules.{OwnersOf}
 use Rattle.dn_model.specs.Version.{Kept, KeptStandsFor, atom_at, first_of, past_of, rules_at, rules_in, target_at, target_in_atom}
@@ -13,6 +12,7 @@ use Rattle.dn_model.specs.declared.target.Target.TheVariants.{NoRoute}
 use Rattle.dn_model.specs.declared.topology.Topology.{Topology}
 use Rattle.dn_model.proofs.Best.{contains-none}
 use Rattle.dn_model.proofs.Covers.{holder-first, within-yes}
+use Rattle.dn_model.proofs.SameRoutes.{SameRoutes}
 use Rattle.net_engine.specs.Net.{AreWide, first_atom}
 use Rattle.net_engine.specs.Whole.{Agrees, IsWhole}
 use Rattle.net_engine.proofs.StandingFor.{stands}

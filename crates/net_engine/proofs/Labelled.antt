@@ -8,7 +8,7 @@ use Rattle.net_engine.proofs.StandingFor.{are-labels}
 
 -- an atom of a row
 abbrev pub labelled : ForwardingRow → Atom
-labelled row = record { label = row; owners = [] }
+labelled row = record { row = row; owners = [] }
 
 pub label-at : (atoms : List Atom) (i : ℕ) (d : ForwardingRow) → get_or (forwarding_of atoms) i d ≡ (get_or atoms i (labelled d)).row
 label-at [] i d = refl

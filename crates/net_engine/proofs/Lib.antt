@@ -13,7 +13,6 @@ pub mod Parting
 pub mod PrefixEnds
 pub mod Standing
 pub mod StandingFor
-pub mod Tabled
 pub mod Touched
 pub mod Updated
 pub mod Walking

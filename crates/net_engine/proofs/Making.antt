@@ -7,10 +7,10 @@ use Rattle.std.proofs.lemmas.List.{get_or-set_other, get_or-set_same, get_or_def
 use Rattle.std.proofs.lemmas.List.Sorted.{IsPermutation-refl}
 use Rattle.dn_model.specs.Cidr.{Cidr, IsCidr, covers, size}
 use Rattle.dn_model.specs.Delta.{TellsChange, change_at}
-use Rattle.dn_model.specs.Entry.{IsOpOf}
+use Rattle.dn_model.specs.Entry.{IsOpOf, is_end_of, op_sets_end, prefix_of_op}
 use Rattle.dn_model.specs.Rows.{CoverFrom}
 use Rattle.dn_model.specs.Table.{after_op, is_of_prefix}
-use Rattle.dn_model.specs.Version.{Atom, Kept, KeptStandsFor, begins_at, first_of, is_end_of, past_of, rules_at, sets_end, target_at}
+use Rattle.dn_model.specs.Version.{Atom, Kept, KeptStandsFor, begins_at, first_of, past_of, rules_at, target_at}
 use Rattle.dn_model.specs.declared.change.Change.{Change}
 use Rattle.dn_model.specs.declared.entry.Op.{Op}
 use Rattle.dn_model.specs.declared.entry.Op.TheVariants.{Set, Clear}
@@ -19,7 +19,6 @@ use Rattle.dn_model.specs.declared.ids.RouterId.{RouterId}
 use Rattle.dn_model.specs.declared.target.Target.{Target}
 use Rattle.dn_model.specs.declared.topology.Topology.{Topology}
 use Rattle.net_engine.specs.Net.{AreWide, first_atom}
-use Rattle.net_engine.specs.Steps.{prefix_of_op}
 use Rattle.net_engine.specs.Walked.{BeginsAtEnds, Follows, HasRouteOf, IsClearOf, IsCutAt, IsParted, IsRemade, IsSetOf, IsUpdated, IsWalked, UpdatesAt, is_part}
 use Rattle.net_engine.specs.Whole.{Agrees, HasEnds, IsWhole}
 use Rattle.net_engine.proofs.Agreed.{RemadeAt, agrees-remade, agrees-same, begin-more, begin-same}
@@ -118,7 +117,7 @@ module _ (old new : List Atom) (r : RouterId) (op : Op) (changes : List Change) 
 -- ---- clearings and settings
 
 -- a clearing cuts nothing
-clears-no_end : (op : Op) (p : Cidr) (a : ℕ) → IsClearOf op p → sets_end a op ≡ false
+clears-no_end : (op : Op) (p : Cidr) (a : ℕ) → IsClearOf op p → op_sets_end a op ≡ false
 clears-no_end (Set q m t) p a h = absurd h
 clears-no_end (Clear q m) p a h = refl
 
@@ -131,7 +130,7 @@ cleared old new r op p changes c h = record {
   whole = h.whole;
   topology = h.topology;
   routes = h.routes;
-  begins = λ a l. h.begins a ∙ or-none (begins_at old.atoms a) (sets_end a op) (clears-no_end op p a c);
+  begins = λ a l. h.begins a ∙ or-none (begins_at old.atoms a) (op_sets_end a op) (clears-no_end op p a c);
   form = h.form;
   tells = h.tells;
 }
@@ -155,7 +154,7 @@ unchanged old r op p routes changes whole inside c at none told =
         as_updated = subst (λ rs. IsPermutation (get_or old.routes r.0 []) rs) (sym same) (IsPermutation-refl (get_or old.routes r.0 []));
         placed = sym (set-get_or old.routes r.0 []);
       };
-      begins = λ a l. or-none (begins_at old.atoms a) (sets_end a op) (clears-no_end op p a c);
+      begins = λ a l. or-none (begins_at old.atoms a) (op_sets_end a op) (clears-no_end op p a c);
       form = tt;
       tells = λ q a l. refl;
     })
@@ -170,7 +169,7 @@ route-ends old r p routes whole inside at has =
     subst (λ (q : Cidr). BeginsAtEnds old.atoms q) has.prefix mine
 
 -- a setting cuts atoms first
-sets-ends : (op : Op) (p : Cidr) (a : ℕ) → IsSetOf op p → is_end_of p a ≡ sets_end a op
+sets-ends : (op : Op) (p : Cidr) (a : ℕ) → IsSetOf op p → is_end_of p a ≡ op_sets_end a op
 sets-ends (Set q m t) p a h = ap (λ (s : Cidr). is_end_of s a) (sym h)
 sets-ends (Clear q m) p a h = absurd h
 

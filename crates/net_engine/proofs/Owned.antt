@@ -7,8 +7,8 @@ use Rattle.std.proofs.lemmas.List.Elements.{Contains-append_left, Contains-push_
 use Rattle.std.proofs.lemmas.List.Sorted.{Contains-permutation, IsPermutation-refl, IsPermutation-sym}
 use Rattle.std.proofs.lemmas.Map.Keys.{IsDistinct-IsPermutation, IsDistinct-cons, IsDistinct-head, IsDistinct-tail}
 use Rattle.dn_model.specs.Cidr.{Cidr, IsCidr, covers}
-use Rattle.dn_model.specs.Entry.{IsOpOf, IsTargetOf}
-use Rattle.dn_model.specs.Routes.{IsTable, SameRoutes}
+use Rattle.dn_model.specs.Entry.{IsOpOf, IsTargetOf, prefix_of_op}
+use Rattle.dn_model.specs.Routes.{IsTable}
 use Rattle.dn_model.specs.Rules.{Covers, OwnersOf, after_rule_op, rule_of, without_length, without_rule}
 use Rattle.dn_model.specs.Table.{HasKeysOnce, IsBest, after_op, best, better, has_key, is_of_prefix, same_key, target_in, target_or_none}
 use Rattle.dn_model.specs.Topology.{all_differ}
@@ -20,9 +20,8 @@ use Rattle.dn_model.specs.declared.target.Target.{Target}
 use Rattle.dn_model.specs.declared.topology.Topology.{Topology}
 use Rattle.dn_model.proofs.Best.{best-is, contains-filter, contains-here, contains-there, filter-contains}
 use Rattle.dn_model.proofs.Keys.{base-once, key-turned, keys-after}
-use Rattle.dn_model.proofs.SameRoutes.{only-best, same-permutation}
+use Rattle.dn_model.proofs.SameRoutes.{SameRoutes, only-best, same-permutation}
 use Rattle.owner_tree.proofs.Updates.{other-prefix, owners-cleared, owners-set}
-use Rattle.net_engine.specs.Steps.{prefix_of_op}
 pub use Rattle.owner_tree.proofs.Best.{top-target}
 
 -- ---- tables

@@ -2,8 +2,9 @@
 use Rattle.std.proofs.Common.{◌≡◌, ◌+◌, ◌<◌, ◌^◌, ◌∙◌, ◌||◌, Bool, true, false, List, refl, ap, sym, arith, eqb}
 use Rattle.std.proofs.lemmas.Bool.{eq-eqb, ne_eqb, or_left, or_right}
 use Rattle.dn_model.specs.Cidr.{Cidr, IsCidr, size}
+use Rattle.dn_model.specs.Entry.{is_end_of}
 use Rattle.dn_model.specs.Rows.{CoverFrom}
-use Rattle.dn_model.specs.Version.{Atom, begins_at, first_of, is_end_of, past_of, rules_at, target_at}
+use Rattle.dn_model.specs.Version.{Atom, begins_at, first_of, past_of, rules_at, target_at}
 use Rattle.net_engine.specs.Net.{cut_atoms}
 use Rattle.net_engine.specs.Walked.{BeginsAtEnds, IsParted}
 use Rattle.net_engine.proofs.Atoms.{cut-begins, cut-rules, cut-target, eqb-turned}

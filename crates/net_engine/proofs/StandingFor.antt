@@ -4,11 +4,12 @@ use Rattle.std.specs.List.{list_any}
 use Rattle.std.proofs.lemmas.Bool.{cases_Bool, cases_lt}
 use Rattle.std.proofs.lemmas.List.{get_or_past}
 use Rattle.std.proofs.lemmas.List.Folds.{list_any-append}
-use Rattle.dn_model.specs.Forwarding.{AreEachForwarding, AreForwarding, DoesAfter, IsForwarding, row_past, forwarding_at, row_low}
-use Rattle.dn_model.specs.Routes.{IsTable, SameRoutes}
+use Rattle.dn_model.specs.Entry.{sets_end}
+use Rattle.dn_model.specs.Forwarding.{AreEachForwarding, AreForwarding, IsForwarding, does, forwarding_at, row_low, row_past, target_in_row}
+use Rattle.dn_model.specs.Routes.{IsTable}
 use Rattle.dn_model.specs.Rows.{is_within, CoverFrom}
-use Rattle.dn_model.specs.Table.{best, table, target}
-use Rattle.dn_model.specs.Version.{Atom, Kept, KeptStandsFor, atom_at, begins_at, first_of, is_boundary_after, forwarding_of, past_of, rules_at, sets_end, target_at, target_in_atom}
+use Rattle.dn_model.specs.Table.{HasKeysOnce, best, does_after, table}
+use Rattle.dn_model.specs.Version.{Atom, Kept, KeptStandsFor, atom_at, begins_at, first_of, is_boundary_after, forwarding_of, past_of, rules_at, target_at, target_in_atom}
 use Rattle.dn_model.specs.declared.entry.Entry.{Entry}
 use Rattle.dn_model.specs.declared.entry.Route.{Route}
 use Rattle.dn_model.specs.declared.ids.LinkId.{LinkId}
@@ -17,7 +18,9 @@ use Rattle.dn_model.specs.declared.forwarding_row.ForwardingRow.{ForwardingRow}
 use Rattle.dn_model.specs.declared.target.Target.TheVariants.{NoRoute, To}
 use Rattle.dn_model.proofs.Best.{best-is, contains-none}
 use Rattle.dn_model.proofs.Covers.{holder-first, holder-rest, starts-below, within-above, within-yes}
-use Rattle.dn_model.proofs.SameRoutes.{same-target}
+use Rattle.dn_model.proofs.Keys.{table-keys}
+use Rattle.dn_model.proofs.SamePermutation.{permutation-same}
+use Rattle.dn_model.proofs.SameRoutes.{SameRoutes, same-target}
 use Rattle.dn_model.proofs.Within.{within-best}
 use Rattle.net_engine.specs.Net.{AreWide}
 use Rattle.net_engine.specs.Whole.{Agrees, IsWhole}
@@ -35,10 +38,10 @@ or-pushed false true r = refl
 or-pushed false false true = refl
 or-pushed false false false = refl
 
-pub boundary-after : (history : List Entry) (e : Entry) (a : ℕ) → is_boundary_after (history ++ e ∷ []) a ≡ (is_boundary_after history a || sets_end a e.op)
+pub boundary-after : (history : List Entry) (e : Entry) (a : ℕ) → is_boundary_after (history ++ e ∷ []) a ≡ (is_boundary_after history a || sets_end a e)
 boundary-after history e a =
-    ap (λ b. eqb a 0 || b) (list_any-append (λ (x : Entry). sets_end a x.op) history (e ∷ []))
-    ∙ or-pushed (eqb a 0) (list_any (λ (x : Entry). sets_end a x.op) history) (sets_end a e.op)
+    ap (λ b. eqb a 0 || b) (list_any-append (sets_end a) history (e ∷ []))
+    ∙ or-pushed (eqb a 0) (list_any (sets_end a) history) (sets_end a e)
 
 -- ---- labels
 
@@ -51,6 +54,14 @@ label-of_atom (x ∷ xs) a = ⊎_elim
     (λ (f : is_within x.row.low x.row.past a ≡ false).
     holder-rest row_low row_past x.row (forwarding_of xs) a f ∙ label-of_atom xs a ∙ sym (ap (option_map (λ (z : Atom). z.row)) (holder-rest first_of past_of x xs a f)))
     (cases_Bool (is_within x.row.low x.row.past a))
+
+-- what the rows show is what the atoms do
+pub does-row : (xs : List Atom) (r : RouterId) (a : ℕ) → does (forwarding_of xs) r a ≡ target_at xs r a
+does-row xs r a = ap (λ o. target_in_row o r) (label-of_atom xs a) ∙ by (atom_at xs a)
+  where
+    by : (o : Option Atom) → target_in_row (option_map (λ (x : Atom). x.row) o) r ≡ target_in_atom o r
+    by None = refl
+    by (Some x) = refl
 
 labels-cover : (start : ℕ) (xs : List Atom) → CoverFrom first_of past_of start xs → CoverFrom row_low row_past start (forwarding_of xs)
 labels-cover start [] h = h
@@ -104,37 +115,39 @@ module _ (kept : Kept) (whole : IsWhole kept) where
   }
 
   -- ---- what is kept stands for a history whose tables and boundaries it has
-  module _ (history : List Entry) (same : (r : RouterId) → SameRoutes (get_or kept.routes r.0 []) (table history r)) where
+  module _ (history : List Entry) (same : (r : RouterId) → SameRoutes (get_or kept.routes r.0 []) (table kept.topology history r)) where
     empty-table : IsTable []
     empty-table = record { keys = refl; prefixes = λ r h. absurd (contains-none r h) }
 
-    past-target : (r : RouterId) (a : ℕ) → length kept.topology.routers ≤ r.0 → NoRoute ≡ target history r a
+    past-target : (r : RouterId) (a : ℕ) → length kept.topology.routers ≤ r.0 → NoRoute ≡ does_after kept.topology history r a
     past-target r a o =
         let n : length kept.routes ≡ length kept.topology.routers = whole.tables in
         let none : get_or kept.routes r.0 [] ≡ [] = get_or_past kept.routes r.0 [] (omega arith) in
-        let P : List Route → Type 0 = λ xs. SameRoutes xs (table history r) in
-        same-target [] history r a empty-table (subst P none (same r))
+        let P : List Route → Type 0 = λ xs. SameRoutes xs (table kept.topology history r) in
+        same-target kept.topology [] history r a empty-table (subst P none (same r))
 
     -- each router does what the history comes to
-    pub does-after : (r : RouterId) (a : ℕ) → a < 2 ^ 32 → target_at kept.atoms r a ≡ target history r a
+    pub does-after : (r : RouterId) (a : ℕ) → a < 2 ^ 32 → target_at kept.atoms r a ≡ does_after kept.topology history r a
     does-after r a below = ⊎_elim
         (λ (i : r.0 < length kept.topology.routers).
         let g : Agrees kept.topology kept.atoms r (get_or kept.routes r.0 []) = whole.agree r i in
-        g.labels a below ∙ same-target (get_or kept.routes r.0 []) history r a g.table (same r))
+        g.labels a below ∙ same-target kept.topology (get_or kept.routes r.0 []) history r a g.table (same r))
         (λ (o : length kept.topology.routers ≤ r.0). target-past (length kept.topology.routers) kept.atoms r a whole.wide o ∙ past-target r a o)
         (cases_lt r.0 (length kept.topology.routers))
 
-    row-does : (r : RouterId) (a : ℕ) → a < 2 ^ 32 → DoesAfter (forwarding_at (forwarding_of kept.atoms) a) history r a
-    row-does r a below =
-        let w : Holds first_of past_of kept.atoms a = holds first_of past_of 0 kept.atoms a whole.cover (omega arith) below in
-        let row : forwarding_at (forwarding_of kept.atoms) a ≡ Some w.row.row = label-of_atom kept.atoms a ∙ ap (option_map (λ (x : Atom). x.row)) w.is in
-        let P : Option ForwardingRow → Type 0 = λ o. DoesAfter o history r a in
-        subst P (sym row) (ap (λ o. target_in_atom o r) (sym w.is) ∙ does-after r a below)
+    kept-keys : (r : RouterId) → HasKeysOnce (get_or kept.routes r.0 [])
+    kept-keys r = ⊎_elim
+        (λ (i : r.0 < length kept.topology.routers). (whole.agree r i).table.keys)
+        (λ (o : length kept.topology.routers ≤ r.0).
+        let n : length kept.routes ≡ length kept.topology.routers = whole.tables in
+        let none : get_or kept.routes r.0 [] ≡ [] = get_or_past kept.routes r.0 [] (omega arith) in
+        subst (λ xs. HasKeysOnce xs) (sym none) refl)
+        (cases_lt r.0 (length kept.topology.routers))
 
     pub stands : ((a : ℕ) → a < 2 ^ 32 → begins_at kept.atoms a ≡ is_boundary_after history a) → KeptStandsFor kept history
     stands boundaries = record {
-      rows = record { form = are-labels; exact = row-does };
-      routes = same;
-      owners = λ r a i below. owners-same (rules_at kept.atoms r a) (get_or kept.routes r.0 []) (table history r) a (same r) ((whole.agree r i).owners a below);
+      rows = record { form = are-labels; exact = λ r a l. does-row kept.atoms r a ∙ does-after r a l };
+      routes = λ r. permutation-same (get_or kept.routes r.0 []) (table kept.topology history r) (kept-keys r) (table-keys kept.topology history r) (same r);
+      owners = λ r a i below. owners-same (rules_at kept.atoms r a) (get_or kept.routes r.0 []) (table kept.topology history r) a (same r) ((whole.agree r i).owners a below);
       boundaries = boundaries;
     }

@@ -2,10 +2,11 @@
 use Rattle.std.specs.Prelude.{ℕ, Bool, true, false, List, [], length, Option, slice_index_or, slice_set, Contains, IsPermutation, ◌≡◌, ◌+◌, ◌<◌, ◌≤◌, ◌^◌, ◌&&◌, ◌||◌, ◌==◌}
 use Rattle.dn_model.specs.Cidr.{Cidr, size}
 use Rattle.dn_model.specs.Delta.{AreChanges, TellsChange, change_at}
+use Rattle.dn_model.specs.Entry.{is_end_of, op_sets_end}
 use Rattle.dn_model.specs.Rows.{is_within}
 use Rattle.dn_model.specs.Rules.{IsTop, after_rule_op, target_of as target_of_rule}
 use Rattle.dn_model.specs.Table.{after_op}
-use Rattle.dn_model.specs.Version.{Atom, Kept, begins_at, is_end_of, rules_at, sets_end, target_at}
+use Rattle.dn_model.specs.Version.{Atom, Kept, begins_at, rules_at, target_at}
 use Rattle.dn_model.specs.declared.change.Change.{Change}
 use Rattle.dn_model.specs.declared.entry.Op.{Op}
 use Rattle.dn_model.specs.declared.entry.Op.TheVariants.{Set, Clear}
@@ -104,6 +105,6 @@ pub record IsUpdated (old new : Kept) (r : RouterId) (op : Op) (changes : List C
   pub whole : IsWhole new
   pub topology : new.topology ≡ old.topology
   pub routes : UpdatesAt r.0 op old.routes new.routes
-  pub begins : (a : ℕ) → a < 2 ^ 32 → begins_at new.atoms a ≡ (begins_at old.atoms a || sets_end a op)
+  pub begins : (a : ℕ) → a < 2 ^ 32 → begins_at new.atoms a ≡ (begins_at old.atoms a || op_sets_end a op)
   pub form : AreChanges changes
   pub tells : (q : RouterId) (a : ℕ) → a < 2 ^ 32 → TellsChange (target_at old.atoms q a) (target_at new.atoms q a) (change_at changes q a)

@@ -178,8 +178,8 @@ impl Net {
     /// The bounds of the atom at a place: its first address, and the one after its last, which is at most 2^32.
     pub fn bounds(&self, i: u64) -> (u64, u64)
         requires { i < length self.now.atoms }
-        ensures lo { (d : Atom) → result.0 ≡ first_of (slice_index_or self.now.atoms i d) }
-        ensures hi { (d : Atom) → result.1 ≡ past_of (slice_index_or self.now.atoms i d) }
+        ensures low { (d : Atom) → result.0 ≡ first_of (slice_index_or self.now.atoms i d) }
+        ensures past { (d : Atom) → result.1 ≡ past_of (slice_index_or self.now.atoms i d) }
         ensures form { IsNet self.now }
     {
         let row = self.atoms.at(i);

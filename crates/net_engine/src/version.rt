@@ -2,11 +2,10 @@
 
 ghost use Rattle.std.specs.Prelude.{◌≡◌, ◌<◌, ◌++◌, ◌∷◌, [], List, ℕ, IfOk, length};
 ghost use Rattle.std.specs.Arc.{arc_value};
-ghost use Rattle.dn_model.specs.Delta.{IsDelta};
-ghost use Rattle.dn_model.specs.Entry.{IsEntryOf, IsOpOf};
+ghost use Rattle.dn_model.specs.Delta.{IsDeltaOf};
+ghost use Rattle.dn_model.specs.Entry.{IsEntryOf, IsOpOf, prefix_of_op};
 ghost use Rattle.dn_model.specs.Version.{KeptStandsFor, forwarding_of};
 ghost use Rattle.dn_model.specs.declared.entry.Entry.{Entry as EntryIs};
-ghost use Rattle.net_engine.specs.Steps.{prefix_of_op};
 ghost use Rattle.net_engine.specs.Walked.{BeginsAtEnds, IsClearOf, IsCutAt, IsSetOf, IsRemade, IsUpdated};
 
 use crate::ends::{cut_ends, past_of};
@@ -163,7 +162,7 @@ impl Version {
         requires { IsEntryOf self.topology entry.now }
         ensures topology { IfOk result (λ made. made.0.topology ≡ self.topology) }
         ensures stands { IfOk result (λ made. (history : List EntryIs) → KeptStandsFor self history → KeptStandsFor made.0 (history ++ entry.now ∷ [])) }
-        ensures delta { IfOk result (λ made. (history : List EntryIs) → KeptStandsFor self history → IsDelta (history ++ entry.now ∷ []) made.1) }
+        ensures delta { IfOk result (λ made. (history : List EntryIs) → KeptStandsFor self history → IsDeltaOf self.topology (history ++ entry.now ∷ []) made.1) }
     {
         self.updated(alloc, entry.router, &entry.op)
     }
@@ -174,7 +173,7 @@ impl Version {
         requires { IsEntryOf self.now.topology entry.now }
         ensures topology { IfOk result (λ made. made.0.topology ≡ self.now.topology) }
         ensures stands { IfOk result (λ made. (history : List EntryIs) → KeptStandsFor self.now history → KeptStandsFor made.0 (history ++ entry.now ∷ [])) }
-        ensures delta { IfOk result (λ made. (history : List EntryIs) → KeptStandsFor self.now history → IsDelta (history ++ entry.now ∷ []) made.1) }
+        ensures delta { IfOk result (λ made. (history : List EntryIs) → KeptStandsFor self.now history → IsDeltaOf self.now.topology (history ++ entry.now ∷ []) made.1) }
     {
         self.copy(alloc)?.advance(alloc, entry)
     }
@@ -197,7 +196,7 @@ impl Version {
 impl LabelView for Version {
     ghost width = { λ v. length v.topology.routers };
 
-    ghost labels = { λ v. forwarding_of v.atoms };
+    ghost rows = { λ v. forwarding_of v.atoms };
 
     fn routers(&self) -> u32 {
         self.net.routers()

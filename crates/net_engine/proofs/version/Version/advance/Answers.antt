@@ -8,12 +8,12 @@ returns-clause-topology c = IfOk-weaker c.updated.result _ _ (λ made h. h.topol
 
 pub returns-clause-stands : goal.returns-clause-stands
 returns-clause-stands c = IfOk-weaker c.updated.result _ _
-    (λ made h history of. stands-after c.args.self made.0 history c.args.entry.now of h.routes.made h.whole h.routes.inside h.routes.as_updated h.routes.placed h.begins)
+    (λ made h history of. stands-after c.args.self made.0 history c.args.entry.now of h.topology h.routes.made h.whole h.routes.inside h.routes.as_updated h.routes.placed h.begins)
     c.updated.ensures
 
 pub returns-clause-delta : goal.returns-clause-delta
 returns-clause-delta c = IfOk-weaker c.updated.result _ _
-    (λ made h history of. delta-after c.args.self made.0 history c.args.entry.now of made.1
-    (stands-after c.args.self made.0 history c.args.entry.now of h.routes.made h.whole h.routes.inside h.routes.as_updated h.routes.placed h.begins)
+    (λ made h history of. delta-after c.args.self made.0 history c.args.entry.now of h.topology made.1
+    (stands-after c.args.self made.0 history c.args.entry.now of h.topology h.routes.made h.whole h.routes.inside h.routes.as_updated h.routes.placed h.begins)
     h.form h.tells)
     c.updated.ensures

@@ -1,6 +1,6 @@
 -- The copy is the same version.
 use Rattle.std.proofs.Common.{◌++◌, ◌∷◌, [], List, IfOk, subst}
-use Rattle.dn_model.specs.Delta.{IsDelta}
+use Rattle.dn_model.specs.Delta.{IsDeltaOf}
 use Rattle.dn_model.specs.Version.{Kept, KeptStandsFor}
 use Rattle.dn_model.specs.declared.entry.Entry.{Entry}
 use Rattle.net_engine.proofs.version.Version.apply.Goals as goal
@@ -15,6 +15,6 @@ returns-clause-stands c =
 pub returns-clause-delta : goal.returns-clause-delta
 returns-clause-delta c =
     subst
-    (λ (v : Kept). IfOk c.advance.result (λ made. (history : List Entry) → KeptStandsFor v history → IsDelta (history ++ c.args.entry.now ∷ []) made.1))
+    (λ (v : Kept). IfOk c.advance.result (λ made. (history : List Entry) → KeptStandsFor v history → IsDeltaOf v.topology (history ++ c.args.entry.now ∷ []) made.1))
     c.in_ok-copy.ensures
     c.advance.ensures.delta

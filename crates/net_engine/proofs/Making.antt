@@ -19,7 +19,7 @@ use Rattle.dn_model.specs.declared.ids.RouterId.{RouterId}
 use Rattle.dn_model.specs.declared.target.Target.{Target}
 use Rattle.dn_model.specs.declared.topology.Topology.{Topology}
 use Rattle.net_engine.specs.Net.{AreWide, first_atom}
-use Rattle.net_engine.specs.Walked.{BeginsAtEnds, Follows, HasRouteOf, IsClearOf, IsCutAt, IsParted, IsRemade, IsSetOf, IsUpdated, IsWalked, UpdatesAt, is_part}
+use Rattle.net_engine.specs.Walked.{BeginsAtEnds, Follows, HasRouteOf, IsClear, IsCutAt, IsParted, IsRemade, IsSet, IsUpdated, IsWalked, UpdatesAt, is_part}
 use Rattle.net_engine.specs.Whole.{Agrees, HasEnds, IsWhole}
 use Rattle.net_engine.proofs.Agreed.{RemadeAt, agrees-remade, agrees-same, begin-more, begin-same}
 use Rattle.net_engine.proofs.Begun.{first_kept, first-stands, first-whole}
@@ -117,34 +117,34 @@ module _ (old new : List Atom) (r : RouterId) (op : Op) (changes : List Change) 
 -- ---- clearings and settings
 
 -- a clearing cuts nothing
-clears-no_end : (op : Op) (p : Cidr) (a : ℕ) → IsClearOf op p → op_sets_end a op ≡ false
-clears-no_end (Set q m t) p a h = absurd h
-clears-no_end (Clear q m) p a h = refl
+clears-no_end : (op : Op) (a : ℕ) → IsClear op → op_sets_end a op ≡ false
+clears-no_end (Set q m t) a h = absurd h
+clears-no_end (Clear q m) a h = refl
 
 or-none : (x y : Bool) → y ≡ false → x ≡ (x || y)
 or-none true y e = refl
 or-none false y e = sym e
 
-pub cleared : (old new : Kept) (r : RouterId) (op : Op) (p : Cidr) (changes : List Change) → IsClearOf op p → IsRemade old new r op changes → IsUpdated old new r op changes
-cleared old new r op p changes c h = record {
+pub cleared : (old new : Kept) (r : RouterId) (op : Op) (changes : List Change) → IsClear op → IsRemade old new r op changes → IsUpdated old new r op changes
+cleared old new r op changes c h = record {
   whole = h.whole;
   topology = h.topology;
   routes = h.routes;
-  begins = λ a l. h.begins a ∙ or-none (begins_at old.atoms a) (op_sets_end a op) (clears-no_end op p a c);
+  begins = λ a l. h.begins a ∙ or-none (begins_at old.atoms a) (op_sets_end a op) (clears-no_end op a c);
   form = h.form;
   tells = h.tells;
 }
 
 -- where the router has no route of the prefix it changes nothing
-nothing-cleared : (routes : List Route) (op : Op) (p : Cidr) → IsClearOf op p → ((x : Route) → Contains routes x → is_of_prefix p x ≡ false) → after_op routes op ≡ routes
-nothing-cleared routes (Set q m t) p h none = absurd h
-nothing-cleared routes (Clear q m) p h none = no-route-of-prefix routes q m (λ x i. subst (λ (s : Cidr). is_of_prefix s x ≡ false) (sym h) (none x i))
+nothing-cleared : (routes : List Route) (op : Op) → IsClear op → ((x : Route) → Contains routes x → is_of_prefix (prefix_of_op op) x ≡ false) → after_op routes op ≡ routes
+nothing-cleared routes (Set q m t) h none = absurd h
+nothing-cleared routes (Clear q m) h none = no-route-of-prefix routes q m none
 
-pub unchanged : (old : Kept) (r : RouterId) (op : Op) (p : Cidr) (routes : List Route) (changes : List Change) → IsWhole old → r.0 < length old.topology.routers → IsClearOf op p → routes ≡ get_or old.routes r.0 routes → ((x : Route) → Contains routes x → is_of_prefix p x ≡ false) → changes ≡ [] → IsUpdated old old r op changes
-unchanged old r op p routes changes whole inside c at none told =
+pub unchanged : (old : Kept) (r : RouterId) (op : Op) (p : Cidr) (routes : List Route) (changes : List Change) → IsWhole old → r.0 < length old.topology.routers → IsClear op → p ≡ prefix_of_op op → routes ≡ get_or old.routes r.0 routes → ((x : Route) → Contains routes x → is_of_prefix p x ≡ false) → changes ≡ [] → IsUpdated old old r op changes
+unchanged old r op p routes changes whole inside c is at none told =
     let within : r.0 < length old.routes = subst (λ n. r.0 < n) (sym whole.tables) inside in
     let here : routes ≡ get_or old.routes r.0 [] = at ∙ get_or_default old.routes r.0 routes [] within in
-    let same : after_op (get_or old.routes r.0 []) op ≡ get_or old.routes r.0 [] = nothing-cleared (get_or old.routes r.0 []) op p c (subst (λ (rs : List Route). (x : Route) → Contains rs x → is_of_prefix p x ≡ false) here none) in
+    let same : after_op (get_or old.routes r.0 []) op ≡ get_or old.routes r.0 [] = nothing-cleared (get_or old.routes r.0 []) op c (λ x i. subst (λ (q : Cidr). is_of_prefix q x ≡ false) is (none x (subst (λ rs. Contains rs x) (sym here) i))) in
     subst (λ cs. IsUpdated old old r op cs) (sym told) (record {
       whole = whole;
       topology = refl;
@@ -154,7 +154,7 @@ unchanged old r op p routes changes whole inside c at none told =
         as_updated = subst (λ rs. IsPermutation (get_or old.routes r.0 []) rs) (sym same) (IsPermutation-refl (get_or old.routes r.0 []));
         placed = sym (set-get_or old.routes r.0 []);
       };
-      begins = λ a l. or-none (begins_at old.atoms a) (op_sets_end a op) (clears-no_end op p a c);
+      begins = λ a l. or-none (begins_at old.atoms a) (op_sets_end a op) (clears-no_end op a c);
       form = tt;
       tells = λ q a l. refl;
     })
@@ -169,27 +169,23 @@ route-ends old r p routes whole inside at has =
     subst (λ (q : Cidr). BeginsAtEnds old.atoms q) has.prefix mine
 
 -- a setting cuts atoms first
-sets-ends : (op : Op) (p : Cidr) (a : ℕ) → IsSetOf op p → is_end_of p a ≡ op_sets_end a op
-sets-ends (Set q m t) p a h = ap (λ (s : Cidr). is_end_of s a) (sym h)
-sets-ends (Clear q m) p a h = absurd h
+sets-ends : (op : Op) (a : ℕ) → IsSet op → is_end_of (prefix_of_op op) a ≡ op_sets_end a op
+sets-ends (Set q m t) a h = refl
+sets-ends (Clear q m) a h = absurd h
 
-pub set-after_cut : (old mid new : Kept) (r : RouterId) (op : Op) (p : Cidr) (changes : List Change) → IsSetOf op p → IsCutAt old mid p → IsRemade mid new r op changes → IsUpdated old new r op changes
-set-after_cut old mid new r op p changes s cut h = record {
+pub set-after_cut : (old mid new : Kept) (r : RouterId) (op : Op) (p : Cidr) (changes : List Change) → IsSet op → p ≡ prefix_of_op op → IsCutAt old mid p → IsRemade mid new r op changes → IsUpdated old new r op changes
+set-after_cut old mid new r op p changes s is cut h = record {
   whole = h.whole;
   topology = h.topology ∙ cut.topology;
   routes = subst (λ rs. UpdatesAt r.0 op rs new.routes) cut.routes h.routes;
-  begins = λ a l. h.begins a ∙ cut.parted.begins a l ∙ ap (λ b. begins_at old.atoms a || b) (sets-ends op p a s);
+  begins = λ a l. h.begins a ∙ cut.parted.begins a l ∙ ap (λ b. begins_at old.atoms a || b) (ap (λ (q : Cidr). is_end_of q a) is ∙ sets-ends op a s);
   form = h.form;
   tells = λ q a l. subst (λ u. TellsChange u (target_at new.atoms q a) (change_at changes q a)) (cut.parted.targets q a l) (h.tells q a l);
 }
 
-pub clear-prefix : (op : Op) (p : Cidr) → IsClearOf op p → prefix_of_op op ≡ p
-clear-prefix (Set q m t) p h = absurd h
-clear-prefix (Clear q m) p h = h
-
-pub set-prefix : (op : Op) (p : Cidr) → IsSetOf op p → prefix_of_op op ≡ p
-set-prefix (Set q m t) p h = h
-set-prefix (Clear q m) p h = absurd h
+-- the ends of a prefix are those of an update that has it
+pub ends-of_update : (atoms : List Atom) (p : Cidr) (op : Op) → p ≡ prefix_of_op op → BeginsAtEnds atoms p → BeginsAtEnds atoms (prefix_of_op op)
+ends-of_update atoms p op is ends = subst (λ (q : Cidr). BeginsAtEnds atoms q) is ends
 
 -- ---- as the fields of a version are
 
@@ -212,7 +208,7 @@ cut-made now t old new routes p view h cover wide cidr parted = subst (λ (k : K
   ends = parted-ends old new p cidr parted;
 })
 
-pub update-made : (now : Kept) (t : Topology) (old new : List Atom) (routes made : List (List Route)) (r : RouterId) (op : Op) (changes : List Change) (p : Cidr) (at lo hi : ℕ) → kept_of t old routes ≡ now → IsWhole (kept_of t old routes) → CoverFrom first_of past_of 0 new → AreWide (length t.routers) new → r.0 < length now.topology.routers → IsOpOf now.topology op → prefix_of_op op ≡ p → IsCidr p → BeginsAtEnds now.atoms p → at ≡ r.0 → UpdatesAt at op routes made → lo ≡ p.base → hi ≡ p.base + size p → IsWalked old new [] changes r op lo hi → IsRemade now (kept_of t new made) r op changes
+pub update-made : (now : Kept) (t : Topology) (old new : List Atom) (routes made : List (List Route)) (r : RouterId) (op : Op) (changes : List Change) (p : Cidr) (at lo hi : ℕ) → kept_of t old routes ≡ now → IsWhole (kept_of t old routes) → CoverFrom first_of past_of 0 new → AreWide (length t.routers) new → r.0 < length now.topology.routers → IsOpOf now.topology op → p ≡ prefix_of_op op → IsCidr p → BeginsAtEnds now.atoms (prefix_of_op op) → at ≡ r.0 → UpdatesAt at op routes made → lo ≡ p.base → hi ≡ p.base + size p → IsWalked old new [] changes r op lo hi → IsRemade now (kept_of t new made) r op changes
 update-made now t old new routes made r op changes p at lo hi view h cover wide inside own is cidr ends place u low high w =
     let walked : IsWalked old new [] changes r op p.base (p.base + size p) = subst (λ n. IsWalked old new [] changes r op p.base n) high (subst (λ n. IsWalked old new [] changes r op n hi) low w) in
     let back : now ≡ kept_of t old routes = sym view in
@@ -220,8 +216,8 @@ update-made now t old new routes made r op changes p at lo hi view h cover wide 
     (remade old new r op changes p walked t routes made h cover wide
     (subst (λ (k : Kept). r.0 < length k.topology.routers) back inside)
     (subst (λ (k : Kept). IsOpOf k.topology op) back own)
-    is cidr
-    (subst (λ (k : Kept). BeginsAtEnds k.atoms p) back ends)
+    (sym is) cidr
+    (subst (λ (q : Cidr). BeginsAtEnds old q) (sym is) (subst (λ (k : Kept). BeginsAtEnds k.atoms (prefix_of_op op)) back ends))
     (subst (λ n. UpdatesAt n op routes made) place u))
 
 -- ---- the first version

@@ -79,15 +79,15 @@ pub record IsCutAt (old new : Kept) (p : Cidr) : Type 0 where
   pub parted : IsParted old.atoms new.atoms p
   pub ends : BeginsAtEnds new.atoms p
 
--- an update clears routes of a prefix
-abbrev pub IsClearOf : Op → Cidr → Type 0
-IsClearOf (Set q m t) p = ⊥
-IsClearOf (Clear q m) p = q ≡ p
+-- an update clears routes
+abbrev pub IsClear : Op → Type 0
+IsClear (Set p m t) = ⊥
+IsClear (Clear p m) = Unit {0}
 
--- an update sets a route of a prefix
-abbrev pub IsSetOf : Op → Cidr → Type 0
-IsSetOf (Set q m t) p = q ≡ p
-IsSetOf (Clear q m) p = ⊥
+-- an update sets a route
+abbrev pub IsSet : Op → Type 0
+IsSet (Set p m t) = Unit {0}
+IsSet (Clear p m) = ⊥
 
 -- An update of one router was made where atoms begin at its prefix's ends already: its routes are what the update makes
 -- of them, and it is told where a router does something else than before.

@@ -1,6 +1,6 @@
 //! The rules of all routers in one atom.
 
-ghost use Rattle.std.specs.Prelude.{◌≡◌, ◌<◌, [], replicate, length, slice_index_or, IfOk, OnOk, IsPermutation};
+ghost use Rattle.std.specs.Prelude.{◌≡◌, ◌<◌, [], replicate, length, slice_index_or, IfOk, OnOk, OnErr, IsPermutation};
 ghost use Rattle.dn_model.specs.Rules.{after_rule_op};
 ghost use Rattle.net_engine.specs.Numbered.{IsChanged, IsInForce};
 
@@ -39,7 +39,8 @@ impl AtomOwners {
     /// Makes an update to the rules of a router. At `OutOfMemory`, for which alone it fails, they are as before.
     pub fn change(&mut self, r: RouterId, op: &Op) -> Result<(), OutOfMemory>
         requires { r.0 < length self.old }
-        ensures { OnOk result (IsChanged self.old self.new r.0 op.now) }
+        ensures ok { OnOk result (IsChanged self.old self.new r.0 op.now) }
+        ensures err { OnErr result (self.new ≡ self.old) }
     {
         changed(&mut self.owners[r.0 as usize], op)
     }
@@ -64,9 +65,11 @@ impl AtomOwners {
     }
 }
 
-/// Makes an update to the rules of an atom that its prefix covers.
+/// Makes an update to the rules of an atom that its prefix covers. At `OutOfMemory`, for which alone it fails, they are
+/// as before.
 fn changed(owners: &mut Owners, op: &Op) -> Result<(), OutOfMemory>
-    ensures { OnOk result (IsPermutation owners.new (after_rule_op owners.old op.now)) }
+    ensures ok { OnOk result (IsPermutation owners.new (after_rule_op owners.old op.now)) }
+    ensures err { OnErr result (owners.new ≡ owners.old) }
 {
     match op {
         Op::Set {

@@ -6,7 +6,7 @@ ghost use Rattle.dn_model.specs.Delta.{IsDeltaOf};
 ghost use Rattle.dn_model.specs.Entry.{IsEntryOf, IsOpOf, prefix_of_op};
 ghost use Rattle.dn_model.specs.Version.{KeptStandsFor, forwarding_of};
 ghost use Rattle.dn_model.specs.declared.entry.Entry.{Entry as EntryIs};
-ghost use Rattle.net_engine.specs.Walked.{BeginsAtEnds, IsClearOf, IsCutAt, IsSetOf, IsRemade, IsUpdated};
+ghost use Rattle.net_engine.specs.Walked.{BeginsAtEnds, IsClear, IsCutAt, IsSet, IsRemade, IsUpdated};
 
 use crate::ends::{cut_ends, past_of};
 use crate::net::Net;
@@ -77,17 +77,10 @@ impl Version {
     }
 
     /// The version after an update of one of its routers, at whose prefix's ends atoms begin.
-    fn update(
-        self,
-        alloc: Global,
-        r: RouterId,
-        op: &Op,
-        prefix: Prefix,
-    ) -> Result<(Version, Delta), OutOfMemory>
+    fn update(self, alloc: Global, r: RouterId, op: &Op) -> Result<(Version, Delta), OutOfMemory>
         requires router { r.0 < length self.topology.routers }
         requires op { IsOpOf self.topology op.now }
-        requires prefix { prefix_of_op op.now ≡ prefix }
-        requires ends { BeginsAtEnds self.atoms prefix }
+        requires ends { BeginsAtEnds self.atoms (prefix_of_op op.now) }
         ensures { IfOk result (λ made. IsRemade self made.0 r op.now made.1) }
     {
         let Version {
@@ -95,6 +88,7 @@ impl Version {
             net,
             mut tables,
         } = self;
+        let prefix = op.prefix();
         let past = past_of(prefix);
         update_at(&mut tables, usize::from(r.0), op)?;
         let (net, delta) = walk_atoms(alloc, net, r, op, prefix.base(), past)?;
@@ -109,39 +103,27 @@ impl Version {
     }
 
     /// The version after a clearing, which changes nothing where the router has no route of the prefix.
-    fn clear(
-        self,
-        alloc: Global,
-        r: RouterId,
-        op: &Op,
-        prefix: Prefix,
-    ) -> Result<(Version, Delta), OutOfMemory>
+    fn clear(self, alloc: Global, r: RouterId, op: &Op) -> Result<(Version, Delta), OutOfMemory>
         requires router { r.0 < length self.topology.routers }
         requires op { IsOpOf self.topology op.now }
-        requires clears { IsClearOf op.now prefix }
+        requires clears { IsClear op.now }
         ensures { IfOk result (λ made. IsUpdated self made.0 r op.now made.1) }
     {
-        if has_route_of(&self.tables[usize::from(r.0)], prefix) {
-            return self.update(alloc, r, op, prefix);
+        if has_route_of(&self.tables[usize::from(r.0)], op.prefix()) {
+            return self.update(alloc, r, op);
         }
         Ok((self, Delta::new(alloc)))
     }
 
     /// The version after a setting, which cuts atoms at the ends of the prefix.
-    fn set(
-        self,
-        alloc: Global,
-        r: RouterId,
-        op: &Op,
-        prefix: Prefix,
-    ) -> Result<(Version, Delta), OutOfMemory>
+    fn set(self, alloc: Global, r: RouterId, op: &Op) -> Result<(Version, Delta), OutOfMemory>
         requires router { r.0 < length self.topology.routers }
         requires op { IsOpOf self.topology op.now }
-        requires sets { IsSetOf op.now prefix }
+        requires sets { IsSet op.now }
         ensures { IfOk result (λ made. IsUpdated self made.0 r op.now made.1) }
     {
-        let parted = self.cut(alloc, prefix)?;
-        parted.update(alloc, r, op, prefix)
+        let parted = self.cut(alloc, op.prefix())?;
+        parted.update(alloc, r, op)
     }
 
     /// The version after an update of one of its routers.
@@ -150,9 +132,9 @@ impl Version {
         requires op { IsOpOf self.topology op.now }
         ensures { IfOk result (λ made. IsUpdated self made.0 r op.now made.1) }
     {
-        match *op {
-            Op::Set { prefix, .. } => self.set(alloc, r, op, prefix),
-            Op::Clear { prefix, .. } => self.clear(alloc, r, op, prefix),
+        match op {
+            Op::Set { .. } => self.set(alloc, r, op),
+            Op::Clear { .. } => self.clear(alloc, r, op),
         }
     }
 

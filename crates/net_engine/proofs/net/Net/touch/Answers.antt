@@ -17,7 +17,7 @@ pub change-requires : goal.change-requires
 change-requires c = subst (λ n. c.args.r.0 < n) (sym (found-long c.self.inside.routers c.self.inside.atoms c.self.inside.labels c.self.inside.owners.items c.at-row.result.atom.0 c.index_mut-rules.result.now c.self.invariant (number-below c.self.inside.atoms c.place_of.result c.at-row.result c.self.invariant.atoms c.place_of.ensures.inside (c.at-row.ensures c.at-row.result)) c.index_mut-rules.ensures.value)) (router-now c.args.self c.self.inside.routers c.self.inside.atoms c.self.inside.labels c.self.inside.owners.items c.args.r.0 c.self.view_is c.requires)
 
 pub target-after-requires : goal.target-after-requires
-target-after-requires c = subst (λ n. c.args.r.0 < n) (sym (changed-long c.index_mut-rules.result.now c.change.new.self c.args.r.0 c.args.op.now c.in_ok-change.ensures ∙ (found-long c.self.inside.routers c.self.inside.atoms c.self.inside.labels c.self.inside.owners.items c.at-row.result.atom.0 c.index_mut-rules.result.now c.self.invariant (number-below c.self.inside.atoms c.place_of.result c.at-row.result c.self.invariant.atoms c.place_of.ensures.inside (c.at-row.ensures c.at-row.result)) c.index_mut-rules.ensures.value))) (router-now c.args.self c.self.inside.routers c.self.inside.atoms c.self.inside.labels c.self.inside.owners.items c.args.r.0 c.self.view_is c.requires)
+target-after-requires c = subst (λ n. c.args.r.0 < n) (sym (changed-long c.index_mut-rules.result.now c.change.new.self c.args.r.0 c.args.op.now c.in_ok-change.ensures.ok ∙ (found-long c.self.inside.routers c.self.inside.atoms c.self.inside.labels c.self.inside.owners.items c.at-row.result.atom.0 c.index_mut-rules.result.now c.self.invariant (number-below c.self.inside.atoms c.place_of.result c.at-row.result c.self.invariant.atoms c.place_of.ensures.inside (c.at-row.ensures c.at-row.result)) c.index_mut-rules.ensures.value))) (router-now c.args.self c.self.inside.routers c.self.inside.atoms c.self.inside.labels c.self.inside.owners.items c.args.r.0 c.self.view_is c.requires)
 
 pub move_atom-requires-clause-atom : goal.move_atom-requires-clause-atom
 move_atom-requires-clause-atom c = there-below c.self.inside.routers c.self.inside.atoms c.self.inside.labels c.self.inside.owners.items c.at-row.result.atom.0 c.self.invariant (number-below c.self.inside.atoms c.place_of.result c.at-row.result c.self.invariant.atoms c.place_of.ensures.inside (c.at-row.ensures c.at-row.result))
@@ -32,7 +32,7 @@ made c = record {
   router = subst (λ n. c.args.r.0 < n) (sym c.self.invariant.wide) (router-now c.args.self c.self.inside.routers c.self.inside.atoms c.self.inside.labels c.self.inside.owners.items c.args.r.0 c.self.view_is c.requires);
   before_is = c.target-before.ensures;
   found_is = c.index_mut-rules.ensures.value;
-  change = c.in_ok-change.ensures;
+  change = c.in_ok-change.ensures.ok;
   after_is = c.target-after.ensures;
   owners = refl;
   labels = c.in_ok-move_atom.ensures.ok;

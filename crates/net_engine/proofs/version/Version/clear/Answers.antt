@@ -1,19 +1,20 @@
 use Rattle.std.proofs.lemmas.Result.{IfOk-weaker}
-use Rattle.net_engine.proofs.Making.{cleared, read-now, route-ends, unchanged, whole-now}
+use Rattle.net_engine.proofs.Making.{cleared, ends-of_update, read-now, route-ends, unchanged, whole-now}
 use Rattle.net_engine.proofs.version.Version.clear.Goals as goal
 
 pub update-requires-clause-ends : goal.update-requires-clause-ends
 update-requires-clause-ends c =
-    route-ends c.args.self c.args.r c.args.prefix c.index.result.now (whole-now _ c.args.self c.self.view_is c.self.invariant.0) c.requires.router
+    ends-of_update c.args.self.atoms c.prefix.result c.args.op.now c.prefix.ensures
+    (route-ends c.args.self c.args.r c.prefix.result c.index.result.now (whole-now _ c.args.self c.self.view_is c.self.invariant.0) c.requires.router
     (read-now _ c.args.self c.args.r _ c.index.result.now c.self.view_is c.from.ensures c.index.ensures)
-    (c.has_route_of.ensures.yes c.if-has_route_of.true)
+    (c.has_route_of.ensures.yes c.if-has_route_of.true))
 
 pub returns : goal.returns
 returns c =
-    unchanged c.args.self c.args.r c.args.op.now c.args.prefix c.index.result.now c.new.result (whole-now _ c.args.self c.self.view_is c.self.invariant.0) c.requires.router c.requires.clears
+    unchanged c.args.self c.args.r c.args.op.now c.prefix.result c.index.result.now c.new.result (whole-now _ c.args.self c.self.view_is c.self.invariant.0) c.requires.router c.requires.clears c.prefix.ensures
     (read-now _ c.args.self c.args.r _ c.index.result.now c.self.view_is c.from.ensures c.index.ensures)
     (c.has_route_of.ensures.none c.if-has_route_of.false)
     c.new.ensures
 
 pub returns-then-has_route_of : goal.returns-then-has_route_of
-returns-then-has_route_of c = IfOk-weaker c.update.result _ _ (λ made h. cleared c.args.self made.0 c.args.r c.args.op.now c.args.prefix made.1 c.requires.clears h) c.update.ensures
+returns-then-has_route_of c = IfOk-weaker c.update.result _ _ (λ made h. cleared c.args.self made.0 c.args.r c.args.op.now made.1 c.requires.clears h) c.update.ensures

@@ -1,6 +1,9 @@
 use Rattle.std.proofs.lemmas.Result.{IfOk-weaker}
-use Rattle.net_engine.proofs.Making.{set-after_cut}
+use Rattle.net_engine.proofs.Making.{ends-of_update, set-after_cut}
 use Rattle.net_engine.proofs.version.Version.set.Goals as goal
 
+pub update-requires-clause-ends : goal.update-requires-clause-ends
+update-requires-clause-ends c = ends-of_update c.in_ok-parted.parted.atoms c.prefix.result c.args.op.now c.prefix.ensures c.in_ok-parted.ensures.ends
+
 pub returns : goal.returns
-returns c = IfOk-weaker c.update.result _ _ (λ made h. set-after_cut c.args.self c.in_ok-parted.parted made.0 c.args.r c.args.op.now c.args.prefix made.1 c.requires.sets c.in_ok-parted.ensures h) c.update.ensures
+returns c = IfOk-weaker c.update.result _ _ (λ made h. set-after_cut c.args.self c.in_ok-parted.parted made.0 c.args.r c.args.op.now c.prefix.result made.1 c.requires.sets c.prefix.ensures c.in_ok-parted.ensures h) c.update.ensures

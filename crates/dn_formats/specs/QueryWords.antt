@@ -92,6 +92,6 @@ without_of (links ∷ verb ∷ words) = asked_with (names_in links) (ask_of verb
 without_of _ = None
 
 -- the query of a verb and the words after it: links that are down may come first
-abbrev pub query_of : List ℕ → List (List ℕ) → Option Question
+unfoldable pub query_of : List ℕ → List (List ℕ) → Option Question
 query_of verb words =
     if bytes_eq verb (codes "without") then without_of words else option_map asked_alone (ask_of verb words)

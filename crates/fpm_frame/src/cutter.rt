@@ -5,6 +5,7 @@ ghost use Rattle.dn_formats.specs.Frames.{Frame, frame_text, IsFrame, BeginsFram
 ghost use Rattle.fpm_frame.specs.Held.{fed, PassesFrame};
 ghost use Rattle.fpm_frame.specs.Answers.{AnswersNext, AnswersFinish, IsFrameThere, IsMoreWanted, IsFramingLost, LosesFraming};
 
+use dn_formats::frame_cause::{BAD_FRAME_LENGTH, BAD_VERSION};
 use dn_model::OutOfMemory;
 use std::alloc::Global;
 use std::marker::Model;
@@ -20,7 +21,8 @@ pub enum Next<'a> {
     },
     /// Nothing, or the front of a frame.
     More,
-    /// No frame: the framing is lost here. The cause is 15 where the version isn't 1, and 16 where the length is below 4.
+    /// No frame: the framing is lost here. The cause is `BAD_VERSION` or
+    /// `BAD_FRAME_LENGTH` of the module `frame_cause` of `dn_formats`.
     Lost {
         offset: u64,
         cause: u8,
@@ -55,10 +57,6 @@ impl Model for Cutter {
 
     ghost invariant = { λ c. (c.start ≤ length c.buffer.items) × (c.offset + length (drop c.start c.buffer.items) < 2 ^ 64) };
 }
-
-const BAD_VERSION: u8 = 15;
-
-const BAD_FRAME_LENGTH: u8 = 16;
 
 impl Cutter {
     /// A cutter that was fed nothing. It takes no memory.

@@ -5,7 +5,7 @@ use Rattle.std.proofs.lemmas.Bool.{ltb-false, ltb-true}
 use Rattle.std.proofs.lemmas.List.{take_all, drop_all, nil_from_length, length-take}
 use Rattle.std.proofs.lemmas.List.Sums.{prefix_len-le-length, fails_before_first, passes_at_first}
 use Rattle.std.proofs.lemmas.List.Splits.{slice_split_first, slice_split_none, slice_split-cons_yes, length-slice_split}
-use Rattle.dn_formats.specs.ScriptText.{is_gap, is_line_feed, words_of, lines_of, two_of, has_bytes, without_empty_end}
+use Rattle.dn_formats.specs.ScriptText.{is_gap, is_line_feed, words_of, lines_of, has_bytes, without_empty_end}
 
 end_at : (b : Bool) (n len : ℕ) → nat_lt n len ≡ b → n ≤ len → unwrap_or (cond b (Some n) None) len ≡ n
 end_at true n len e h = refl
@@ -100,18 +100,5 @@ words_of-first xs h g =
 
 pub words_of-empty : (xs ys : List ℕ) → words_of ys ≡ words_of xs → length ys ≡ 0 → words_of xs ≡ []
 words_of-empty xs ys e h = sym e ∙ ap words_of (nil_from_length ys h)
-
--- two words and no more
-pub two_of-none : (ws : List (List ℕ)) → ws ≡ [] → two_of ws ≡ None
-two_of-none ws e = rw e refl
-
-pub two_of-one : (ws vs : List (List ℕ)) (a : List ℕ) → ws ≡ a ∷ vs → vs ≡ [] → two_of ws ≡ None
-two_of-one ws vs a e f = rw (e, f) refl
-
-pub two_of-two : (ws vs us : List (List ℕ)) (a b : List ℕ) → ws ≡ a ∷ vs → vs ≡ b ∷ us → us ≡ [] → two_of ws ≡ Some (a, b)
-two_of-two ws vs us a b e f g = rw (e, f, g) refl
-
-pub two_of-more : (ws vs us ts : List (List ℕ)) (a b c : List ℕ) → ws ≡ a ∷ vs → vs ≡ b ∷ us → us ≡ c ∷ ts → two_of ws ≡ None
-two_of-more ws vs us ts a b c e f g = rw (e, f, g) refl
 
 pub ruleset place_or_length = unwrap_or-position

@@ -1,5 +1,6 @@
 pub mod Addresses
 pub mod Cuts
 pub mod Names
+pub mod QueryTexts
+pub mod Questions
 pub mod ScriptLines
-pub mod ShortLemmas

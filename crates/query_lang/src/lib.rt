@@ -1,11 +1,12 @@
 //! Scripts, read from their text, and what is told of their queries, as text.
 //!
-//! A script is read whole or refused with the first of its faults, by the line and the number of the cause: 1 for a line
-//! that is no line of a script, 2 for a `take` of a router that has no feed, 3 for a `take` of a feed that an earlier
-//! script takes, 4 for a line too many, 5 for a byte too many.
+//! A script is read whole or refused with the first of its faults, by the line and the number of the cause (module
+//! `script_cause` of `dn_formats`).
 #![tactic(auto)]
 
 mod address;
+mod answer_lines;
+mod query_line;
 mod query_text;
 mod script_line;
 mod script_text;

@@ -3,9 +3,11 @@
 //! A writer `push_..` adds its text at the end of `out`. After `OutOfMemory`, for which alone it fails, a part of the
 //! text may have been added.
 
-ghost use Rattle.std.specs.Prelude.{◌≡◌, ◌++◌, ◌∷◌, [], ◌-◌, OnOk, codes, slice_get, unwrap_or};
-ghost use Rattle.std.specs.List.{flat_map};
-ghost use Rattle.dn_formats.specs.Report.{line, names_text, without_text, ask_text, query_text, names_of_ask, name_at, unknown_line};
+ghost use Rattle.std.specs.Prelude.{◌≡◌, ◌++◌, ◌∷◌, [], ◌-◌, OnOk, codes, map, slice_get, unwrap_or};
+ghost use Rattle.std.specs.List.{flat_map, join_with_byte};
+ghost use Rattle.dn_formats.specs.AnswerText.{ask_words, query_text, name_texts, name_at, unknown_line};
+ghost use Rattle.dn_formats.specs.Texts.{line};
+ghost use Rattle.dn_model.specs.Query.{names_asked, text_of_name};
 
 use dn_formats::{push_address, push_bytes};
 use dn_model::{Ask, Name, OutOfMemory, Query, Unknown};
@@ -30,61 +32,106 @@ fn push_comma_names(out: &mut Vec<u8>, names: &[Name]) -> Result<(), OutOfMemory
 
 /// Adds names parted by commas, of which there is a first.
 fn push_names(out: &mut Vec<u8>, first: &Name, rest: &[Name]) -> Result<(), OutOfMemory>
-    ensures { OnOk result (out.new.items ≡ out.old.items ++ names_text (first.now ∷ rest.now)) }
+    ensures { OnOk result (out.new.items ≡ out.old.items ++ join_with_byte 44 (first.now ∷ rest.now)) }
 {
     push_bytes(out, first.as_bytes())?;
     push_comma_names(out, rest)?;
     Ok(())
 }
 
-/// Adds the word `without` and the links taken as down, parted by commas; nothing where there are none.
-fn push_without(out: &mut Vec<u8>, names: &[Name]) -> Result<(), OutOfMemory>
-    ensures { OnOk result (out.new.items ≡ out.old.items ++ without_text names.now) }
+/// Adds a space and a name.
+fn push_name(out: &mut Vec<u8>, name: &Name) -> Result<(), OutOfMemory>
+    ensures { OnOk result (out.new.items ≡ out.old.items ++ (codes " " ++ name.now)) }
 {
-    match names {
-        [] => Ok(()),
-        [first, rest @ ..] => {
-            push_bytes(out, b"without ")?;
-            push_names(out, first, rest)?;
-            push_bytes(out, b" ")
-        }
-    }
+    push_bytes(out, b" ")?;
+    push_bytes(out, name.as_bytes())
 }
 
-/// Adds what is asked.
+/// Adds the words that ask for a path.
+fn push_path(out: &mut Vec<u8>, router: &Name, address: u32) -> Result<(), OutOfMemory>
+    ensures { OnOk result (out.new.items ≡ out.old.items ++ join_with_byte 32 (ask_words (Ask.Path router.now address))) }
+{
+    push_bytes(out, b"path")?;
+    push_name(out, router)?;
+    push_bytes(out, b" ")?;
+    push_address(out, address)
+}
+
+/// Adds the words that ask for a waypoint.
+fn push_waypoint(
+    out: &mut Vec<u8>,
+    first: &Name,
+    to: &Name,
+    through: &Name,
+) -> Result<(), OutOfMemory>
+    ensures { OnOk result (out.new.items ≡ out.old.items ++ join_with_byte 32 (ask_words (Ask.Waypoint first.now to.now through.now))) }
+{
+    push_bytes(out, b"waypoint")?;
+    push_name(out, first)?;
+    push_name(out, to)?;
+    push_name(out, through)
+}
+
+/// Adds the words that ask what reaches a router.
+fn push_reach(out: &mut Vec<u8>, first: &Name, to: &Name) -> Result<(), OutOfMemory>
+    ensures { OnOk result (out.new.items ≡ out.old.items ++ join_with_byte 32 (ask_words (Ask.Reach first.now to.now))) }
+{
+    push_bytes(out, b"reach")?;
+    push_name(out, first)?;
+    push_name(out, to)
+}
+
+/// Adds a verb and the one name after it.
+fn push_verb(out: &mut Vec<u8>, verb: &[u8], name: &Name) -> Result<(), OutOfMemory>
+    ensures { OnOk result (out.new.items ≡ out.old.items ++ join_with_byte 32 (verb.now ∷ name.now ∷ [])) }
+{
+    push_bytes(out, verb)?;
+    push_name(out, name)
+}
+
+/// Adds the words of what is asked, joined by one space.
 fn push_ask(out: &mut Vec<u8>, ask: &Ask) -> Result<(), OutOfMemory>
-    ensures { OnOk result (out.new.items ≡ out.old.items ++ ask_text ask.now) }
+    ensures { OnOk result (out.new.items ≡ out.old.items ++ join_with_byte 32 (ask_words ask.now)) }
 {
     match ask {
-        Ask::Path(router, address) => {
-            push_bytes(out, b"path ")?;
-            push_bytes(out, router.as_bytes())?;
-            push_bytes(out, b" ")?;
-            push_address(out, *address)
-        }
+        Ask::Path(router, address) => push_path(out, router, *address),
+        Ask::Reach(first, to) => push_reach(out, first, to),
+        Ask::Uses(link) => push_verb(out, b"uses", link),
+        Ask::Loops => push_bytes(out, b"loops"),
+        Ask::Blackholes(first) => push_verb(out, b"blackholes", first),
+        Ask::Waypoint(first, to, through) => push_waypoint(out, first, to, through),
         Ask::Delta => push_bytes(out, b"delta"),
     }
 }
 
 /// Adds the words of a query's line, joined by one space.
+#[tactic(auto, using(crate::proofs::QueryTexts::query_words))]
 pub fn push_query(out: &mut Vec<u8>, query: &Query) -> Result<(), OutOfMemory>
     ensures { OnOk result (out.new.items ≡ out.old.items ++ query_text query.now) }
 {
-    push_without(out, query.without.as_slice())?;
-    push_ask(out, &query.ask)
+    match query.without() {
+        [] => push_ask(out, query.ask()),
+        [first, rest @ ..] => {
+            push_bytes(out, b"without ")?;
+            push_names(out, first, rest)?;
+            push_bytes(out, b" ")?;
+            push_ask(out, query.ask())
+        }
+    }
 }
 
 /// Adds the name at a place, from 0, among the names of what is asked; nothing where there is none.
 fn push_name_of_ask(out: &mut Vec<u8>, ask: &Ask, at: usize) -> Result<(), OutOfMemory>
-    ensures { OnOk result (out.new.items ≡ out.old.items ++ unwrap_or (slice_get (names_of_ask ask.now) at) []) }
+    ensures { OnOk result (out.new.items ≡ out.old.items ++ unwrap_or (slice_get (map text_of_name (names_asked ask.now)) at) []) }
 {
-    match ask {
-        Ask::Path(router, _) => match at {
-            0 => push_bytes(out, router.as_bytes()),
-            _ => Ok(()),
-        },
-        Ask::Delta => Ok(()),
-    }
+    let name = match (ask, at) {
+        (Ask::Path(name, _) | Ask::Blackholes(name) | Ask::Uses(name), 0) => name,
+        (Ask::Reach(name, _) | Ask::Waypoint(name, _, _), 0) => name,
+        (Ask::Reach(_, name) | Ask::Waypoint(_, name, _), 1) => name,
+        (Ask::Waypoint(_, _, name), 2) => name,
+        _ => return Ok(()),
+    };
+    push_bytes(out, name.as_bytes())
 }
 
 /// Adds the name at a place, from 1, among the names of a query, the links of `without` first; nothing where there is
@@ -93,10 +140,13 @@ fn push_name_at(out: &mut Vec<u8>, query: &Query, place: u32) -> Result<(), OutO
     ensures { OnOk result (out.new.items ≡ out.old.items ++ name_at query.now place) }
 {
     let at = place.saturating_sub(1) as usize;
-    match query.without.as_slice().get(at) {
-        Some(link) => push_bytes(out, link.as_bytes()),
-        None => push_name_of_ask(out, &query.ask, at.saturating_sub(query.without.len())),
+    let without = query.without();
+    if at < without.len() {
+        push_bytes(out, without[at].as_bytes())?;
+        return Ok(());
     }
+    push_name_of_ask(out, query.ask(), at - without.len())?;
+    Ok(())
 }
 
 /// Adds the line of the first unknown name of a query.

@@ -1,22 +1,18 @@
 //! One line of a script.
 
-ghost use Rattle.std.specs.Prelude.{◌≡◌, ℕ, IsTrue, IfOk, find, ◌∷◌};
+ghost use Rattle.std.specs.Prelude.{◌≡◌, ◌≤◌, ℕ, length, find, ◌∷◌};
 ghost use Rattle.std.specs.List.{list_any};
-ghost use Rattle.dn_formats.specs.ScriptText.{line_meaning, words_of, count_of, is_named, same_router, take_from, take_meaning, two_of, command_meaning, ask_of, ask_meaning, path_of, delta_of};
+ghost use Rattle.dn_formats.specs.ScriptText.{line_meaning, words_of, count_of, is_named, same_router, take_from, take_meaning, two_of, command_meaning, ask_meaning};
+ghost use Rattle.dn_formats.specs.QueryWords.{query_of};
 ghost use Rattle.query_lang.specs.ScriptRefused.{Reads, ReadsCommand};
 
-use crate::address::read_address;
+use crate::query_line::read_query;
 use crate::text_cut::{has_first, is_same, next_word, two_words};
+use dn_formats::script_cause::{BAD_LINE, TAKE_UNKNOWN, TAKEN_TWICE};
 use dn_formats::{Line, read_number};
-use dn_model::{Ask, List, Name, OutOfMemory, Query, RouterId, Topology, is_name};
+use dn_model::{OutOfMemory, RouterId, Topology, is_name};
 use std::alloc::Global;
 
-/// The line is no line of a script, or is too long.
-const BAD_LINE: u8 = 1;
-/// The line takes from a router that has no feed.
-const TAKE_UNKNOWN: u8 = 2;
-/// The line takes from a feed that an earlier script takes.
-const TAKEN_TWICE: u8 = 3;
 /// The most bytes of a line that does something.
 const LINE_BYTES: usize = 1024;
 
@@ -110,6 +106,7 @@ fn take_of(
     })
 }
 
+#[tactic(auto, using(crate::proofs::Questions::operands_missing))]
 /// A `take` line, by the words after its verb: a router, and a number of frames or `all`.
 fn read_take(feeds: &Feeds<'_>, line: u32, operands: &[u8]) -> Result<Line, LineRefused>
     ensures { ReadsCommand result (take_meaning feeds.now.topology.now.routers feeds.now.fed.now feeds.now.taken.now line (two_of (words_of operands.now))) }
@@ -126,56 +123,20 @@ fn read_take(feeds: &Feeds<'_>, line: u32, operands: &[u8]) -> Result<Line, Line
     take_of(feeds, line, name, count)
 }
 
-/// What a `path` line asks, by the words after its verb: a router and an address.
-fn read_path(alloc: Global, line: u32, operands: &[u8]) -> Result<Line, LineRefused>
-    ensures { ReadsCommand result (ask_meaning line (path_of (two_of (words_of operands.now)))) }
-{
-    let Some((name, address)) = two_words(operands) else {
-        return Err(LineRefused::Cause(BAD_LINE));
-    };
-    if !is_name(name) {
-        return Err(LineRefused::Cause(BAD_LINE));
-    }
-    let Some(address) = read_address(address) else {
-        return Err(LineRefused::Cause(BAD_LINE));
-    };
-    let name = Name::from_text(alloc, name)?;
-    Ok(Line::Ask {
-        line,
-        query: Query {
-            without: List::new(alloc),
-            ask: Ask::Path(name, address),
-        },
-    })
-}
-
-/// What a `delta` line asks, after whose verb no word may stand.
-fn read_delta(alloc: Global, line: u32, operands: &[u8]) -> Result<Line, LineRefused>
-    ensures { ReadsCommand result (ask_meaning line (delta_of (words_of operands.now))) }
-{
-    match next_word(operands) {
-        Some((_, _)) => Err(LineRefused::Cause(BAD_LINE)),
-        None => Ok(Line::Ask {
-            line,
-            query: Query {
-                without: List::new(alloc),
-                ask: Ask::Delta,
-            },
-        }),
-    }
-}
-
 /// A line that asks a query, by its verb and the words after it.
-fn read_ask(alloc: Global, line: u32, verb: &[u8], operands: &[u8]) -> Result<Line, LineRefused>
-    ensures { ReadsCommand result (ask_meaning line (ask_of verb.now (words_of operands.now))) }
+fn read_ask_line(
+    alloc: Global,
+    line: u32,
+    verb: &[u8],
+    operands: &[u8],
+) -> Result<Line, LineRefused>
+    requires { length operands.now ≤ 1024 }
+    ensures { ReadsCommand result (ask_meaning line (query_of verb.now (words_of operands.now))) }
 {
-    if is_same(verb, b"path") {
-        return read_path(alloc, line, operands);
+    match read_query(alloc, verb, operands)? {
+        Some(query) => Ok(Line::Ask { line, query }),
+        None => Err(LineRefused::Cause(BAD_LINE)),
     }
-    if is_same(verb, b"delta") {
-        return read_delta(alloc, line, operands);
-    }
-    Err(LineRefused::Cause(BAD_LINE))
 }
 
 /// A line that does something, by its verb and the words after it.
@@ -186,12 +147,13 @@ fn read_command(
     verb: &[u8],
     operands: &[u8],
 ) -> Result<Line, LineRefused>
+    requires { length operands.now ≤ 1024 }
     ensures { ReadsCommand result (command_meaning feeds.now.topology.now.routers feeds.now.fed.now feeds.now.taken.now line (verb.now ∷ words_of operands.now)) }
 {
     if is_same(verb, b"take") {
         return read_take(feeds, line, operands);
     }
-    read_ask(alloc, line, verb, operands)
+    read_ask_line(alloc, line, verb, operands)
 }
 
 /// The line of this number, or nothing where it passes: where it is blank or its first word begins with `#`.

@@ -1,20 +1,17 @@
 //! Scripts, read from their text.
 
-ghost use Rattle.std.specs.Prelude.{◌≡◌, ◌++◌, ◌≤◌, ◌<◌, IfOk, IfErr, OnOk, Ok, All};
+ghost use Rattle.std.specs.Prelude.{◌≡◌, ◌++◌, ◌≤◌, ◌<◌, IfOk, IfErr, OnOk, Ok};
 ghost use Rattle.std.specs.Option.{option_to_list};
-ghost use Rattle.dn_formats.specs.ScriptText.{script_of, lines_meaning, line_meaning, lines_of, numbered, IsShort};
+ghost use Rattle.dn_formats.specs.ScriptText.{script_of, lines_meaning, line_meaning, lines_of, numbered};
 ghost use Rattle.query_lang.specs.ScriptRefused.{IsRefused};
 
 use crate::script_line::{Feeds, LineRefused, read_line};
 use crate::text_cut::first_line;
+use dn_formats::script_cause::{TOO_LONG, TOO_MANY_LINES};
 use dn_formats::{Line, Script};
 use dn_model::{List, OutOfMemory, RouterId, Topology};
 use std::alloc::Global;
 
-/// There are too many lines.
-const TOO_MANY_LINES: u8 = 4;
-/// The text is too long.
-const TOO_LONG: u8 = 5;
 /// The most lines of a script.
 const LINES: u32 = 65_536;
 /// The most bytes of a script.
@@ -23,9 +20,8 @@ const BYTES: usize = 16_777_216;
 /// Why a script isn't read.
 #[derive(Clone, Copy, Debug, PartialEq, Eq)]
 pub enum ScriptRefused {
-    /// The first fault of the text: its line (from 1, or 0 for the whole) and the number of its cause, which is
-    /// 1 for a line that is no line of a script, 2 for a `take` of a router that has no feed, 3 for a `take` of a
-    /// feed that an earlier script takes, 4 for more than 65,536 lines, 5 for more than 16,777,216 bytes.
+    /// The first fault of the text: its line (from 1, or 0 for the whole) and the number of its cause in the module
+    /// `script_cause` of `dn_formats`.
     Fault { line: u32, cause: u8 },
     /// Memory ran out.
     OutOfMemory,
@@ -104,7 +100,6 @@ pub fn read_script(
     taken: &[RouterId],
 ) -> Result<Script, ScriptRefused>
     ensures ok { IfOk result (λ script. script_of topology.now.routers feeds.now taken.now bytes.now ≡ Ok script.lines) }
-    ensures short { IfOk result (λ script. All IsShort script.lines) }
     ensures refused { IfErr result (λ e. IsRefused e (script_of topology.now.routers feeds.now taken.now bytes.now)) }
 {
     if bytes.len() > BYTES {

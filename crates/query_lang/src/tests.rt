@@ -1,22 +1,38 @@
 //! What no clause says: that the scripts of this page are read, which fault is answered, and printed texts.
 
 use crate::{ScriptRefused, answer_text, read_script};
-use dn_formats::{Line, Outcome, Told};
+use dn_formats::script_cause::{BAD_LINE, TAKE_UNKNOWN, TAKEN_TWICE, TOO_LONG, TOO_MANY_LINES};
+use dn_formats::{Line, Outcome, Text, Told};
 use dn_model::{
-    Answer, Ask, Change, List, Name, OutOfMemory, PathEnd, Query, RouterId, Run, Target, Topology,
-    Unknown,
+    Answer, Ask, Change, Cycle, DropKind, Hole, LinkId, List, Name, OutOfMemory, PathEnd, Query,
+    RouterId, Run, Target, TopoEnd, TopoLink, Topology, Unknown,
 };
 use std::alloc::Global;
 use std::test::Fail;
 
-/// A network of two routers, `r1` and `r2`, without links.
+/// The end at an interface of a router.
+fn end(router: u16, index: u32) -> TopoEnd {
+    TopoEnd {
+        router: RouterId(router),
+        index,
+    }
+}
+
+/// A network of two routers, `r1` and `r2`, with the link `a` from `r2` to `r1`.
 fn network(alloc: Global) -> Result<Topology, OutOfMemory> {
     let mut routers = List::new(alloc);
     routers.push(Name::from_text(alloc, b"r1")?)?;
     routers.push(Name::from_text(alloc, b"r2")?)?;
+    let mut links = List::new(alloc);
+    links.push(TopoLink {
+        name: Name::from_text(alloc, b"a")?,
+        first: end(1, 2),
+        second: end(0, 2),
+        unnumbered: false,
+    })?;
     Ok(Topology {
         routers,
-        links: List::new(alloc),
+        links,
         edges: List::new(alloc),
     })
 }
@@ -35,25 +51,29 @@ fn is_take(line: &Line, number: u32, from: u16, frames: Option<u32>) -> bool {
 fn is_path(line: &Line, number: u32, from: &[u8], to: u32) -> bool {
     match line {
         Line::Take { .. } => false,
-        Line::Ask { line, query } => match &query.ask {
+        Line::Ask { line, query } => match query.ask() {
             Ask::Path(name, address) => {
                 *line == number
                     && name.as_bytes() == from
                     && *address == to
-                    && query.without.is_empty()
+                    && query.without().is_empty()
             }
-            Ask::Delta => false,
+            _ => false,
         },
     }
 }
 
-fn is_delta(line: &Line, number: u32) -> bool {
-    match line {
-        Line::Take { .. } => false,
-        Line::Ask { line, query } => {
-            *line == number && matches!(query.ask, Ask::Delta) && query.without.is_empty()
-        }
-    }
+/// What a line that was read prints as its query, where nothing is answered.
+fn printed(alloc: Global, network: &Topology, line: &Line) -> Result<Text, OutOfMemory> {
+    let told = match line {
+        Line::Ask { line, query } => Told {
+            line: *line,
+            query: query.copy(alloc)?,
+            outcome: Outcome::Unknown(Unknown::Router(9)),
+        },
+        Line::Take { .. } => return Ok(Text::from_vec(Vec::new(alloc))),
+    };
+    answer_text(alloc, network, &told)
 }
 
 /// Scripts and refusals cross threads.
@@ -64,16 +84,56 @@ fn reads_lines(rt: HostRuntime) -> Result<(), Fail> {
     let alloc = rt.alloc();
     let network = network(alloc)?;
     let text =
-        b"# a note\n\n take\tr2  7 \r\ntake r1 all\r\n \t \r\n\t#take r9\npath\r\tr1\t10.1.2.3\npath r9 0.0.0.255\n delta\t";
+        b"# a note\n\n take\tr2  7 \r\ntake r1 all\r\n \t \r\n\t#take r9\npath\r\tr1\t10.1.2.3\npath r9 0.0.0.255";
     let script = read_script(alloc, text, &network, &[RouterId(0), RouterId(1)], &[])?;
     crosses(&script);
     let lines = script.lines.as_slice();
-    assert_eq!(rt; lines.len(), 5);
+    assert_eq!(rt; lines.len(), 4);
     assert!(rt; is_take(&lines[0], 3, 1, Some(7)));
     assert!(rt; is_take(&lines[1], 4, 0, None));
     assert!(rt; is_path(&lines[2], 7, b"r1", 167_838_211));
     assert!(rt; is_path(&lines[3], 8, b"r9", 255));
-    assert!(rt; is_delta(&lines[4], 9));
+    Ok(())
+}
+
+/// A line that asks each query is printed with its words joined by one space. A link that is named twice stays so.
+#[test]
+fn reads_and_prints_queries(rt: HostRuntime) -> Result<(), Fail> {
+    let alloc = rt.alloc();
+    let network = network(alloc)?;
+    let cases: [(&[u8], &[u8]); 9] = [
+        (
+            b" path\tr1  10.1.2.3 ",
+            b"line 1 path r1 10.1.2.3\nunknown router \n",
+        ),
+        (b"reach r1\tr9", b"line 1 reach r1 r9\nunknown router \n"),
+        (b"uses\ta", b"line 1 uses a\nunknown router \n"),
+        (b" loops ", b"line 1 loops\nunknown router \n"),
+        (
+            b"blackholes  r2",
+            b"line 1 blackholes r2\nunknown router \n",
+        ),
+        (
+            b"waypoint r1 r2 r9\r",
+            b"line 1 waypoint r1 r2 r9\nunknown router \n",
+        ),
+        (b"delta\t", b"line 1 delta\nunknown router \n"),
+        (
+            b"without b,b\treach  r1 r3",
+            b"line 1 without b,b reach r1 r3\nunknown router \n",
+        ),
+        (
+            b"without z loops",
+            b"line 1 without z loops\nunknown router \n",
+        ),
+    ];
+    for (text, want) in cases {
+        let script = read_script(alloc, text, &network, &[], &[])?;
+        let lines = script.lines.as_slice();
+        assert_eq!(rt; lines.len(), 1);
+        let found = printed(alloc, &network, &lines[0])?;
+        assert!(rt; found.as_bytes() == want, "in {text:?}");
+    }
     Ok(())
 }
 
@@ -95,25 +155,45 @@ fn fault_of(alloc: Global, network: &Topology, text: &[u8]) -> Option<(u32, u8)>
 fn names_the_first_fault(rt: HostRuntime) -> Result<(), Fail> {
     let alloc = rt.alloc();
     let network = network(alloc)?;
-    let cases: [(&[u8], u32, u8); 18] = [
-        (b"take r1 0", 1, 1),
-        (b"take r1 01\n", 1, 1),
-        (b"\n\ntake r1 4294967296\n", 3, 1),
-        (b"take Rx all", 1, 1),
-        (b"take r1 all all", 1, 1),
-        (b"TAKE r1 all", 1, 1),
-        (b"path r1 r9", 1, 1),
-        (b"path r1", 1, 1),
-        (b"path r1 10.1.2", 1, 1),
-        (b"path r1 10.1.2.256", 1, 1),
-        (b"path r1 10.1.2.03", 1, 1),
-        (b"path r1 10.1.2.3.4", 1, 1),
-        (b"delta x", 1, 1),
-        (b"without a delta", 1, 1),
-        (b"delta\nDelta", 2, 1),
-        (b"take r3 all\ntake r1 x", 1, 2),
-        (b"#\ntake r2 1\n", 2, 3),
-        (b"take r1 all\nwhat\ntake r3 all", 2, 1),
+    let cases: [(&[u8], u32, u8); 38] = [
+        (b"take r1 0", 1, BAD_LINE),
+        (b"take r1 01\n", 1, BAD_LINE),
+        (b"\n\ntake r1 4294967296\n", 3, BAD_LINE),
+        (b"take Rx all", 1, BAD_LINE),
+        (b"take r1 all all", 1, BAD_LINE),
+        (b"TAKE r1 all", 1, BAD_LINE),
+        (b"path r1 r9", 1, BAD_LINE),
+        (b"path r1", 1, BAD_LINE),
+        (b"path r1 10.1.2", 1, BAD_LINE),
+        (b"path r1 10.1.2.256", 1, BAD_LINE),
+        (b"path r1 10.1.2.03", 1, BAD_LINE),
+        (b"path r1 10.1.2.3.4", 1, BAD_LINE),
+        (b"reach r1", 1, BAD_LINE),
+        (b"reach r1 R2", 1, BAD_LINE),
+        (b"reach r1 r2 r2", 1, BAD_LINE),
+        (b"uses", 1, BAD_LINE),
+        (b"uses a,b", 1, BAD_LINE),
+        (b"uses a b", 1, BAD_LINE),
+        (b"loops r1", 1, BAD_LINE),
+        (b"blackholes", 1, BAD_LINE),
+        (b"blackholes r1 r2", 1, BAD_LINE),
+        (b"waypoint r1 r2", 1, BAD_LINE),
+        (b"waypoint r1 r2 r1 r2", 1, BAD_LINE),
+        (b"waypoint r1 r2 W", 1, BAD_LINE),
+        (b"delta x", 1, BAD_LINE),
+        (b"without a delta", 1, BAD_LINE),
+        (b"without loops", 1, BAD_LINE),
+        (b"without a", 1, BAD_LINE),
+        (b"without ,a loops", 1, BAD_LINE),
+        (b"without a,,b loops", 1, BAD_LINE),
+        (b"without a, loops", 1, BAD_LINE),
+        (b"without a, b loops", 1, BAD_LINE),
+        (b"without a without b loops", 1, BAD_LINE),
+        (b"without a take r1 1", 1, BAD_LINE),
+        (b"delta\nDelta", 2, BAD_LINE),
+        (b"take r3 all\ntake r1 x", 1, TAKE_UNKNOWN),
+        (b"#\ntake r2 1\n", 2, TAKEN_TWICE),
+        (b"take r1 all\nwhat\ntake r3 all", 2, BAD_LINE),
     ];
     for (text, line, cause) in cases {
         assert_eq!(rt;
@@ -134,17 +214,23 @@ fn keeps_within_bounds(rt: HostRuntime) -> Result<(), Fail> {
     lines.push(b'#')?;
     assert_eq!(rt;
         fault_of(alloc, &network, lines.as_slice()),
-        Some((65_537, 4))
+        Some((65_537, TOO_MANY_LINES))
     );
     let mut text = vec![in alloc; b'#'; 16_777_216]?;
     assert_eq!(rt; fault_of(alloc, &network, text.as_slice()), None);
     text.push(b'\n')?;
-    assert_eq!(rt; fault_of(alloc, &network, text.as_slice()), Some((0, 5)));
+    assert_eq!(rt;
+        fault_of(alloc, &network, text.as_slice()),
+        Some((0, TOO_LONG))
+    );
     let mut line = vec![in alloc; b' '; 1_015]?;
     line.extend_from_slice(b"take r1 1")?;
     assert_eq!(rt; fault_of(alloc, &network, line.as_slice()), None);
     line.push(b' ')?;
-    assert_eq!(rt; fault_of(alloc, &network, line.as_slice()), Some((1, 1)));
+    assert_eq!(rt;
+        fault_of(alloc, &network, line.as_slice()),
+        Some((1, BAD_LINE))
+    );
     Ok(())
 }
 
@@ -153,10 +239,7 @@ fn told(alloc: Global, outcome: Outcome) -> Result<Told, OutOfMemory> {
     let name = Name::from_text(alloc, b"r1")?;
     Ok(Told {
         line: 2,
-        query: Query {
-            without: List::new(alloc),
-            ask: Ask::Path(name, 0x0a01_0203),
-        },
+        query: Query::of(alloc, Ask::Path(name, 0x0a01_0203)),
         outcome,
     })
 }
@@ -193,10 +276,7 @@ fn told_delta(alloc: Global, changes: &[Change]) -> Result<Told, OutOfMemory> {
     let changes = List::from_vec(Vec::from_slice(alloc, changes)?);
     Ok(Told {
         line: 3,
-        query: Query {
-            without: List::new(alloc),
-            ask: Ask::Delta,
-        },
+        query: Query::of(alloc, Ask::Delta),
         outcome: Outcome::Answered {
             number: 2,
             answer: Answer::Delta(changes),
@@ -222,5 +302,133 @@ fn prints_changes(rt: HostRuntime) -> Result<(), Fail> {
     let one = answer_text(alloc, &network, &told_delta(alloc, &[change])?)?;
     let want = b"line 3 at 2 delta\nr2 10.0.0.0-10.255.255.255 local -> exit 7\n";
     assert!(rt; one.as_bytes() == want.as_slice());
+    Ok(())
+}
+
+/// What is printed of a query in line 4 that was answered over seven entries.
+fn answered(alloc: Global, ask: Ask, answer: Answer) -> Result<Text, OutOfMemory> {
+    let told = Told {
+        line: 4,
+        query: Query::of(alloc, ask),
+        outcome: Outcome::Answered { number: 7, answer },
+    };
+    answer_text(alloc, &network(alloc)?, &told)
+}
+
+/// Two runs: 10.0.0.0 to 10.255.255.255, and the last address alone.
+fn two_runs(alloc: Global) -> Result<List<Run>, OutOfMemory> {
+    let first = Run {
+        lo: 0x0a00_0000,
+        hi: 0x0aff_ffff,
+    };
+    let last = Run {
+        lo: u32::MAX,
+        hi: u32::MAX,
+    };
+    Ok(List::from_vec(Vec::from_slice(alloc, &[first, last])?))
+}
+
+#[test]
+fn prints_runs(rt: HostRuntime) -> Result<(), Fail> {
+    let alloc = rt.alloc();
+    let ask = Ask::Reach(
+        Name::from_text(alloc, b"r1")?,
+        Name::from_text(alloc, b"r2")?,
+    );
+    let text = answered(alloc, ask, Answer::Runs(two_runs(alloc)?))?;
+    let want =
+        b"line 4 at 7 reach r1 r2\n10.0.0.0-10.255.255.255\n255.255.255.255-255.255.255.255\n";
+    assert!(rt; text.as_bytes() == want.as_slice());
+    let name = Name::from_text(alloc, b"r1")?;
+    let ask = Ask::Waypoint(
+        name,
+        Name::from_text(alloc, b"r2")?,
+        Name::from_text(alloc, b"r2")?,
+    );
+    let text = answered(alloc, ask, Answer::Runs(List::new(alloc)))?;
+    let want = b"line 4 at 7 waypoint r1 r2 r2\nnone\n";
+    assert!(rt; text.as_bytes() == want.as_slice());
+    Ok(())
+}
+
+#[test]
+fn prints_uses(rt: HostRuntime) -> Result<(), Fail> {
+    let alloc = rt.alloc();
+    let ask = Ask::Uses(Name::from_text(alloc, b"a")?);
+    let answer = Answer::Uses(List::new(alloc), two_runs(alloc)?);
+    let text = answered(alloc, ask, answer)?;
+    let want =
+        b"line 4 at 7 uses a\nfrom r2\nnone\nfrom r1\n10.0.0.0-10.255.255.255\n255.255.255.255-255.255.255.255\n";
+    assert!(rt; text.as_bytes() == want.as_slice());
+    Ok(())
+}
+
+#[test]
+fn prints_loops(rt: HostRuntime) -> Result<(), Fail> {
+    let alloc = rt.alloc();
+    let mut cycles = List::new(alloc);
+    cycles.push(Cycle {
+        routers: List::from_vec(Vec::from_slice(alloc, &[RouterId(0), RouterId(1)])?),
+        least: 0x0a00_0000,
+        addresses: 4_294_967_296,
+    })?;
+    let text = answered(alloc, Ask::Loops, Answer::Loops(cycles))?;
+    let want = b"line 4 at 7 loops\ncycle r1 r2 least 10.0.0.0 addresses 4294967296\n";
+    assert!(rt; text.as_bytes() == want.as_slice());
+    let text = answered(alloc, Ask::Loops, Answer::Loops(List::new(alloc)))?;
+    assert!(rt; text.as_bytes() == b"line 4 at 7 loops\nnone\n".as_slice());
+    Ok(())
+}
+
+#[test]
+fn prints_black_holes(rt: HostRuntime) -> Result<(), Fail> {
+    let alloc = rt.alloc();
+    let mut holes = List::new(alloc);
+    let ask = Ask::Blackholes(Name::from_text(alloc, b"r1")?);
+    let text = answered(alloc, ask, Answer::Holes(List::new(alloc)))?;
+    assert!(rt; text.as_bytes() == b"line 4 at 7 blackholes r1\nnone\n".as_slice());
+    holes.push(Hole {
+        router: RouterId(0),
+        cause: Target::Dropped(DropKind::Unreachable),
+        runs: two_runs(alloc)?,
+    })?;
+    holes.push(Hole {
+        router: RouterId(1),
+        cause: Target::LinkDown(LinkId(0)),
+        runs: two_runs(alloc)?,
+    })?;
+    let ask = Ask::Blackholes(Name::from_text(alloc, b"r1")?);
+    let text = answered(alloc, ask, Answer::Holes(holes))?;
+    let want =
+        b"line 4 at 7 blackholes r1\nat r1 dropped unreachable\n10.0.0.0-10.255.255.255\n255.255.255.255-255.255.255.255\nat r2 linkdown a\n10.0.0.0-10.255.255.255\n255.255.255.255-255.255.255.255\n";
+    assert!(rt; text.as_bytes() == want.as_slice());
+    Ok(())
+}
+
+/// The unknown names of `without x,y waypoint p q r`, by their places.
+#[test]
+fn prints_each_unknown_name(rt: HostRuntime) -> Result<(), Fail> {
+    let alloc = rt.alloc();
+    let network = network(alloc)?;
+    let script = read_script(alloc, b"without x,y waypoint p q r", &network, &[], &[])?;
+    let [Line::Ask { query, .. }] = script.lines.as_slice() else {
+        return Err(Fail::from("another line"));
+    };
+    let cases: [(Unknown, &[u8]); 5] = [
+        (Unknown::Link(1), b"unknown link x\n"),
+        (Unknown::Link(2), b"unknown link y\n"),
+        (Unknown::Router(3), b"unknown router p\n"),
+        (Unknown::Router(4), b"unknown router q\n"),
+        (Unknown::Router(5), b"unknown router r\n"),
+    ];
+    for (unknown, want) in cases {
+        let told = Told {
+            line: 1,
+            query: query.copy(alloc)?,
+            outcome: Outcome::Unknown(unknown),
+        };
+        let text = answer_text(alloc, &network, &told)?;
+        assert!(rt; text.as_bytes().ends_with(want));
+    }
     Ok(())
 }

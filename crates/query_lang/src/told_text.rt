@@ -1,100 +1,18 @@
-//! How answers are printed, and what is told of a query.
+//! What is told of a query.
 //!
 //! A writer `push_..` adds its text at the end of `out`. After `OutOfMemory`, for which alone it fails, a part of the
 //! text may have been added.
 
 ghost use Rattle.std.specs.Prelude.{◌≡◌, ◌++◌, ◌∷◌, [], OnOk, IfOk, codes, decimal};
-ghost use Rattle.std.specs.List.{flat_map};
-ghost use Rattle.dn_formats.specs.Report.{line, query_text, unknown_line, hop_text, path_end_text, change_line, change_lines, answer_lines, outcome_lines, told_lines};
+ghost use Rattle.dn_formats.specs.AnswerText.{query_text, unknown_line, answer_lines, outcome_lines, told_lines};
+ghost use Rattle.dn_formats.specs.Texts.{line};
 ghost use Rattle.dn_formats.specs.declared.told.Outcome.TheVariants.{Answered, Unknown as unanswered};
 
+use crate::answer_lines::push_answer;
 use crate::query_text::{push_query, push_unknown_line};
-use dn_formats::{
-    Outcome, Text, Told, push_bytes, push_labelled, push_router, push_run, push_target,
-};
-use dn_model::{Answer, Change, OutOfMemory, PathEnd, RouterId, Topology, Unknown};
+use dn_formats::{Outcome, Text, Told, push_bytes, push_labelled};
+use dn_model::{Answer, OutOfMemory, Topology, Unknown};
 use std::alloc::Global;
-
-/// Adds a space and a router's name.
-fn push_hop(out: &mut Vec<u8>, t: &Topology, router: RouterId) -> Result<(), OutOfMemory>
-    ensures { OnOk result (out.new.items ≡ out.old.items ++ hop_text t.now router) }
-{
-    push_bytes(out, b" ")?;
-    push_router(out, t, router)
-}
-
-/// Adds the routers of a walk, each after a space.
-fn push_hops(out: &mut Vec<u8>, t: &Topology, hops: &[RouterId]) -> Result<(), OutOfMemory>
-    ensures { OnOk result (out.new.items ≡ out.old.items ++ flat_map (hop_text t.now) hops.now) }
-{
-    for router in hops {
-        push_hop(out, t, *router)?;
-    }
-    Ok(())
-}
-
-/// Adds how a walk ends.
-fn push_path_end(out: &mut Vec<u8>, t: &Topology, end: PathEnd) -> Result<(), OutOfMemory>
-    ensures { OnOk result (out.new.items ≡ out.old.items ++ path_end_text t.now end) }
-{
-    match end {
-        PathEnd::At(target) => push_target(out, t, target),
-        PathEnd::Loop => push_bytes(out, b"loop"),
-    }
-}
-
-/// Adds the line of a change: the router, its run of addresses, and what it does with them before and after.
-fn push_change(out: &mut Vec<u8>, t: &Topology, change: &Change) -> Result<(), OutOfMemory>
-    ensures { OnOk result (out.new.items ≡ out.old.items ++ change_line t.now change.now) }
-{
-    push_router(out, t, change.router)?;
-    push_bytes(out, b" ")?;
-    push_run(out, change.run)?;
-    push_bytes(out, b" ")?;
-    push_target(out, t, change.before)?;
-    push_bytes(out, b" -> ")?;
-    push_target(out, t, change.after)?;
-    push_bytes(out, b"\n")
-}
-
-/// Adds the line of each change.
-fn push_each_change(out: &mut Vec<u8>, t: &Topology, changes: &[Change]) -> Result<(), OutOfMemory>
-    ensures { OnOk result (out.new.items ≡ out.old.items ++ flat_map (change_line t.now) changes.now) }
-{
-    for change in changes {
-        push_change(out, t, change)?;
-    }
-    Ok(())
-}
-
-/// Adds the line of each change, or `none` where there is none.
-fn push_changes(out: &mut Vec<u8>, t: &Topology, changes: &[Change]) -> Result<(), OutOfMemory>
-    ensures { OnOk result (out.new.items ≡ out.old.items ++ change_lines t.now changes.now) }
-{
-    match changes {
-        [] => push_bytes(out, b"none\n"),
-        [first, rest @ ..] => {
-            push_change(out, t, first)?;
-            push_each_change(out, t, rest)
-        }
-    }
-}
-
-/// Adds the lines of an answer.
-fn push_answer(out: &mut Vec<u8>, t: &Topology, answer: &Answer) -> Result<(), OutOfMemory>
-    ensures { OnOk result (out.new.items ≡ out.old.items ++ answer_lines t.now answer.now) }
-{
-    match answer {
-        Answer::Path { hops, end } => {
-            push_bytes(out, b"hops")?;
-            push_hops(out, t, hops.as_slice())?;
-            push_bytes(out, b"\nend ")?;
-            push_path_end(out, t, *end)?;
-            push_bytes(out, b"\n")
-        }
-        Answer::Delta(changes) => push_changes(out, t, changes.as_slice()),
-    }
-}
 
 /// Adds the line of a query with its pin, and its answer.
 fn push_answered(
@@ -111,7 +29,7 @@ fn push_answered(
     push_bytes(out, b" ")?;
     push_query(out, &told.query)?;
     push_bytes(out, b"\n")?;
-    push_answer(out, t, answer)
+    push_answer(out, t, told.query.ask(), answer)
 }
 
 /// Adds the line of a query, and its first unknown name.

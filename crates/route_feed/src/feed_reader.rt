@@ -1,6 +1,6 @@
 //! The reader of a router's feed.
 
-ghost use Rattle.std.specs.Prelude.{◌≡◌, ℕ, ◌+◌, ◌<◌, ◌≤◌, ◌^◌, List, [], ◌++◌, length, Option, None, Some, IfOk, OnErr};
+ghost use Rattle.std.specs.Prelude.{◌≡◌, ℕ, ◌+◌, ◌<◌, ◌≤◌, ◌^◌, List, [], ◌++◌, length, Option, None, Some, IfOk, IsOkAnd, OnErr};
 ghost use Rattle.dn_io.specs.Told.{with_front};
 ghost use Rattle.dn_formats.specs.Steps.{FrameStep};
 ghost use Rattle.dn_model.specs.declared.topology.Topology.{Topology};
@@ -88,12 +88,12 @@ impl<S: Source> FeedReader<S> {
         }
     }
 
-    /// What the next frame of the feed comes to, or how the feed ends. The end is answered again at every later call.
-    /// All calls are given one topology, which has the reader's router.
+    /// What the next frame of the feed comes to, or how the feed ends. The end is answered again at every later
+    /// call, also where no memory is left. All calls are given one topology, which has the reader's router.
     ///
     /// # Errors
     ///
-    /// `OutOfMemory`; no byte is lost then, and the call can be made again.
+    /// `OutOfMemory`, before the end alone; no byte is lost then, and the call can be made again.
     pub fn next_frame(
         &mut self,
         alloc: Global,
@@ -102,7 +102,7 @@ impl<S: Source> FeedReader<S> {
         requires { self.old.told.router.0 < length topology.now.routers }
         ensures outcome { (bytes : List ℕ) (steps : List FrameStep) → IsAt topology.now self.old (S.left self.old.source) bytes steps →
             IsOutcome topology.now result self.new (S.left self.new.source) bytes steps }
-        ensures again { (end : FeedEnd) → self.old.told.end ≡ Some end → (self.new ≡ self.old) × IfOk result (λ step. end_of step ≡ Some end) }
+        ensures again { (end : FeedEnd) → self.old.told.end ≡ Some end → (self.new ≡ self.old) × IsOkAnd result (λ step. end_of step ≡ Some end) }
         ensures told { self.old.told.end ≡ None → self.new.told ≡ told_then self.old.told result }
         ensures faults { self.old.told.end ≡ None → FaultsAt result (S.faults self.old.source) (S.faults self.new.source) }
         ensures advances { IfOk result (λ step. Advances step self.old self.new) }

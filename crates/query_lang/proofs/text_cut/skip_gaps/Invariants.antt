@@ -1,9 +1,9 @@
-use Rattle.std.proofs.Common.{◌≡◌, length}
+use Rattle.std.proofs.Common.{◌≡◌, ◌≤◌, length}
 use Rattle.dn_formats.specs.ScriptText.{words_of}
 use Rattle.query_lang.proofs.text_cut.skip_gaps.Given as goal
 
 abbrev pub invariant-loop-rest : goal.invariant-loop-rest
-invariant-loop-rest l = words_of l.rest ≡ words_of l.line
+invariant-loop-rest l = (words_of l.rest ≡ words_of l.line) × (length l.rest ≤ length l.line)
 
 abbrev pub decreases-loop-rest : goal.decreases-loop-rest
 decreases-loop-rest l = length l.rest

@@ -20,6 +20,7 @@ mod plain_cycle;
 mod plain_delta;
 #[cfg(test)]
 mod plain_delta_tests;
+mod plain_holes;
 mod plain_intervals;
 mod plain_reach;
 mod plain_runs;

@@ -1,6 +1,8 @@
 pub mod Best
 pub mod Covers
 pub mod Cuts
+pub mod CycleFrom
+pub mod CyclesFrom
 pub mod DeltaJoined
 pub mod DeltaOnce
 pub mod DeltaParts

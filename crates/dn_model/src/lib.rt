@@ -22,6 +22,7 @@ mod plain_delta;
 mod plain_delta_tests;
 mod plain_holes;
 mod plain_intervals;
+mod plain_loops;
 mod plain_reach;
 mod plain_runs;
 mod plain_test;

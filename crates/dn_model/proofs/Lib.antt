@@ -1,11 +1,14 @@
 pub mod Best
 pub mod Covers
 pub mod Cuts
+pub mod CycleFrom
+pub mod CyclesFrom
 pub mod DeltaJoined
 pub mod DeltaOnce
 pub mod DeltaParts
 pub mod Filtered
 pub mod GoRound
+pub mod HolesFrom
 pub mod KeyOrder
 pub mod Keyed
 pub mod Keys
@@ -13,7 +16,9 @@ pub mod Known
 pub mod Lookups
 pub mod Loops
 pub mod Meets
+pub mod Ordered
 pub mod Passes
+pub mod Picks
 pub mod RunsFrom
 pub mod RunsOnce
 pub mod SamePermutation

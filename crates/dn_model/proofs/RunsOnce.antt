@@ -46,7 +46,7 @@ apart-below a i is h l =
     or_from (holds a i) (list_any (holds a) is) (holds-below a i l) (apart-after a i is h (omega arith))
 
 -- the first interval holds its ends
-first-holds : (a : ℕ) (i : Run) (is : List Run) → i.lo ≤ a → a ≤ i.hi → list_any (holds a) (i ∷ is) ≡ true
+pub first-holds : (a : ℕ) (i : Run) (is : List Run) → i.lo ≤ a → a ≤ i.hi → list_any (holds a) (i ∷ is) ≡ true
 first-holds a i is l h = or_left (holds a i) (list_any (holds a) is) (holds-in a i l h)
 
 -- two lists hold the same addresses

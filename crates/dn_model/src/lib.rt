@@ -20,7 +20,9 @@ mod plain_cycle;
 mod plain_delta;
 #[cfg(test)]
 mod plain_delta_tests;
+mod plain_holes;
 mod plain_intervals;
+mod plain_loops;
 mod plain_reach;
 mod plain_runs;
 mod plain_test;

@@ -19,6 +19,8 @@ use crate::lookup::{link, router};
 use crate::memory::OutOfMemory;
 use crate::name::Name;
 use crate::plain_delta::plain_delta;
+use crate::plain_holes::plain_holes;
+use crate::plain_loops::plain_loops;
 use crate::plain_reach::{plain_reach, plain_uses, plain_waypoint};
 use crate::prefix::Prefix;
 use crate::query::{Ask, Query};
@@ -300,6 +302,7 @@ pub fn plain_answer(
             to,
             through,
         ),
-        Ask::Loops | Ask::Blackholes(_) => { Err(OutOfMemory) }
+        Ask::Blackholes(name) => plain_holes(alloc, t, entries, down.as_slice(), name),
+        Ask::Loops => plain_loops(alloc, t, entries, down.as_slice()),
     }
 }

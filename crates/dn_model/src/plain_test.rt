@@ -137,7 +137,7 @@ fn misses_waypoint(
 }
 
 /// The last of these routers.
-fn last_of(routers: &[RouterId]) -> Option<RouterId>
+pub(crate) fn last_of(routers: &[RouterId]) -> Option<RouterId>
     ensures { result ≡ slice_get routers.now (length routers.now - 1) }
 {
     routers.last().copied()

@@ -42,3 +42,7 @@ plain_waypoint-requires-clause-through c =
     (contains-there (RouterName c.in-Waypoint.from) (RouterName c.in-Waypoint.through) (RouterName c.in-Waypoint.to ∷ RouterName c.in-Waypoint.through ∷ [])
     (contains-there (RouterName c.in-Waypoint.to) (RouterName c.in-Waypoint.through) (RouterName c.in-Waypoint.through ∷ [])
     (contains-here (RouterName c.in-Waypoint.through) [])))
+
+pub plain_holes-requires-clause-name : goal.plain_holes-requires-clause-name
+plain_holes-requires-clause-name c =
+    router-known c.args.t.now c.args.query.now (Blackholes c.in-Blackholes.name) c.in-Blackholes.name c.requires.names (sym c.ask.ensures.value ∙ c.in-Blackholes.is) (contains-here (RouterName c.in-Blackholes.name) [])

@@ -11,7 +11,7 @@ from bisect import bisect_left, bisect_right
 from dataclasses import dataclass, field
 from typing import Iterable, Iterator, Sequence
 
-from lib.report import NO_ROUTE, Entry, Prefix, Target
+from report import NO_ROUTE, Entry, Prefix, Target
 
 LAST_ADDRESS = 2**32 - 1
 

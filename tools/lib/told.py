@@ -9,9 +9,10 @@ from __future__ import annotations
 from dataclasses import dataclass
 from typing import Iterator
 
-from lib.answer_tool import ToolError
-from lib.evaluator import Hop, Table, Way, tables_after, way
-from lib.report import Report, address_text, read_address
+from command import ToolError
+from evaluator import Hop, Table, Way, tables_after, way
+from network import Link, Network
+from report import Report, address_text, read_address
 
 
 @dataclass
@@ -41,6 +42,27 @@ class Moment:
             return f"nothing of its feed is taken yet: its first update is entry {entries[0]}"
         routes = len(self.tables[router].routes())
         return f"no route: none of its {routes} routes covers {address_text(address)}"
+
+
+def check_fits(report: Report, network: Network, path: str) -> None:
+    """That a topology, read from `path`, may be the one of the report's run: it has its routers, and each route over
+    a link goes to the link's far end."""
+    links = {link.name: link for link in network.links}
+    for router in [feed.router for feed in report.feeds]:
+        if router not in network.routers:
+            raise ToolError(f"{path}: it has no router {router}, of which {report.path} has a feed: another run's?")
+    over_links = {(entry.router, entry.target) for entry in report.entries if entry.target and entry.target.router}
+    for router, target in sorted(over_links, key=str):
+        link = links.get(target.link)
+        if link is None or {router, target.router} != {end[0] for end in link.ends}:
+            raise ToolError(f"{path}: it has no link {target.link} from {router} to {target.router}, by which"
+                            f" {report.path} has routes: another run's?")
+
+
+def ends_from(link: Link, router: str) -> tuple[str, str]:
+    """The two ends of a link as texts, this router's first."""
+    near, far = sorted(link.ends, key=lambda end: end[0] != router)
+    return f"{near[0]}:{near[1]}", f"{far[0]}:{far[1]}"
 
 
 def read_position(report: Report, word: str) -> int:

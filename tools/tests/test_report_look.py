@@ -12,10 +12,10 @@ from pathlib import Path
 TOOLS = Path(__file__).resolve().parent.parent
 DATA = TOOLS / "tests" / "data"
 EXAMPLES = TOOLS.parent / "examples"
-sys.path.insert(0, str(TOOLS))
+sys.path.insert(0, str(TOOLS / "lib"))
 
-from lib.evaluator import Table, changes, tables_after, way
-from lib.report import Entry, Prefix, ReportError, Target, address_text, read_address, read_prefix, read_report
+from evaluator import Table, changes, tables_after, way
+from report import Entry, Prefix, ReportError, Target, address_text, read_address, read_prefix, read_report
 
 # Each stored report, and how many routers its topology has.
 REPORTS = {EXAMPLES / "first-path" / "report.txt": 3, EXAMPLES / "triangle-ospf" / "report.txt": 3,

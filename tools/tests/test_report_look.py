@@ -207,7 +207,7 @@ class Words(unittest.TestCase):
         self.assertIn("nowhere", self.refused("nowhere", "changes", 0, 0))
         self.assertIn("r9", self.refused(report, "--topology", EXAMPLES / "first-path" / "topology.toml",
                                          "way", 1, "r9", "10.0.0.1"))
-        self.assertIn("topology", self.refused(report, "--topology", DATA / "odd.toml", "way", 1, "r1", "10.0.0.1"))
+        self.assertIn("another run's", self.refused(report, "--topology", DATA / "odd.toml", "way", 1, "r1", "10.0.0.1"))
 
     def test_an_error_line_is_no_report(self) -> None:
         self.assertIn("tools/why", self.refused(self.written("error topology link 2 7 EndTwice\n"), "changes", 0, 0))

@@ -1,0 +1,225 @@
+"""What one pass over a feed shows of its router and of the recording: interfaces, connected prefixes, odd signs.
+
+It is asked without a topology, so no interface is unknown here. What it keeps grows with the interfaces and the
+connected prefixes of the router, not with the length of the recording.
+"""
+
+from __future__ import annotations
+
+import hashlib
+from collections import Counter, defaultdict
+from dataclasses import dataclass, field
+
+from frames import (DELETE_NEXTHOP, KERNEL, NEW_NEXTHOP, UNICAST, Decoded, Feed, FeedEnd, Frame, Prefix, Refused,
+                    Route, Skipped, decode)
+
+# The metric that zebra's module dplane_fpm_nl gives to every route.
+MODULE_METRIC = 20
+# Routes that are kept in mind to see that a session begins anew. A walk of the table repeats them all, so some do.
+MOST_KEPT = 100_000
+# Prefixes and gateways kept of one interface.
+MOST_OF_INTERFACE = 1_000
+
+
+@dataclass
+class Sighting:
+    """How often something was seen, and where first."""
+
+    count: int = 0
+    frame: int = 0
+    offset: int = 0
+    what: str = ""
+
+    def see(self, frame: Frame, what: str) -> None:
+        if self.count == 0:
+            self.frame, self.offset, self.what = frame.number, frame.offset, what
+        self.count += 1
+
+    def place(self) -> str:
+        return f"frame {self.frame}, offset {self.offset}"
+
+
+@dataclass
+class Interface:
+    """What a feed says of an interface: the prefixes connected there, and the gateways used there."""
+
+    used: Sighting = field(default_factory=Sighting)
+    connected: set[Prefix] = field(default_factory=set)
+    gateways: Counter[str] = field(default_factory=Counter)
+
+
+@dataclass
+class Survey:
+    """What one pass over a feed shows."""
+
+    router: str
+    path: str
+    frames: int = 0
+    updates: int = 0
+    end: FeedEnd = FeedEnd("end")
+    digest: str = ""
+    interfaces: dict[int, Interface] = field(default_factory=lambda: defaultdict(Interface))
+    refused: dict[str, Sighting] = field(default_factory=lambda: defaultdict(Sighting))
+    other_metrics: Sighting = field(default_factory=Sighting)
+    deletions_without_metric: Sighting = field(default_factory=Sighting)
+    next_hop_objects: Sighting = field(default_factory=Sighting)
+    senders: dict[int, Sighting] = field(default_factory=dict)
+    sender_changes: int = 0
+    begun_anew: Sighting = field(default_factory=Sighting)
+
+    @property
+    def name(self) -> str:
+        """The feed as the words of the command name it."""
+        return f"{self.router}={self.path}"
+
+    def connected(self, interface: int) -> set[Prefix]:
+        """The prefixes that were ever connected at an interface."""
+        return self.interfaces[interface].connected if interface in self.interfaces else set()
+
+
+class _Walks:
+    """Sees that zebra sends its whole table again, as it does where a session begins.
+
+    Within a session zebra repeats connected routes, but no others: a route of a protocol is set again after its
+    deletion, which stands before it in the same frame. A newer zebra sends changes without the deletion, but no
+    identical ones. So identical sets of held routes are signs, and where changes come with deletions, sets without.
+    """
+
+    def __init__(self) -> None:
+        self.kept: dict[Prefix, int] = {}
+        self.paired = 0
+        self.identical = Sighting()
+        self.changed = Sighting()
+        self._last: Prefix | None = None
+        self._begin: Frame | None = None
+
+    def take(self, frame: Frame, updates: list[Route]) -> None:
+        if not updates:
+            return
+        if len(updates) > 1 or not updates[0].is_set:
+            self._take_change(updates)
+            return
+        route = updates[0]
+        if self._last is None or route.prefix <= self._last or self._begin is None:
+            self._begin = frame
+        self._last = route.prefix
+        self._take_set(route)
+
+    def begun_anew(self) -> Sighting:
+        """Where the table comes again, if it does."""
+        if self.identical.count >= 2 or (self.changed.count and self.paired):
+            return min((seen for seen in (self.identical, self.changed) if seen.count), key=lambda seen: seen.frame)
+        return Sighting()
+
+    def _take_change(self, updates: list[Route]) -> None:
+        self._last = self._begin = None
+        for route in updates:
+            if not route.is_set:
+                self.kept.pop(route.prefix, None)
+            else:
+                self.paired += 1
+                self._keep(route)
+
+    def _take_set(self, route: Route) -> None:
+        if route.protocol == KERNEL:
+            return
+        before = self.kept.get(route.prefix)
+        if before is not None and self._begin is not None:
+            seen = self.identical if before == _content(route) else self.changed
+            seen.see(self._begin, str(route.prefix))
+        self._keep(route)
+
+    def _keep(self, route: Route) -> None:
+        if route.protocol != KERNEL and (len(self.kept) < MOST_KEPT or route.prefix in self.kept):
+            self.kept[route.prefix] = _content(route)
+
+
+def _content(route: Route) -> int:
+    return hash((route.metric, route.route_type, route.protocol, route.gateway, route.interface))
+
+
+class _DigestedFile:
+    """A file whose bytes are digested as they are read."""
+
+    def __init__(self, file) -> None:
+        self._file = file
+        self.digest = hashlib.sha256()
+
+    def read(self, size: int) -> bytes:
+        piece = self._file.read(size)
+        self.digest.update(piece)
+        return piece
+
+
+def survey(router: str, path: str) -> Survey:
+    """Reads a feed once. Raises OSError where it can't be opened."""
+    result = Survey(router, path)
+    walks = _Walks()
+    last_sender: int | None = None
+    with open(path, "rb") as opened:
+        file = _DigestedFile(opened)
+        feed = Feed(file)  # type: ignore[arg-type]
+        for frame in feed:
+            decoded = decode(frame)
+            _take_frame(result, frame, decoded)
+            last_sender = _take_senders(result, frame, decoded, last_sender)
+            walks.take(frame, decoded.updates)
+    result.end = feed.end or FeedEnd("end")
+    result.digest = file.digest.hexdigest()
+    result.begun_anew = walks.begun_anew()
+    return result
+
+
+def _take_frame(result: Survey, frame: Frame, decoded: Decoded) -> None:
+    result.frames += 1
+    result.updates += len(decoded.updates)
+    for message in decoded.messages:
+        if isinstance(message, Skipped) and message.message_type in (NEW_NEXTHOP, DELETE_NEXTHOP):
+            result.next_hop_objects.see(frame, message.what)
+    refused = decoded.refused
+    if refused is not None:
+        result.refused[refused.cause].see(frame, _prefix_of(refused))
+    for route in decoded.updates:
+        _take_route(result, frame, route)
+
+
+def _take_route(result: Survey, frame: Frame, route: Route) -> None:
+    what = f"{route.prefix}" if route.metric is None else f"{route.prefix} metric {route.metric}"
+    if route.metric is None:
+        result.deletions_without_metric.see(frame, what)
+    elif route.metric != MODULE_METRIC:
+        result.other_metrics.see(frame, what)
+    if not route.is_set or route.route_type != UNICAST or route.interface is None:
+        return
+    interface = result.interfaces[route.interface]
+    interface.used.see(frame, str(route.prefix))
+    if route.is_connected and len(interface.connected) < MOST_OF_INTERFACE:
+        interface.connected.add(route.prefix)
+    if route.gateway is not None and len(interface.gateways) < MOST_OF_INTERFACE:
+        interface.gateways[route.gateway] += 1
+
+
+def _take_senders(result: Survey, frame: Frame, decoded: Decoded, last: int | None) -> int | None:
+    for message in decoded.messages:
+        if last is not None and message.sender != last:
+            result.sender_changes += 1
+        last = message.sender
+        result.senders.setdefault(message.sender, Sighting()).see(frame, "")
+        if len(result.senders) > MOST_OF_INTERFACE:
+            result.senders.popitem()
+    return last
+
+
+def _prefix_of(refused: Refused) -> str:
+    return "" if refused.route is None else str(refused.route.prefix)
+
+
+def holders(surveys: list[Survey]) -> dict[Prefix, list[tuple[str, int]]]:
+    """For each connected prefix the routers and interfaces that have it. A /32 is no segment, so none is among them."""
+    found: dict[Prefix, list[tuple[str, int]]] = defaultdict(list)
+    for one in surveys:
+        for index in sorted(one.interfaces):
+            for prefix in one.interfaces[index].connected:
+                if prefix.length < 32:
+                    found[prefix].append((one.router, index))
+    return found

@@ -10,9 +10,13 @@ import argparse
 import os
 import signal
 import sys
-from collections.abc import Callable
+from collections.abc import Callable, Iterable
 
 from network import Network, TopologyFault, is_name, read_topology
+
+
+# How many of a list are told in a line.
+MOST_TOLD = 3
 
 
 class ToolError(Exception):
@@ -53,6 +57,13 @@ def _fail(name: str, message: str) -> int:
     sys.stdout.flush()
     print(f"{name}: {message}", file=sys.stderr)
     return 1
+
+
+def told(things: Iterable[object]) -> str:
+    """The first few of a list, and how many more there are."""
+    words = [str(thing) for thing in things]
+    more = f" and {len(words) - MOST_TOLD} more" if len(words) > MOST_TOLD else ""
+    return ", ".join(words[:MOST_TOLD]) + more
 
 
 def read_named_topology(path: str) -> Network:

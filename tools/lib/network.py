@@ -107,6 +107,11 @@ class Network:
         return sorted(index for name, index in self._ports if name == router)
 
 
+def text_of(end: End) -> str:
+    """An end as the topology file writes it."""
+    return f"{end[0]}:{end[1]}"
+
+
 def is_name(text: str) -> bool:
     """Whether a text is a name: 1 to 32 of a to z, 0 to 9, _ and -."""
     return NAME.fullmatch(text) is not None
@@ -251,5 +256,5 @@ class _EntryReader:
 
     def _take_end(self, part: str, entry: int, end: End, holder: str) -> None:
         if end in self.ends:
-            raise self.fault(part, entry, "EndTwice", f"{end[0]}:{end[1]} stands in {self.ends[end]} already")
+            raise self.fault(part, entry, "EndTwice", f"{text_of(end)} stands in {self.ends[end]} already")
         self.ends[end] = holder

@@ -41,7 +41,9 @@ class Moment:
         if entries[0] > self.position:
             return f"nothing of its feed is taken yet: its first update is entry {entries[0]}"
         routes = len(self.tables[router].routes())
-        return f"no route: none of its {routes} routes covers {address_text(address)}"
+        if routes == 0:
+            return "its table is empty here"
+        return f"none of the {routes} in its table covers {address_text(address)}"
 
 
 def check_fits(report: Report, network: Network, path: str) -> None:

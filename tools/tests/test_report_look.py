@@ -154,7 +154,7 @@ class Ways(unittest.TestCase):
     def test_the_meanings_of_noroute(self) -> None:
         self.assertIn("noroute: nothing of its feed is taken yet: its first update is entry 4",
                       self.way(3, "r2", "10.2.0.1")[1])
-        self.assertIn("noroute: no route: none of its 1 routes covers 11.0.0.1", self.way(4, "r2", "11.0.0.1")[1])
+        self.assertIn("noroute: none of the 1 in its table covers 11.0.0.1", self.way(4, "r2", "11.0.0.1")[1])
         self.assertIn("noroute: no feed in this run", self.way(10, "r4", "11.0.0.1")[1])
 
     def test_a_loop(self) -> None:

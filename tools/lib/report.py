@@ -24,6 +24,9 @@ ENTRY_LINE = re.compile(
 JOB_LINE = re.compile(r"job (\d+)", re.ASCII)
 ANSWERED_LINE = re.compile(r"line (\d+) at (\d+) (.+)", re.ASCII)
 UNKNOWN_LINE = re.compile(r"line (\d+) ([a-z].*)", re.ASCII)
+OCTET = r"(0|[1-9][0-9]{0,2})"
+ADDRESS = re.compile(rf"{OCTET}\.{OCTET}\.{OCTET}\.{OCTET}")
+LENGTHS = {str(length): length for length in range(33)}
 TARGET = re.compile(
     rf"noroute|local|dropped (?:blackhole|unreachable|prohibit)|(?:exit|onlink) (?P<interface>\d+)"
     rf"|to (?P<router>{NAME}) by (?P<link>{NAME})|linkdown (?P<down>{NAME})",
@@ -154,15 +157,13 @@ class Report:
 
 def read_address(text: str) -> int | None:
     """The address that a dotted quad writes, without leading zeros; None where it is none."""
-    parts = text.split(".")
-    if len(parts) != 4:
+    match = ADDRESS.fullmatch(text)
+    if match is None:
         return None
-    address = 0
-    for part in parts:
-        if not re.fullmatch(r"0|[1-9][0-9]{0,2}", part) or int(part) > 255:
-            return None
-        address = address * 256 + int(part)
-    return address
+    first, second, third, fourth = (int(octet) for octet in match.groups())
+    if max(first, second, third, fourth) > 255:
+        return None
+    return first << 24 | second << 16 | third << 8 | fourth
 
 
 def address_text(address: int) -> str:
@@ -171,12 +172,11 @@ def address_text(address: int) -> str:
 
 def read_prefix(text: str) -> Prefix | None:
     """The prefix `ADDRESS/LENGTH`; None where it is none, or where a bit past its length is set."""
-    address, slash, length = text.partition("/")
-    base = read_address(address)
-    if base is None or not slash or not re.fullmatch(r"0|[1-9][0-9]?", length) or int(length) > 32:
+    address, _, length_text = text.partition("/")
+    base, length = read_address(address), LENGTHS.get(length_text)
+    if base is None or length is None or base % (1 << (32 - length)) != 0:
         return None
-    prefix = Prefix(base, int(length))
-    return prefix if base % (1 << (32 - prefix.length)) == 0 else None
+    return Prefix(base, length)
 
 
 def read_target(text: str) -> Target | None:

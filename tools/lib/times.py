@@ -7,6 +7,7 @@ before is told by the line at the end of that second.
 
 from __future__ import annotations
 
+import re
 from dataclasses import dataclass
 from datetime import datetime, timedelta
 
@@ -66,7 +67,7 @@ def parse_time(words: str, begin: datetime) -> datetime:
     try:
         if words.startswith("+"):
             return begin + timedelta(seconds=float(words[1:]))
-        if "-" not in words and "T" not in words.removeprefix("T"):
+        if not re.match(r"[0-9]{4}-", words):
             words = f"{begin.date().isoformat()}T{words}"
         time = datetime.fromisoformat(words.replace(" ", "T"))
     except (ValueError, OverflowError):

@@ -3,6 +3,8 @@ hand. Where reports with further queries are stored, they are compared as they s
 
 from __future__ import annotations
 
+import os
+import subprocess
 import sys
 import unittest
 from pathlib import Path
@@ -10,6 +12,7 @@ from pathlib import Path
 TOOLS = Path(__file__).resolve().parent.parent
 EXAMPLES = TOOLS.parent / "examples"
 DATA = TOOLS / "tests" / "data"
+PROGRAM = Path(os.environ.get("DELTANET", TOOLS.parent / "crates" / "query_cli" / "out" / "query_cli"))
 sys.path.insert(0, str(TOOLS / "lib"))
 
 from network import Network, parse_topology, read_topology
@@ -36,7 +39,8 @@ class StoredReports(unittest.TestCase):
     def test_every_answer(self) -> None:
         stored = [(path, path.parent / "topology.toml") for path in sorted(EXAMPLES.glob("*/report.txt"))]
         seen = 0
-        for path, topology in [*stored, (DATA / "odd.report", DATA / "odd.toml")]:
+        stored += [(DATA / "odd.report", DATA / "odd.toml"), (DATA / "made" / "report.txt", DATA / "made" / "topology.toml")]
+        for path, topology in stored:
             report, network = read_report(str(path)), read_topology(str(topology))
             for answer in report.answers:
                 with self.subTest(report=path, line=answer.line):
@@ -45,7 +49,14 @@ class StoredReports(unittest.TestCase):
                     lines = [unknown] if unknown else answer_lines(network, report.entries, answer.position, answer.query)
                     self.assertEqual(lines, answer.lines)
                     seen += 1
-        self.assertGreaterEqual(seen, 22)
+        self.assertGreaterEqual(seen, 50)
+
+    @unittest.skipUnless(PROGRAM.exists(), "the program isn't built")
+    def test_the_made_report(self) -> None:
+        """The stored report of the made-up network is the program's own."""
+        words = [PROGRAM, "run", "topology.toml", "r1=r1.fpm", "r3=r3.fpm", "r4=r4.fpm", "@script"]
+        came = subprocess.run(words, cwd=DATA / "made", capture_output=True)
+        self.assertEqual((1, (DATA / "made" / "report.txt").read_bytes()), (came.returncode, came.stdout))
 
 
 class ByHand(unittest.TestCase):

@@ -1,8 +1,7 @@
 """The topology file: routers, links and edges, or its first fault.
 
 The rules and the order of the faults are those of docs/FORMATS.md. The program has a proved reader of its own; this
-one is not proved and serves the tools alone. It differs where Python's tomllib knows TOML 1.0 and the program
-TOML 1.1: what came new with 1.1 (such as a line break inside an inline table) is NotToml here.
+one is not proved and serves the tools alone.
 """
 
 from __future__ import annotations
@@ -11,6 +10,8 @@ import re
 import tomllib
 from dataclasses import dataclass, field
 from typing import Any
+
+from toml_newer import in_older_toml
 
 LONGEST_FILE = 16_777_216
 MOST_ROUTERS = 1_024
@@ -153,13 +154,41 @@ def _read_document(text: bytes) -> dict[str, Any]:
     except UnicodeDecodeError as error:
         line = text.count(b"\n", 0, error.start) + 1
         raise TopologyFault("top", 0, "NotToml", f"byte {error.start} of the file isn't UTF-8", line) from None
+    decoded = decoded.removeprefix("\ufeff")
     try:
-        document = tomllib.loads(decoded)
+        document = _read_either(decoded)
     except RecursionError:
         raise TopologyFault("top", 0, "NotToml", "lists or tables are nested too deeply") from None
     except ValueError as error:
         raise _not_toml(str(error), decoded) from None
+    if _has_wide_number(document):
+        raise TopologyFault("top", 0, "NotToml", "a number is wider than 64 bits")
     return document
+
+
+def _read_either(text: str) -> dict[str, Any]:
+    """The document of a text, which may have what came with TOML 1.1; tomllib knows TOML 1.0."""
+    try:
+        return tomllib.loads(text)
+    except ValueError as error:
+        try:
+            return tomllib.loads(in_older_toml(text))
+        except ValueError:
+            raise error from None
+
+
+def _has_wide_number(document: dict[str, Any]) -> bool:
+    """Whether some whole number is one that Python takes and TOML doesn't."""
+    waiting: list[Any] = [document]
+    while waiting:
+        value = waiting.pop()
+        if isinstance(value, dict):
+            waiting.extend(value.values())
+        elif isinstance(value, list):
+            waiting.extend(value)
+        elif isinstance(value, int) and not -2 ** 63 <= value < 2 ** 63:
+            return True
+    return False
 
 
 def _not_toml(said: str, text: str) -> TopologyFault:

@@ -14,6 +14,10 @@ from datetime import datetime, timedelta
 from command import ToolError
 
 
+# How long after it came a piece may be told of: the second between two lines, and a little for a busy machine.
+LONGEST_SILENCE = timedelta(seconds=1.5)
+
+
 @dataclass(frozen=True, slots=True)
 class Moment:
     """What had come by a time."""

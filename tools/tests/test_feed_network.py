@@ -46,6 +46,13 @@ class Faults(unittest.TestCase):
         for text in (b"\xff", b"routers = [", b"x = " + b"[" * 3000, b"x = " + b"9" * 5000, b"a = 1\na = 2"):
             self.assertEqual(fault(text), "top 0 1 NotToml")
 
+    def test_what_the_program_reads_as_toml(self) -> None:
+        self.assertEqual(fault("\ufeffrouters = []"), "none")
+        self.assertEqual(fault('routers = ["a"]\nedge = [{at = "a:1",\n}]'), "none")
+        self.assertEqual(fault('routers = ["\\x61"]'), "none")
+        self.assertEqual(fault('routers = ["\\e"]'), "routers 1 4 BadName")
+        self.assertEqual(fault("routers = []\nx = 99999999999999999999"), "top 0 1 NotToml")
+
     def test_the_top(self) -> None:
         self.assertEqual(fault(""), "top 0 3 MissingKey")
         self.assertEqual(fault('router = ["r1"]'), "top 0 2 UnknownKey")

@@ -259,7 +259,7 @@ class Frames(InFolder):
         ran = self.run_tool("frames", "r1.fpm", "--bytes", "836", "--bytes", "1216", "--bytes", "1217", "--bytes", "3")
         self.assertEqual(ran.status, 0)
         self.assertEqual([line for line in ran.lines() if not line.startswith("#")], ["take r1 14", "take r1 6"])
-        self.assertIn("# r1 by byte 3: frame 0\n# nothing to take: no frame came since", ran.out)
+        self.assertIn("# r1 by byte 3: 0 frames\n# nothing to take: no frame came since", ran.out)
 
     def test_moments_by_time(self) -> None:
         self.write("r1.1.fpm", read(data("first.fpm")))
@@ -271,7 +271,9 @@ class Frames(InFolder):
             self.assertEqual((ran.status, [line for line in ran.lines() if line[0] != "#"]), (0, takes), time)
         two = self.run_tool("frames", "r1.1.fpm", "--at", "+0.5", "--at", "+3600")
         self.assertEqual([line for line in two.lines() if line[0] != "#"], ["take r1 5", "take r1 7"])
-        self.assertIn("5 frames had come by", two.out)
+        near = self.run_tool("frames", "r1.1.fpm", "--at", "12:27:47.0")
+        self.assertIn("7 frames, or up to 10, which are told of at 2026-11-27T12:27:47.303+00:00", near.out)
+        self.assertNotIn("or up to", self.run_tool("frames", "r1.1.fpm", "--at", "12:27:50").out)
 
     def test_times_that_are_none(self) -> None:
         self.write("r1.1.fpm", read(data("first.fpm")))

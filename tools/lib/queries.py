@@ -43,8 +43,9 @@ class Moment:
     def pieces(self) -> list[Run]:
         """Runs of addresses that every router treats alike, in order."""
         prefixes = {prefix for table in self.tables.values() for prefix in table.by_prefix}
-        begins = sorted({0} | {end for prefix in prefixes for end in (prefix.base, prefix.last + 1)} - {LAST_ADDRESS + 1})
-        return [(low, following - 1) for low, following in zip(begins, begins[1:] + [LAST_ADDRESS + 1])]
+        ends = {0, LAST_ADDRESS + 1} | {end for prefix in prefixes for end in (prefix.base, prefix.last + 1)}
+        ordered = sorted(ends)
+        return [(low, following - 1) for low, following in zip(ordered, ordered[1:])]
 
     def following(self, router: str, address: int) -> Target:
         """What a router does with an address, a route over a link that is down being no way on."""

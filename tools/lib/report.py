@@ -198,7 +198,7 @@ def read_report(path: str) -> Report:
 
 
 class _Reader:
-    """Reads the lines of a report in order. Prefixes and targets are kept once each: the same few come again and again."""
+    """Reads the lines of a report in order. Prefixes and targets are kept once each, since the same ones come often."""
 
     def __init__(self, path: str, text: bytes) -> None:
         self.path = path

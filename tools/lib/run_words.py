@@ -89,7 +89,7 @@ def _plain_words(words: list[str]) -> list[str]:
         if word == "--":
             return plain + words[number:]
         if word.startswith("-") and word != "-":
-            rule = "a word that begins with - is an option, and there is none (put -- before it if it is meant as it is)"
+            rule = "a word that begins with - is an option, and there is none; after -- it is taken as it is"
             raise _words_refused(number, word, rule)
         plain.append(word)
     return plain

@@ -88,7 +88,8 @@ def _read_line(number: int, line: bytes, feeds: Feeds) -> str | None:
         rule = f"a script takes from routers that have a feed in this run ({', '.join(feeds.fed) or 'none has'})"
         raise ScriptFault(number, "TakeUnknown", f"{rule}, and {router} has none", line)
     if router in feeds.taken:
-        raise ScriptFault(number, "TakenTwice", f"one script takes from a feed, and an earlier one takes {router}'s", line)
+        rule = f"one script takes from a feed, and an earlier one takes {router}'s"
+        raise ScriptFault(number, "TakenTwice", rule, line)
     return router
 
 

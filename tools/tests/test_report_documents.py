@@ -40,7 +40,7 @@ class Samples(unittest.TestCase):
     def test_answers(self) -> None:
         """Each answer of the first part is one that the program printed. The unknown name is no example's."""
         printed = "\n".join(path.read_text() for path in EXAMPLES.glob("*/report.txt"))
-        shown = [block for block in blocks(PROGRAM_PART) if block.startswith("line ") and " at " in block.split("\n")[0]]
+        shown = [block for block in blocks(PROGRAM_PART) if re.match(r"line \d+ at ", block)]
         self.assertGreaterEqual(len(shown), 5)
         for block in shown:
             self.assertIn("\n" + block, printed)

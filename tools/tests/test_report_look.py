@@ -158,6 +158,11 @@ class Ways(unittest.TestCase):
         self.assertIn("noroute: none of the 1 in its table covers 11.0.0.1", self.way(4, "r2", "11.0.0.1")[1])
         self.assertIn("noroute: no feed in this run", self.way(10, "r4", "11.0.0.1")[1])
 
+    def test_a_router_without_a_feed(self) -> None:
+        """In the first example r1 has a feed and r2 none; the program prints `end noroute` as for any other cause."""
+        status, out, _ = look(EXAMPLES / "first-path" / "report.txt", "way", "all", "r1", "10.1.2.3")
+        self.assertEqual((0, "r2  noroute: no feed in this run"), (status, out.splitlines()[2]))
+
     def test_a_loop(self) -> None:
         entries = [Entry(1, 1, "r1", Prefix(0, 0), 0, Target("to r2 by a", "r2", "a")),
                    Entry(2, 2, "r2", Prefix(0, 0), 0, Target("to r1 by a", "r1", "a"))]
@@ -208,7 +213,8 @@ class Words(unittest.TestCase):
         self.assertIn("nowhere", self.refused("nowhere", "changes", 0, 0))
         self.assertIn("r9", self.refused(report, "--topology", EXAMPLES / "first-path" / "topology.toml",
                                          "way", 1, "r9", "10.0.0.1"))
-        self.assertIn("another run's", self.refused(report, "--topology", DATA / "odd.toml", "way", 1, "r1", "10.0.0.1"))
+        other = self.refused(report, "--topology", DATA / "odd.toml", "way", 1, "r1", "10.0.0.1")
+        self.assertIn("another run's", other)
 
     def test_an_error_line_is_no_report(self) -> None:
         self.assertIn("tools/why", self.refused(self.written("error topology link 2 7 EndTwice\n"), "changes", 0, 0))
@@ -235,7 +241,7 @@ class Words(unittest.TestCase):
             self.assertRegex(str(caught.exception), r"report:\d+: ")
 
     def test_a_reader_that_goes_away(self) -> None:
-        words = [sys.executable, str(TOOLS / "look"), str(EXAMPLES / "triangle-ospf" / "report.txt"), "changes", "0", "297"]
+        words = [sys.executable, TOOLS / "look", EXAMPLES / "triangle-ospf" / "report.txt", "changes", "0", "297"]
         for _ in range(3):
             process = subprocess.Popen(words, stdout=subprocess.PIPE, stderr=subprocess.PIPE)
             process.stdout.close()

@@ -28,7 +28,8 @@ def sets(*told: str) -> list[Entry]:
     for position, text in enumerate(told, 1):
         router, prefix, metric, *target = text.split(" ", 3)
         number = None if metric == "clear" else int(metric)
-        entries.append(Entry(position, 1, router, read_prefix(prefix), number, read_target(target[0]) if target else None))
+        what = read_target(target[0]) if target else None
+        entries.append(Entry(position, 1, router, read_prefix(prefix), number, what))
     return entries
 
 
@@ -39,16 +40,20 @@ class StoredReports(unittest.TestCase):
     def test_every_answer(self) -> None:
         stored = [(path, path.parent / "topology.toml") for path in sorted(EXAMPLES.glob("*/report.txt"))]
         seen = 0
-        stored += [(DATA / "odd.report", DATA / "odd.toml"), (DATA / "made" / "report.txt", DATA / "made" / "topology.toml")]
+        stored.append((DATA / "odd.report", DATA / "odd.toml"))
+        stored.append((DATA / "made" / "report.txt", DATA / "made" / "topology.toml"))
         for path, topology in stored:
             report, network = read_report(str(path)), read_topology(str(topology))
             for answer in report.answers:
                 with self.subTest(report=path, line=answer.line):
                     unknown = unknown_name(network, answer.query.split(" "))
                     self.assertEqual(answer.position is None, unknown is not None)
-                    lines = [unknown] if unknown else answer_lines(network, report.entries, answer.position, answer.query)
-                    self.assertEqual(lines, answer.lines)
                     seen += 1
+                    if unknown:
+                        self.assertEqual([unknown], answer.lines)
+                        continue
+                    lines = answer_lines(network, report.entries, answer.position, answer.query)
+                    self.assertEqual(lines, answer.lines)
         self.assertGreaterEqual(seen, 50)
 
     @unittest.skipUnless(PROGRAM.exists(), "the program isn't built")
@@ -91,8 +96,8 @@ class ByHand(unittest.TestCase):
         """All three go round for one prefix; two of them, later in the topology's order, for a lower one."""
         entries = sets("r1 10.0.0.0/8 20 to r2 by a", "r2 10.0.0.0/8 20 to r3 by b", "r3 10.0.0.0/8 20 to r1 by c",
                        "r2 10.0.0.0/24 20 to r3 by b", "r3 10.0.0.0/24 20 to r2 by b")
-        self.assertEqual(["cycle r2 r3 least 10.0.0.0 addresses 256", "cycle r1 r2 r3 least 10.0.1.0 addresses 16776960"],
-                         self.asked(entries, "loops"))
+        self.assertEqual(["cycle r2 r3 least 10.0.0.0 addresses 256",
+                          "cycle r1 r2 r3 least 10.0.1.0 addresses 16776960"], self.asked(entries, "loops"))
 
     def test_links_down(self) -> None:
         entries = sets(*ROUND)

@@ -206,7 +206,8 @@ class ErrorLines(unittest.TestCase):
             with self.subTest(text=text[:60]):
                 self.write("one", text)
                 place = f"one:{fault.split()[1]}: " if fault and " 0 5 " not in fault else "one"
-                self.check(["run", "topology.toml", "r1=r1.fpm", "@one"], fault and f"error script 2 {fault}", place, rule)
+                words = ["run", "topology.toml", "r1=r1.fpm", "@one"]
+                self.check(words, fault and f"error script 2 {fault}", place, rule)
 
     def test_words_that_are_not_text(self) -> None:
         self.assertEqual("error words", self.why(["run", "topology.toml", b"r1=\xff"])[0])
@@ -223,6 +224,12 @@ class ErrorLines(unittest.TestCase):
         lines = self.why(["run", "one.toml"])
         self.assertEqual(["error topology edge 1 7 EndTwice", 'one.toml:6: at = "r2:2"',
                           "an interface stands in one link or edge only; r2:2 stands in link a already"], lines)
+
+    def test_single_brackets(self) -> None:
+        self.write("one.toml", 'routers = ["r1"]\n[[edge]]\nat = "r1:1"\n[edge]\nat = "r1:2"\n')
+        lines = self.why(["run", "one.toml"])
+        self.assertEqual(["error topology top 0 1 NotToml", "one.toml:4:6: [edge]"], lines[:2])
+        self.assertTrue(lines[2].endswith("; write [[edge]] with two brackets"))
 
     def test_help(self) -> None:
         self.assertTrue(subprocess.run([TOOLS / "why", "--help"], capture_output=True).stdout.startswith(b"usage"))

@@ -231,6 +231,16 @@ class ErrorLines(unittest.TestCase):
         self.assertEqual(["error topology top 0 1 NotToml", "one.toml:4:6: [edge]"], lines[:2])
         self.assertTrue(lines[2].endswith("; write [[edge]] with two brackets"))
 
+    def test_without_tomllib(self) -> None:
+        """An older Python says so, in each tool over reports."""
+        self.write("tomllib.py", "raise ModuleNotFoundError('No module', name='tomllib')\n")
+        for tool in ("why", "look", "draw"):
+            came = subprocess.run([sys.executable, TOOLS / tool, "run"], capture_output=True, text=True,
+                                  env={**os.environ, "PYTHONPATH": self.folder.name})
+            self.assertEqual((1, ""), (came.returncode, came.stdout))
+            self.assertIn("tomllib", came.stderr)
+            self.assertNotIn("Traceback", came.stderr)
+
     def test_help(self) -> None:
         self.assertTrue(subprocess.run([TOOLS / "why", "--help"], capture_output=True).stdout.startswith(b"usage"))
 

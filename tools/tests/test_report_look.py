@@ -62,8 +62,8 @@ class PrintedAnswers(unittest.TestCase):
         self.assertGreaterEqual(seen, 5)
 
     def test_look_way_ends_as_the_answers(self) -> None:
-        """The tool itself: the same routers up to where a loop closes, and the same end."""
-        for path in REPORTS:
+        """The tool itself: the same routers up to where a loop closes, and the same end. Two reports are enough."""
+        for path in (EXAMPLES / "triangle-ospf" / "report.txt", DATA / "odd.report"):
             for answer in read_report(str(path)).answers:
                 words = answer.query.split()
                 if words[0] != "path" or answer.position is None:

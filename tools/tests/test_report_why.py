@@ -5,6 +5,8 @@ Where the program is built its own error lines are compared too; `.ci/program` c
 
 from __future__ import annotations
 
+import importlib.machinery
+import importlib.util
 import os
 import subprocess
 import sys
@@ -15,6 +17,17 @@ from pathlib import Path
 TOOLS = Path(__file__).resolve().parent.parent
 FIRST_PATH = TOOLS.parent / "examples" / "first-path"
 PROGRAM = Path(os.environ.get("DELTANET", TOOLS.parent / "crates" / "query_cli" / "out" / "query_cli"))
+
+def load_tool() -> object:
+    """The tool as a module: a process for each of the many cases below would take most of the time."""
+    sys.dont_write_bytecode = True
+    loader = importlib.machinery.SourceFileLoader("why_tool", str(TOOLS / "why"))
+    module = importlib.util.module_from_spec(importlib.util.spec_from_loader("why_tool", loader))
+    loader.exec_module(module)
+    return module
+
+
+WHY = load_tool()
 
 MANY = "routers = [" + ", ".join(f'"r{number}"' for number in range(1, 65)) + "]\n"
 MANY_FEEDS = [f"r{number}=nowhere" for number in range(1, 65)]
@@ -170,10 +183,13 @@ class ErrorLines(unittest.TestCase):
 
     def why(self, words: list[str | bytes]) -> list[str]:
         """What the tool says; its status has to fit."""
-        came = subprocess.run([sys.executable, TOOLS / "why", *words], cwd=self.folder.name, capture_output=True)
-        self.assertEqual(b"", came.stderr)
-        lines = came.stdout.decode().splitlines()
-        self.assertEqual(0 if lines[0].startswith("no error line") else 1, came.returncode)
+        before = os.getcwd()
+        os.chdir(self.folder.name)
+        try:
+            status, lines = WHY.explain([os.fsdecode(word) for word in words])
+        finally:
+            os.chdir(before)
+        self.assertEqual(0 if lines[0].startswith("no error line") else 1, status)
         return lines
 
     def check(self, words: list[str], error_line: str, place: str, rule: str = "") -> None:
@@ -240,6 +256,15 @@ class ErrorLines(unittest.TestCase):
             self.assertEqual((1, ""), (came.returncode, came.stdout))
             self.assertIn("tomllib", came.stderr)
             self.assertNotIn("Traceback", came.stderr)
+
+    def test_the_command(self) -> None:
+        """The tool as it is called: the same lines, on standard output, and the status."""
+        cases = (([], 1, b"error words"), (["run", "topology.toml", "r1=r1.fpm"], 0, b"no error line"),
+                 (["run", "topology.toml", b"r1=\xff"], 1, b"error words"))
+        for words, status, first in cases:
+            came = subprocess.run([TOOLS / "why", *words], cwd=self.folder.name, capture_output=True)
+            self.assertEqual((status, b""), (came.returncode, came.stderr))
+            self.assertTrue(came.stdout.startswith(first))
 
     def test_help(self) -> None:
         self.assertTrue(subprocess.run([TOOLS / "why", "--help"], capture_output=True).stdout.startswith(b"usage"))

@@ -127,7 +127,7 @@ class Check(InFolder):
     def test_sessions_of_two_zebras_joined(self) -> None:
         joined = self.write("joined", read(data("second.fpm")) + read(data("restarted.fpm")))
         found = self.found("topology.toml", f"r1={joined}")
-        self.assertIn("several-sessions r1=joined frame 32, offset 2672: a second zebra begins to send",
+        self.assertIn("several-sessions r1=joined frame 32, offset 2672: another zebra begins to send",
                       found["several-sessions"][0])
 
     def test_single_sessions(self) -> None:
@@ -136,9 +136,10 @@ class Check(InFolder):
             self.assertNotIn("several-sessions", found)
             self.assertNotIn("several-senders", found)
 
-    def test_several_senders_in_turn(self) -> None:
-        self.write("mixed", b"".join(frame(connected(f"10.{n}.0.0/24", 2, sender=n % 2)) for n in range(6)))
-        self.assertIn("2 senders take turns", self.found("topology.toml", "r1=mixed")["several-senders"][0])
+    def test_namespaces_as_vrfs_in_one_stream(self) -> None:
+        found = self.found("topology.toml", f"r1={data('namespaces.fpm')}")
+        self.assertIn("2 senders take turns", found["several-senders"][0])
+        self.assertNotIn("several-sessions", found)
 
     def test_session_that_broke_inside_a_frame_joined(self) -> None:
         joined = self.write("joined", read(data("first.fpm"))[:800] + read(data("second.fpm")))

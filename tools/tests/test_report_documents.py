@@ -16,6 +16,9 @@ sys.path.insert(0, str(TOOLS / "lib"))
 import frames
 import network
 import script
+from network import read_topology
+from queries import answer_lines, unknown_name
+from report import Entry, read_prefix, read_target
 
 READING = (TOP / "docs" / "READING-ANSWERS.md").read_text()
 IF_IT_SAYS = (TOP / "docs" / "IF-IT-SAYS.md").read_text()
@@ -48,6 +51,35 @@ class Samples(unittest.TestCase):
     def test_the_entries_of_a_replacing_frame(self) -> None:
         block = next(block for block in blocks(READING) if block.startswith("66 feed 1"))
         self.assertIn("\n" + block, (EXAMPLES / "triangle-ospf" / "report.txt").read_text())
+
+
+class FurtherQueries(unittest.TestCase):
+    """The samples of the second part, by the plain answers over the triangle that it speaks of."""
+
+    ROUND = ("r1 10.0.0.0/8 to r2 by a", "r2 10.0.0.0/8 to r3 by b", "r3 10.0.0.0/8 exit 1")
+    # What some samples have beside these three routes.
+    MORE = {"loops": "r2 10.1.0.0/16 to r1 by a", "waypoint": "r1 10.9.0.0/24 to r3 by c"}
+
+    @staticmethod
+    def entry(position: int, text: str) -> Entry:
+        router, prefix, target = text.split(" ", 2)
+        return Entry(position, 1, router, read_prefix(prefix), 20, read_target(target))
+
+    def test_samples(self) -> None:
+        triangle = read_topology(str(EXAMPLES / "first-path" / "topology.toml"))
+        samples = blocks(READING.removeprefix(PROGRAM_PART))
+        self.assertIn(len(samples), (0, 7), "samples were added, or the second part was taken out in part")
+        for block in samples:
+            head, *lines = block.splitlines()
+            match = re.fullmatch(r"line \d+ (?:at (\d+) )?(.*)", head)
+            words = match[2].split()
+            if match[1] is None:
+                self.assertEqual([unknown_name(triangle, words)], lines)
+                continue
+            told = [*self.ROUND, self.MORE[words[0]]] if words[0] in self.MORE else self.ROUND
+            entries = [self.entry(place, text) for place, text in enumerate(told, 1)]
+            self.assertEqual(len(entries), int(match[1]), head)
+            self.assertEqual(answer_lines(triangle, entries, len(entries), match[2]), lines, head)
 
 
 class Refusals(unittest.TestCase):

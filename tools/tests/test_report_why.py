@@ -13,6 +13,7 @@ import sys
 import tempfile
 import unittest
 from pathlib import Path
+from unittest import mock
 
 TOOLS = Path(__file__).resolve().parent.parent
 FIRST_PATH = TOOLS.parent / "examples" / "first-path"
@@ -28,6 +29,10 @@ def load_tool() -> object:
 
 
 WHY = load_tool()
+
+# The tool has put its folder of modules on the path.
+import run_words
+import script
 
 MANY = "routers = [" + ", ".join(f'"r{number}"' for number in range(1, 65)) + "]\n"
 MANY_FEEDS = [f"r{number}=nowhere" for number in range(1, 65)]
@@ -224,6 +229,32 @@ class ErrorLines(unittest.TestCase):
                 place = f"one:{fault.split()[1]}: " if fault and " 0 5 " not in fault else "one"
                 words = ["run", "topology.toml", "r1=r1.fpm", "@one"]
                 self.check(words, fault and f"error script 2 {fault}", place, rule)
+
+    def test_further_queries(self) -> None:
+        """Lines of queries that the program may come to answer: as they are judged once they are named as answered."""
+        taken = (b"reach r1 r2", b"uses a", b"loops", b"blackholes r9", b"waypoint r1 r2 r3", b"without a,b reach r1 r2",
+                 b"without a path r1 10.0.0.1")
+        refused = (b"reach r1", b"uses A", b"loops r1", b"waypoint r1 r2", b"without a delta", b"without", b"without a",
+                   b"without a without b loops", b"without a, loops", b"without a take r1 all", b"with a loops")
+        feeds = script.Feeds(["r1"], set())
+        with mock.patch.multiple(script, ANSWERED=tuple(script.QUERIES), HAS_WITHOUT=True):
+            for line in taken:
+                script.read_script(line, feeds)
+            for line in refused:
+                with self.assertRaises(script.ScriptFault, msg=line) as caught:
+                    script.read_script(line, feeds)
+                self.assertEqual("BadLine", caught.exception.cause)
+
+    def test_several_scripts(self) -> None:
+        """With more than one script, a feed is taken by one of them."""
+        self.write("two", b"take r1 1\n")
+        with mock.patch.object(run_words, "MOST_SCRIPTS", 64):
+            lines = WHY.explain(["run", *self.paths("topology.toml"), f"r1={self.paths('r1.fpm')[0]}",
+                                 *("@" + path for path in self.paths("script", "two"))])[1]
+        self.assertEqual("error script 3 line 1 3 TakenTwice", lines[0])
+
+    def paths(self, *names: str) -> list[str]:
+        return [str(Path(self.folder.name) / name) for name in names]
 
     def test_words_that_are_not_text(self) -> None:
         self.assertEqual("error words", self.why(["run", "topology.toml", b"r1=\xff"])[0])

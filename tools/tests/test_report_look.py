@@ -15,11 +15,13 @@ EXAMPLES = TOOLS.parent / "examples"
 sys.path.insert(0, str(TOOLS / "lib"))
 
 from evaluator import Table, changes, tables_after, way
+from network import read_topology
 from report import Entry, Prefix, ReportError, Target, address_text, read_address, read_prefix, read_report
 
 # Each stored report, and how many routers its topology has.
-REPORTS = {EXAMPLES / "first-path" / "report.txt": 3, EXAMPLES / "triangle-ospf" / "report.txt": 3,
-           DATA / "odd.report": 4, DATA / "made" / "report.txt": 4}
+REPORTS = {path: len(read_topology(str(path.with_name("topology.toml"))).routers)
+           for path in (*sorted(EXAMPLES.glob("*/report.txt")), DATA / "made" / "report.txt")}
+REPORTS[DATA / "odd.report"] = 4
 
 
 def look(*words: object) -> tuple[int, str, str]:

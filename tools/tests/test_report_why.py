@@ -232,8 +232,8 @@ class ErrorLines(unittest.TestCase):
 
     def test_further_queries(self) -> None:
         """Lines of queries that the program may come to answer: as they are judged once they are named as answered."""
-        taken = (b"reach r1 r2", b"uses a", b"loops", b"blackholes r9", b"waypoint r1 r2 r3", b"without a,b reach r1 r2",
-                 b"without a path r1 10.0.0.1")
+        taken = (b"reach r1 r2", b"uses a", b"loops", b"blackholes r9", b"waypoint r1 r2 r3",
+                 b"without a path r1 0.0.0.0", b"without a,b reach r1 r2")
         refused = (b"reach r1", b"uses A", b"loops r1", b"waypoint r1 r2", b"without a delta", b"without", b"without a",
                    b"without a without b loops", b"without a, loops", b"without a take r1 all", b"with a loops")
         feeds = script.Feeds(["r1"], set())

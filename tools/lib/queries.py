@@ -27,7 +27,7 @@ NAMES = {"path": ("router",), "reach": ("router", "router"), "uses": ("link",), 
 
 
 @dataclass
-class Moment:
+class Snapshot:
     """A network after the first entries of a history, with these links down."""
 
     network: Network
@@ -112,71 +112,71 @@ def answer_lines(network: Network, entries: Sequence[Entry], position: int, quer
     down: frozenset[str] = frozenset()
     if words[0] == "without":
         down, words = frozenset(words[1].split(",")), words[2:]
-    moment = Moment(network, entries, position, down)
-    return ANSWERS[words[0]](moment, *words[1:])
+    snapshot = Snapshot(network, entries, position, down)
+    return ANSWERS[words[0]](snapshot, *words[1:])
 
 
-def path(moment: Moment, router: str, address: str) -> list[str]:
-    hops, end = moment.walk(router, read_address(address))
+def path(snapshot: Snapshot, router: str, address: str) -> list[str]:
+    hops, end = snapshot.walk(router, read_address(address))
     return ["hops " + " ".join(hops), f"end {'loop' if end is None else end}"]
 
 
-def reach(moment: Moment, router: str, to: str) -> list[str]:
-    return run_lines(moment.runs(lambda address: to in moment.walk(router, address)[0]))
+def reach(snapshot: Snapshot, router: str, to: str) -> list[str]:
+    return run_lines(snapshot.runs(lambda address: to in snapshot.walk(router, address)[0]))
 
 
-def waypoint(moment: Moment, router: str, to: str, through: str) -> list[str]:
+def waypoint(snapshot: Snapshot, router: str, to: str, through: str) -> list[str]:
     def slips_past(address: int) -> bool:
-        hops, _ = moment.walk(router, address)
+        hops, _ = snapshot.walk(router, address)
         return to in hops and through not in hops[:hops.index(to) + 1]
 
-    return run_lines(moment.runs(slips_past))
+    return run_lines(snapshot.runs(slips_past))
 
 
-def uses(moment: Moment, name: str) -> list[str]:
-    link = next(link for link in moment.network.links if link.name == name)
+def uses(snapshot: Snapshot, name: str) -> list[str]:
+    link = next(link for link in snapshot.network.links if link.name == name)
     lines = []
     for router, _ in link.ends:
         def goes_over(address: int) -> bool:
-            target = moment.following(router, address)
+            target = snapshot.following(router, address)
             return target.router is not None and target.link == name
 
-        lines += [f"from {router}", *run_lines(moment.runs(goes_over))]
+        lines += [f"from {router}", *run_lines(snapshot.runs(goes_over))]
     return lines
 
 
-def loops(moment: Moment) -> list[str]:
+def loops(snapshot: Snapshot) -> list[str]:
     """Each cycle with its least address and the number of its addresses."""
     found: dict[tuple[str, ...], tuple[int, int]] = {}
-    for low, high in moment.pieces:
-        for cycle in cycles_of(moment, low):
+    for low, high in snapshot.pieces:
+        for cycle in cycles_of(snapshot, low):
             least, count = found.get(cycle, (low, 0))
             found[cycle] = (least, count + high - low + 1)
-    order = {router: place for place, router in enumerate(moment.network.routers)}
+    order = {router: place for place, router in enumerate(snapshot.network.routers)}
     ordered = sorted(found.items(), key=lambda told: (told[1][0], order[told[0][0]]))
     return [f"cycle {' '.join(cycle)} least {address_text(least)} addresses {count}"
             for cycle, (least, count) in ordered] or ["none"]
 
 
-def cycles_of(moment: Moment, address: int) -> Iterator[tuple[str, ...]]:
+def cycles_of(snapshot: Snapshot, address: int) -> Iterator[tuple[str, ...]]:
     """The cycles of an address; each begins with its first router in the topology's order, which is met first."""
     told: set[str] = set()
-    for router in moment.network.routers:
-        hops, end = moment.walk(router, address)
+    for router in snapshot.network.routers:
+        hops, end = snapshot.walk(router, address)
         if end is None and router in hops[1:] and router not in told:
             cycle = tuple(hops[:hops.index(router, 1)])
             told.update(cycle)
             yield cycle
 
 
-def blackholes(moment: Moment, router: str) -> list[str]:
+def blackholes(snapshot: Snapshot, router: str) -> list[str]:
     holes: dict[tuple[str, Target], list[Run]] = {}
-    for piece in moment.pieces:
-        hops, end = moment.walk(router, piece[0])
+    for piece in snapshot.pieces:
+        hops, end = snapshot.walk(router, piece[0])
         if end is not None and end.text.startswith(("noroute", "dropped", "linkdown")):
             holes.setdefault((hops[-1], end), []).append(piece)
-    order = {name: place for place, name in enumerate(moment.network.routers)}
-    links = {link.name: place for place, link in enumerate(moment.network.links)}
+    order = {name: place for place, name in enumerate(snapshot.network.routers)}
+    links = {link.name: place for place, link in enumerate(snapshot.network.links)}
 
     def rank(hole: tuple[str, Target]) -> tuple[int, int]:
         last, end = hole
@@ -188,9 +188,9 @@ def blackholes(moment: Moment, router: str) -> list[str]:
     return lines or ["none"]
 
 
-def delta(moment: Moment) -> list[str]:
-    before = max(0, moment.position - 1)
-    found = changes(moment.entries, before, moment.position, moment.network.routers)
+def delta(snapshot: Snapshot) -> list[str]:
+    before = max(0, snapshot.position - 1)
+    found = changes(snapshot.entries, before, snapshot.position, snapshot.network.routers)
     return [f"{change.router} {run_text((change.low, change.high))} {change.before} -> {change.after}"
             for change in found] or ["none"]
 

@@ -7,6 +7,7 @@ A reader of standard output that goes away early ends the tool quietly.
 from __future__ import annotations
 
 import argparse
+import io
 import os
 import signal
 import sys
@@ -34,12 +35,12 @@ class Words(argparse.ArgumentParser):
 
 def run(name: str, main: Callable[[], int]) -> None:
     """Runs a tool and ends the process with its status."""
+    _prepare_output()
     try:
         status = main()
         sys.stdout.flush()
     except BrokenPipeError:
-        # Python would complain once more when it closes standard output at its end.
-        os.dup2(os.open(os.devnull, os.O_WRONLY), sys.stdout.fileno())
+        _drop_output()
         status = 1
     except KeyboardInterrupt:
         signal.signal(signal.SIGINT, signal.SIG_DFL)
@@ -53,8 +54,25 @@ def run(name: str, main: Callable[[], int]) -> None:
     sys.exit(status)
 
 
+def _prepare_output() -> None:
+    """Names of files may have bytes that are no text, and standard output may be closed: neither ends a tool."""
+    if sys.stdout is None:
+        sys.stdout = open(os.devnull, "w", encoding="utf-8")
+    if isinstance(sys.stdout, io.TextIOWrapper):
+        sys.stdout.reconfigure(errors="backslashreplace")
+
+
+def _drop_output() -> None:
+    """What is still to be written can't be. Python would try it once more at its end, and complain."""
+    if isinstance(sys.stdout, io.TextIOWrapper):
+        os.dup2(os.open(os.devnull, os.O_WRONLY), sys.stdout.fileno())
+
+
 def _fail(name: str, message: str) -> int:
-    sys.stdout.flush()
+    try:
+        sys.stdout.flush()
+    except OSError:
+        _drop_output()
     print(f"{name}: {message}", file=sys.stderr)
     return 1
 

@@ -54,7 +54,7 @@ class Prefix:
     length: int
 
     def __str__(self) -> str:
-        return f"{ipaddress.IPv4Address(self.address)}/{self.length}"
+        return f"{_dotted(self.address.to_bytes(4, 'big'))}/{self.length}"
 
     def has_host_bits(self) -> bool:
         return self.address & ((1 << (32 - self.length)) - 1) != 0
@@ -354,7 +354,13 @@ def _gateway(attributes: dict[int, bytes]) -> str | None:
         address = attributes[VIA][2:]
     if address is None:
         return None
-    return str(ipaddress.ip_address(address)) if len(address) in (4, 16) else address.hex() or "empty"
+    if len(address) == 4:
+        return _dotted(address)
+    return str(ipaddress.IPv6Address(address)) if len(address) == 16 else address.hex() or "empty"
+
+
+def _dotted(address: bytes) -> str:
+    return ".".join(map(str, address))
 
 
 def _rounded(length: int) -> int:

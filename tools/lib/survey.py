@@ -10,8 +10,8 @@ import hashlib
 from collections import Counter, defaultdict
 from dataclasses import dataclass, field
 
-from frames import (DELETE_NEXTHOP, KERNEL, NEW_NEXTHOP, UNICAST, Decoded, Feed, FeedEnd, Frame, Prefix, Refused,
-                    Route, Skipped, decode)
+from frames import (DELETE_NEXTHOP, KERNEL, NEW_NEXTHOP, UNICAST, Decoded, Feed, FeedEnd, Frame, Prefix, Route, Skipped,
+                    decode)
 
 # The metric that zebra's module dplane_fpm_nl gives to every route.
 MODULE_METRIC = 20
@@ -30,9 +30,9 @@ class Sighting:
     offset: int = 0
     what: str = ""
 
-    def see(self, frame: Frame, what: str) -> None:
+    def see(self, frame: Frame, what: object) -> None:
         if self.count == 0:
-            self.frame, self.offset, self.what = frame.number, frame.offset, what
+            self.frame, self.offset, self.what = frame.number, frame.offset, str(what)
         self.count += 1
 
     def place(self) -> str:
@@ -126,7 +126,7 @@ class _Walks:
         before = self.kept.get(route.prefix)
         if before is not None and self._begin is not None:
             seen = self.identical if before == _content(route) else self.changed
-            seen.see(self._begin, str(route.prefix))
+            seen.see(self._begin, route.prefix)
         self._keep(route)
 
     def _keep(self, route: Route) -> None:
@@ -178,21 +178,20 @@ def _take_frame(result: Survey, frame: Frame, decoded: Decoded) -> None:
             result.next_hop_objects.see(frame, message.what)
     refused = decoded.refused
     if refused is not None:
-        result.refused[refused.cause].see(frame, _prefix_of(refused))
+        result.refused[refused.cause].see(frame, "" if refused.route is None else refused.route.prefix)
     for route in decoded.updates:
         _take_route(result, frame, route)
 
 
 def _take_route(result: Survey, frame: Frame, route: Route) -> None:
-    what = f"{route.prefix}" if route.metric is None else f"{route.prefix} metric {route.metric}"
     if route.metric is None:
-        result.deletions_without_metric.see(frame, what)
+        result.deletions_without_metric.see(frame, route.prefix)
     elif route.metric != MODULE_METRIC:
-        result.other_metrics.see(frame, what)
+        result.other_metrics.see(frame, f"{route.prefix} metric {route.metric}")
     if not route.is_set or route.route_type != UNICAST or route.interface is None:
         return
     interface = result.interfaces[route.interface]
-    interface.used.see(frame, str(route.prefix))
+    interface.used.see(frame, route.prefix)
     if route.is_connected and len(interface.connected) < MOST_OF_INTERFACE:
         interface.connected.add(route.prefix)
     if route.gateway is not None and len(interface.gateways) < MOST_OF_INTERFACE:
@@ -208,10 +207,6 @@ def _take_senders(result: Survey, frame: Frame, decoded: Decoded, last: int | No
         if len(result.senders) > MOST_OF_INTERFACE:
             result.senders.popitem()
     return last
-
-
-def _prefix_of(refused: Refused) -> str:
-    return "" if refused.route is None else str(refused.route.prefix)
 
 
 def holders(surveys: list[Survey]) -> dict[Prefix, list[tuple[str, int]]]:

@@ -305,6 +305,24 @@ class Frames(InFolder):
         self.assertEqual((done.stdout.count("\n"), done.stderr), (1, ""))
 
 
+    def run_in_shell(self, words: str) -> subprocess.CompletedProcess:
+        return subprocess.run(["bash", "-c", words], cwd=self.folder, capture_output=True, text=True, check=False,
+                              env={**os.environ, "FRAMES": f"{TOOLS}/frames", "STALE": f"{TOOLS}/stale"})
+
+    def test_outputs_that_cannot_be_written(self) -> None:
+        full = self.run_in_shell('"$FRAMES" r1.fpm >/dev/full')
+        self.assertEqual((full.returncode, full.stderr), (1, "frames: No space left on device\n"))
+        closed = self.run_in_shell('"$FRAMES" r1.fpm >&-')
+        self.assertEqual((closed.returncode, closed.stderr), (0, ""))
+
+    def test_names_of_files_that_are_no_text(self) -> None:
+        with open(os.path.join(self.folder.encode(), b"\xff"), "wb") as file:
+            file.write(b"\1")
+        ran = self.run_in_shell("\"$STALE\" $'\\xff'; \"$FRAMES\" $'\\xfe'")
+        self.assertEqual((ran.returncode, ran.stdout), (1, "\\udcff cutshort 0: what came after isn't read\n"))
+        self.assertEqual(ran.stderr, "frames: \\udcfe: No such file or directory\n")
+
+
 class StaleRoutes(InFolder):
     def test_multipath_until_a_single_path_comes(self) -> None:
         ran = self.run_tool("stale", "r1.fpm", data("second.fpm"))

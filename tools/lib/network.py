@@ -113,6 +113,11 @@ def text_of(end: End) -> str:
     return f"{end[0]}:{end[1]}"
 
 
+def is_interface(index: int) -> bool:
+    """Whether a topology can have an interface of this number."""
+    return 1 <= index <= LARGEST_INTERFACE
+
+
 def is_name(text: str) -> bool:
     """Whether a text is a name: 1 to 32 of a to z, 0 to 9, _ and -."""
     return NAME.fullmatch(text) is not None

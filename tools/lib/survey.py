@@ -12,6 +12,7 @@ from dataclasses import dataclass, field
 
 from frames import (DELETE_NEXTHOP, KERNEL, NEW_NEXTHOP, UNICAST, Decoded, Feed, FeedEnd, Frame, Prefix, Route, Skipped,
                     decode)
+from network import End, is_interface
 
 # The metric that zebra's module dplane_fpm_nl gives to every route.
 MODULE_METRIC = 20
@@ -209,11 +210,11 @@ def _take_senders(result: Survey, frame: Frame, decoded: Decoded, last: int | No
     return last
 
 
-def holders(surveys: list[Survey]) -> dict[Prefix, list[tuple[str, int]]]:
+def holders(surveys: list[Survey]) -> dict[Prefix, list[End]]:
     """For each connected prefix the routers and interfaces that have it. A /32 is no segment, so none is among them."""
-    found: dict[Prefix, list[tuple[str, int]]] = defaultdict(list)
+    found: dict[Prefix, list[End]] = defaultdict(list)
     for one in surveys:
-        for index in sorted(one.interfaces):
+        for index in filter(is_interface, sorted(one.interfaces)):
             for prefix in one.interfaces[index].connected:
                 if prefix.length < 32:
                     found[prefix].append((one.router, index))

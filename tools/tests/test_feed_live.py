@@ -75,7 +75,8 @@ class Steps(unittest.TestCase):
         """The take lines for the times at which the kernels were asked are those of the script."""
         takes = [line for line in text("script").splitlines() if line.startswith("take ")]
         for router in ("r1", "r2", "r3"):
-            ran = tool("frames", f"{router}.1.fpm", "--at", "12:54:40", "--at", "12:55:00", "--at", "12:55:20", folder=LIVE)
+            times = [word for time in ("12:54:40", "12:55:00", "12:55:20") for word in ("--at", time)]
+            ran = tool("frames", f"{router}.1.fpm", *times, folder=LIVE)
             self.assertEqual([line for line in ran.lines() if line[0] != "#"],
                              [line for line in takes if line.startswith(f"take {router} ")])
             self.assertNotIn("or up to", ran.out)

@@ -73,8 +73,8 @@ class Recording(unittest.TestCase):
         self.assertEqual(self.recorder.returncode, 0)
         self.assertEqual([read(self.path(f"r1.{count}.fpm")) for count in (1, 2, 3)], [FEED, FEED[:400], FEED[:100]])
         self.assertIn("r1.1.fpm: zebra ended the session: 9420 bytes, 129 frames, whole", said)
-        self.assertIn("r1.2.fpm: the session broke (Connection reset by peer): 400 bytes, 6 frames, cut short inside the "
-                      "frame at byte 348", said)
+        self.assertIn("r1.2.fpm: the session broke (Connection reset by peer): 400 bytes, 6 frames, cut short inside "
+                      "the frame at byte 348", said)
         self.assertIn("r1.3.fpm: stopped here: 100 bytes, 1 frames, cut short inside the frame at byte 56", said)
         self.assertTrue(said.endswith("record r1: stopped\n"))
         moments = read_times(self.path("r1.1.fpm.times"))
@@ -105,7 +105,8 @@ class Recording(unittest.TestCase):
             self.wait_for("r1.4.fpm", len(FEED))
         self.end(self.recorder)
         self.assertEqual((read(self.path("r1.1.fpm")), read(self.path("r1.2.fpm.times"))), (b"before", b"before"))
-        self.assertEqual(sorted(os.listdir(self.folder)), ["r1.1.fpm", "r1.2.fpm.times", "r1.3.fpm", "r1.4.fpm", "r1.4.fpm.times"])
+        self.assertEqual(sorted(os.listdir(self.folder)),
+                         ["r1.1.fpm", "r1.2.fpm.times", "r1.3.fpm", "r1.4.fpm", "r1.4.fpm.times"])
 
     def test_two_sessions_at_once(self) -> None:
         with self.connect() as first, self.connect() as second:
@@ -145,9 +146,11 @@ class Recording(unittest.TestCase):
 class Words(unittest.TestCase):
     def test_errors(self) -> None:
         for words, told in ((("R", "127.0.0.1:0", "."), "record: 'R' isn't a router's name"),
-                            (("r1", "127.0.0.1", "."), "this isn't ADDRESS:PORT"), (("r1", "127.0.0.1:x", "."), "this isn't"),
+                            (("r1", "127.0.0.1", "."), "this isn't ADDRESS:PORT"),
+                            (("r1", "127.0.0.1:x", "."), "this isn't ADDRESS:PORT"),
                             (("r1", "localhost:2620", "."), "localhost:2620: can't listen there"),
-                            (("r1", "127.0.0.1:65536", "."), "this isn't ADDRESS:PORT"), (("r1", "1.2.3:4", "."), "can't listen"),
+                            (("r1", "127.0.0.1:65536", "."), "this isn't ADDRESS:PORT"),
+                            (("r1", "1.2.3:4", "."), "can't listen"),
                             (("r1", "192.0.2.1:2620", "."), "192.0.2.1:2620: can't listen there: Cannot assign"),
                             (("r1", "127.0.0.1:0", "topology.toml"), "topology.toml: File exists")):
             ran = tool("record", *words)

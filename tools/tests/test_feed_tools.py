@@ -9,7 +9,7 @@ import sys
 import tempfile
 import unittest
 
-from feed_help import TOOLS, TRIANGLE, Ran, connected, data, frame, read, set_route, tool
+from feed_help import TOOLS, TRIANGLE, Ran, attribute, connected, data, delete_route, frame, read, set_route, tool
 
 from network import parse_topology
 
@@ -168,10 +168,12 @@ class Check(InFolder):
 
     def test_errors(self) -> None:
         bad = self.write("bad.toml", "routers = [")
-        for words, told in (((bad,), "check: bad.toml: line 1: top: NotToml"), (("none.toml",), "check: none.toml: No such"),
+        for words, told in (((bad,), "check: bad.toml: line 1: top: NotToml"),
+                            (("none.toml",), "check: none.toml: No such"),
                             (("topology.toml", "r1=none"), "check: none: No such"),
                             (("topology.toml", "r1"), "check: r1: this isn't ROUTER=FILE"),
-                            (("topology.toml", "r1=r1.fpm", "r1=r2.fpm"), "r1 has a feed already"), ((), "usage: check")):
+                            (("topology.toml", "r1=r1.fpm", "r1=r2.fpm"), "r1 has a feed already"),
+                            ((), "usage: check")):
             ran = self.run_tool("check", *words)
             self.assertEqual((ran.status, ran.out), (1, ""))
             self.assertIn(told, ran.err)
@@ -184,18 +186,21 @@ class Topology(InFolder):
         drawn = parse_topology(self.topology().encode())
         self.assertEqual(ran.status, 0)
         self.assertEqual(network.routers, drawn.routers)
-        self.assertEqual({frozenset(link.ends) for link in network.links}, {frozenset(link.ends) for link in drawn.links})
+        self.assertEqual({frozenset(link.ends) for link in network.links},
+                         {frozenset(link.ends) for link in drawn.links})
         self.assertEqual(set(network.edges), set(drawn.edges))
         self.assertIn("# r1:2 and r2:2 both have 10.0.12.0/30 connected.", ran.out)
         self.write("made.toml", ran.out)
         self.assertEqual(self.run_tool("check", "made.toml", *FEEDS).out, "nothing found in 3 feeds\n")
 
     def test_names_of_interfaces(self) -> None:
-        ran = self.run_tool("topology", f"r1={data('first.fpm')}", "r3=r3.fpm", "--links", f"r1={data('r1.links.json')}")
+        names = f"r1={data('r1.links.json')}"
+        ran = self.run_tool("topology", f"r1={data('first.fpm')}", "r3=r3.fpm", "--links", names)
         self.assertIn("# r1:3 (c) and r3:3 both have 10.0.13.0/30 connected.", ran.out)
         self.assertIn("# r1:5 (stub): connected 10.1.0.0/24, in no other feed.", ran.out)
         self.assertIn("r1:4 (hosts)", ran.out)
-        self.assertIn("topology: r1:2 (a) is written as an edge: connected 10.0.12.0/30; it leads to 10.0.12.2", ran.err)
+        self.assertIn("topology: r1:2 (a) is written as an edge: connected 10.0.12.0/30; it leads to 10.0.12.2",
+                      ran.err)
 
     def test_a_prefix_that_three_routers_have(self) -> None:
         for router in ("x", "y", "z"):
@@ -225,13 +230,15 @@ class Topology(InFolder):
         self.assertEqual([link.name for link in parse_topology(ran.out.encode()).links], ["link-1"])
 
     def test_interface_that_no_topology_can_have(self) -> None:
-        self.write("x", frame(set_route("10.0.0.0/8", 0)) + frame(set_route("11.0.0.0/8", 2 ** 31)))
-        ran = self.run_tool("topology", "x=x")
-        self.assertEqual(parse_topology(ran.out.encode()).edges, [])
+        self.write("x", frame(connected("10.0.0.0/8", 0)) + frame(set_route("11.0.0.0/8", 2 ** 31)))
+        self.write("y", frame(connected("10.0.0.0/8", 2)))
+        ran = self.run_tool("topology", "x=x", "y=y")
+        self.assertEqual(parse_topology(ran.out.encode()).edges, [("y", 2)])
         self.assertIn("x:2147483648: no topology can have an interface of this number", ran.err)
 
     def test_links_that_are_none(self) -> None:
-        for text, told in (("{", "line 1: this isn't what"), ("[" * 20000, "this isn't what"), ("{}", "this isn't a list"),
+        for text, told in (("{", "line 1: this isn't what"), ("[" * 20000, "this isn't what"),
+                           ("{}", "this isn't a list"),
                            ("\udcff".encode("utf-8", "surrogateescape"), "this isn't what"),
                            ('[{"ifindex": 1, "ifname": "a\\nb"}]', "entry 1 has no ifindex and ifname")):
             ran = self.run_tool("topology", "r1=r1.fpm", "--links", f"r1={self.write('links', text)}")
@@ -247,8 +254,8 @@ class Frames(InFolder):
         self.assertEqual(ran.lines()[8], "9 offset 488 skipped OtherFamily (NEWROUTE of IPv6)")
         self.assertEqual(ran.lines()[25], "26 offset 1984 delete 10.0.23.0/30 metric 20 table main; "
                          "set 10.0.23.0/30 metric 20 ospf via 10.0.12.2 interface 2 table main")
-        self.assertEqual(ran.lines()[26], "27 offset 2092 refused message 44 cause 9 Multipath (set 10.3.0.0/24 metric 20 "
-                         "ospf table main); not applied: delete 10.3.0.0/24 metric 20 table main")
+        self.assertEqual(ran.lines()[26], "27 offset 2092 refused message 44 cause 9 Multipath (set 10.3.0.0/24 "
+                         "metric 20 ospf table main); not applied: delete 10.3.0.0/24 metric 20 table main")
         self.assertEqual(self.run_tool("frames", "r1.fpm").status, 0)
 
     def test_with_a_topology(self) -> None:
@@ -278,7 +285,8 @@ class Frames(InFolder):
 
     def test_times_that_are_none(self) -> None:
         self.write("r1.1.fpm", read(data("first.fpm")))
-        for text, told in ((b"now 1 1\n", "line 1: this isn't"), (b"\xff\n", "line 1: this isn't"), (b"", "it has no whole line"),
+        for text, told in ((b"now 1 1\n", "line 1: this isn't"), (b"\xff\n", "line 1: this isn't"),
+                           (b"", "it has no whole line"),
                            (b"2026-11-27T12:27:45+00:00 5 5\n2026-11-27T12:27:46+00:00 4 5\n", "line 2: bytes or"),
                            (b"2026-11-27T12:27:45 5 5\n", "line 1: this isn't")):
             self.write("r1.1.fpm.times", text)
@@ -287,8 +295,10 @@ class Frames(InFolder):
             self.assertIn(f"frames: r1.1.fpm.times: {told}", ran.err)
 
     def test_errors(self) -> None:
-        for words, told in ((("none",), "frames: none: No such file"), (("r1.fpm", "--at", "12:00"), "r1.fpm.times: No such"),
-                            (("r1.fpm", "--bytes", "-3"), "usage: frames"), (("r1.fpm", "--bytes", "x"), "usage: frames"),
+        for words, told in ((("none",), "frames: none: No such file"),
+                            (("r1.fpm", "--at", "12:00"), "r1.fpm.times: No such"),
+                            (("r1.fpm", "--bytes", "-3"), "usage: frames"),
+                            (("r1.fpm", "--bytes", "x"), "usage: frames"),
                             (("r1.fpm", "--router", "R"), ""), (("topology.toml",), "")):
             ran = self.run_tool("frames", *words)
             self.assertNotIn("Traceback", ran.err)
@@ -336,14 +346,14 @@ class StaleRoutes(InFolder):
 
     def test_with_a_topology(self) -> None:
         ran = self.run_tool("stale", "--topology", "topology.toml", f"r1={data('first.fpm')}")
-        self.assertEqual(ran.lines(), [f"r1={data('first.fpm')} frame 3 offset 112 UnknownInterface 10.1.0.0/24 metric 20 "
-                                       "to the end"])
+        self.assertEqual(ran.lines(), [f"r1={data('first.fpm')} frame 3 offset 112 UnknownInterface 10.1.0.0/24 "
+                                       "metric 20 to the end"])
 
     def test_what_settles_a_route(self) -> None:
-        from feed_help import attribute, delete_route
         multipath = attribute(0x8009, bytes(8))
         bad = frame(delete_route("10.0.0.0/8", 20), set_route("10.0.0.0/8", None, 30, more=multipath))
-        for after, until in (([set_route("10.0.0.0/8", metric=20)], {20: 2}), ([delete_route("10.0.0.0/8", None)], {20: 2, 30: 2}),
+        for after, until in (([set_route("10.0.0.0/8", metric=20)], {20: 2}),
+                             ([delete_route("10.0.0.0/8", None)], {20: 2, 30: 2}),
                              ([delete_route("10.0.0.0/8", 30), delete_route("10.0.0.0/9")], {30: 2}),
                              ([set_route("10.0.0.0/8", metric=30), delete_route("10.0.0.0/8")], {30: 2, 20: 3})):
             self.write("feed", bad + b"".join(frame(message) for message in after))

@@ -81,39 +81,37 @@ class Survey:
 class _Walks:
     """Sees that zebra sends its whole table again, as it does where a session begins.
 
-    Within a session zebra repeats connected routes, but no others: a route of a protocol is set again after its
-    deletion, which stands before it in the same frame. A newer zebra sends changes without the deletion, but no
-    identical ones. So identical sets of held routes are signs, and where changes come with deletions, sets without.
+    Within a session zebra repeats connected routes, but hardly others. Where a change comes as a deletion and a set in
+    one frame, a set without a deletion of a route that stands is no change. A newer zebra sends changes without
+    deletions, and may repeat a route; so there it takes a walk, in the order of prefixes, that repeats half of what
+    stands.
     """
 
     def __init__(self) -> None:
         self.kept: dict[Prefix, int] = {}
         self.paired = 0
-        self.identical = Sighting()
+        self.repeated = Sighting()
         self.changed = Sighting()
         self._last: Prefix | None = None
         self._begin: Frame | None = None
+        self._kept_at_begin = 0
+        self._same: list[Prefix] = []
 
     def take(self, frame: Frame, updates: list[Route]) -> None:
-        if not updates:
-            return
-        if len(updates) > 1 or not updates[0].is_set:
+        if len(updates) == 1 and updates[0].is_set:
+            self._take_set(frame, updates[0])
+        elif updates:
             self._take_change(updates)
-            return
-        route = updates[0]
-        if self._last is None or route.prefix <= self._last or self._begin is None:
-            self._begin = frame
-        self._last = route.prefix
-        self._take_set(route)
 
     def begun_anew(self) -> Sighting:
         """Where the table comes again, if it does."""
-        if self.identical.count >= 2 or (self.changed.count and self.paired):
-            return min((seen for seen in (self.identical, self.changed) if seen.count), key=lambda seen: seen.frame)
-        return Sighting()
+        signs = [self.repeated] if self.repeated.count else []
+        if self.changed.count and self.paired:
+            signs.append(self.changed)
+        return min(signs, key=lambda sign: sign.frame, default=Sighting())
 
     def _take_change(self, updates: list[Route]) -> None:
-        self._last = self._begin = None
+        self._last = None
         for route in updates:
             if not route.is_set:
                 self.kept.pop(route.prefix, None)
@@ -121,13 +119,19 @@ class _Walks:
                 self.paired += 1
                 self._keep(route)
 
-    def _take_set(self, route: Route) -> None:
+    def _take_set(self, frame: Frame, route: Route) -> None:
+        if self._last is None or self._begin is None or route.prefix <= self._last:
+            self._begin, self._kept_at_begin, self._same = frame, len(self.kept), []
+        self._last = route.prefix
         if route.protocol == KERNEL:
             return
         before = self.kept.get(route.prefix)
-        if before is not None and self._begin is not None:
-            seen = self.identical if before == _content(route) else self.changed
-            seen.see(self._begin, route.prefix)
+        if before == _content(route):
+            self._same.append(route.prefix)
+            if len(self._same) >= max(2, self._kept_at_begin / 2):
+                self.repeated.see(self._begin, self._same[0])
+        elif before is not None:
+            self.changed.see(self._begin, route.prefix)
         self._keep(route)
 
     def _keep(self, route: Route) -> None:

@@ -130,6 +130,17 @@ class Check(InFolder):
         self.assertIn("several-sessions r1=joined frame 32, offset 2672: another zebra begins to send",
                       found["several-sessions"][0])
 
+    def test_sessions_without_deletions_joined(self) -> None:
+        """As a newer zebra sends: a change is a set alone, and one route may come again."""
+        table = [set_route(f"10.{n}.0.0/16", gateway="10.0.12.2") for n in range(10)]
+        change = set_route("10.3.0.0/16", 3, gateway="10.0.13.2")
+        session = b"".join(map(frame, [*table, change, table[5], table[6]]))
+        self.write("one", session)
+        self.assertNotIn("several-sessions", self.found("topology.toml", "r1=one"))
+        self.write("two", session + b"".join(map(frame, table)))
+        found = self.found("topology.toml", "r1=two")["several-sessions"][0]
+        self.assertIn(f"several-sessions r1=two frame 14, offset {len(session)}: routes that stand are sent again", found)
+
     def test_single_sessions(self) -> None:
         for name in ("first.fpm", "second.fpm", "restarted.fpm", "nexthops.fpm", "older.fpm"):
             found = self.found("topology.toml", f"r1={data(name)}")

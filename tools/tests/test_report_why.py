@@ -131,8 +131,6 @@ TOPOLOGIES: list[tuple[str | bytes, str, str]] = [
     ('edge = [1]\nrouters = []\n', "edge 1 3 MissingKey", ""),
     ("\ufeff" + AFTER_A, "", ""),
     ("\ufeff" + AFTER_A + "[[edge]]\nat = 1\n", "edge 1 3 MissingKey", ":6: at = 1"),
-    ("routers = " + "[" * 80 + "]" * 80 + "\n", "routers 1 3 MissingKey", ""),
-    ("routers = " + "[" * 81 + "]" * 81 + "\n", "top 0 1 NotToml", ""),
     ('routers = ["r1", "r2"]\nlink = [\n  {\n    name = "a", # {\n    ends = ["r1:2", "r2:2"],\n  },\n]\n', "", ""),
     ('routers = ["r\\x31", "r1"]\nlink = [{name = "a",}]\n', "routers 2 5 TwiceNamed", ""),
     ('routers = ["\\e"]\n', "routers 1 4 BadName", ""),

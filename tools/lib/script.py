@@ -25,8 +25,8 @@ QUERIES = {
     "path": ("ROUTER", "ADDRESS"), "reach": ("ROUTER", "ROUTER"), "uses": ("LINK",), "loops": (),
     "blackholes": ("ROUTER",), "waypoint": ("ROUTER", "ROUTER", "ROUTER"), "delta": (),
 }
-ANSWERED = ("path", "delta")
-HAS_WITHOUT = False
+ANSWERED = tuple(QUERIES)
+HAS_WITHOUT = True
 
 
 class ScriptFault(Exception):

@@ -23,6 +23,8 @@ mod plain_delta_tests;
 mod plain_holes;
 mod plain_intervals;
 mod plain_loops;
+#[cfg(test)]
+mod plain_query_tests;
 mod plain_reach;
 mod plain_runs;
 mod plain_test;

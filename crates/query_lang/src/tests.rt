@@ -134,45 +134,102 @@ fn fault_of(alloc: Global, network: &Topology, text: &[u8]) -> Option<(u32, u8)>
     }
 }
 
+/// Whether this text alone is refused as a bad line.
+fn is_bad_line(alloc: Global, network: &Topology, text: &[u8]) -> bool {
+    fault_of(alloc, network, text) == Some((1, BAD_LINE))
+}
+
+/// A `take` that is none.
+#[test]
+fn refuses_bad_takes(rt: HostRuntime) -> Result<(), Fail> {
+    let alloc = rt.alloc();
+    let network = network(alloc)?;
+    let texts: [&[u8]; 5] = [
+        b"take r1 0",
+        b"take r1 01\n",
+        b"take Rx all",
+        b"take r1 all all",
+        b"TAKE r1 all",
+    ];
+    for text in texts {
+        assert!(rt; is_bad_line(alloc, &network, text), "in {text:?}");
+    }
+    Ok(())
+}
+
+/// A `path` that is none.
+#[test]
+fn refuses_bad_paths(rt: HostRuntime) -> Result<(), Fail> {
+    let alloc = rt.alloc();
+    let network = network(alloc)?;
+    let texts: [&[u8]; 6] = [
+        b"path r1 r9",
+        b"path r1",
+        b"path r1 10.1.2",
+        b"path r1 10.1.2.256",
+        b"path r1 10.1.2.03",
+        b"path r1 10.1.2.3.4",
+    ];
+    for text in texts {
+        assert!(rt; is_bad_line(alloc, &network, text), "in {text:?}");
+    }
+    Ok(())
+}
+
+/// Other queries that are none: a word too few or too many, or a name that is none.
+#[test]
+fn refuses_bad_verbs(rt: HostRuntime) -> Result<(), Fail> {
+    let alloc = rt.alloc();
+    let network = network(alloc)?;
+    let texts: [&[u8]; 13] = [
+        b"reach r1",
+        b"reach r1 R2",
+        b"reach r1 r2 r2",
+        b"uses",
+        b"uses a,b",
+        b"uses a b",
+        b"loops r1",
+        b"blackholes",
+        b"blackholes r1 r2",
+        b"waypoint r1 r2",
+        b"waypoint r1 r2 r1 r2",
+        b"waypoint r1 r2 W",
+        b"delta x",
+    ];
+    for text in texts {
+        assert!(rt; is_bad_line(alloc, &network, text), "in {text:?}");
+    }
+    Ok(())
+}
+
+/// A `without` that is none: without a link, with an empty name, twice, before `delta` and before `take`.
+#[test]
+fn refuses_bad_links(rt: HostRuntime) -> Result<(), Fail> {
+    let alloc = rt.alloc();
+    let network = network(alloc)?;
+    let texts: [&[u8]; 9] = [
+        b"without a delta",
+        b"without loops",
+        b"without a",
+        b"without ,a loops",
+        b"without a,,b loops",
+        b"without a, loops",
+        b"without a, b loops",
+        b"without a without b loops",
+        b"without a take r1 1",
+    ];
+    for text in texts {
+        assert!(rt; is_bad_line(alloc, &network, text), "in {text:?}");
+    }
+    Ok(())
+}
+
 #[test]
 fn names_the_first_fault(rt: HostRuntime) -> Result<(), Fail> {
     let alloc = rt.alloc();
     let network = network(alloc)?;
-    let cases: [(&[u8], u32, u8); 38] = [
-        (b"take r1 0", 1, BAD_LINE),
-        (b"take r1 01\n", 1, BAD_LINE),
+    let cases: [(&[u8], u32, u8); 5] = [
         (b"\n\ntake r1 4294967296\n", 3, BAD_LINE),
-        (b"take Rx all", 1, BAD_LINE),
-        (b"take r1 all all", 1, BAD_LINE),
-        (b"TAKE r1 all", 1, BAD_LINE),
-        (b"path r1 r9", 1, BAD_LINE),
-        (b"path r1", 1, BAD_LINE),
-        (b"path r1 10.1.2", 1, BAD_LINE),
-        (b"path r1 10.1.2.256", 1, BAD_LINE),
-        (b"path r1 10.1.2.03", 1, BAD_LINE),
-        (b"path r1 10.1.2.3.4", 1, BAD_LINE),
-        (b"reach r1", 1, BAD_LINE),
-        (b"reach r1 R2", 1, BAD_LINE),
-        (b"reach r1 r2 r2", 1, BAD_LINE),
-        (b"uses", 1, BAD_LINE),
-        (b"uses a,b", 1, BAD_LINE),
-        (b"uses a b", 1, BAD_LINE),
-        (b"loops r1", 1, BAD_LINE),
-        (b"blackholes", 1, BAD_LINE),
-        (b"blackholes r1 r2", 1, BAD_LINE),
-        (b"waypoint r1 r2", 1, BAD_LINE),
-        (b"waypoint r1 r2 r1 r2", 1, BAD_LINE),
-        (b"waypoint r1 r2 W", 1, BAD_LINE),
-        (b"delta x", 1, BAD_LINE),
-        (b"without a delta", 1, BAD_LINE),
-        (b"without loops", 1, BAD_LINE),
-        (b"without a", 1, BAD_LINE),
-        (b"without ,a loops", 1, BAD_LINE),
-        (b"without a,,b loops", 1, BAD_LINE),
-        (b"without a, loops", 1, BAD_LINE),
-        (b"without a, b loops", 1, BAD_LINE),
-        (b"without a without b loops", 1, BAD_LINE),
-        (b"without a take r1 1", 1, BAD_LINE),
         (b"delta\nDelta", 2, BAD_LINE),
         (b"take r3 all\ntake r1 x", 1, TAKE_UNKNOWN),
         (b"#\ntake r2 1\n", 2, TAKEN_TWICE),

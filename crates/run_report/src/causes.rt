@@ -1,7 +1,7 @@
 //! The names of causes, by their numbers; `Unread` for a number that no cause has.
 
 ghost use Rattle.std.specs.Prelude.{◌≡◌, ◌++◌, ◌∷◌, [], OnOk, codes, slice_get, unwrap_or};
-ghost use Rattle.dn_formats.specs.Report.{name_of_cause, frame_causes, topology_causes, script_causes, cause_text};
+ghost use Rattle.dn_formats.specs.Causes.{name_of_cause, frame_causes, topology_causes, script_causes, cause_text};
 
 use dn_formats::push_bytes;
 use dn_model::OutOfMemory;

@@ -4,7 +4,9 @@
 //! text may have been added.
 
 ghost use Rattle.std.specs.Prelude.{◌≡◌, ◌++◌, ◌∷◌, [], OnOk, IfOk, codes, decimal};
-ghost use Rattle.dn_formats.specs.Report.{line, topology_part_text, cause_words, topology_causes, script_causes, name_of_cause, topology_fault_words, script_fault_words, part_words, error_words, error_text};
+ghost use Rattle.dn_formats.specs.Causes.{topology_causes, script_causes, name_of_cause};
+ghost use Rattle.dn_formats.specs.Report.{topology_part_text, cause_words, topology_fault_words, script_fault_words, part_words, error_words, error_text};
+ghost use Rattle.dn_formats.specs.Texts.{line};
 
 use crate::causes::{script_cause, topology_cause};
 use dn_formats::{ErrorLine, TopoFault, TopoPart, push_bytes, push_decimal, push_labelled};

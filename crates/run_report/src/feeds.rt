@@ -5,7 +5,9 @@
 
 ghost use Rattle.std.specs.Prelude.{◌≡◌, ◌++◌, ◌∷◌, [], OnOk, codes, decimal};
 ghost use Rattle.std.specs.List.{flat_map};
-ghost use Rattle.dn_formats.specs.Report.{line, cause_text, end_text, refused_line, feed_line, feed_lines};
+ghost use Rattle.dn_formats.specs.Causes.{cause_text};
+ghost use Rattle.dn_formats.specs.Report.{end_text, refused_line, feed_line, feed_lines};
+ghost use Rattle.dn_formats.specs.Texts.{line};
 
 use crate::causes::push_frame_cause;
 use dn_formats::{FeedEnd, FeedTold, RefusedFrame, push_bytes, push_labelled, push_router};

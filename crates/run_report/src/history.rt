@@ -5,7 +5,8 @@
 
 ghost use Rattle.std.specs.Prelude.{◌≡◌, ◌++◌, ◌∷◌, [], ◌≤◌, OnOk, codes, decimal, map};
 ghost use Rattle.dn_model.specs.Entry.{entries};
-ghost use Rattle.dn_formats.specs.Report.{line, op_text, entry_line, entry_lines, history_lines};
+ghost use Rattle.dn_formats.specs.Report.{op_text, entry_line, entry_lines, history_lines};
+ghost use Rattle.dn_formats.specs.Texts.{line};
 ghost use Rattle.dn_model.specs.declared.entry.Op.TheVariants.{Set, Clear};
 
 use dn_formats::{push_bytes, push_decimal, push_labelled, push_prefix, push_router, push_target};

@@ -5,7 +5,9 @@
 
 ghost use Rattle.std.specs.Prelude.{◌≡◌, ◌++◌, ◌∷◌, [], OnOk, codes, decimal};
 ghost use Rattle.std.specs.List.{flat_map};
-ghost use Rattle.dn_formats.specs.Report.{line, told_lines, job_lines};
+ghost use Rattle.dn_formats.specs.AnswerText.{told_lines};
+ghost use Rattle.dn_formats.specs.Report.{job_lines};
+ghost use Rattle.dn_formats.specs.Texts.{line};
 
 use dn_formats::{JobTold, Told, push_bytes, push_labelled};
 use dn_model::{OutOfMemory, Topology};

@@ -2,7 +2,8 @@
 
 ghost use Rattle.std.specs.Prelude.{◌≡◌, ◌++◌, IfOk, codes};
 ghost use Rattle.dn_model.specs.Entry.{entries};
-ghost use Rattle.dn_formats.specs.Report.{line, report};
+ghost use Rattle.dn_formats.specs.Report.{report};
+ghost use Rattle.dn_formats.specs.Texts.{line};
 
 use crate::feeds::push_feeds;
 use crate::history::push_history;

@@ -1,6 +1,6 @@
 use Rattle.std.proofs.Common.{◌≡◌, ◌++◌, drop}
 use Rattle.std.specs.List.{flat_map}
-use Rattle.dn_formats.specs.Report.{told_lines}
+use Rattle.dn_formats.specs.AnswerText.{told_lines}
 use Rattle.run_report.proofs.jobs.push_all_told.Given as goal
 
 abbrev pub invariant-loop-one : goal.invariant-loop-one

@@ -59,10 +59,10 @@ few-more runs i d count h l e =
 
 -- ---- the place of a cycle
 
-abbrev least : Cycle → ℕ
+abbrev pub least : Cycle → ℕ
 least c = c.least
 
-abbrev first : Cycle → ℕ
+abbrev pub first : Cycle → ℕ
 first c = first_router c.routers
 
 pub ordered-cycles : (cs : List Cycle) → AreInOrder cs → Ordered least first cs
@@ -90,7 +90,7 @@ put-among c old i order other le before after = record {
 
 -- ---- one cycle
 
-begin-goes : (runs : List Run) (test : ℕ → Bool) (a : ℕ) → AreRuns runs test → BeginAt runs a → (a < 2 ^ 32) × (test a ≡ true)
+pub begin-goes : (runs : List Run) (test : ℕ → Bool) (a : ℕ) → AreRuns runs test → BeginAt runs a → (a < 2 ^ 32) × (test a ≡ true)
 begin-goes [] test a h b = absurd b
 begin-goes (i ∷ is) test a h b =
     let low : i.lo ≤ i.hi = apart-head i is h.apart in

@@ -72,10 +72,10 @@ some-last f n r routers e h =
 
 -- ---- the place of a hole
 
-abbrev place : Hole → ℕ
+abbrev pub place : Hole → ℕ
 place h = h.router.0
 
-abbrev rank : Hole → ℕ
+abbrev pub rank : Hole → ℕ
 rank h = cause_rank h.cause
 
 pub ordered-holes : (hs : List Hole) → AreInOrder hs → Ordered place rank hs

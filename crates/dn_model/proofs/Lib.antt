@@ -1,3 +1,4 @@
+pub mod AnswersOnce
 pub mod Best
 pub mod Covers
 pub mod Cuts

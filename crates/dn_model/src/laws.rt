@@ -3,11 +3,15 @@
 
 ghost use Rattle.std.specs.Prelude.{◌≡◌, ◌<◌, ℕ, Bool, List, Contains, All, IsPermutation, length};
 ghost use Rattle.dn_model.specs.Cidr.{IsCidr};
+ghost use Rattle.dn_model.specs.Cycles.{AreCycles};
 ghost use Rattle.dn_model.specs.Delta.{IsDeltaOf};
 ghost use Rattle.dn_model.specs.Entry.{IsEntryOf};
+ghost use Rattle.dn_model.specs.Holes.{AreHoles};
 ghost use Rattle.dn_model.specs.Runs.{AreRuns};
 ghost use Rattle.dn_model.specs.Table.{table, best, HasKeysOnce, IsBest};
 ghost use Rattle.dn_model.specs.Walk.{at_address, next, walk, walk_end, LeadsWithin, EndsWith};
+ghost use Rattle.dn_model.specs.declared.answer.Cycle.{Cycle};
+ghost use Rattle.dn_model.specs.declared.answer.Hole.{Hole};
 ghost use Rattle.dn_model.specs.declared.answer.PathEnd.TheVariants.{At, Loop};
 ghost use Rattle.dn_model.specs.declared.change.Change.{Change};
 ghost use Rattle.dn_model.specs.declared.entry.Entry.{Entry};
@@ -58,4 +62,14 @@ pub fn runs_are_unique()
 /// The last update of a history makes one list of changes.
 pub fn changes_are_unique()
     ensures { (t : Topology) (history : List Entry) (xs ys : List Change) → IsDeltaOf t history xs → IsDeltaOf t history ys → xs ≡ ys }
+{}
+
+/// A router's walks have one list of black holes: of the same routers that do the same with each address.
+pub fn holes_are_unique()
+    ensures { (routers : ℕ) (does : RouterId → ℕ → Target) (first : RouterId) (xs ys : List Hole) → AreHoles routers does first xs → AreHoles routers does first ys → xs ≡ ys }
+{}
+
+/// Routers that do the same with each address have one list of cycles.
+pub fn cycles_are_unique()
+    ensures { (does : RouterId → ℕ → Target) (xs ys : List Cycle) → AreCycles does xs → AreCycles does ys → xs ≡ ys }
 {}

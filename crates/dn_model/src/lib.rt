@@ -23,6 +23,8 @@ mod plain_delta_tests;
 mod plain_holes;
 mod plain_intervals;
 mod plain_loops;
+#[cfg(test)]
+mod plain_query_tests;
 mod plain_reach;
 mod plain_runs;
 mod plain_test;
@@ -46,8 +48,9 @@ pub use entry::{Entry, Op, Posted, Route};
 pub use forwarding_row::ForwardingRow;
 pub use ids::{AtomId, LinkId, RouterId};
 pub use laws::{
-    best_goes_first, best_has_no_order, changes_are_unique, histories_lead_within, loops_are_true,
-    runs_are_unique, tables_have_keys_once, walks_end_at_the_last_router,
+    best_goes_first, best_has_no_order, changes_are_unique, cycles_are_unique,
+    histories_lead_within, holes_are_unique, loops_are_true, runs_are_unique,
+    tables_have_keys_once, walks_end_at_the_last_router,
 };
 pub use laws_of_rows::{
     addresses_have_one_place, cuts_keep_all_other_rows, cuts_part_one_row, meeting_is_sharing,

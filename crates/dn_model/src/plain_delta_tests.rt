@@ -17,16 +17,13 @@ fn delta_of(alloc: Global, entries: &[Entry]) -> Result<List<Change>, Fail> {
     if !are_entries_of(&t, entries) {
         return Err(Fail::from("an entry of another network"));
     }
-    let query = Query {
-        without: List::new(alloc),
-        ask: Ask::Delta,
-    };
+    let query = Query::of(alloc, Ask::Delta);
     if query.unknown(&t).is_some() {
         return Err(Fail::from("no name is unknown"));
     }
     match plain_answer(alloc, &t, entries, &query)? {
         Answer::Delta(changes) => Ok(changes),
-        Answer::Path { .. } => Err(Fail::from("a path")),
+        _ => Err(Fail::from("no changes")),
     }
 }
 

@@ -120,10 +120,10 @@ fn a_path_query(rt: HostRuntime) -> Result<(), Fail> {
         set(0, ten(), 0, Target::To(RouterId(1), LinkId(0))),
         set(1, ten_one(), 0, Target::Local),
     ];
-    let query = Query {
-        without: List::new(rt.alloc()),
-        ask: Ask::Path(Name::from_text(rt.alloc(), b"r1")?, 0x0A01_0007),
-    };
+    let query = Query::of(
+        rt.alloc(),
+        Ask::Path(Name::from_text(rt.alloc(), b"r1")?, 0x0A01_0007),
+    );
     if !are_entries_of(&t, &history) {
         return Err(Fail::from("the entries are of the network"));
     }

@@ -96,19 +96,22 @@ fn link(
     })
 }
 
-/// A link from the first router to each other one.
+/// A link between each two routers.
 fn links(alloc: Global) -> Result<List<TopoLink>, OutOfMemory>
     ensures { IfOk result (λ links. links
         ≡ record { name = codes "a"; first = record { router = record { 0 = 0 }; index = 2 }; second = record { router = record { 0 = 1 }; index = 2 }; unnumbered = false }
-        ∷ record { name = codes "c"; first = record { router = record { 0 = 0 }; index = 3 }; second = record { router = record { 0 = 2 }; index = 3 }; unnumbered = false } ∷ []) }
+        ∷ record { name = codes "c"; first = record { router = record { 0 = 0 }; index = 3 }; second = record { router = record { 0 = 2 }; index = 3 }; unnumbered = false }
+        ∷ record { name = codes "b"; first = record { router = record { 0 = 1 }; index = 3 }; second = record { router = record { 0 = 2 }; index = 2 }; unnumbered = false } ∷ []) }
 {
     let mut links = List::new(alloc);
     links.push(link(alloc, b"a", end(0, 2), end(1, 2))?)?;
     links.push(link(alloc, b"c", end(0, 3), end(2, 3))?)?;
+    links.push(link(alloc, b"b", end(1, 3), end(2, 2))?)?;
     Ok(links)
 }
 
-/// Three routers, `r1`, `r2` and `r3`, with a link `a` from r1 to r2 and a link `c` from r1 to r3.
+/// Three routers, `r1`, `r2` and `r3`, with a link `a` from r1 to r2, a link `c` from r1 to r3 and a link `b` from r2
+/// to r3.
 pub(crate) fn network(alloc: Global) -> Result<Topology, OutOfMemory> {
     let routers = names(alloc)?;
     let links = links(alloc)?;

@@ -5,36 +5,19 @@ use dn_formats::script_cause::{BAD_LINE, TAKE_UNKNOWN, TAKEN_TWICE, TOO_LONG, TO
 use dn_formats::{Line, Outcome, Text, Told};
 use dn_model::{
     Answer, Ask, Change, Cycle, DropKind, Hole, LinkId, List, Name, OutOfMemory, PathEnd, Query,
-    RouterId, Run, Target, TopoEnd, TopoLink, Topology, Unknown,
+    RouterId, Run, Target, Topology, Unknown,
 };
 use std::alloc::Global;
 use std::test::Fail;
-
-/// The end at an interface of a router.
-fn end(router: u16, index: u32) -> TopoEnd {
-    TopoEnd {
-        router: RouterId(router),
-        index,
-    }
-}
+use topology::read_topology;
 
 /// A network of two routers, `r1` and `r2`, with the link `a` from `r2` to `r1`.
-fn network(alloc: Global) -> Result<Topology, OutOfMemory> {
-    let mut routers = List::new(alloc);
-    routers.push(Name::from_text(alloc, b"r1")?)?;
-    routers.push(Name::from_text(alloc, b"r2")?)?;
-    let mut links = List::new(alloc);
-    links.push(TopoLink {
-        name: Name::from_text(alloc, b"a")?,
-        first: end(1, 2),
-        second: end(0, 2),
-        unnumbered: false,
-    })?;
-    Ok(Topology {
-        routers,
-        links,
-        edges: List::new(alloc),
-    })
+fn network(alloc: Global) -> Result<Topology, Fail> {
+    let text = b"routers = [\"r1\", \"r2\"]\n[[link]]\nname = \"a\"\nends = [\"r2:2\", \"r1:2\"]\n";
+    match read_topology(alloc, text) {
+        Ok(network) => Ok(network),
+        Err(_) => Err(Fail::from("no topology")),
+    }
 }
 
 fn is_take(line: &Line, number: u32, from: u16, frames: Option<u32>) -> bool {
@@ -306,13 +289,13 @@ fn prints_changes(rt: HostRuntime) -> Result<(), Fail> {
 }
 
 /// What is printed of a query in line 4 that was answered over seven entries.
-fn answered(alloc: Global, ask: Ask, answer: Answer) -> Result<Text, OutOfMemory> {
+fn answered(alloc: Global, ask: Ask, answer: Answer) -> Result<Text, Fail> {
     let told = Told {
         line: 4,
         query: Query::of(alloc, ask),
         outcome: Outcome::Answered { number: 7, answer },
     };
-    answer_text(alloc, &network(alloc)?, &told)
+    Ok(answer_text(alloc, &network(alloc)?, &told)?)
 }
 
 /// Two runs: 10.0.0.0 to 10.255.255.255, and the last address alone.

@@ -1,0 +1,326 @@
+"""A written report of `deltanet run`, read back.
+
+The layout is that of docs/FORMATS.md. The reader is strict: a report that breaks off, or whose numbers don't fit
+together, is refused with its file and line, since answers over half a history would be wrong in silence.
+"""
+
+from __future__ import annotations
+
+import re
+import sys
+from dataclasses import dataclass, field
+from typing import Iterator, NamedTuple
+
+NAME = r"[a-z0-9_-]{1,32}"
+PREFIX = r"\d+\.\d+\.\d+\.\d+/\d+"
+END = r"end|cutshort \d+|lost \d+ (?:BadVersion|BadFrameLength)|toolong|full|readfault"
+
+FEED_LINE = re.compile(rf"feed (\d+) ({NAME}) updates (\d+) skipped (\d+) refused (\d+) ({END})", re.ASCII)
+REFUSED_LINE = re.compile(r"refused offset (\d+) message (\d+) cause (\d+) ([A-Za-z]+)", re.ASCII)
+HISTORY_LINE = re.compile(r"history (\d+)", re.ASCII)
+ENTRY_LINE = re.compile(
+    rf"(\d+) feed (\d+) ({NAME}) (?:set ({PREFIX}) metric (\d+) (.+)|clear ({PREFIX})(?: metric (\d+))?)", re.ASCII
+)
+JOB_LINE = re.compile(r"job (\d+)", re.ASCII)
+ANSWERED_LINE = re.compile(r"line (\d+) at (\d+) (.+)", re.ASCII)
+UNKNOWN_LINE = re.compile(r"line (\d+) ([a-z].*)", re.ASCII)
+OCTET = r"(0|[1-9][0-9]{0,2})"
+ADDRESS = re.compile(rf"{OCTET}\.{OCTET}\.{OCTET}\.{OCTET}")
+LENGTHS = {str(length): length for length in range(33)}
+TARGET = re.compile(
+    rf"noroute|local|dropped (?:blackhole|unreachable|prohibit)|(?:exit|onlink) (?P<interface>\d+)"
+    rf"|to (?P<router>{NAME}) by (?P<link>{NAME})|linkdown (?P<down>{NAME})",
+    re.ASCII,
+)
+
+
+class ReportError(Exception):
+    """What is wrong with a report: its file, the line (from 1), and why."""
+
+    def __init__(self, path: str, line: int, why: str) -> None:
+        super().__init__(f"{path}:{line}: {why}")
+
+
+class Prefix(NamedTuple):
+    """The addresses that share the first `length` bits of `base`."""
+
+    base: int
+    length: int
+
+    @property
+    def last(self) -> int:
+        """The highest address of the prefix."""
+        return self.base + (1 << (32 - self.length)) - 1
+
+    def covers(self, address: int) -> bool:
+        return self.base <= address <= self.last
+
+    def __str__(self) -> str:
+        return f"{address_text(self.base)}/{self.length}"
+
+
+@dataclass(frozen=True)
+class Target:
+    """What a router does with an address, as it is printed.
+
+    `router` and `link` are there where it hands the address on, `link` alone where that link is down, and `interface`
+    where the address leaves the network or ends on a segment.
+    """
+
+    text: str
+    router: str | None = None
+    link: str | None = None
+    interface: int | None = None
+
+    def __str__(self) -> str:
+        return self.text
+
+
+NO_ROUTE = Target("noroute")
+
+
+class Entry(NamedTuple):
+    """One update of the history. It sets a route where it has a target, and clears otherwise.
+
+    A clear without a metric takes away all routes of the prefix. A tuple and not a dataclass, since a history may have
+    millions of entries.
+    """
+
+    position: int
+    feed: int
+    router: str
+    prefix: Prefix
+    metric: int | None
+    target: Target | None
+
+    def __str__(self) -> str:
+        """The operation as the report prints it."""
+        if self.target is not None:
+            return f"set {self.prefix} metric {self.metric} {self.target}"
+        return f"clear {self.prefix}" + ("" if self.metric is None else f" metric {self.metric}")
+
+
+@dataclass(frozen=True)
+class Refused:
+    """A refused frame: where it begins in its feed, where its refused message begins in it, and the cause."""
+
+    offset: int
+    message: int
+    number: int
+    cause: str
+
+
+@dataclass
+class Feed:
+    """What is told of one feed."""
+
+    number: int
+    router: str
+    updates: int
+    skipped: int
+    refused_count: int
+    end: str
+    refused: list[Refused] = field(default_factory=list)
+
+
+@dataclass
+class Answer:
+    """What is told of one query line of a script; `position` is None where a name of the query is unknown."""
+
+    job: int
+    line: int
+    position: int | None
+    query: str
+    lines: list[str] = field(default_factory=list)
+
+
+@dataclass
+class Report:
+    """A whole report."""
+
+    path: str
+    feeds: list[Feed] = field(default_factory=list)
+    entries: list[Entry] = field(default_factory=list)
+    jobs: list[int] = field(default_factory=list)
+    answers: list[Answer] = field(default_factory=list)
+
+    def feed_of(self, router: str) -> Feed | None:
+        """The router's feed; a router has at most one in a run."""
+        return next((feed for feed in self.feeds if feed.router == router), None)
+
+    def names(self) -> set[str]:
+        """The routers that the report names: those with a feed, and those that some route leads to."""
+        named = {feed.router for feed in self.feeds}
+        named.update(entry.target.router for entry in self.entries if entry.target and entry.target.router)
+        return named
+
+
+def read_address(text: str) -> int | None:
+    """The address that a dotted quad writes, without leading zeros; None where it is none."""
+    match = ADDRESS.fullmatch(text)
+    if match is None:
+        return None
+    first, second, third, fourth = (int(octet) for octet in match.groups())
+    if max(first, second, third, fourth) > 255:
+        return None
+    return first << 24 | second << 16 | third << 8 | fourth
+
+
+def address_text(address: int) -> str:
+    return ".".join(str(address >> shift & 255) for shift in (24, 16, 8, 0))
+
+
+def read_prefix(text: str) -> Prefix | None:
+    """The prefix `ADDRESS/LENGTH`; None where it is none, or where a bit past its length is set."""
+    address, _, length_text = text.partition("/")
+    base, length = read_address(address), LENGTHS.get(length_text)
+    if base is None or length is None or base % (1 << (32 - length)) != 0:
+        return None
+    return Prefix(base, length)
+
+
+def read_target(text: str) -> Target | None:
+    """The target that a text says; None where it says none."""
+    match = TARGET.fullmatch(text)
+    if match is None:
+        return None
+    interface = match["interface"]
+    link = match["link"] or match["down"]
+    return Target(text, match["router"], link, None if interface is None else int(interface))
+
+
+def read_report(path: str) -> Report:
+    """Reads a report from a file, or from standard input where the path is `-`. Raises ReportError or OSError."""
+    if path == "-":
+        return _Reader("standard input", sys.stdin.buffer.read()).report()
+    with open(path, "rb") as file:
+        return _Reader(path, file.read()).report()
+
+
+class _Reader:
+    """Reads the lines of a report in order. Prefixes and targets are kept once each, since the same ones come often."""
+
+    def __init__(self, path: str, text: bytes) -> None:
+        self.path = path
+        self.lines = text.decode("utf-8", "replace").split("\n")
+        self.is_whole = self.lines.pop() == "" and bool(self.lines)
+        self.place = 0
+        self.prefixes: dict[str, Prefix | None] = {}
+        self.targets: dict[str, Target | None] = {}
+
+    def wrong(self, why: str) -> ReportError:
+        """The error of the line that was read last."""
+        return ReportError(self.path, max(1, self.place), why)
+
+    def peek(self) -> str:
+        """The next line; the report ends with `done`, so one has to be there."""
+        if self.place == len(self.lines):
+            raise ReportError(self.path, max(1, self.place), "the report breaks off here: it ends with a line 'done'")
+        return self.lines[self.place]
+
+    def take(self) -> str:
+        line = self.peek()
+        self.place += 1
+        return line
+
+    def report(self) -> Report:
+        self.check_begin()
+        report = Report(self.path)
+        while self.peek().startswith("feed "):
+            report.feeds.append(self.feed(len(report.feeds) + 1))
+        self.read_history(report)
+        while JOB_LINE.fullmatch(self.peek()):
+            self.read_job(report)
+        if self.take() != "done" or self.place != len(self.lines) or not self.is_whole:
+            raise self.wrong("this isn't the line that stands here in a report")
+        return report
+
+    def check_begin(self) -> None:
+        if not self.lines:
+            raise ReportError(self.path, 1, "the file is empty: no report")
+        if self.lines[0].startswith("error "):
+            raise ReportError(self.path, 1, f"this is the error line {self.lines[0]!r} and no report; ask tools/why")
+
+    def feed(self, number: int) -> Feed:
+        match = FEED_LINE.fullmatch(self.take())
+        if match is None or int(match[1]) != number:
+            raise self.wrong(f"this isn't the line of feed {number}")
+        feed = Feed(number, match[2], int(match[3]), int(match[4]), int(match[5]), match[6])
+        for _ in range(feed.refused_count):
+            feed.refused.append(self.refused())
+        return feed
+
+    def refused(self) -> Refused:
+        match = REFUSED_LINE.fullmatch(self.take())
+        if match is None:
+            raise self.wrong("a line of a refused frame has to stand here, by the count in its feed's line")
+        return Refused(int(match[1]), int(match[2]), int(match[3]), match[4])
+
+    def read_history(self, report: Report) -> None:
+        match = HISTORY_LINE.fullmatch(self.take())
+        if match is None:
+            raise self.wrong("the line 'history N' has to stand here")
+        routers = {feed.number: feed.router for feed in report.feeds}
+        for position in range(1, int(match[1]) + 1):
+            report.entries.append(self.entry(position, routers))
+
+    def entry(self, position: int, routers: dict[int, str]) -> Entry:
+        match = ENTRY_LINE.fullmatch(self.take())
+        if match is None or int(match[1]) != position:
+            raise self.wrong(f"this isn't entry {position} of the history")
+        feed, router = int(match[2]), match[3]
+        if routers.get(feed) != router:
+            raise self.wrong(f"no line above says that feed {feed} is of {router}")
+        if match[4] is None:
+            metric = None if match[8] is None else int(match[8])
+            return Entry(position, feed, router, self.prefix(match[7]), metric, None)
+        return Entry(position, feed, router, self.prefix(match[4]), int(match[5]), self.target(match[6]))
+
+    def prefix(self, text: str) -> Prefix:
+        prefix = _kept(self.prefixes, text, read_prefix)
+        if prefix is None:
+            raise self.wrong(f"{text} is no prefix")
+        return prefix
+
+    def target(self, text: str) -> Target:
+        target = _kept(self.targets, text, read_target)
+        if target is None:
+            raise self.wrong(f"{text!r} is nothing that a route does with its addresses")
+        return target
+
+    def read_job(self, report: Report) -> None:
+        job = len(report.jobs) + 1
+        if self.take() != f"job {job}":
+            raise self.wrong(f"this isn't the line of job {job}")
+        report.jobs.append(job)
+        while self.is_query(self.peek()):
+            report.answers.append(self.answer(job, len(report.entries)))
+
+    def answer(self, job: int, longest: int) -> Answer:
+        line = self.take()
+        match = ANSWERED_LINE.fullmatch(line)
+        if match is not None:
+            answer = Answer(job, int(match[1]), int(match[2]), match[3])
+        else:
+            match = UNKNOWN_LINE.fullmatch(line)
+            answer = Answer(job, int(match[1]), None, match[2])
+        if answer.position is not None and answer.position > longest:
+            raise self.wrong(f"the history has {longest} entries, so no answer stands at {answer.position}")
+        answer.lines.extend(self.answer_lines())
+        return answer
+
+    def answer_lines(self) -> Iterator[str]:
+        """The lines up to the next query, job or the end. No line of an answer looks like one of these."""
+        while not (self.is_query(self.peek()) or JOB_LINE.fullmatch(self.peek()) or self.peek() == "done"):
+            yield self.take()
+
+    @staticmethod
+    def is_query(line: str) -> bool:
+        return ANSWERED_LINE.fullmatch(line) is not None or UNKNOWN_LINE.fullmatch(line) is not None
+
+
+def _kept(kept: dict, text: str, read):
+    """What `read` makes of the text, made once."""
+    if text not in kept:
+        kept[text] = read(text)
+    return kept[text]

@@ -1,0 +1,268 @@
+"""`look` and the plain evaluator below it, against what the program printed and against the definitions."""
+
+from __future__ import annotations
+
+import random
+import re
+import subprocess
+import sys
+import unittest
+from pathlib import Path
+
+TOOLS = Path(__file__).resolve().parent.parent
+DATA = TOOLS / "tests" / "data"
+EXAMPLES = TOOLS.parent / "examples"
+sys.path.insert(0, str(TOOLS / "lib"))
+
+from evaluator import Table, changes, tables_after, way
+from network import read_topology
+from report import Entry, Prefix, ReportError, Target, address_text, read_address, read_prefix, read_report
+
+# Each stored report, and how many routers its topology has.
+REPORTS = {path: len(read_topology(str(path.with_name("topology.toml"))).routers)
+           for path in (*sorted(EXAMPLES.glob("*/report.txt")), DATA / "made" / "report.txt")}
+REPORTS[DATA / "odd.report"] = 4
+
+
+def look(*words: object) -> tuple[int, str, str]:
+    """Status, output and errors of the tool."""
+    came = subprocess.run([sys.executable, TOOLS / "look", *map(str, words)], capture_output=True, text=True)
+    return came.returncode, came.stdout, came.stderr
+
+
+class PrintedAnswers(unittest.TestCase):
+    """The answers that the program printed are those of the plain evaluator."""
+
+    def test_paths(self) -> None:
+        seen = 0
+        for path, routers in REPORTS.items():
+            report = read_report(str(path))
+            for answer in report.answers:
+                words = answer.query.split()
+                if words[0] != "path" or answer.position is None:
+                    continue
+                found = way(tables_after(report.entries, answer.position), words[1], read_address(words[2]), routers)
+                lines = ["hops " + " ".join(hop.router for hop in found.hops), f"end {found.end()}"]
+                self.assertEqual(lines, answer.lines, f"{path}, line {answer.line}")
+                seen += 1
+        self.assertGreaterEqual(seen, 39)
+
+    def test_deltas(self) -> None:
+        seen = 0
+        for path in REPORTS:
+            report = read_report(str(path))
+            # The topologies of these reports have their routers in the order of the feeds.
+            routers = [feed.router for feed in report.feeds]
+            for answer in report.answers:
+                if answer.query != "delta":
+                    continue
+                found = changes(report.entries, max(0, answer.position - 1), answer.position, routers)
+                lines = [f"{change.router} {address_text(change.low)}-{address_text(change.high)}"
+                         f" {change.before} -> {change.after}" for change in found]
+                self.assertEqual(lines or ["none"], answer.lines, f"{path}, line {answer.line}")
+                seen += 1
+        self.assertGreaterEqual(seen, 5)
+
+    def test_look_way_ends_as_the_answers(self) -> None:
+        """The tool itself: the same routers up to where a loop closes, and the same end. Two reports are enough."""
+        for path in (EXAMPLES / "triangle-ospf" / "report.txt", DATA / "odd.report"):
+            for answer in read_report(str(path)).answers:
+                words = answer.query.split()
+                if words[0] != "path" or answer.position is None:
+                    continue
+                status, out, _ = look(path, "way", answer.position, words[1], words[2])
+                lines = [line for line in out.splitlines()[1:] if not line.startswith(("note:", " "))]
+                hops = [line.split()[0] for line in lines[:-1]]
+                printed = answer.lines[0].split()[1:]
+                self.assertEqual(0, status)
+                self.assertEqual(printed[:len(hops)], hops)
+                self.assertEqual(answer.lines[1], lines[-1].split(":")[0])
+
+
+class Definitions(unittest.TestCase):
+    """Random histories over a few prefixes, against the words of the definitions."""
+
+    def setUp(self) -> None:
+        self.random = random.Random(20)
+
+    def entry(self, position: int) -> Entry:
+        length = self.random.choice([0, 1, 8, 9, 24, 31, 32])
+        base = self.random.choice([0, 10 << 24, 128 << 24, 2**32 - 1]) >> (32 - length) << (32 - length)
+        metric = self.random.choice([None, 0, 5, 20])
+        target = Target(self.random.choice(["local", "exit 1", "exit 2"]))
+        if self.random.random() < 0.4:
+            return Entry(position, 1, "r1", Prefix(base, length), metric, None)
+        return Entry(position, 1, "r1", Prefix(base, length), metric or 0, target)
+
+    @staticmethod
+    def plain_target(entries: list[Entry], address: int) -> str:
+        """A list of routes, folded; those that cover the address; the longest prefix, then the least metric."""
+        routes: list[Entry] = []
+        for entry in entries:
+            any_metric = entry.target is None and entry.metric is None
+            routes = [route for route in routes
+                      if route.prefix != entry.prefix or not (any_metric or route.metric == entry.metric)]
+            if entry.target is not None:
+                routes.append(entry)
+        covering = [route for route in routes if route.prefix.covers(address)]
+        covering.sort(key=lambda route: (-route.prefix.length, route.metric))
+        return str(covering[0].target) if covering else "noroute"
+
+    def test_targets_and_changes(self) -> None:
+        addresses = [0, 1, 2**24, 10 << 24, (10 << 24) + 255, (10 << 24) + 256, 128 << 24, 2**32 - 2, 2**32 - 1]
+        for _ in range(60):
+            entries = [self.entry(position) for position in range(1, 13)]
+            first = self.random.randrange(13)
+            found = list(changes(entries, first, 12, ["r1"]))
+            for address in addresses:
+                was, now = self.plain_target(entries[:first], address), self.plain_target(entries, address)
+                self.assertEqual(now, str(tables_after(entries, 12)["r1"].target(address)))
+                told = [(str(change.before), str(change.after)) for change in found
+                        if change.low <= address <= change.high]
+                self.assertEqual([] if was == now else [(was, now)], told)
+            for one, next_one in zip(found, found[1:]):
+                self.assertLess(one.high, next_one.low)
+                touch = one.high + 1 == next_one.low
+                self.assertFalse(touch and (one.before, one.after) == (next_one.before, next_one.after))
+
+    def test_an_empty_table(self) -> None:
+        self.assertIsNone(Table().best(0))
+        self.assertEqual([], list(changes([], 0, 0, ["r1"])))
+
+
+class Ways(unittest.TestCase):
+    """What `look way` says of each hop."""
+
+    def way(self, *words: object) -> list[str]:
+        status, out, err = look(DATA / "odd.report", "--topology", DATA / "odd.toml", "way", *words)
+        self.assertEqual((0, ""), (status, err))
+        return out.splitlines()
+
+    def test_the_deciding_entry(self) -> None:
+        self.assertEqual([
+            "10.2.0.1 from line at 6 of 10",
+            "line  10.0.0.0/8 metric 110 to r2 by a (entry 1) (line:2 - r2:2)",
+            "r2    10.0.0.0/8 metric 20 to r3 by b (entry 4) (r2:3 - r3:2)",
+            "r3    noroute: no feed in this run",
+            "end noroute",
+            "note: line: 1 frame of its feed refused (Multipath); its routes may be stale, see tools/stale",
+            "note: line: its feed ended in 'cutshort 700'; what came after isn't here",
+        ], self.way(6, "line", "10.2.0.1"))
+
+    def test_a_route_beside_it(self) -> None:
+        lines = self.way(2, "line", "10.2.0.1")
+        self.assertEqual("line  10.0.0.0/8 metric 20 exit 1 (entry 2)", lines[1])
+        self.assertEqual("      beside it: metric 110 to r2 by a (entry 1)", lines[2])
+
+    def test_the_meanings_of_noroute(self) -> None:
+        self.assertIn("noroute: nothing of its feed is taken yet: its first update is entry 4",
+                      self.way(3, "r2", "10.2.0.1")[1])
+        self.assertIn("noroute: none of the 1 in its table covers 11.0.0.1", self.way(4, "r2", "11.0.0.1")[1])
+        self.assertIn("noroute: no feed in this run", self.way(10, "r4", "11.0.0.1")[1])
+
+    def test_a_router_without_a_feed(self) -> None:
+        """In the first example r1 has a feed and r2 none; the program prints `end noroute` as for any other cause."""
+        status, out, _ = look(EXAMPLES / "first-path" / "report.txt", "way", "all", "r1", "10.1.2.3")
+        self.assertEqual((0, "r2  noroute: no feed in this run"), (status, out.splitlines()[2]))
+
+    def test_a_loop(self) -> None:
+        entries = [Entry(1, 1, "r1", Prefix(0, 0), 0, Target("to r2 by a", "r2", "a")),
+                   Entry(2, 2, "r2", Prefix(0, 0), 0, Target("to r1 by a", "r1", "a"))]
+        tables = tables_after(entries, 2)
+        self.assertEqual(["r1", "r2", "r1"], [hop.router for hop in way(tables, "r1", 7).hops])
+        self.assertEqual(["r1", "r2", "r1", "r2"], [hop.router for hop in way(tables, "r1", 7, 3).hops])
+        self.assertTrue(way(tables, "r1", 7).is_loop and way(tables, "r1", 7, 3).is_loop)
+        status, out, _ = look(EXAMPLES / "triangle-ospf" / "report.txt", "way", 46, "r1", "10.2.0.1")
+        self.assertEqual("end loop: at r1 again", out.splitlines()[-1])
+
+
+class Entries(unittest.TestCase):
+    """What `look where` says of a prefix."""
+
+    def test_sets_and_clears(self) -> None:
+        status, out, _ = look(DATA / "odd.report", "where", "line", "10.0.0.0/8")
+        self.assertEqual(0, status)
+        self.assertEqual([
+            "1 set 10.0.0.0/8 metric 110 to r2 by a: new",
+            "2 set 10.0.0.0/8 metric 20 exit 1: new",
+            "6 clear 10.0.0.0/8 metric 20: takes away entry 2",
+            "7 set 10.0.0.0/8 metric 110 to r2 by a: says the same as entry 1",
+            "8 set 10.0.0.0/8 metric 5 local: new",
+            "9 clear 10.0.0.0/8: takes away entry 7 and takes away entry 8",
+            "at the end of the history 10.0.0.0/8 has no route",
+        ], out.splitlines())
+
+    def test_wider_prefixes(self) -> None:
+        _, out, _ = look(DATA / "odd.report", "where", "r2", "10.0.0.0/24")
+        self.assertIn("wider prefixes in its entries: 10.0.0.0/9, 10.0.0.0/8, 0.0.0.0/0", out)
+
+
+class Words(unittest.TestCase):
+    """Wrong words and broken reports: status 1, one line that says where, and no traceback."""
+
+    def refused(self, *words: object) -> str:
+        status, _, err = look(*words)
+        self.assertEqual(1, status, err)
+        self.assertNotIn("Traceback", err)
+        return err
+
+    def test_words(self) -> None:
+        report = EXAMPLES / "first-path" / "report.txt"
+        for words in (["way", 2, "r1", "10.0.0.1"], ["way", "x", "r1", "10.0.0.1"], ["way", 1, "r3", "10.0.0.1"],
+                      ["way", 1, "r1", "10.0.0.01"], ["way", 1, "r1"], ["changes", 1, 0], ["where", "r1", "10.0.0.1"],
+                      ["where", "r1", "10.0.0.1/8"], ["which"], []):
+            self.refused(report, *words)
+        self.assertIn("nowhere", self.refused("nowhere", "changes", 0, 0))
+        self.assertIn("r9", self.refused(report, "--topology", EXAMPLES / "first-path" / "topology.toml",
+                                         "way", 1, "r9", "10.0.0.1"))
+        other = self.refused(report, "--topology", DATA / "odd.toml", "way", 1, "r1", "10.0.0.1")
+        self.assertIn("another run's", other)
+
+    def test_an_error_line_is_no_report(self) -> None:
+        self.assertIn("tools/why", self.refused(self.written("error topology link 2 7 EndTwice\n"), "changes", 0, 0))
+
+    def written(self, text: str) -> Path:
+        import tempfile
+        folder = tempfile.TemporaryDirectory()
+        self.addCleanup(folder.cleanup)
+        path = Path(folder.name) / "report"
+        path.write_bytes(text.encode())
+        return path
+
+    def test_broken_reports(self) -> None:
+        whole = (DATA / "odd.report").read_text()
+        read_report(str(self.written(whole)))
+        for cut in range(len(whole)):
+            with self.assertRaises(ReportError):
+                read_report(str(self.written(whole[:cut])))
+        for old, new in (("history 10", "history 9"), ("history 10", "history 11"), ("5 feed 2 r2", "5 feed 2 r3"),
+                         ("metric 5 local", "metric 5 here"), ("10.0.0.0/9", "10.0.0.1/9"), ("refused 1", "refused 2"),
+                         ("job 2", "job 3"), ("done\n", "done\ndone\n"), ("line 1 at 2", "line 1 at 11")):
+            with self.assertRaises(ReportError, msg=new) as caught:
+                read_report(str(self.written(whole.replace(old, new, 1))))
+            self.assertRegex(str(caught.exception), r"report:\d+: ")
+
+    def test_a_reader_that_goes_away(self) -> None:
+        words = [sys.executable, TOOLS / "look", EXAMPLES / "triangle-ospf" / "report.txt", "changes", "0", "297"]
+        for _ in range(3):
+            process = subprocess.Popen(words, stdout=subprocess.PIPE, stderr=subprocess.PIPE)
+            process.stdout.close()
+            self.assertEqual(b"", process.stderr.read())
+            process.stderr.close()
+            self.assertIn(process.wait(), (0, 1))
+
+    def test_help(self) -> None:
+        status, out, _ = look("--help")
+        self.assertEqual(0, status)
+        self.assertTrue(re.search("--topology", out))
+
+
+class Texts(unittest.TestCase):
+    def test_prefixes(self) -> None:
+        self.assertEqual(Prefix(10 << 24, 8), read_prefix("10.0.0.0/8"))
+        for text in ("10.0.0.0", "10.0.0.0/33", "10.0.0.1/8", "10.0.0.0/08", "10.0.0/8", "256.0.0.0/8", "01.0.0.0/8"):
+            self.assertIsNone(read_prefix(text), text)
+
+
+if __name__ == "__main__":
+    unittest.main()

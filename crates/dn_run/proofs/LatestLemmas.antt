@@ -58,6 +58,23 @@ own-more old new history e same own is =
 pub delta-along : (new old : Topology) (history : List Entry) (changes : List Change) → new ≡ old → IsDeltaOf old history changes → IsDeltaOf new history changes
 delta-along new old history changes same delta = subst (λ (t : Topology). IsDeltaOf t history changes) (sym same) delta
 
+-- ---- answers from the version and the changes
+
+of-there : (t : Topology) (version : Option Kept) (kept : Kept) → version ≡ Some kept → IsOf t version → kept.topology ≡ t
+of-there t version kept there of = let P : Option Kept → Type 0 = λ o. IsOf t o in subst P there of
+
+pub of-version : (t : Topology) (latest : Latest) (version : Kept) → latest.version ≡ Some version → IsOf t latest.version → version.topology ≡ t
+of-version t latest version there of = of-there t latest.version version there of
+
+pub own-of : (t : Topology) (latest : Latest) (history : List Entry) → IsOf t latest.version → After latest history → All (IsEntryOf t) history
+own-of t latest history of after = let P : Topology → Type 0 = λ s. All (IsEntryOf s) history in subst P (of-there t latest.version after.kept after.there of) after.own
+
+pub delta-of : (t : Topology) (latest : Latest) (history : List Entry) (changes : List Change) → IsOf t latest.version → After latest history → changes ≡ latest.changes → IsDeltaOf t history changes
+delta-of t latest history changes of after same =
+    let P : Topology → Type 0 = λ s. IsDeltaOf s history latest.changes in
+    let Q : List Change → Type 0 = λ cs. IsDeltaOf t history cs in
+    subst Q (sym same) (subst P (of-there t latest.version after.kept after.there of) after.delta)
+
 -- ---- before any update
 
 pub delta-none : (t : Topology) (changes : List Change) → changes ≡ [] → IsDeltaOf t [] changes

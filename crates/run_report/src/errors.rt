@@ -4,12 +4,14 @@
 //! text may have been added.
 
 ghost use Rattle.std.specs.Prelude.{◌≡◌, ◌++◌, ◌∷◌, [], OnOk, IfOk, codes, decimal};
-ghost use Rattle.dn_formats.specs.Causes.{topology_causes, script_causes, name_of_cause};
+ghost use Rattle.dn_formats.specs.Causes.{name_of_cause, script_causes, topology_causes};
 ghost use Rattle.dn_formats.specs.Report.{topology_part_text, cause_words, topology_fault_words, script_fault_words, part_words, error_words, error_text};
 ghost use Rattle.dn_formats.specs.Texts.{line};
 
-use crate::causes::{script_cause, topology_cause};
-use dn_formats::{ErrorLine, TopoFault, TopoPart, push_bytes, push_decimal, push_labelled};
+use dn_formats::{
+    ErrorLine, TopoFault, TopoPart, push_bytes, push_decimal, push_labelled, script_cause,
+    topology_cause,
+};
 use dn_model::OutOfMemory;
 use std::alloc::Global;
 
@@ -51,7 +53,7 @@ fn push_topology_fault(out: &mut Vec<u8>, fault: TopoFault) -> Result<(), OutOfM
     push_bytes(out, part_word(fault.part))?;
     push_labelled(out, b" ", u64::from(fault.entry))?;
     push_bytes(out, b" ")?;
-    push_cause(out, fault.cause, topology_cause(fault.cause))
+    push_cause(out, fault.cause, topology_cause::name(fault.cause))
 }
 
 /// Adds where and why a script is refused.
@@ -61,7 +63,7 @@ fn push_script_fault(out: &mut Vec<u8>, part: u32, line: u32, cause: u8) -> Resu
     push_labelled(out, b"script ", u64::from(part))?;
     push_labelled(out, b" line ", u64::from(line))?;
     push_bytes(out, b" ")?;
-    push_cause(out, cause, script_cause(cause))
+    push_cause(out, cause, script_cause::name(cause))
 }
 
 /// Adds what was wrong, where, and the cause.

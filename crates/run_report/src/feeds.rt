@@ -5,13 +5,21 @@
 
 ghost use Rattle.std.specs.Prelude.{◌≡◌, ◌++◌, ◌∷◌, [], OnOk, codes, decimal};
 ghost use Rattle.std.specs.List.{flat_map};
-ghost use Rattle.dn_formats.specs.Causes.{cause_text};
+ghost use Rattle.dn_formats.specs.Causes.{cause_text, frame_causes, name_of_cause};
 ghost use Rattle.dn_formats.specs.Report.{end_text, refused_line, feed_line, feed_lines};
 ghost use Rattle.dn_formats.specs.Texts.{line};
 
-use crate::causes::push_frame_cause;
-use dn_formats::{FeedEnd, FeedTold, RefusedFrame, push_bytes, push_labelled, push_router};
+use dn_formats::{
+    FeedEnd, FeedTold, RefusedFrame, frame_cause, push_bytes, push_labelled, push_router,
+};
 use dn_model::{OutOfMemory, Topology};
+
+/// Adds the name of a cause for which a frame is refused or a feed is lost.
+fn push_frame_cause(out: &mut Vec<u8>, cause: u8) -> Result<(), OutOfMemory>
+    ensures { OnOk result (out.new.items ≡ out.old.items ++ cause_text cause) }
+{
+    push_bytes(out, frame_cause::name(cause))
+}
 
 /// Adds where and why a feed was lost.
 fn push_lost(out: &mut Vec<u8>, offset: u64, cause: u8) -> Result<(), OutOfMemory>

@@ -1,7 +1,6 @@
 //! The report of a run, the line that stands in its place where there is none, and writing it to a sink.
 #![tactic(auto)]
 
-mod causes;
 #[cfg(test)]
 mod error_tests;
 mod errors;

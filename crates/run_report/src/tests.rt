@@ -4,6 +4,7 @@ ghost use Rattle.std.specs.Prelude.{◌≡◌, ◌∷◌, [], IfOk, codes, IsTru
 ghost use Rattle.dn_model.specs.Name.{is_name_text};
 
 use crate::{report_text, write_report};
+use dn_formats::frame_cause::{BAD_FRAME_LENGTH, BAD_VERSION};
 use dn_formats::{FeedEnd, FeedTold, JobTold, Outcome, RefusedFrame, Told};
 use dn_io::{Failed, MemSink};
 use dn_model::{
@@ -134,10 +135,8 @@ fn history(alloc: Global, ops: &[Op]) -> Result<List<Posted>, OutOfMemory> {
 fn path_query(alloc: Global, router: &[u8]) -> Result<Query, OutOfMemory>
     requires { IsTrue (is_name_text router.now) }
 {
-    Ok(Query {
-        without: List::new(alloc),
-        ask: Ask::Path(Name::from_text(alloc, router)?, 0x0a01_0203),
-    })
+    let router = Name::from_text(alloc, router)?;
+    Ok(Query::of(alloc, Ask::Path(router, 0x0a01_0203)))
 }
 
 /// What is told of that query, answered from one entry by these hops and this end.
@@ -216,14 +215,14 @@ fn prints_each_end_of_a_feed(rt: HostRuntime) {
         (
             FeedEnd::Lost {
                 offset: 0,
-                cause: 15,
+                cause: BAD_VERSION,
             },
             b"feed 3 r2 updates 0 skipped 2 refused 0 lost 0 BadVersion\nhistory 0\ndone\n",
         ),
         (
             FeedEnd::Lost {
                 offset: 52,
-                cause: 16,
+                cause: BAD_FRAME_LENGTH,
             },
             b"feed 3 r2 updates 0 skipped 2 refused 0 lost 52 BadFrameLength\nhistory 0\ndone\n",
         ),
@@ -322,12 +321,10 @@ fn unknown_link(alloc: Global) -> Result<Told, OutOfMemory> {
     let mut without = List::new(alloc);
     without.push(Name::from_text(alloc, b"a")?)?;
     without.push(Name::from_text(alloc, b"x9")?)?;
+    let ask = Ask::Path(Name::from_text(alloc, b"r1")?, 0xffff_ffff);
     Ok(Told {
         line: 2,
-        query: Query {
-            without,
-            ask: Ask::Path(Name::from_text(alloc, b"r1")?, 0xffff_ffff),
-        },
+        query: Query::new(without, ask),
         outcome: Outcome::Unknown(Unknown::Link(2)),
     })
 }
@@ -345,10 +342,7 @@ fn delta_told(alloc: Global) -> Result<Told, OutOfMemory> {
     }];
     Ok(Told {
         line: 5,
-        query: Query {
-            without: List::new(alloc),
-            ask: Ask::Delta,
-        },
+        query: Query::of(alloc, Ask::Delta),
         outcome: Outcome::Answered {
             number: 11,
             answer: Answer::Delta(List::from_vec(Vec::from_slice(alloc, &changes)?)),

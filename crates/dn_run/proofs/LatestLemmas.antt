@@ -1,7 +1,8 @@
 -- A version that goes on, and what its rows say of a history.
-use Rattle.std.proofs.Common.{◌≡◌, ℕ, zero, suc, ◌<◌, ◌≤◌, ◌^◌, ◌∷◌, [], List, Option, None, Some, length, get_or, refl, ap, sym, ◌∙◌, subst, arith}
+use Rattle.std.proofs.Common.{◌≡◌, ℕ, zero, suc, ◌<◌, ◌≤◌, ◌^◌, ◌∷◌, ◌++◌, [], List, Option, None, Some, length, get_or, refl, ap, sym, ◌∙◌, subst, arith}
 use Rattle.std.specs.List.{All}
 use Rattle.std.proofs.lemmas.List.{get_or_past}
+use Rattle.std.proofs.lemmas.List.Elements.{All-push}
 use Rattle.dn_model.specs.Answer.{path_answer}
 use Rattle.dn_model.specs.Delta.{IsDeltaOf}
 use Rattle.dn_model.specs.Entry.{IsEntryOf, IsOpOf}
@@ -42,6 +43,37 @@ pub stands-there : (latest : Latest) (version : Kept) (history : List Entry) →
 stands-there latest version history there after =
     let same : after.kept ≡ version = (let both : Some after.kept ≡ Some version = sym after.there ∙ there in cc) in
     subst (λ (k : Kept). KeptStandsFor k history) same after.stands
+
+-- the entries of the history are of its network, and so are those with one more
+pub own-there : (latest : Latest) (version : Kept) (history : List Entry) → latest.version ≡ Some version → After latest history → All (IsEntryOf version.topology) history
+own-there latest version history there after =
+    let same : after.kept ≡ version = (let both : Some after.kept ≡ Some version = sym after.there ∙ there in cc) in
+    subst (λ (k : Kept). All (IsEntryOf k.topology) history) same after.own
+
+pub own-more : (old new : Topology) (history : List Entry) (e : Entry) → new ≡ old → All (IsEntryOf old) history → IsEntryOf old e → All (IsEntryOf new) (history ++ e ∷ [])
+own-more old new history e same own is =
+    let P : Topology → Type 0 = λ t. All (IsEntryOf t) (history ++ e ∷ []) in
+    subst P (sym same) (All-push (IsEntryOf old) history e own is)
+
+pub delta-along : (new old : Topology) (history : List Entry) (changes : List Change) → new ≡ old → IsDeltaOf old history changes → IsDeltaOf new history changes
+delta-along new old history changes same delta = subst (λ (t : Topology). IsDeltaOf t history changes) (sym same) delta
+
+-- ---- answers from the version and the changes
+
+of-there : (t : Topology) (version : Option Kept) (kept : Kept) → version ≡ Some kept → IsOf t version → kept.topology ≡ t
+of-there t version kept there of = let P : Option Kept → Type 0 = λ o. IsOf t o in subst P there of
+
+pub of-version : (t : Topology) (latest : Latest) (version : Kept) → latest.version ≡ Some version → IsOf t latest.version → version.topology ≡ t
+of-version t latest version there of = of-there t latest.version version there of
+
+pub own-of : (t : Topology) (latest : Latest) (history : List Entry) → IsOf t latest.version → After latest history → All (IsEntryOf t) history
+own-of t latest history of after = let P : Topology → Type 0 = λ s. All (IsEntryOf s) history in subst P (of-there t latest.version after.kept after.there of) after.own
+
+pub delta-of : (t : Topology) (latest : Latest) (history : List Entry) (changes : List Change) → IsOf t latest.version → After latest history → changes ≡ latest.changes → IsDeltaOf t history changes
+delta-of t latest history changes of after same =
+    let P : Topology → Type 0 = λ s. IsDeltaOf s history latest.changes in
+    let Q : List Change → Type 0 = λ cs. IsDeltaOf t history cs in
+    subst Q (sym same) (subst P (of-there t latest.version after.kept after.there of) after.delta)
 
 -- ---- before any update
 

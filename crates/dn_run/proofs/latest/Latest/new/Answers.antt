@@ -1,4 +1,4 @@
-use Rattle.std.proofs.Common.{refl}
+use Rattle.std.proofs.Common.{arith, refl}
 use Rattle.dn_run.proofs.LatestLemmas.{delta-none}
 use Rattle.dn_run.proofs.latest.Latest.new.Goals as goal
 
@@ -7,5 +7,6 @@ returns-clause-after c = record {
   kept = c.in_ok-version.version;
   there = refl;
   stands = c.in_ok-version.ensures.stands;
-  delta = delta-none c.new.result c.new.ensures;
+  delta = delta-none c.in_ok-version.version.topology c.new.result c.new.ensures;
+  own = λ i d l. absurd (omega arith);
 }

@@ -7,12 +7,14 @@ use Rattle.dn_model.specs.declared.target.Target.{Target}
 
 -- the cycle of one address in which a router is the first, if there is one
 abbrev pub IsCycleFrom : (RouterId → Target) → RouterId → Option (List RouterId) → Type 0
-IsCycleFrom target_at first None = (routers : List RouterId) → IsTrue (is_cycle target_at routers) → first_router routers ≡ first.0 → ⊥
+IsCycleFrom target_at first None =
+    (routers : List RouterId) → IsTrue (is_cycle target_at routers) → first_router routers ≡ first.0 → ⊥
 IsCycleFrom target_at first (Some routers) = IsTrue (is_cycle target_at routers) × (first_router routers ≡ first.0)
 
 -- whether a cycle comes before another: by least address, then by first router
 abbrev pub is_before : Cycle → Cycle → Bool
-is_before x y = nat_lt x.least y.least || ((x.least == y.least) && nat_lt (first_router x.routers) (first_router y.routers))
+is_before x y =
+    nat_lt x.least y.least || ((x.least == y.least) && nat_lt (first_router x.routers) (first_router y.routers))
 
 -- the cycle of these routers, if addresses go round it
 abbrev pub IsCycleOf : (RouterId → ℕ → Target) → List RouterId → Option Cycle → Type 0
@@ -40,10 +42,12 @@ pub record TellsCycle (does : RouterId → ℕ → Target) (routers : List Route
 -- cycles told beside others: those of an address of which the first router is one from `low` on and before `past`
 pub record TellsCycles (does : RouterId → ℕ → Target) (low past a : ℕ) (old new : List Cycle) : Type 0 where
   pub form : AreSomeCycles does new
-  pub told : (routers : List RouterId) → low ≤ first_router routers → first_router routers < past → IsTrue (goes_round does routers a) → HasCycle new routers
+  pub told : (routers : List RouterId) → low ≤ first_router routers → first_router routers < past
+      → IsTrue (goes_round does routers a) → HasCycle new routers
   pub kept : (x : Cycle) → Contains old x → Contains new x
 
 -- the cycles of the addresses from `at` on
 pub record AreCyclesFrom (does : RouterId → ℕ → Target) (at : ℕ) (cycles : List Cycle) : Type 0 where
   pub form : AreSomeCycles does cycles
-  pub all : (routers : List RouterId) (a : ℕ) → at ≤ a → a < 2 ^ 32 → IsTrue (goes_round does routers a) → HasCycle cycles routers
+  pub all : (routers : List RouterId) (a : ℕ) → at ≤ a → a < 2 ^ 32
+      → IsTrue (goes_round does routers a) → HasCycle cycles routers

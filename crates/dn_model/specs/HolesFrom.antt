@@ -14,7 +14,8 @@ is_hole_of last cause h = (h.router.0 == last.0) && (cause_rank h.cause == cause
 
 -- whether a hole comes before another: by router, then cause
 abbrev pub is_before : Hole → Hole → Bool
-is_before x y = nat_lt x.router.0 y.router.0 || ((x.router.0 == y.router.0) && nat_lt (cause_rank x.cause) (cause_rank y.cause))
+is_before x y =
+    nat_lt x.router.0 y.router.0 || ((x.router.0 == y.router.0) && nat_lt (cause_rank x.cause) (cause_rank y.cause))
 
 -- where a walk with this last router and end falls, and by which cause
 abbrev pub fall_of : RouterId → PathEnd → Option (RouterId × Target)
@@ -23,7 +24,8 @@ fall_of last Loop = None
 
 -- where the walk of an address from a router falls, and by which cause
 abbrev pub fall_at : ℕ → (RouterId → ℕ → Target) → RouterId → ℕ → Option (RouterId × Target)
-fall_at routers does first a = fall_of (walk_last (at_address does a) routers first) (walk_end (at_address does a) routers first)
+fall_at routers does first a =
+    fall_of (walk_last (at_address does a) routers first) (walk_end (at_address does a) routers first)
 
 -- a hole put in its place among others
 pub record IsPutAmong (h : Hole) (old new : List Hole) : Type 0 where
@@ -40,10 +42,12 @@ pub record AreSomeHoles (routers : ℕ) (does : RouterId → ℕ → Target) (fi
 -- holes told beside others: that of an address is among them
 pub record TellsHole (routers : ℕ) (does : RouterId → ℕ → Target) (first : RouterId) (a : ℕ) (old new : List Hole) : Type 0 where
   pub form : AreSomeHoles routers does first new
-  pub told : (last : RouterId) (cause : Target) → IsTrue (falls routers does first last cause a) → HasHole new last cause
+  pub told : (last : RouterId) (cause : Target)
+      → IsTrue (falls routers does first last cause a) → HasHole new last cause
   pub kept : (x : Hole) → Contains old x → Contains new x
 
 -- the black holes of the addresses from `at` on
 pub record AreHolesFrom (routers : ℕ) (does : RouterId → ℕ → Target) (first : RouterId) (at : ℕ) (holes : List Hole) : Type 0 where
   pub form : AreSomeHoles routers does first holes
-  pub all : (last : RouterId) (cause : Target) (a : ℕ) → at ≤ a → a < 2 ^ 32 → IsTrue (falls routers does first last cause a) → HasHole holes last cause
+  pub all : (last : RouterId) (cause : Target) (a : ℕ) → at ≤ a → a < 2 ^ 32
+      → IsTrue (falls routers does first last cause a) → HasHole holes last cause

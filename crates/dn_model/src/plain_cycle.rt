@@ -65,7 +65,8 @@ fn do_go_round(
     others: &[RouterId],
     a: u32,
 ) -> Result<bool, OutOfMemory>
-    ensures { IfOk result (λ is. is ≡ go_round (at_address (next t.now entries.now down.now) a) first (first ∷ others.now)) }
+    ensures { IfOk result (λ is.
+        is ≡ go_round (at_address (next t.now entries.now down.now) a) first (first ∷ others.now)) }
 {
     let mut last = first;
     for router in others {

@@ -44,7 +44,8 @@ fn has_hole(holes: &[Hole], last: RouterId, cause: Target) -> bool
 fn place_of(holes: &[Hole], hole: &Hole) -> usize
     ensures within { result ≤ length holes.now }
     ensures before { (k : ℕ) (d : Hole) → k < result → IsTrue (is_before (slice_index_or holes.now k d) hole.now) }
-    ensures after { (d : Hole) → result < length holes.now → is_before (slice_index_or holes.now result d) hole.now ≡ false }
+    ensures after { (d : Hole) → result < length holes.now
+        → is_before (slice_index_or holes.now result d) hole.now ≡ false }
 {
     for (i, other) in holes.iter().enumerate() {
         if !comes_before(other, hole) {
@@ -111,7 +112,8 @@ fn tell_hole(
 ) -> Result<(), OutOfMemory>
     requires entries { All (IsEntryOf t.now) entries.now }
     requires form { AreSomeHoles (length t.now.routers) (next t.now entries.now down.now) first holes.old.items }
-    ensures { OnOk result (TellsHole (length t.now.routers) (next t.now entries.now down.now) first a holes.old.items holes.new.items) }
+    ensures { OnOk result (
+        TellsHole (length t.now.routers) (next t.now entries.now down.now) first a holes.old.items holes.new.items) }
 {
     let Some((last, cause)) = plain_fall(alloc, t, entries, down, first, a)? else {
         return Ok(());
@@ -144,7 +146,8 @@ fn tell_interval(
     requires entries { All (IsEntryOf t.now) entries.now }
     requires holes { AreHolesFrom (length t.now.routers) (next t.now entries.now down.now) first past holes.old.items }
     ensures lower { IfOk result (λ low. low < past) }
-    ensures told { IfOk result (λ low. AreHolesFrom (length t.now.routers) (next t.now entries.now down.now) first low holes.new.items) }
+    ensures told { IfOk result (λ low.
+        AreHolesFrom (length t.now.routers) (next t.now entries.now down.now) first low holes.new.items) }
 {
     let low = interval_below(alloc, t, entries, past)?;
     tell_hole(alloc, t, entries, down, first, holes, (past - 1) as u32)?;

@@ -70,7 +70,8 @@ fn has_cycle(cycles: &[Cycle], routers: &[RouterId]) -> bool
 fn place_of(cycles: &[Cycle], cycle: &Cycle) -> usize
     ensures within { result ≤ length cycles.now }
     ensures before { (k : ℕ) (d : CycleIs) → k < result → IsTrue (is_before (slice_index_or cycles.now k d) cycle.now) }
-    ensures after { (d : CycleIs) → result < length cycles.now → is_before (slice_index_or cycles.now result d) cycle.now ≡ false }
+    ensures after { (d : CycleIs) → result < length cycles.now
+        → is_before (slice_index_or cycles.now result d) cycle.now ≡ false }
 {
     for (i, other) in cycles.iter().enumerate() {
         if !comes_before(other, cycle) {
@@ -83,7 +84,8 @@ fn place_of(cycles: &[Cycle], cycle: &Cycle) -> usize
 /// Puts a cycle in its place among others, none of which has its least address and its first router.
 fn put_cycle(cycles: &mut Vec<Cycle>, cycle: Cycle) -> Result<(), OutOfMemory>
     requires order { AreInOrder cycles.old.items }
-    requires other { (c : CycleIs) → Contains cycles.old.items c → c.least ≡ cycle.least → first_router c.routers ≡ first_router cycle.routers → ⊥ }
+    requires other { (c : CycleIs) → Contains cycles.old.items c → c.least ≡ cycle.least
+        → first_router c.routers ≡ first_router cycle.routers → ⊥ }
     ensures { OnOk result (IsPutAmong cycle cycles.old.items cycles.new.items) }
 {
     let place = place_of(cycles.as_slice(), &cycle);
@@ -165,7 +167,8 @@ fn tell_first(
     requires entries { All (IsEntryOf t.now) entries.now }
     requires first { first.0 < length t.now.routers }
     requires form { AreSomeCycles (next t.now entries.now down.now) cycles.old.items }
-    ensures { OnOk result (TellsCycles (next t.now entries.now down.now) first.0 (first.0 + 1) a cycles.old.items cycles.new.items) }
+    ensures { OnOk result (
+        TellsCycles (next t.now entries.now down.now) first.0 (first.0 + 1) a cycles.old.items cycles.new.items) }
 {
     let Some(routers) = cycle_from(alloc, t, entries, down, first, a)? else {
         return Ok(());
@@ -185,7 +188,8 @@ fn tell_address(
 ) -> Result<(), OutOfMemory>
     requires entries { All (IsEntryOf t.now) entries.now }
     requires form { AreSomeCycles (next t.now entries.now down.now) cycles.old.items }
-    ensures { OnOk result (TellsCycles (next t.now entries.now down.now) 0 (length t.now.routers) a cycles.old.items cycles.new.items) }
+    ensures { OnOk result (
+        TellsCycles (next t.now entries.now down.now) 0 (length t.now.routers) a cycles.old.items cycles.new.items) }
 {
     let mut left = t.router_count() as u16;
     while left > 0 {

@@ -53,7 +53,8 @@ pub(crate) fn plain_reach(
     requires from { IsSome (router_of t.now from.now) }
     requires to { IsSome (router_of t.now to.now) }
     requires entries { All (IsEntryOf t.now) entries.now }
-    ensures { IfOk result (λ answer. IsAnswerOf t.now (next t.now entries.now down.now) (Reach from.now to.now) answer) }
+    ensures { IfOk result (λ answer.
+        IsAnswerOf t.now (next t.now entries.now down.now) (Reach from.now to.now) answer) }
 {
     let test = Test::Reaches(known_router(t, from), known_router(t, to));
     let runs = plain_runs(alloc, t, entries, down, &test)?;
@@ -95,7 +96,8 @@ pub(crate) fn plain_waypoint(
     requires to { IsSome (router_of t.now to.now) }
     requires through { IsSome (router_of t.now through.now) }
     requires entries { All (IsEntryOf t.now) entries.now }
-    ensures { IfOk result (λ answer. IsAnswerOf t.now (next t.now entries.now down.now) (Waypoint from.now to.now through.now) answer) }
+    ensures { IfOk result (λ answer.
+        IsAnswerOf t.now (next t.now entries.now down.now) (Waypoint from.now to.now through.now) answer) }
 {
     let test = Test::Misses(
         known_router(t, from),

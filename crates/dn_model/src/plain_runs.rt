@@ -56,7 +56,8 @@ fn put_interval(
     requires entries { All (IsEntryOf t.now) entries.now }
     requires runs { AreRunsFrom past (passes (length t.now.routers) (next t.now entries.now down.now) test.now) runs.old.items }
     ensures lower { IfOk result (λ low. low < past) }
-    ensures told { IfOk result (λ low. AreRunsFrom low (passes (length t.now.routers) (next t.now entries.now down.now) test.now) runs.new.items) }
+    ensures told { IfOk result (λ low.
+        AreRunsFrom low (passes (length t.now.routers) (next t.now entries.now down.now) test.now) runs.new.items) }
 {
     let low = interval_below(alloc, t, entries, past)?;
     let last = (past - 1) as u32;
@@ -81,7 +82,8 @@ pub(crate) fn plain_runs(
     test: &Test,
 ) -> Result<List<Run>, OutOfMemory>
     requires { All (IsEntryOf t.now) entries.now }
-    ensures { IfOk result (λ runs. AreRuns runs (passes (length t.now.routers) (next t.now entries.now down.now) test.now)) }
+    ensures { IfOk result (λ runs.
+        AreRuns runs (passes (length t.now.routers) (next t.now entries.now down.now) test.now)) }
 {
     let mut runs = Vec::new(alloc);
     let mut past: u64 = 1 << 32;

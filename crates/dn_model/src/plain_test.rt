@@ -114,7 +114,8 @@ fn comes_to(
     to: RouterId,
     a: u32,
 ) -> Result<bool, OutOfMemory>
-    ensures { IfOk result (λ comes. comes ≡ reaches (length t.now.routers) (next t.now entries.now down.now) first to a) }
+    ensures { IfOk result (λ comes.
+        comes ≡ reaches (length t.now.routers) (next t.now entries.now down.now) first to a) }
 {
     let (routers, _end) = plain_walk(alloc, t, entries, down, first, a)?;
     Ok(is_among(routers.as_slice(), to))
@@ -129,7 +130,8 @@ fn misses_waypoint(
     routers: (RouterId, RouterId, RouterId),
     a: u32,
 ) -> Result<bool, OutOfMemory>
-    ensures { IfOk result (λ comes. comes ≡ misses (length t.now.routers) (next t.now entries.now down.now) routers.0 routers.1 routers.2 a) }
+    ensures { IfOk result (λ comes.
+        comes ≡ misses (length t.now.routers) (next t.now entries.now down.now) routers.0 routers.1 routers.2 a) }
 {
     let (first, to, through) = routers;
     let (routers, _end) = plain_walk(alloc, t, entries, down, first, a)?;
@@ -159,7 +161,8 @@ fn falls_at(
     hole: (RouterId, RouterId, Target),
     a: u32,
 ) -> Result<bool, OutOfMemory>
-    ensures { IfOk result (λ is. is ≡ falls (length t.now.routers) (next t.now entries.now down.now) hole.0 hole.1 hole.2 a) }
+    ensures { IfOk result (λ is.
+        is ≡ falls (length t.now.routers) (next t.now entries.now down.now) hole.0 hole.1 hole.2 a) }
 {
     let (first, last, cause) = hole;
     let (routers, end) = plain_walk(alloc, t, entries, down, first, a)?;

@@ -124,9 +124,11 @@ pub data Ruling : Type 0 where
 
 -- The first row that holds of a message decides; a message of which none holds says its route.
 abbrev pub message_rows : List (Ruling × (List ℕ → Bool))
-message_rows =
-    (Refuses BAD_LENGTH, λ m. nat_lt (length m) 16 || nat_lt (message_length m) 16
-    || nat_lt (length m) (message_length m))
+message_rows = (
+  Refuses BAD_LENGTH,
+  λ m. nat_lt (length m) 16 || nat_lt (message_length m) 16
+      || nat_lt (length m) (message_length m),
+)
     ∷ (Skips OtherType, λ m. not (is_set m || is_deletion m))
     ∷ (Refuses SHORT, λ m. nat_lt (message_length m) 28)
     ∷ (Skips OtherFamily, λ m. not (family m == 2))
@@ -138,8 +140,11 @@ message_rows =
     ∷ (Refuses HOST_BITS, λ m. not ((prefix_of m).base % 2 ^ (32 - prefix_length m) == 0))
     ∷ (Refuses ROUTE_TYPE, λ m. is_set m && is_none (kind_of (route_type m)))
     ∷ (Refuses MULTIPATH, λ m. is_set m && has rta_multipath (attributes m))
-    ∷ (Refuses ENCAP, λ m. is_set m
-    && (has rta_newdst (attributes m) || has rta_encap_type (attributes m) || has rta_encap (attributes m)))
+    ∷ (
+      Refuses ENCAP,
+      λ m. is_set m
+          && (has rta_newdst (attributes m) || has rta_encap_type (attributes m) || has rta_encap (attributes m)),
+    )
     ∷ (Refuses NEXT_HOP_ID, λ m. is_set m && has rta_nh_id (attributes m))
     ∷ (Refuses NO_INTERFACE, λ m. is_set m && route_type m == 1 && is_none (interface m))
     ∷ []

@@ -145,8 +145,11 @@ has_end ends end = list_any (λ other. same_end other end) ends
 abbrev pub top_causes : List (ℕ × (Members → Bool))
 top_causes =
     (UNKNOWN_KEY, has_key_besides is_top_key)
-    ∷ (MISSING_KEY, λ doc. is_none (list_at (codes "routers") doc) || is_none (list_or_none_at (codes "link") doc)
-    || is_none (list_or_none_at (codes "edge") doc))
+    ∷ (
+      MISSING_KEY,
+      λ doc. is_none (list_at (codes "routers") doc) || is_none (list_or_none_at (codes "link") doc)
+          || is_none (list_or_none_at (codes "edge") doc),
+    )
     ∷ []
 
 -- at an entry of `routers`, which so many entries and these names stand before
@@ -164,8 +167,11 @@ link_causes routers count names ends =
     (TOO_MANY, λ entry. nat_le 4096 count)
     ∷ (MISSING_KEY, λ entry. is_none (as_table entry))
     ∷ (UNKNOWN_KEY, λ entry. passes (has_key_besides is_link_key) (as_table entry))
-    ∷ (MISSING_KEY, λ entry. passes (λ ms. is_none (name_in ms) || is_none (ends_in ms)
-    || is_none (unnumbered_in ms)) (as_table entry))
+    ∷ (
+      MISSING_KEY,
+      λ entry. passes (λ ms. is_none (name_in ms) || is_none (ends_in ms)
+          || is_none (unnumbered_in ms)) (as_table entry),
+    )
     ∷ (BAD_NAME, λ entry. passes (λ name. not (is_name_text name)) (name_of_entry entry))
     ∷ (TWICE_NAMED, λ entry. passes (has_text names) (name_of_entry entry))
     ∷ (BAD_END, λ entry. is_none (ends_of_entry routers entry))

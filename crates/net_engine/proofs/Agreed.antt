@@ -43,7 +43,7 @@ agrees-same t old new r routes more rules targets g = record {
   targets = g.targets;
   ends = λ x h. ends-more old new x (g.table.prefixes x h) more (g.ends x h);
   owners = λ a l. let P : List Rule → Type 0 = λ rs. OwnersOf rs routes a in subst P (sym (rules a l)) (g.owners a l);
-  labels = λ a l. targets a l ∙ g.labels a l;
+  does = λ a l. targets a l ∙ g.does a l;
 }
 
 -- An update was made to a router's rules at the addresses that its prefix covers: there they are what it makes of those
@@ -67,12 +67,12 @@ module _ (t : Topology) (old new : List Atom) (r : RouterId) (op : Op) (routes m
       subst P (sym (made_at.other_rules a l c)) (owners-away (rules_at old r a) routes made op a c (g.owners a l) moved))
       (cases_Bool (covers (prefix_of_op op) a))
 
-  remade-labels : (a : ℕ) → a < 2 ^ 32 → target_at new r a ≡ target_in made a
-  remade-labels a l = ⊎_elim
+  remade-does : (a : ℕ) → a < 2 ^ 32 → target_at new r a ≡ target_in made a
+  remade-does a l = ⊎_elim
       (λ (c : covers (prefix_of_op op) a ≡ true).
       let w : (top : Option Rule) × IsTop (rules_at new r a) top × (target_at new r a ≡ target_of_rule top) = made_at.follows a l c in
       w.2 ∙ top-target (rules_at new r a) made a w.0 remade-table (remade-owners a l) w.1)
-      (λ (c : covers (prefix_of_op op) a ≡ false). made_at.other_targets a l c ∙ g.labels a l ∙ sym (target-away routes made op a remade-table c moved))
+      (λ (c : covers (prefix_of_op op) a ≡ false). made_at.other_targets a l c ∙ g.does a l ∙ sym (target-away routes made op a remade-table c moved))
       (cases_Bool (covers (prefix_of_op op) a))
 
   more : BeginMore old new
@@ -93,5 +93,5 @@ module _ (t : Topology) (old new : List Atom) (r : RouterId) (op : Op) (routes m
         set-ends
         x (Contains-permutation made (after_op routes op) x moved h);
     owners = remade-owners;
-    labels = remade-labels;
+    does = remade-does;
   }

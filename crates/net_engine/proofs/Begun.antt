@@ -56,7 +56,7 @@ none-agree t r = record {
   targets = λ x h. absurd (contains-none x h);
   ends = λ x h. absurd (contains-none x h);
   owners = λ a l. let P : List Rule → Type 0 = λ rs. OwnersOf rs [] a in subst P (sym (first-rules (length t.routers) r a l)) (none-owned a);
-  labels = λ a l. first-target (length t.routers) r a l;
+  does = λ a l. first-target (length t.routers) r a l;
 }
 
 pub first-whole : (t : Topology) → length t.routers ≤ 1024 → IsWhole (first_kept t)

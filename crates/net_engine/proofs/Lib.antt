@@ -5,7 +5,7 @@ pub mod Begun
 pub mod Crossing
 pub mod Cutting
 pub mod Held
-pub mod Labelled
+pub mod RowsOfAtoms
 pub mod Making
 pub mod Moving
 pub mod Owned

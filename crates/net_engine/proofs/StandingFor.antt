@@ -43,37 +43,37 @@ boundary-after history e a =
     ap (λ b. eqb a 0 || b) (list_any-append (sets_end a) history (e ∷ []))
     ∙ or-pushed (eqb a 0) (list_any (sets_end a) history) (sets_end a e)
 
--- ---- labels
+-- ---- rows
 
--- the row of an address is the label of its atom
-pub label-of_atom : (xs : List Atom) (a : ℕ) → forwarding_at (forwarding_of xs) a ≡ option_map (λ (x : Atom). x.row) (atom_at xs a)
-label-of_atom [] a = refl
-label-of_atom (x ∷ xs) a = ⊎_elim
+-- the row of an address is that of its atom
+pub row-of_atom : (xs : List Atom) (a : ℕ) → forwarding_at (forwarding_of xs) a ≡ option_map (λ (x : Atom). x.row) (atom_at xs a)
+row-of_atom [] a = refl
+row-of_atom (x ∷ xs) a = ⊎_elim
     (λ (t : is_within x.row.low x.row.past a ≡ true).
     holder-first row_low row_past x.row (forwarding_of xs) a t ∙ sym (ap (option_map (λ (z : Atom). z.row)) (holder-first first_of past_of x xs a t)))
     (λ (f : is_within x.row.low x.row.past a ≡ false).
-    holder-rest row_low row_past x.row (forwarding_of xs) a f ∙ label-of_atom xs a ∙ sym (ap (option_map (λ (z : Atom). z.row)) (holder-rest first_of past_of x xs a f)))
+    holder-rest row_low row_past x.row (forwarding_of xs) a f ∙ row-of_atom xs a ∙ sym (ap (option_map (λ (z : Atom). z.row)) (holder-rest first_of past_of x xs a f)))
     (cases_Bool (is_within x.row.low x.row.past a))
 
 -- what the rows show is what the atoms do
 pub does-row : (xs : List Atom) (r : RouterId) (a : ℕ) → does (forwarding_of xs) r a ≡ target_at xs r a
-does-row xs r a = ap (λ o. target_in_row o r) (label-of_atom xs a) ∙ by (atom_at xs a)
+does-row xs r a = ap (λ o. target_in_row o r) (row-of_atom xs a) ∙ by (atom_at xs a)
   where
     by : (o : Option Atom) → target_in_row (option_map (λ (x : Atom). x.row) o) r ≡ target_in_atom o r
     by None = refl
     by (Some x) = refl
 
-labels-cover : (start : ℕ) (xs : List Atom) → CoverFrom first_of past_of start xs → CoverFrom row_low row_past start (forwarding_of xs)
-labels-cover start [] h = h
-labels-cover start (x ∷ xs) h = (h.0, h.1, labels-cover (past_of x) xs h.2)
+rows-cover : (start : ℕ) (xs : List Atom) → CoverFrom first_of past_of start xs → CoverFrom row_low row_past start (forwarding_of xs)
+rows-cover start [] h = h
+rows-cover start (x ∷ xs) h = (h.0, h.1, rows-cover (past_of x) xs h.2)
 
 -- where routers go on to those that there are, at each address from where the atoms start
 abbrev LeadWithin : ℕ → ℕ → List Atom → Type 0
 LeadWithin routers start xs = (r s : RouterId) (l : LinkId) (a : ℕ) → start ≤ a → a < 2 ^ 32 → target_at xs r a ≡ To s l → s.0 < routers
 
-each-labels : (routers start : ℕ) (xs : List Atom) → CoverFrom first_of past_of start xs → AreWide routers xs → LeadWithin routers start xs → AreEachForwarding routers (forwarding_of xs)
-each-labels routers start [] h wide lead = tt
-each-labels routers start (x ∷ xs) h wide lead =
+each-forwarding : (routers start : ℕ) (xs : List Atom) → CoverFrom first_of past_of start xs → AreWide routers xs → LeadWithin routers start xs → AreEachForwarding routers (forwarding_of xs)
+each-forwarding routers start [] h wide lead = tt
+each-forwarding routers start (x ∷ xs) h wide lead =
     let begins : first_of x ≡ start = h.0 in
     let order : first_of x < past_of x = h.1 in
     let ends : past_of x ≤ 2 ^ 32 = starts-below first_of past_of (past_of x) xs h.2 in
@@ -84,7 +84,7 @@ each-labels routers start (x ∷ xs) h wide lead =
     } in
     let rest : LeadWithin routers (past_of x) xs = λ r s l a from below e.
     lead r s l a (omega arith) below (ap (λ o. target_in_atom o r) (holder-rest first_of past_of x xs a (within-above (first_of x) (past_of x) a from)) ∙ e) in
-    (here, each-labels routers (past_of x) xs h.2 wide.1 rest)
+    (here, each-forwarding routers (past_of x) xs h.2 wide.1 rest)
 
 -- a router that there isn't has no route
 pub target-past : (routers : ℕ) (xs : List Atom) (r : RouterId) (a : ℕ) → AreWide routers xs → routers ≤ r.0 → target_at xs r a ≡ NoRoute
@@ -102,16 +102,16 @@ module _ (kept : Kept) (whole : IsWhole kept) where
   lead-within r s l a from below e = ⊎_elim
       (λ (i : r.0 < length kept.topology.routers).
       let g : Agrees kept.topology kept.atoms r (get_or kept.routes r.0 []) = whole.agree r i in
-      within-best kept.topology (get_or kept.routes r.0 []) a (best (get_or kept.routes r.0 []) a) s l g.targets (best-is (get_or kept.routes r.0 []) a) (sym (g.labels a below) ∙ e))
+      within-best kept.topology (get_or kept.routes r.0 []) a (best (get_or kept.routes r.0 []) a) s l g.targets (best-is (get_or kept.routes r.0 []) a) (sym (g.does a below) ∙ e))
       (λ (o : length kept.topology.routers ≤ r.0). absurd (no-route-to s l (sym (target-past (length kept.topology.routers) kept.atoms r a whole.wide o) ∙ e)))
       (cases_lt r.0 (length kept.topology.routers))
 
-  -- the atoms' labels are labels
-  pub are-labels : AreForwarding (length kept.topology.routers) (forwarding_of kept.atoms)
-  are-labels = record {
+  -- the atoms' rows are rows of forwarding
+  pub are-forwarding : AreForwarding (length kept.topology.routers) (forwarding_of kept.atoms)
+  are-forwarding = record {
     few = whole.few;
-    cover = labels-cover 0 kept.atoms whole.cover;
-    each = each-labels (length kept.topology.routers) 0 kept.atoms whole.cover whole.wide lead-within;
+    cover = rows-cover 0 kept.atoms whole.cover;
+    each = each-forwarding (length kept.topology.routers) 0 kept.atoms whole.cover whole.wide lead-within;
   }
 
   -- ---- what is kept stands for a history whose tables and boundaries it has
@@ -131,7 +131,7 @@ module _ (kept : Kept) (whole : IsWhole kept) where
     does-after r a below = ⊎_elim
         (λ (i : r.0 < length kept.topology.routers).
         let g : Agrees kept.topology kept.atoms r (get_or kept.routes r.0 []) = whole.agree r i in
-        g.labels a below ∙ same-target kept.topology (get_or kept.routes r.0 []) history r a g.table (same r))
+        g.does a below ∙ same-target kept.topology (get_or kept.routes r.0 []) history r a g.table (same r))
         (λ (o : length kept.topology.routers ≤ r.0). target-past (length kept.topology.routers) kept.atoms r a whole.wide o ∙ past-target r a o)
         (cases_lt r.0 (length kept.topology.routers))
 
@@ -146,7 +146,7 @@ module _ (kept : Kept) (whole : IsWhole kept) where
 
     pub stands : ((a : ℕ) → a < 2 ^ 32 → begins_at kept.atoms a ≡ is_boundary_after history a) → KeptStandsFor kept history
     stands boundaries = record {
-      rows = record { form = are-labels; exact = λ r a l. does-row kept.atoms r a ∙ does-after r a l };
+      rows = record { form = are-forwarding; exact = λ r a l. does-row kept.atoms r a ∙ does-after r a l };
       routes = λ r. permutation-same (get_or kept.routes r.0 []) (table kept.topology history r) (kept-keys r) (table-keys kept.topology history r) (same r);
       owners = λ r a i below. owners-same (rules_at kept.atoms r a) (get_or kept.routes r.0 []) (table kept.topology history r) a (same r) ((whole.agree r i).owners a below);
       boundaries = boundaries;

@@ -25,7 +25,7 @@ pub record Agrees (t : Topology) (atoms : List Atom) (r : RouterId) (routes : Li
   pub targets : (x : Route) → Contains routes x → IsTargetOf t x.target
   pub ends : (x : Route) → Contains routes x → HasEnds atoms x
   pub owners : (a : ℕ) → a < 2 ^ 32 → OwnersOf (rules_at atoms r a) routes a
-  pub labels : (a : ℕ) → a < 2 ^ 32 → target_at atoms r a ≡ target_in routes a
+  pub does : (a : ℕ) → a < 2 ^ 32 → target_at atoms r a ≡ target_in routes a
 
 pub record IsWhole (kept : Kept) : Type 0 where
   pub few : length kept.topology.routers ≤ 1024

@@ -6,7 +6,10 @@ ghost use Rattle.dn_model.specs.declared.topology.Topology.{Topology as Topology
 
 use super::Version;
 use delta_graph::Delta;
-use dn_model::{Change, Entry, List, Name, Op, OutOfMemory, Prefix, RouterId, Run, Target, Topology, plain_routes, plain_target};
+use dn_model::{
+    Change, Entry, List, Name, Op, OutOfMemory, Prefix, RouterId, Run, Target, Topology,
+    plain_routes, plain_target,
+};
 use label_view::LabelView;
 use std::alloc::Global;
 use std::sync::Arc;

@@ -148,6 +148,23 @@ fn without_b(alloc: Global, ask: Ask) -> Result<Query, Fail>
     Ok(Query::new(down, ask))
 }
 
+/// Which addresses from r1 come to r3 without the link b.
+fn reach_without_b(alloc: Global, entries: &[Entry]) -> Result<List<Run>, Fail> {
+    let question = Ask::Reach(named(alloc, b"r1")?, named(alloc, b"r3")?);
+    let query = without_b(alloc, question)?;
+    runs_in(answer_to(alloc, entries, &query)?)
+}
+
+/// Where addresses from r1 vanish without the link b.
+fn holes_without_b(alloc: Global, entries: &[Entry]) -> Result<List<Hole>, Fail> {
+    let question = Ask::Blackholes(named(alloc, b"r1")?);
+    let query = without_b(alloc, question)?;
+    match answer_to(alloc, entries, &query)? {
+        Answer::Holes(holes) => Ok(holes),
+        _ => Err(Fail::from("no holes")),
+    }
+}
+
 /// Whether a cycle is of r1 and r2, with this least address and so many addresses.
 fn is_of_two(cycle: &Cycle, least: u32, addresses: u64) -> bool {
     cycle.routers.as_slice() == [RouterId(0), RouterId(1)].as_slice()
@@ -158,6 +175,17 @@ fn is_of_two(cycle: &Cycle, least: u32, addresses: u64) -> bool {
 /// Whether a hole is at this router, by this cause, with these runs.
 fn is_hole(hole: &Hole, router: u16, cause: Target, runs: &[Run]) -> bool {
     hole.router.0 == router && hole.cause == cause && hole.runs.as_slice() == runs
+}
+
+#[test]
+fn a_path_of_three_routers(rt: HostRuntime) -> Result<(), Fail> {
+    let question = Ask::Path(named(rt.alloc(), b"r1")?, 0x0A00_0000);
+    let Answer::Path { hops, end } = ask(rt.alloc(), &history()[..3], question)? else {
+        return Err(Fail::from("no path"));
+    };
+    assert!(rt; hops.as_slice() == [RouterId(0), RouterId(1), RouterId(2)].as_slice());
+    assert_eq!(rt; end, PathEnd::At(Target::Exit(1)));
+    Ok(())
 }
 
 #[test]
@@ -277,18 +305,14 @@ fn addresses_on_a_segment_go_no_further(rt: HostRuntime) -> Result<(), Fail> {
 }
 
 #[test]
+fn a_link_down_is_on_no_way(rt: HostRuntime) -> Result<(), Fail> {
+    assert!(rt; reach_without_b(rt.alloc(), &history()[..3])?.is_empty());
+    Ok(())
+}
+
+#[test]
 fn a_link_down_is_a_hole(rt: HostRuntime) -> Result<(), Fail> {
-    let history = history();
-    let query = without_b(
-        rt.alloc(),
-        Ask::Reach(named(rt.alloc(), b"r1")?, named(rt.alloc(), b"r3")?),
-    )?;
-    let runs = runs_in(answer_to(rt.alloc(), &history[..3], &query)?)?;
-    assert!(rt; runs.is_empty());
-    let query = without_b(rt.alloc(), Ask::Blackholes(named(rt.alloc(), b"r1")?))?;
-    let Answer::Holes(holes) = answer_to(rt.alloc(), &history[..3], &query)? else {
-        return Err(Fail::from("no holes"));
-    };
+    let holes = holes_without_b(rt.alloc(), &history()[..3])?;
     let [first, second] = holes.as_slice() else {
         return Err(Fail::from("two holes"));
     };

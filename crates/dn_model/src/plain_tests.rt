@@ -3,7 +3,7 @@
 ghost use Rattle.std.specs.Prelude.{◌≡◌, IfOk, length};
 
 use super::*;
-use crate::test_network::{are_entries_of, clear, network, set};
+use crate::test_network::{clear, set};
 use std::alloc::Global;
 use std::test::Fail;
 
@@ -110,30 +110,5 @@ fn a_walk_that_loops(rt: HostRuntime) -> Result<(), Fail> {
     let (routers, end) = plain_walk(rt.alloc(), &t, &history, &[], RouterId(0), 0x0B00_0000)?;
     assert!(rt; routers.as_slice() == [RouterId(0)].as_slice());
     assert_eq!(rt; end, PathEnd::At(Target::NoRoute));
-    Ok(())
-}
-
-#[test]
-fn a_path_query(rt: HostRuntime) -> Result<(), Fail> {
-    let t = network(rt.alloc())?;
-    let history = [
-        set(0, ten(), 0, Target::To(RouterId(1), LinkId(0))),
-        set(1, ten_one(), 0, Target::Local),
-    ];
-    let query = Query::of(
-        rt.alloc(),
-        Ask::Path(Name::from_text(rt.alloc(), b"r1")?, 0x0A01_0007),
-    );
-    if !are_entries_of(&t, &history) {
-        return Err(Fail::from("the entries are of the network"));
-    }
-    if query.unknown(&t).is_some() {
-        return Err(Fail::from("r1 is known"));
-    }
-    let Answer::Path { hops, end } = plain_answer(rt.alloc(), &t, &history, &query)? else {
-        return Err(Fail::from("no path"));
-    };
-    assert!(rt; hops.as_slice() == [RouterId(0), RouterId(1)].as_slice());
-    assert_eq!(rt; end, PathEnd::At(Target::Local));
     Ok(())
 }

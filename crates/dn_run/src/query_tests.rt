@@ -71,12 +71,10 @@ fn answers_over(
 
 /// What stands in a text after the first `head` and before the `tail` at its end; nothing where it has no such parts.
 fn between<'a>(text: &'a [u8], head: &[u8], tail: &[u8]) -> &'a [u8] {
-    let mut rest = text;
-    while let [_, after @ ..] = rest {
-        if let Some(found) = rest.strip_prefix(head) {
+    for at in 0..text.len() {
+        if let Some(found) = text[at..].strip_prefix(head) {
             return found.strip_suffix(tail).unwrap_or(&[]);
         }
-        rest = after;
     }
     &[]
 }
@@ -188,7 +186,7 @@ fn queries_before_any_update_and_of_unknown_names(rt: HostRuntime) -> Result<(),
     let got = answers_over(alloc, RING, [&[], &[], &[]], script)?;
     assert_eq!(rt;
         got.as_slice(),
-        b"line 1 at 0 loops\nnone\nline 2 at 0 delta\nnone\nline 3 at 0 blackholes r1\nat r1 noroute\n0.0.0.0-255.255.255.255\nline 4 reach r1 r9\nunknown router r9\nline 5 without z reach r9 r1\nunknown link z\nline 6 at 0 uses b\nfrom r2\nnone\nfrom r3\nnone\n".as_slice()
+        b"line 1 at 0 loops\nnone\nline 2 at 0 delta\nnone\nline 3 at 0 blackholes r1\nat r1 noroute\n0.0.0.0-255.255.255.255\nline 4 reach r1 r9\nunknown router r9\nline 5 without z reach r9 r1\nunknown link z\nline 6 at 0 uses b\nfrom r2\nnone\nfrom r3\nnone\njob 2\njob 3\njob 4\n".as_slice()
     );
     Ok(())
 }

@@ -1,0 +1,5 @@
+pub mod Carried
+pub mod Ends
+pub mod Histories
+pub mod Keeps
+pub mod SeatsKept

@@ -1,10 +1,12 @@
 -- Beginnings of one history, and the entries that bear a number.
-use Rattle.std.proofs.Common.{◌≡◌, ℕ, ◌≤◌, List, [], ◌∷◌, ◌++◌, length, refl, ap, sym, ◌∙◌, arith, append_assoc}
-use Rattle.std.specs.Prelude.{◌==◌}
+use Rattle.std.proofs.Common.{◌≡◌, ℕ, ◌≤◌, Bool, true, false, List, [], ◌∷◌, ◌++◌, length, refl, ap, sym, ◌∙◌, arith, append_assoc}
+use Rattle.std.specs.Prelude.{◌==◌, cond, nat_le}
+use Rattle.std.proofs.lemmas.Bool.Decides.{nat_tests}
 use Rattle.std.proofs.lemmas.List.Elements.{filter-append}
 use mathlib.Core.List.{IsPrefix}
 use Rattle.dn_model.specs.declared.entry.Posted.{Posted}
 use Rattle.version_lock.specs.History.{posted_by}
+use Rattle.version_lock.specs.Rule.{longer}
 
 -- each list begins with itself
 pub prefix_self : {A : Type 0} (xs : List A) → IsPrefix xs xs
@@ -58,3 +60,20 @@ same_between n xs ys zs p q same =
     append_none : (a : List Posted) → a ++ [] ≡ a
     append_none [] = refl
     append_none (x ∷ a) = ap (λ w. x ∷ w) (append_none a)
+
+by_length : (b : Bool) (P : List Posted → Type 0) (xs ys : List Posted) → (b ≡ true → P ys) → (b ≡ false → P xs) → P (cond b ys xs)
+by_length true P xs ys fits over = fits refl
+by_length false P xs ys fits over = over refl
+
+-- the longer of two lists is one of them
+pub longer_is : (P : List Posted → Type 0) (xs ys : List Posted) → P xs → P ys → P (longer xs ys)
+longer_is P xs ys p q = by_length (nat_le (length xs) (length ys)) P xs ys (λ _. q) (λ _. p)
+
+-- of two beginnings of one list each begins the longer
+pub longer_begins_left : (xs ys zs : List Posted) → IsPrefix xs zs → IsPrefix ys zs → IsPrefix xs (longer xs ys)
+longer_begins_left xs ys zs p q = by_length (nat_le (length xs) (length ys)) (λ l. IsPrefix xs l) xs ys
+    (λ le. prefix_shorter xs ys zs p q (grind (arith, nat_tests))) (λ _. prefix_self xs)
+
+pub longer_begins_right : (xs ys zs : List Posted) → IsPrefix xs zs → IsPrefix ys zs → IsPrefix ys (longer xs ys)
+longer_begins_right xs ys zs p q = by_length (nat_le (length xs) (length ys)) (λ l. IsPrefix ys l) xs ys
+    (λ _. prefix_self ys) (λ lt. prefix_shorter ys xs zs q p (grind (arith, nat_tests)))

@@ -1,7 +1,7 @@
 -- What a seat is after a call that worked with its view.
-use Rattle.std.proofs.Common.{◌≡◌, ℕ, ◌+◌, ◌<◌, false, List, [], ◌∷◌, ◌++◌, length, sym, refl, ap, ◌∙◌, subst, arith, length-append, eq-eqb, ne_eqb}
+use Rattle.std.proofs.Common.{◌≡◌, ℕ, ◌+◌, ◌-◌, ◌<◌, false, List, [], ◌∷◌, ◌++◌, length, sym, refl, ap, ◌∙◌, subst, arith, length-append, eq-eqb, ne_eqb}
 use Rattle.std.specs.Prelude.{Option, Result, Ok, Err, IfOk, OnOk, Contains, ◌==◌}
-use Rattle.std.proofs.lemmas.List.Elements.{filter-append}
+use Rattle.std.proofs.lemmas.List.Elements.{filter-append, Contains-append_left}
 use mathlib.Core.List.{IsPrefix}
 use Rattle.atomic_table.specs.Table.{Me}
 use Rattle.atomic_table.specs.declared.badge.Badge.{Badge}
@@ -12,10 +12,12 @@ use Rattle.version_lock.specs.declared.seat.Seat.TheInside.{Inside}
 use Rattle.version_lock.specs.declared.view.View.{View}
 use Rattle.version_lock.specs.Callers.{Caller, Applied, caller_of, posted_of, view_in}
 use Rattle.version_lock.specs.History.{posted_by, HasSameOf}
+use Rattle.version_lock.specs.Rule.{joined, keeps_lower, has_upper, upper_of, numbers_of}
 use Rattle.version_lock.specs.Seats.{IsSeat, caller_at}
-use Rattle.version_lock.specs.Steps.{holding, having_seen, without_turn}
+use Rattle.version_lock.specs.Steps.{holding, having_seen, without_turn, without_olds}
 use Rattle.version_lock.specs.Tokens.{HasSameNumbers}
 use Rattle.version_lock.proofs.Histories.{prefix_trans}
+use Rattle.version_lock.proofs.Numbers.{first_of}
 
 -- the view of a seat is the one that its badge had
 pub view_was : (old : Inside) (v : View) → IsSeat old → old.badge.views ≡ v ∷ [] → view_in old.badge.views ≡ v
@@ -96,3 +98,56 @@ applied_after {B} old seat badge v held m h (Ok p) entry limit is view had holds
     let done : Applied entry limit before new p = applied_is (Ok p) entry limit before new h (subst (λ (x : View). Contains x.used x.first) was is.uses_number) first own ends
     (position ∙ ap (λ (l : List Posted). length l + 1) seen_h) (subst (λ (l : List Posted). length l < limit) seen_h room) in
     subst (λ (z : Caller). Applied entry limit z new p) seat_is done
+
+-- a seat that took another in is a seat again
+pub seat_joined : (old : Inside) (badge : Badge View) (v o w : View) → IsSeat old → old.badge.views ≡ v ∷ [] → badge.views ≡ w ∷ [] → w ≡ without_olds (joined v o)
+    → IsSeat record { badge = badge; number = old.number; span = old.span }
+seat_joined old badge v o w is had has joins =
+    let was : view_in old.badge.views ≡ v = ap view_in had in
+    let now : view_in badge.views ≡ without_olds (joined v o) = ap view_in has ∙ joins in
+    record {
+      one = has ∙ ap (λ (x : View). x ∷ []) (sym (ap view_in has));
+      number_is = is.number_is ∙ (ap (λ (x : View). x.first) was ∙ sym (ap (λ (x : View). x.first) now));
+      span_is = is.span_is ∙ (ap (λ (x : View). x.span) was ∙ sym (ap (λ (x : View). x.span) now));
+      some_number = is.some_number;
+      in_range = is.in_range;
+      uses_number = subst (λ (x : View). Contains x.used x.first) (sym now)
+          (Contains-append_left v.used (numbers_of o.first o.span o.used) v.first (subst (λ (x : View). Contains x.used x.first) was is.uses_number));
+      no_turn = ap (λ (x : View). x.turn) now ∙ (ap (λ (x : View). x.turn) (sym was) ∙ is.no_turn);
+    }
+
+-- a seat that gave numbers away is a seat again
+pub seat_lower : (old : Inside) (badge : Badge View) (v w : View) (count : ℕ) → IsSeat old → old.badge.views ≡ v ∷ [] → badge.views ≡ w ∷ [] → w ≡ keeps_lower count v
+    → count < old.span → IsSeat record { badge = badge; number = old.number; span = old.span - count }
+seat_lower old badge v w count is had has keeps fewer =
+    let was : view_in old.badge.views ≡ v = ap view_in had in
+    let now : view_in badge.views ≡ keeps_lower count v = ap view_in has ∙ keeps in
+    let range = is.in_range in
+    record {
+      one = has ∙ ap (λ (x : View). x ∷ []) (sym (ap view_in has));
+      number_is = is.number_is ∙ (ap (λ (x : View). x.first) was ∙ sym (ap (λ (x : View). x.first) now));
+      span_is = ap (λ (n : ℕ). n - count) (is.span_is ∙ ap (λ (x : View). x.span) was) ∙ sym (ap (λ (x : View). x.span) now);
+      some_number = omega arith;
+      in_range = omega arith;
+      uses_number = subst (λ (x : View). Contains x.used x.first) (sym now) (subst (λ (x : View). Contains x.used x.first) was is.uses_number);
+      no_turn = ap (λ (x : View). x.turn) now ∙ (ap (λ (x : View). x.turn) (sym was) ∙ is.no_turn);
+    }
+
+-- the numbers that were given away make a seat
+pub seat_upper : (old : Inside) (badge : Badge View) (v w : View) (count : ℕ) → IsSeat old → old.badge.views ≡ v ∷ [] → badge.views ≡ w ∷ []
+    → w ≡ without_olds (has_upper count v) → 0 < count → count < old.span → IsSeat record { badge = badge; number = old.number + (old.span - count); span = count }
+seat_upper old badge v w count is had has given some_number fewer =
+    let was : view_in old.badge.views ≡ v = ap view_in had in
+    let now : view_in badge.views ≡ without_olds (has_upper count v) = ap view_in has ∙ given in
+    let range = is.in_range in
+    let first : old.number ≡ v.first = is.number_is ∙ ap (λ (x : View). x.first) was in
+    let span : old.span ≡ v.span = is.span_is ∙ ap (λ (x : View). x.span) was in
+    record {
+      one = has ∙ ap (λ (x : View). x ∷ []) (sym (ap view_in has));
+      number_is = (λ i. first i + (span i - count)) ∙ sym (ap (λ (x : View). x.first) now);
+      span_is = sym (ap (λ (x : View). x.span) now);
+      some_number = some_number;
+      in_range = omega arith;
+      uses_number = subst (λ (x : View). Contains x.used x.first) (sym now) (first_of (upper_of count v) []);
+      no_turn = ap (λ (x : View). x.turn) now;
+    }

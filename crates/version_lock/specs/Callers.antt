@@ -1,5 +1,5 @@
 -- What contracts see of a lock, a seat and a note.
-use Rattle.std.specs.Prelude.{ℕ, ◌≡◌, ◌≢◌, ◌+◌, ◌<◌, ◌≤◌, ◌⊎◌, List, [], ◌∷◌, ◌++◌, length, Contains, Option, Some}
+use Rattle.std.specs.Prelude.{ℕ, ◌≡◌, ◌≢◌, ◌+◌, ◌-◌, ◌<◌, ◌≤◌, ◌⊎◌, List, [], ◌∷◌, ◌++◌, length, Contains, Option, Some}
 use mathlib.Core.List.{IsPrefix}
 use Rattle.atomic_table.specs.Seated.{TableId}
 use Rattle.dn_model.specs.declared.entry.Entry.{Entry}
@@ -7,7 +7,7 @@ use Rattle.dn_model.specs.declared.entry.Posted.{Posted}
 use Rattle.version_lock.specs.declared.view.Setup.{Setup}
 use Rattle.version_lock.specs.declared.view.View.{View}
 use Rattle.version_lock.specs.History.{posted_by, HasSameOf}
-use Rattle.version_lock.specs.Rule.{spent_view}
+use Rattle.version_lock.specs.Rule.{spent_view, numbers_of}
 
 -- a lock: which it is, its book's basis and how many numbers there are
 pub record Lock : Type 0 where
@@ -51,6 +51,19 @@ IsNoteOf lock note = (note.table ≡ lock.table) × (note.setup ≡ Some lock.se
 -- the first seat of a lock: it has every number, uses 0, and has seen nothing
 abbrev pub first_seat : Lock → Caller
 first_seat lock = record { table = lock.table; setup = Some lock.setup; number = 0; span = lock.setup.seats; used = 0 ∷ []; seen = [] }
+
+-- every number of a seat: those that it uses, and those of its span
+abbrev pub numbers : Caller → List ℕ
+numbers seat = numbers_of seat.number seat.span seat.used
+
+-- a note of what a seat has seen
+abbrev pub note_by : Caller → Noted
+note_by seat = record { table = seat.table; setup = seat.setup; seen = seat.seen }
+
+-- a new seat that has the upper numbers of this one's span, and has seen as much
+abbrev pub upper_seat : ℕ → Caller → Caller
+upper_seat count seat = let first = seat.number + (seat.span - count) in
+    record { table = seat.table; setup = seat.setup; number = first; span = count; used = first ∷ []; seen = seat.seen }
 
 -- nothing of a seat but what it has seen is another
 abbrev pub IsSameSeat : Caller → Caller → Type 0

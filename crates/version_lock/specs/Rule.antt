@@ -81,9 +81,9 @@ has_upper count v = record {
   turn = false;
 }
 
--- every number of a view: those that are used, and the rest of its span
+-- every number of a view: those that it uses, and those of its span
 abbrev pub numbers_of : ℕ → ℕ → List ℕ → List ℕ
-numbers_of first span used = used ++ numbers_from (suc first) (span - 1)
+numbers_of first span used = used ++ numbers_from first span
 
 -- the longer of two lists
 abbrev pub longer : List Posted → List Posted → List Posted

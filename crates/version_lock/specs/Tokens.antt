@@ -30,3 +30,7 @@ pub record HasSameNumbers (old new : View) : Type 0 where
 -- the seat has neither the turn nor a slot, and the numbers that it had
 abbrev pub IsFreed : {B : Type 0} → Seat (Option B) View → Seat (Option B) View → Type 0
 IsFreed old new = (new.me.0.turn ≡ false) × (new.me.1 ≡ []) × HasSameNumbers old.me.0 new.me.0
+
+-- the seat has neither the turn nor a slot
+abbrev pub IsFree : {B : Type 0} → Seat (Option B) View → Type 0
+IsFree token = (token.me.0.turn ≡ false) × (token.me.1 ≡ [])

@@ -6,6 +6,7 @@
 
 mod book;
 mod lock;
+mod parts;
 mod plays;
 mod seat;
 mod turn;

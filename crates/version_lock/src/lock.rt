@@ -1,19 +1,22 @@
 //! The lock.
 
-ghost use Rattle.std.specs.Prelude.{◌≡◌, ◌<◌, ℕ, [], All, Contains, IfOk, IfErr, OnErr};
+ghost use Rattle.std.specs.Prelude.{◌≡◌, ◌-◌, ◌<◌, ◌++◌, ℕ, [], All, Contains, IfOk, IfErr, OnErr};
 ghost use mathlib.Core.List.{IsPrefix};
 ghost use Rattle.dn_model.specs.Entry.{IsEntryOf};
-ghost use Rattle.version_lock.specs.Callers.{IsSeatOf, HasNumber, IsSameSeat, KeepsOwn, Applied, first_seat};
-ghost use Rattle.version_lock.specs.History.{IsRefusedAt};
+ghost use Rattle.version_lock.specs.Callers.{IsSeatOf, IsNoteOf, HasNumber, IsSameSeat, KeepsOwn, Applied, first_seat, note_by, upper_seat, numbers};
+ghost use Rattle.version_lock.specs.History.{IsRefusedAt, HasSameOf, posted_by};
+ghost use Rattle.version_lock.specs.Rule.{longer};
 
 use crate::book::{Book, Pinned, PostRefused};
-use crate::seat::Seat;
+use crate::parts::{give, take_in};
+use crate::plays::Notes;
+use crate::seat::{Note, Seat};
 use crate::turn::{BOOK, post_in, snap_in, take_book};
 use crate::view::{Desk, Opening, Token};
 use atomic_table::{Badge, Table};
 use dn_model::{Entry, OutOfMemory};
 use std::alloc::Global;
-use std::marker::Model;
+use std::marker::{Brand, Model};
 use std::mem;
 use std::snapshot::Snapshot;
 use std::sync::Wait;
@@ -101,6 +104,78 @@ impl<B: Book> VersionLock<B> {
         let snap = snap_in(board, &mut token, book);
         seat.badge = token.into_badge();
         Ok(Pinned { snap: snap? })
+    }
+
+    /// A note of what the seat has seen, which stays as it is.
+    pub fn note(&self, seat: &mut Seat) -> Note
+        requires lock { IsSeatOf self.now seat.old }
+        ensures note { result ≡ note_by seat.old }
+        ensures same { seat.new ≡ seat.old }
+    {
+        let mut token: Token<B> = mem::replace(&mut seat.badge, Badge::blank()).into_seat();
+        let told = self.desk.shared.split_seat::<Notes>(&mut token);
+        seat.badge = token.into_badge();
+        Note {
+            badge: told.into_badge(),
+        }
+    }
+
+    /// The seat has from now on seen what the note's had.
+    pub fn meet(&self, seat: &mut Seat, note: Note)
+        requires lock { IsSeatOf self.now seat.old }
+        requires note { IsNoteOf self.now note }
+        ensures same { IsSameSeat seat.old seat.new }
+        ensures seen { seat.new.seen ≡ longer seat.old.seen note.seen }
+        ensures mine { IsPrefix seat.old.seen seat.new.seen }
+        ensures told { IsPrefix note.seen seat.new.seen }
+        ensures own { KeepsOwn seat.old seat.new }
+    {
+        let mut token: Token<B> = mem::replace(&mut seat.badge, Badge::blank()).into_seat();
+        let Note { badge } = note;
+        let told: Token<B> = badge.into_seat();
+        take_in(&self.desk.shared, &mut token, told);
+        seat.badge = token.into_badge();
+    }
+
+    /// Gives the upper `count` numbers of the seat's span to a new seat, which has seen as much and has no entry yet.
+    pub fn split(&self, seat: &mut Seat, count: u32) -> Seat
+        requires lock { IsSeatOf self.now seat.old }
+        requires some_number { 0 < count }
+        requires fewer { count < seat.old.span }
+        ensures left { seat.new ≡ record seat.old { span = seat.old.span - count } }
+        ensures given { result ≡ upper_seat count seat.old }
+        ensures own { posted_by result.number result.seen ≡ [] }
+    {
+        let mut token: Token<B> = mem::replace(&mut seat.badge, Badge::blank()).into_seat();
+        let given = give::<B, Brand>(&self.desk.shared, &mut token, count);
+        seat.badge = token.into_badge();
+        seat.span -= count;
+        Seat {
+            badge: given.into_badge(),
+            number: seat.number + seat.span,
+            span: count,
+        }
+    }
+
+    /// Takes another seat in: all its numbers, and what it has seen. A number of it that no entry bears yet stays so.
+    pub fn join(&self, seat: &mut Seat, other: Seat)
+        requires lock { IsSeatOf self.now seat.old }
+        requires other { IsSeatOf self.now other }
+        ensures both { seat.new ≡ record seat.old { used = seat.old.used ++ numbers other; seen = longer seat.old.seen other.seen } }
+        ensures mine { IsPrefix seat.old.seen seat.new.seen }
+        ensures theirs { IsPrefix other.seen seat.new.seen }
+        ensures own { KeepsOwn seat.old seat.new }
+        ensures brought { HasSameOf (numbers other) other.seen seat.new.seen }
+    {
+        let mut token: Token<B> = mem::replace(&mut seat.badge, Badge::blank()).into_seat();
+        let Seat {
+            badge,
+            number: _,
+            span: _,
+        } = other;
+        let brought: Token<B> = badge.into_seat();
+        take_in(&self.desk.shared, &mut token, brought);
+        seat.badge = token.into_badge();
     }
 
     /// Gives the book back, to a seat that has every number. All of its history was seen by that seat, and each entry

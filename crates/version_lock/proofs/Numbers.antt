@@ -1,9 +1,11 @@
 -- The numbers of a seat.
-use Rattle.std.proofs.Common.{◌≡◌, ◌⊎◌, ℕ, zero, suc, ◌+◌, ◌<◌, ◌≤◌, List, [], ◌∷◌, ◌++◌, length, get_or, sym, refl, ap, ◌∙◌, inl, inr, ⊎_elim, arith}
+use Rattle.std.proofs.Common.{◌≡◌, ◌⊎◌, ℕ, zero, suc, ◌+◌, ◌-◌, ◌<◌, ◌≤◌, List, [], ◌∷◌, ◌++◌, length, get_or, sym, refl, ap, ◌∙◌, subst, inl, inr, ⊎_elim, arith}
 use Rattle.std.specs.Prelude.{Contains}
 use Rattle.std.proofs.lemmas.List.Elements.{Contains-append_left, Contains-append_right, Contains-append_cases}
 use mathlib.Core.Logic.{dite}
-use native.Mathlib.Decide.{ℕ_discrete}
+use native.Mathlib.Decide.{ℕ_discrete, dec_le}
+use Rattle.dn_model.specs.declared.entry.Posted.{Posted}
+use Rattle.version_lock.specs.Callers.{Caller, HasNumber, IsSameSeat, numbers, upper_seat}
 use Rattle.version_lock.specs.Rule.{numbers_from, numbers_of}
 
 -- a number that is used, or stands in the span
@@ -45,3 +47,22 @@ range_of first span used n c = ⊎_elim (λ c. inl c) (λ c. inr (in_range first
 pub has_all : (first span : ℕ) (used : List ℕ) (n : ℕ) → HasNumberIn first span used n → Contains (numbers_of first span used) n
 has_all first span used n has = ⊎_elim (Contains-append_left used (numbers_from first span) n)
     (λ (r : (first ≤ n) × (n < first + span)). Contains-append_right used (numbers_from first span) n (from_range first span n r.0 r.1)) has
+
+-- a number of a seat that is split is then the seat's or the new one's
+pub split_has : (seat : Caller) (count n : ℕ) → count < seat.span → HasNumber seat n
+    → HasNumber (record seat { span = seat.span - count }) n ⊎ HasNumber (upper_seat count seat) n
+split_has seat count n fewer has = ⊎_elim (λ c. inl (inl c))
+    (λ (r : (seat.number ≤ n) × (n < seat.number + seat.span)). let low = r.0 in let high = r.1 in dite (dec_le (suc n) (seat.number + (seat.span - count)))
+    (λ below. inl (inr (low, omega (arith, below))))
+    (λ above. inr (inr (omega arith, omega arith)))) has
+
+-- a number of either of two seats is the joined one's
+pub join_has : (seat other : Caller) (seen : List Posted) (n : ℕ) → HasNumber seat n ⊎ HasNumber other n
+    → HasNumber (record seat { used = seat.used ++ numbers other; seen = seen }) n
+join_has seat other seen n has = ⊎_elim
+    (λ mine. ⊎_elim (λ c. inl (Contains-append_left seat.used (numbers other) n c)) (λ r. inr r) mine)
+    (λ theirs. inl (Contains-append_right seat.used (numbers other) n (has_all other.number other.span other.used n theirs))) has
+
+-- a seat that only saw more has the numbers that it had
+pub same_has : (old new : Caller) (n : ℕ) → IsSameSeat old new → HasNumber old n → HasNumber new n
+same_has old new n same has = subst (λ (s : Caller). HasNumber s n) (sym same) has

@@ -7,12 +7,15 @@
 mod book;
 mod lock;
 mod parts;
+#[cfg(test)]
+mod plain_book;
 mod plays;
 mod seat;
+#[cfg(test)]
+mod tests;
 mod turn;
 mod view;
 
 pub use book::{Basis, Book, Pinned, PostRefused};
 pub use lock::VersionLock;
 pub use seat::{Note, Seat};
-pub use view::{LockRule, Opening, Past, Setup, View};

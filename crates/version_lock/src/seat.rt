@@ -1,6 +1,6 @@
 //! Seats, with which callers use a lock, and notes, by which they tell each other what they have seen.
 
-ghost use Rattle.std.specs.Prelude.{◌≡◌};
+ghost use Rattle.std.specs.Prelude.{◌≡◌, ◌<◌, Contains};
 
 use crate::view::View;
 use atomic_table::Badge;
@@ -30,14 +30,16 @@ impl Model for Seat {
 impl Seat {
     /// The number that the seat's entries bear, the first of its span.
     pub fn number(&self) -> u32
-        ensures { result ≡ self.now.number }
+        ensures value { result ≡ self.now.number }
+        ensures used { Contains self.now.used self.now.number }
     {
         self.number
     }
 
     /// How many numbers the seat can give away or bear itself: those from its own on.
     pub fn span(&self) -> u32
-        ensures { result ≡ self.now.span }
+        ensures value { result ≡ self.now.span }
+        ensures some_number { 0 < result }
     {
         self.span
     }

@@ -5,7 +5,7 @@ use Rattle.std.proofs.lemmas.List.Elements.{Contains-append_left, Contains-appen
 use mathlib.Core.Logic.{dite}
 use native.Mathlib.Decide.{ℕ_discrete, dec_le}
 use Rattle.dn_model.specs.declared.entry.Posted.{Posted}
-use Rattle.version_lock.specs.Callers.{Caller, HasNumber, IsSameSeat, numbers, upper_seat}
+use Rattle.version_lock.specs.Callers.{Caller, Lock, HasNumber, IsSameSeat, first_seat, numbers, upper_seat}
 use Rattle.version_lock.specs.Rule.{numbers_from, numbers_of}
 
 -- a number that is used, or stands in the span
@@ -66,3 +66,7 @@ join_has seat other seen n has = ⊎_elim
 -- a seat that only saw more has the numbers that it had
 pub same_has : (old new : Caller) (n : ℕ) → IsSameSeat old new → HasNumber old n → HasNumber new n
 same_has old new n same has = subst (λ (s : Caller). HasNumber s n) (sym same) has
+
+-- the first seat of a lock has every number
+pub first_has : (lock : Lock) (n : ℕ) → n < lock.setup.seats → HasNumber (first_seat lock) n
+first_has lock n l = inr (omega arith, omega (arith, l))

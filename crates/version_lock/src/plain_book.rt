@@ -46,15 +46,16 @@ impl Book for PlainBook {
     ghost shown_topology = { λ s. arc_value s.topology };
 
     fn post(&mut self, seat: u32, entry: &Entry) -> Result<u32, PostRefused> {
-        let len = self.posted.len() as u32;
-        if len >= self.limit {
-            return Err(PostRefused::Full { length: len });
+        let limit = self.limit;
+        if self.posted.len() >= limit as usize {
+            return Err(PostRefused::Full { length: limit });
         }
+        let position = self.posted.len() as u32 + 1;
         match self.posted.push(Posted {
             seat,
             entry: *entry,
         }) {
-            Ok(()) => Ok(len + 1),
+            Ok(()) => Ok(position),
             Err(OutOfMemory) => Err(PostRefused::OutOfMemory),
         }
     }

@@ -137,12 +137,12 @@ fn rows_of_atoms_are_elements(rt: HostRuntime) -> Result<(), Fail> {
     let row = AtomRow {
         atom: AtomId(0),
         low: 0,
-        high: 4_294_967_296,
+        past: 4_294_967_296,
     };
     let upper = AtomRow {
         atom: AtomId(1),
         low: 5,
-        high: 4_294_967_296,
+        past: 4_294_967_296,
     };
     let one = Pages::new().insert(rt.alloc(), 0, row)?;
     crosses(&one);
@@ -154,7 +154,7 @@ fn rows_of_atoms_are_elements(rt: HostRuntime) -> Result<(), Fail> {
     let lower = AtomRow {
         atom: AtomId(0),
         low: 0,
-        high: 5,
+        past: 5,
     };
     let cut = two.set(rt.alloc(), 0, lower)?;
     assert_eq!(rt; cut.get(0).copied(), Some(lower));

@@ -62,7 +62,7 @@ class Faults(unittest.TestCase):
 
     def test_routers(self) -> None:
         self.assertEqual(fault('routers = ["r1", 2]'), "routers 2 3 MissingKey")
-        for name in ("", "R1", "r 1", "a" * 33, "r1\\n", "\u0661"):
+        for name in ("", "Core", "r 1", "a" * 33, "r1\\n", "\u0661"):
             self.assertEqual(fault(f'routers = ["{name}"]'), "routers 1 4 BadName")
         self.assertEqual(fault('routers = ["r1", "r2", "r1"]'), "routers 3 5 TwiceNamed")
         many = ", ".join(f'"r{number}"' for number in range(1025))

@@ -63,7 +63,7 @@ WORDS: list[tuple[list[str], str, str]] = [
     (["run", "topology.toml", ""], "error part 1 BadPart", "part 1: "),
     (["run", "topology.toml", "@"], "error part 1 BadPart", "part 1: @"),
     (["run", "topology.toml", "r1="], "error part 1 BadPart", "part 1: r1="),
-    (["run", "topology.toml", "R1=r1.fpm"], "error part 1 BadPart", "part 1: R1=r1.fpm"),
+    (["run", "topology.toml", "Core=r1.fpm"], "error part 1 BadPart", "part 1: Core=r1.fpm"),
     (["run", "nowhere.toml", "=f"], "error part 1 BadPart", "part 1: =f"),
     (["run", "topology.toml", "@script", "@script"], "error part 2 TooMany", "part 2: @script"),
     (["run", "topology.toml", "@script", "@"], "error part 2 BadPart", "part 2: @"),

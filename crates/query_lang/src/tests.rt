@@ -183,7 +183,7 @@ fn refuses_bad_verbs(rt: HostRuntime) -> Result<(), Fail> {
     let network = network(alloc)?;
     let texts: [&[u8]; 13] = [
         b"reach r1",
-        b"reach r1 R2",
+        b"reach r1 R",
         b"reach r1 r2 r2",
         b"uses",
         b"uses a,b",

@@ -19,10 +19,7 @@ abbrev pub all_differ : {A : Type 0} → (A → A → Bool) → List A → Bool
 all_differ same [] = true
 all_differ same (x ∷ xs) = not (list_any (same x) xs) && all_differ same xs
 
--- both ends of a link
-abbrev pub ends_of : TopoLink → List TopoEnd
-ends_of l = l.first ∷ l.second ∷ []
-
+-- both ends of each link
 abbrev pub all_ends : List TopoLink → List TopoEnd
 all_ends [] = []
 all_ends (l ∷ ls) = l.first ∷ l.second ∷ all_ends ls

@@ -3,6 +3,7 @@
 #![tactic(auto)]
 
 mod list_view;
+pub mod runs;
 #[cfg(test)]
 mod tests;
 mod view;

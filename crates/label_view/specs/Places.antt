@@ -1,0 +1,23 @@
+-- Rows by place: where each begins, and runs that are gathered while they go by.
+use Rattle.std.specs.Prelude.{ℕ, zero, suc, Bool, false, List, [], ◌∷◌, ◌≡◌, ◌<◌, ◌≤◌, ◌^◌}
+use Rattle.std.specs.List.{list_any}
+use Rattle.dn_model.specs.Runs.{holds}
+use Rattle.dn_model.specs.declared.forwarding_row.ForwardingRow.{ForwardingRow}
+use Rattle.label_view.specs.Gathered.{Gathered}
+
+-- where the row at a place begins; after the last, where the addresses end
+abbrev pub begin_of : List ForwardingRow → ℕ → ℕ
+begin_of [] i = 2 ^ 32
+begin_of (row ∷ rows) zero = row.low
+begin_of (row ∷ rows) (suc i) = begin_of rows i
+
+-- the row at a place has an address: it begins there or before, and the next one after it
+pub record IsInRow (rows : List ForwardingRow) (i a : ℕ) : Type 0 where
+  pub from : begin_of rows i ≤ a
+  pub to : a < begin_of rows (suc i)
+
+-- what is gathered is of the rows before a place, and has exactly those of their addresses that pass a test
+pub record AreGatheredTo (gathered : Gathered) (rows : List ForwardingRow) (i : ℕ) (test : ℕ → Bool) : Type 0 where
+  pub before : gathered.past ≤ begin_of rows i
+  pub exact : (a : ℕ) → a < begin_of rows i → list_any (holds a) gathered.runs ≡ test a
+  pub none : (a : ℕ) → begin_of rows i ≤ a → list_any (holds a) gathered.runs ≡ false

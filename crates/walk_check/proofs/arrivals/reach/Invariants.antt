@@ -1,0 +1,8 @@
+use Rattle.dn_model.specs.Forwarding.{does}
+use Rattle.dn_model.specs.Reach.{reaches}
+use Rattle.label_view.specs.Places.{AreGatheredTo}
+use Rattle.walk_check.proofs.arrivals.reach.Given as goal
+
+-- the runs are of the addresses of the rows so far that come to the router
+abbrev pub invariant-loop-i : goal.invariant-loop-i
+invariant-loop-i g l = AreGatheredTo l.runs (g.V.LabelView.rows l.view) l.i (reaches (g.V.LabelView.width l.view) (does (g.V.LabelView.rows l.view)) l.first l.to)

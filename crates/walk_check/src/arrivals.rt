@@ -1,0 +1,52 @@
+//! Which addresses come to a router.
+
+ghost use Rattle.std.specs.Prelude.{◌≡◌, ℕ, ◌<◌, IfOk, length};
+ghost use Rattle.dn_model.specs.Forwarding.{does};
+ghost use Rattle.dn_model.specs.Reach.{reaches};
+ghost use Rattle.dn_model.specs.Runs.{AreRuns};
+ghost use Rattle.label_view.specs.Places.{IsInRow};
+
+use dn_model::{List, OutOfMemory, RouterId, Run, Target};
+use label_view::LabelView;
+use label_view::runs::RunList;
+use std::alloc::Global;
+
+/// Whether the addresses of the row at a place come from a router to another, or to the same one at once.
+fn row_reaches<V: LabelView>(view: &V, i: u64, first: RouterId, to: RouterId) -> bool
+    requires router { first.0 < V.width view.now }
+    requires place { i < length (V.rows view.now) }
+    ensures { (a : ℕ) → IsInRow (V.rows view.now) i a → result ≡ reaches (V.width view.now) (does (V.rows view.now)) first to a }
+{
+    let mut router = first;
+    let mut left = view.routers();
+    while left > 0 {
+        if router.0 == to.0 {
+            return true;
+        }
+        match view.target(router, i) {
+            Target::To(far, _) => router = far,
+            _ => return false,
+        }
+        left -= 1;
+    }
+    router.0 == to.0
+}
+
+/// The runs of the addresses whose walk from a router meets another, in order, no two touching. The first router is met
+/// at once. Each row is looked at once, and followed only as far as it goes.
+pub fn reach<V: LabelView>(
+    alloc: Global,
+    view: &V,
+    first: RouterId,
+    to: RouterId,
+) -> Result<List<Run>, OutOfMemory>
+    requires { first.0 < V.width view.now }
+    ensures { IfOk result (λ runs. AreRuns runs (reaches (V.width view.now) (does (V.rows view.now)) first to)) }
+{
+    let mut runs = RunList::new(alloc);
+    for i in 0..view.atoms() {
+        let passes = row_reaches(view, i, first, to);
+        runs.push_row_if(view, i, passes)?;
+    }
+    Ok(runs.finish()?)
+}

@@ -1,0 +1,12 @@
+//! Following addresses hop by hop: the way of one, and which of all come to a router or go over a link.
+#![tactic(auto)]
+
+mod arrivals;
+mod link_use;
+#[cfg(test)]
+mod tests;
+mod way;
+
+pub use arrivals::reach;
+pub use link_use::uses;
+pub use way::path;

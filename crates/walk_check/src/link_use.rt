@@ -1,0 +1,57 @@
+//! Which addresses go over a link.
+
+ghost use Rattle.std.specs.Prelude.{◌≡◌, ℕ, ◌<◌, IfOk, length};
+ghost use Rattle.dn_model.specs.Forwarding.{AreForwarding, does};
+ghost use Rattle.dn_model.specs.Reach.{goes_over, is_over};
+ghost use Rattle.dn_model.specs.Runs.{AreRuns};
+ghost use Rattle.label_view.specs.Places.{IsInRow};
+
+use dn_model::{LinkId, List, OutOfMemory, RouterId, Run, Target};
+use label_view::LabelView;
+use label_view::runs::RunList;
+use std::alloc::Global;
+
+/// Whether a target goes on over a link.
+fn is_by(target: Target, link: LinkId) -> bool
+    ensures { result ≡ is_over link target }
+{
+    match target {
+        Target::To(_, over) => over.0 == link.0,
+        _ => false,
+    }
+}
+
+/// Whether a router sends the addresses of the row at a place over a link.
+fn row_uses<V: LabelView>(view: &V, i: u64, end: RouterId, link: LinkId) -> bool
+    requires form { AreForwarding (V.width view.now) (V.rows view.now) }
+    requires router { end.0 < V.width view.now }
+    requires place { i < length (V.rows view.now) }
+    ensures { (a : ℕ) → IsInRow (V.rows view.now) i a → result ≡ goes_over (does (V.rows view.now)) end link a }
+{
+    is_by(view.target(end, i), link)
+}
+
+/// The runs of the addresses that the first end of a link sends over it, and of those that the second end sends; each
+/// list in order, no two of one list touching. Each row is looked at once, at the two ends alone.
+pub fn uses<V: LabelView>(
+    alloc: Global,
+    view: &V,
+    end1: RouterId,
+    end2: RouterId,
+    link: LinkId,
+) -> Result<(List<Run>, List<Run>), OutOfMemory>
+    requires first { end1.0 < V.width view.now }
+    requires second { end2.0 < V.width view.now }
+    ensures first { IfOk result (λ runs. AreRuns runs.0 (goes_over (does (V.rows view.now)) end1 link)) }
+    ensures second { IfOk result (λ runs. AreRuns runs.1 (goes_over (does (V.rows view.now)) end2 link)) }
+{
+    let mut first = RunList::new(alloc);
+    let mut second = RunList::new(alloc);
+    for i in 0..view.atoms() {
+        let one = row_uses(view, i, end1, link);
+        first.push_row_if(view, i, one)?;
+        let other = row_uses(view, i, end2, link);
+        second.push_row_if(view, i, other)?;
+    }
+    Ok((first.finish()?, second.finish()?))
+}

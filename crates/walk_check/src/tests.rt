@@ -1,0 +1,92 @@
+//! Walks by rows whose answers are found by hand.
+
+ghost use Rattle.std.specs.Prelude.{◌≡◌, ◌<◌, IfOk};
+
+use super::{path, reach, uses};
+use dn_model::{ForwardingRow, LinkId, List, OutOfMemory, PathEnd, RouterId, Run, Target};
+use label_view::{LabelView, ListView};
+use std::alloc::Global;
+use std::test::Fail;
+
+const R1: RouterId = RouterId(0);
+
+const R2: RouterId = RouterId(1);
+
+const LAST: u32 = 4_294_967_295;
+
+/// Up to 9 r1 sends all to r2, from 10 to 19 r2 sends it back, and from 20 on r1 has no route.
+fn pair(alloc: Global) -> Result<ListView, OutOfMemory>
+    ensures { IfOk result (λ view. view.routers ≡ 2) }
+{
+    let mut first = List::new(alloc);
+    first.push(Target::To(RouterId(1), LinkId(0)))?;
+    first.push(Target::Local)?;
+    let mut round = List::new(alloc);
+    round.push(Target::To(RouterId(1), LinkId(0)))?;
+    round.push(Target::To(RouterId(0), LinkId(0)))?;
+    let mut last = List::new(alloc);
+    last.push(Target::NoRoute)?;
+    last.push(Target::Local)?;
+    let mut rows = List::new(alloc);
+    rows.push(ForwardingRow {
+        low: 0,
+        past: 10,
+        targets: first,
+    })?;
+    rows.push(ForwardingRow {
+        low: 10,
+        past: 20,
+        targets: round,
+    })?;
+    rows.push(ForwardingRow {
+        low: 20,
+        past: 4_294_967_296,
+        targets: last,
+    })?;
+    Ok(ListView::new(2, rows))
+}
+
+/// Asks by the bound alone.
+fn reach_by<V: LabelView>(
+    alloc: Global,
+    view: &V,
+    first: RouterId,
+    to: RouterId,
+) -> Result<List<Run>, OutOfMemory>
+    requires { first.0 < V.width view.now }
+{
+    reach(alloc, view, first, to)
+}
+
+#[test]
+fn a_walk_ends_or_goes_round(rt: HostRuntime) -> Result<(), Fail> {
+    let view = pair(rt.alloc())?;
+    let (hops, end) = path(rt.alloc(), &view, R1, 5)?;
+    assert_eq!(rt; hops.as_slice(), &[R1, R2][..]);
+    assert_eq!(rt; end, PathEnd::At(Target::Local));
+    let (hops, end) = path(rt.alloc(), &view, R1, 15)?;
+    assert_eq!(rt; hops.as_slice(), &[R1, R2, R1][..]);
+    assert_eq!(rt; end, PathEnd::Loop);
+    Ok(())
+}
+
+#[test]
+fn touching_rows_that_come_to_a_router_are_one_run(rt: HostRuntime) -> Result<(), Fail> {
+    let view = pair(rt.alloc())?;
+    let met = reach_by(rt.alloc(), &view, R1, R2)?;
+    assert_eq!(rt; met.as_slice(), &[Run { lo: 0, hi: 19 }][..]);
+    let back = reach(rt.alloc(), &view, R2, R1)?;
+    assert_eq!(rt; back.as_slice(), &[Run { lo: 10, hi: 19 }][..]);
+    let all = reach(rt.alloc(), &view, R1, R1)?;
+    assert_eq!(rt; all.as_slice(), &[Run { lo: 0, hi: LAST }][..]);
+    Ok(())
+}
+
+#[test]
+fn each_end_uses_a_link_for_itself(rt: HostRuntime) -> Result<(), Fail> {
+    let view = pair(rt.alloc())?;
+    let (first, second) = uses(rt.alloc(), &view, R1, R2, LinkId(0))?;
+    assert_eq!(rt; first.as_slice(), &[Run { lo: 0, hi: 19 }][..]);
+    assert_eq!(rt; second.as_slice(), &[Run { lo: 10, hi: 19 }][..]);
+    Ok(())
+}

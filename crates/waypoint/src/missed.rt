@@ -1,0 +1,66 @@
+//! Addresses that miss a waypoint.
+
+ghost use Rattle.std.specs.Prelude.{◌≡◌, ℕ, ◌<◌, IfOk, length};
+ghost use Rattle.dn_model.specs.Forwarding.{does};
+ghost use Rattle.dn_model.specs.Reach.{misses};
+ghost use Rattle.dn_model.specs.Runs.{AreRuns};
+ghost use Rattle.label_view.specs.Places.{IsInRow};
+
+use dn_model::{List, OutOfMemory, RouterId, Run, Target};
+use label_view::LabelView;
+use label_view::runs::RunList;
+use std::alloc::Global;
+
+/// Whether the addresses of the row at a place come from a router to another without having met the waypoint.
+fn row_misses<V: LabelView>(
+    view: &V,
+    i: u64,
+    first: RouterId,
+    to: RouterId,
+    through: RouterId,
+) -> bool
+    requires router { first.0 < V.width view.now }
+    requires place { i < length (V.rows view.now) }
+    ensures { (a : ℕ) → IsInRow (V.rows view.now) i a → result ≡ misses (V.width view.now) (does (V.rows view.now)) first to through a }
+{
+    let mut router = first;
+    let mut left = view.routers();
+    while left > 0 {
+        if router.0 == through.0 {
+            return false;
+        }
+        if router.0 == to.0 {
+            return true;
+        }
+        match view.target(router, i) {
+            Target::To(far, _) => router = far,
+            _ => return false,
+        }
+        left -= 1;
+    }
+    if router.0 == through.0 {
+        return false;
+    }
+    router.0 == to.0
+}
+
+/// The runs of the addresses whose walk from a router meets the router `to`, and doesn't meet the waypoint `through`
+/// before it or there; in order, no two touching. There are none where the waypoint is either router. What a walk meets
+/// after `to` doesn't count. Each row is looked at once, and followed only as far as it goes.
+pub fn waypoint<V: LabelView>(
+    alloc: Global,
+    view: &V,
+    first: RouterId,
+    to: RouterId,
+    through: RouterId,
+) -> Result<List<Run>, OutOfMemory>
+    requires { first.0 < V.width view.now }
+    ensures { IfOk result (λ runs. AreRuns runs (misses (V.width view.now) (does (V.rows view.now)) first to through)) }
+{
+    let mut runs = RunList::new(alloc);
+    for i in 0..view.atoms() {
+        let passes = row_misses(view, i, first, to, through);
+        runs.push_row_if(view, i, passes)?;
+    }
+    Ok(runs.finish()?)
+}

@@ -1,0 +1,29 @@
+//! Links that are down.
+
+ghost use Rattle.std.specs.Prelude.{◌≡◌};
+ghost use Rattle.dn_model.specs.Walk.{is_down, without};
+
+use dn_model::{LinkId, Target};
+
+/// Whether a link is one of these.
+fn is_down_link(down: &[LinkId], link: LinkId) -> bool
+    ensures { result ≡ is_down down.now link }
+{
+    down.iter().any(|l| l.0 == link.0)
+}
+
+/// A target, where these links are down.
+pub fn with_links_down(down: &[LinkId], target: Target) -> Target
+    ensures { result ≡ without down.now target }
+{
+    match target {
+        Target::To(router, link) => {
+            if is_down_link(down, link) {
+                Target::LinkDown(link)
+            } else {
+                Target::To(router, link)
+            }
+        }
+        other => other,
+    }
+}

@@ -1,0 +1,69 @@
+//! A view with links down.
+
+ghost use Rattle.std.specs.Prelude.{◌≡◌, ℕ, length};
+ghost use Rattle.dn_model.specs.Forwarding.{does};
+ghost use Rattle.dn_model.specs.Walk.{with_down};
+ghost use Rattle.dn_model.specs.declared.ids.RouterId.{RouterId as RouterIs};
+ghost use Rattle.label_view.specs.Places.{begin_of};
+ghost use Rattle.what_if.specs.Restricted.{rows_without};
+
+use crate::links::with_links_down;
+use dn_model::{LinkId, RouterId, Target};
+use label_view::LabelView;
+use std::marker::Model;
+
+/// A view of what all routers do where some links are down: what would go on over one of them goes nowhere. Its rows are
+/// those of the view that it stands on. It takes no memory.
+#[derive(Drop)]
+pub struct Without<'a, V> {
+    view: &'a V,
+    links: &'a [LinkId],
+}
+
+impl<'a, V> Model for Without<'a, V> {
+    ghost use Rattle.what_if.specs.Restricted.{Restricted};
+
+    ghost Value = { Restricted V };
+
+    ghost view = { λ w. record { view = w.view.now; links = w.links.now } };
+}
+
+impl<'a, V: LabelView> Without<'a, V> {
+    /// The view with these links down. It has as many routers, the rows have the same bounds, and each router does with
+    /// each address what it does in the view, but goes on over none of the links.
+    pub fn new(view: &'a V, links: &'a [LinkId]) -> Without<'a, V>
+        ensures width { ⟦<Without<'a, V> as LabelView>⟧.width result ≡ V.width view.now }
+        ensures atoms { length (⟦<Without<'a, V> as LabelView>⟧.rows result) ≡ length (V.rows view.now) }
+        ensures bounds { (i : ℕ) → begin_of (⟦<Without<'a, V> as LabelView>⟧.rows result) i ≡ begin_of (V.rows view.now) i }
+        ensures does { (r : RouterIs) (a : ℕ) →
+            does (⟦<Without<'a, V> as LabelView>⟧.rows result) r a ≡ with_down links.now (does (V.rows view.now)) r a }
+    {
+        Without { view, links }
+    }
+}
+
+impl<'a, V: LabelView> LabelView for Without<'a, V> {
+    ghost width = { λ w. V.width w.view };
+
+    ghost rows = { λ w. rows_without w.links (V.rows w.view) };
+
+    fn routers(&self) -> u32 {
+        self.view.routers()
+    }
+
+    fn atoms(&self) -> u64 {
+        self.view.atoms()
+    }
+
+    fn bounds(&self, i: u64) -> (u64, u64) {
+        self.view.bounds(i)
+    }
+
+    fn atom_of(&self, a: u32) -> u64 {
+        self.view.atom_of(a)
+    }
+
+    fn target(&self, r: RouterId, i: u64) -> Target {
+        with_links_down(self.links, self.view.target(r, i))
+    }
+}

@@ -1,0 +1,2 @@
+pub mod SameAnswers
+pub mod Named

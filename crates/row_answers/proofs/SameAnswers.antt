@@ -1,0 +1,193 @@
+-- What routers do decides the answers: where two functions agree at each address, their answers are the same.
+use Rattle.std.proofs.Common.{◌≡◌, ℕ, zero, suc, ◌<◌, ◌^◌, Bool, true, false, ◌&&◌, ◌∙◌, Option, None, Some, List, [], ◌∷◌, length, refl, ap, sym, subst, IsTrue}
+use Rattle.std.specs.List.{list_any, list_all}
+use Rattle.std.specs.Prelude.{slice_get, IsSomeAnd, nat_lt}
+use Rattle.dn_model.specs.Answer.{IsAnswer, IsAnswerOf, IsAnswerTo, IsDeltaAnswer, IsHolesAnswer, IsLoopsAnswer, IsRunsAnswer, IsUsesAnswer, links_of, path_answer}
+use Rattle.dn_model.specs.Cycles.{AreCycles, IsCycle, go_round, goes_round, goes_to, is_cycle}
+use Rattle.dn_model.specs.Delta.{IsDeltaOf}
+use Rattle.dn_model.specs.Forwarding.{StandsFor, does}
+use Rattle.dn_model.specs.Holes.{AreHoles, IsHole, ends_by, falls}
+use Rattle.dn_model.specs.Lookup.{link_of, router_of}
+use Rattle.dn_model.specs.Reach.{comes_before, goes_over, is_over, is_router, misses, reaches}
+use Rattle.dn_model.specs.Runs.{AreRuns}
+use Rattle.dn_model.specs.Table.{does_after}
+use Rattle.dn_model.specs.Topology.{all_differ}
+use Rattle.dn_model.specs.Walk.{at_address, next, on_far, walk, walk_end, walk_last, with_down, without}
+use Rattle.dn_model.specs.declared.answer.Answer.{Answer}
+use Rattle.dn_model.specs.declared.answer.Answer.TheVariants as answers
+use Rattle.dn_model.specs.declared.answer.Cycle.{Cycle}
+use Rattle.dn_model.specs.declared.answer.Hole.{Hole}
+use Rattle.dn_model.specs.declared.change.Change.{Change}
+use Rattle.dn_model.specs.declared.entry.Entry.{Entry}
+use Rattle.dn_model.specs.declared.forwarding_row.ForwardingRow.{ForwardingRow}
+use Rattle.dn_model.specs.declared.ids.LinkId.{LinkId}
+use Rattle.dn_model.specs.declared.ids.RouterId.{RouterId}
+use Rattle.dn_model.specs.declared.query.Ask.{Ask}
+use Rattle.dn_model.specs.declared.query.Ask.TheVariants.{Path, Reach, Uses, Loops, Blackholes, Waypoint, Delta}
+use Rattle.dn_model.specs.declared.run.Run.{Run}
+use Rattle.dn_model.specs.declared.target.Target.{Target}
+use Rattle.dn_model.specs.declared.target.Target.TheVariants as targets
+use Rattle.dn_model.specs.declared.topology.TopoLink.{TopoLink}
+use Rattle.dn_model.specs.declared.topology.Topology.{Topology}
+use Rattle.dn_model.proofs.Walks.{on_far-same, walk-same, walk_end-same}
+use Rattle.row_answers.specs.Shown.{IsShown}
+
+-- an address that is asked for is one
+abbrev pub IsShortAsk : Ask → Type 0
+IsShortAsk (Path n a) = a < 2 ^ 32
+IsShortAsk (Reach n m) = Unit {0}
+IsShortAsk (Uses n) = Unit {0}
+IsShortAsk Loops = Unit {0}
+IsShortAsk (Blackholes n) = Unit {0}
+IsShortAsk (Waypoint n m w) = Unit {0}
+IsShortAsk Delta = Unit {0}
+
+-- ---- walks
+
+-- two functions do the same with each address
+abbrev pub Agree : (RouterId → ℕ → Target) → (RouterId → ℕ → Target) → Type 0
+Agree f g = (r : RouterId) (a : ℕ) → a < 2 ^ 32 → f r a ≡ g r a
+
+walk_last-same : (f g : RouterId → Target) → ((r : RouterId) → f r ≡ g r) → (n : ℕ) (r : RouterId) → walk_last f n r ≡ walk_last g n r
+walk_last-same f g h zero r = refl
+walk_last-same f g h (suc n) r = ap (λ t. on_far t r (λ s. walk_last f n s)) (h r) ∙ on_far-same (g r) r _ _ (λ s. walk_last-same f g h n s)
+
+round-same : (f g : RouterId → Target) → ((r : RouterId) → f r ≡ g r) → (first : RouterId) (routers : List RouterId) → go_round f first routers ≡ go_round g first routers
+round-same f g h first [] = refl
+round-same f g h first (r ∷ []) = ap (λ t. on_far t false (is_router first)) (h r)
+round-same f g h first (r ∷ s ∷ rest) =
+    ap (λ t. on_far t false (is_router s) && go_round f first (s ∷ rest)) (h r)
+    ∙ ap (λ b. goes_to g r s && b) (round-same f g h first (s ∷ rest))
+
+cycle-same : (f g : RouterId → Target) → ((r : RouterId) → f r ≡ g r) → (routers : List RouterId) → is_cycle f routers ≡ is_cycle g routers
+cycle-same f g h [] = refl
+cycle-same f g h (r ∷ rest) = ap (λ b. list_all (λ s. nat_lt r.0 s.0) rest && all_differ is_router (r ∷ rest) && b) (round-same f g h r (r ∷ rest))
+
+-- ---- runs
+
+runs-same : (runs : List Run) (test other : ℕ → Bool) → ((a : ℕ) → a < 2 ^ 32 → test a ≡ other a) → AreRuns runs test → AreRuns runs other
+runs-same runs test other h are = record { apart = are.apart; exact = λ a within. are.exact a within ∙ h a within }
+
+reaches-same : (n : ℕ) (f g : RouterId → ℕ → Target) (first to : RouterId) → Agree f g → (a : ℕ) → a < 2 ^ 32 → reaches n f first to a ≡ reaches n g first to a
+reaches-same n f g first to h a within = ap (λ rs. list_any (is_router to) rs) (walk-same (at_address f a) (at_address g a) (λ r. h r a within) n first)
+
+misses-same : (n : ℕ) (f g : RouterId → ℕ → Target) (first to through : RouterId) → Agree f g → (a : ℕ) → a < 2 ^ 32 → misses n f first to through a ≡ misses n g first to through a
+misses-same n f g first to through h a within = ap (λ rs. comes_before to through rs) (walk-same (at_address f a) (at_address g a) (λ r. h r a within) n first)
+
+over-same : (f g : RouterId → ℕ → Target) (r : RouterId) (l : LinkId) → Agree f g → (a : ℕ) → a < 2 ^ 32 → goes_over f r l a ≡ goes_over g r l a
+over-same f g r l h a within = ap (is_over l) (h r a within)
+
+falls-same : (n : ℕ) (f g : RouterId → ℕ → Target) (first last : RouterId) (cause : Target) → Agree f g → (a : ℕ) → a < 2 ^ 32 → falls n f first last cause a ≡ falls n g first last cause a
+falls-same n f g first last cause h a within =
+    ap (λ r. is_router last r && ends_by cause (walk_end (at_address f a) n first)) (walk_last-same (at_address f a) (at_address g a) (λ r. h r a within) n first)
+    ∙ ap (λ e. is_router last (walk_last (at_address g a) n first) && ends_by cause e) (walk_end-same (at_address f a) (at_address g a) (λ r. h r a within) n first)
+
+rounds-same : (f g : RouterId → ℕ → Target) (routers : List RouterId) → Agree f g → (a : ℕ) → a < 2 ^ 32 → goes_round f routers a ≡ goes_round g routers a
+rounds-same f g routers h a within = cycle-same (at_address f a) (at_address g a) (λ r. h r a within) routers
+
+-- ---- answers
+
+holes-same : (n : ℕ) (f g : RouterId → ℕ → Target) (first : RouterId) (holes : List Hole) → Agree f g → AreHoles n f first holes → AreHoles n g first holes
+holes-same n f g first holes h are = record {
+  order = are.order;
+  each = λ x among.
+      let hole : IsHole n f first x = are.each x among in
+      record { cause = hole.cause; runs = runs-same x.runs _ _ (falls-same n f g first x.router x.cause h) hole.runs; some = hole.some };
+  all = λ last cause a within is. are.all last cause a within (falls-same n f g first last cause h a within ∙ is);
+}
+
+cycles-same : (f g : RouterId → ℕ → Target) (cycles : List Cycle) → Agree f g → AreCycles f cycles → AreCycles g cycles
+cycles-same f g cycles h are = record {
+  order = are.order;
+  each = λ c among.
+      let is : IsCycle f c = are.each c among in
+      record { runs = is.runs; are = runs-same is.runs _ _ (rounds-same f g c.routers h) is.are; least = is.least; addresses = is.addresses };
+  all = λ routers a within is. are.all routers a within (rounds-same f g routers h a within ∙ is);
+}
+
+path-same : (n : ℕ) (f g : RouterId → ℕ → Target) (r : RouterId) (a : ℕ) → Agree f g → a < 2 ^ 32 → path_answer n f r a ≡ path_answer n g r a
+path-same n f g r a h within =
+    ap (λ hops. answers.Path hops (walk_end (at_address f a) n r)) (walk-same (at_address f a) (at_address g a) (λ s. h s a within) n r)
+    ∙ ap (λ e. answers.Path (walk (at_address g a) n r) e) (walk_end-same (at_address f a) (at_address g a) (λ s. h s a within) n r)
+
+runs_answer-same : (test other : ℕ → Bool) (answer : Answer) → ((a : ℕ) → a < 2 ^ 32 → test a ≡ other a) → IsRunsAnswer test answer → IsRunsAnswer other answer
+runs_answer-same test other (answers.Path hops end) h is = is
+runs_answer-same test other (answers.Runs runs) h is = runs-same runs test other h is
+runs_answer-same test other (answers.Uses first second) h is = is
+runs_answer-same test other (answers.Loops cycles) h is = is
+runs_answer-same test other (answers.Holes holes) h is = is
+runs_answer-same test other (answers.Delta changes) h is = is
+
+uses_answer-same : (f g : RouterId → ℕ → Target) (l : LinkId) (link : TopoLink) (answer : Answer) → Agree f g → IsUsesAnswer f l link answer → IsUsesAnswer g l link answer
+uses_answer-same f g l link (answers.Path hops end) h is = is
+uses_answer-same f g l link (answers.Runs runs) h is = is
+uses_answer-same f g l link (answers.Uses first second) h is =
+    (runs-same first _ _ (over-same f g link.first.router l h) is.0, runs-same second _ _ (over-same f g link.second.router l h) is.1)
+uses_answer-same f g l link (answers.Loops cycles) h is = is
+uses_answer-same f g l link (answers.Holes holes) h is = is
+uses_answer-same f g l link (answers.Delta changes) h is = is
+
+loops_answer-same : (f g : RouterId → ℕ → Target) (answer : Answer) → Agree f g → IsLoopsAnswer f answer → IsLoopsAnswer g answer
+loops_answer-same f g (answers.Path hops end) h is = is
+loops_answer-same f g (answers.Runs runs) h is = is
+loops_answer-same f g (answers.Uses first second) h is = is
+loops_answer-same f g (answers.Loops cycles) h is = cycles-same f g cycles h is
+loops_answer-same f g (answers.Holes holes) h is = is
+loops_answer-same f g (answers.Delta changes) h is = is
+
+holes_answer-same : (n : ℕ) (f g : RouterId → ℕ → Target) (r : RouterId) (answer : Answer) → Agree f g → IsHolesAnswer n f r answer → IsHolesAnswer n g r answer
+holes_answer-same n f g r (answers.Path hops end) h is = is
+holes_answer-same n f g r (answers.Runs runs) h is = is
+holes_answer-same n f g r (answers.Uses first second) h is = is
+holes_answer-same n f g r (answers.Loops cycles) h is = is
+holes_answer-same n f g r (answers.Holes holes) h is = holes-same n f g r holes h is
+holes_answer-same n f g r (answers.Delta changes) h is = is
+
+some-same : {A : Type 0} (o : Option A) (P Q : A → Type 0) → ((x : A) → P x → Q x) → IsSomeAnd o P → IsSomeAnd o Q
+some-same None P Q h is = is
+some-same (Some x) P Q h is = h x is
+
+answer-same : (t : Topology) (f g : RouterId → ℕ → Target) (ask : Ask) (answer : Answer) → Agree f g → IsShortAsk ask → IsAnswerOf t f ask answer → IsAnswerOf t g ask answer
+answer-same t f g (Path n a) answer h short is =
+    some-same (router_of t n) _ _ (λ r e. e ∙ path-same (length t.routers) f g r a h short) is
+answer-same t f g (Reach n m) answer h short is =
+    some-same (router_of t n) _ _ (λ r. some-same (router_of t m) _ _ (λ s. runs_answer-same _ _ answer (reaches-same (length t.routers) f g r s h))) is
+answer-same t f g (Uses n) answer h short is =
+    some-same (link_of t n) _ _ (λ l. some-same (slice_get t.links l.0) _ _ (λ link. uses_answer-same f g l link answer h)) is
+answer-same t f g Loops answer h short is = loops_answer-same f g answer h is
+answer-same t f g (Blackholes n) answer h short is =
+    some-same (router_of t n) _ _ (λ r. holes_answer-same (length t.routers) f g r answer h) is
+answer-same t f g (Waypoint n m w) answer h short is =
+    some-same (router_of t n) _ _ (λ r. some-same (router_of t m) _ _ (λ s. some-same (router_of t w) _ _ (λ v. runs_answer-same _ _ answer (misses-same (length t.routers) f g r s v h)))) is
+answer-same t f g Delta answer h short is = is
+
+-- ---- over a history
+
+without-none : (t : Target) → t ≡ without [] t
+without-none targets.NoRoute = refl
+without-none (targets.Dropped kind) = refl
+without-none targets.Local = refl
+without-none (targets.Exit i) = refl
+without-none (targets.OnLink i) = refl
+without-none (targets.To s l) = refl
+without-none (targets.LinkDown l) = refl
+
+-- a view that stands for a history shows what the routers do after it
+pub agrees : (t : Topology) (rows : List ForwardingRow) (history : List Entry) → StandsFor t rows history → Agree (does rows) (next t history [])
+agrees t rows history stands = λ r a within. stands.exact r a within ∙ without-none (does_after t history r a)
+
+-- and so with links that are down
+pub agrees-down : (t : Topology) (rows : List ForwardingRow) (history : List Entry) (down : List LinkId) (shows : RouterId → ℕ → Target) → StandsFor t rows history → ((r : RouterId) (a : ℕ) → shows r a ≡ with_down down (does rows) r a) → Agree shows (next t history down)
+agrees-down t rows history down shows stands is = λ r a within. is r a ∙ ap (without down) (stands.exact r a within)
+
+-- what is shown is the answer over the history
+pub shown-is : (t : Topology) (shows : RouterId → ℕ → Target) (history : List Entry) (down : List LinkId) (changes : List Change) (ask : Ask) (answer : Answer) → IsShortAsk ask → Agree shows (next t history down) → IsDeltaOf t history changes → IsShown t shows changes ask answer → IsAnswerTo t history down ask answer
+shown-is t shows history down changes (Path n a) answer short h delta is = answer-same t shows (next t history down) (Path n a) answer h short is
+shown-is t shows history down changes (Reach n m) answer short h delta is = answer-same t shows (next t history down) (Reach n m) answer h short is
+shown-is t shows history down changes (Uses n) answer short h delta is = answer-same t shows (next t history down) (Uses n) answer h short is
+shown-is t shows history down changes Loops answer short h delta is = answer-same t shows (next t history down) Loops answer h short is
+shown-is t shows history down changes (Blackholes n) answer short h delta is = answer-same t shows (next t history down) (Blackholes n) answer h short is
+shown-is t shows history down changes (Waypoint n m w) answer short h delta is = answer-same t shows (next t history down) (Waypoint n m w) answer h short is
+shown-is t shows history down changes Delta answer short h delta is =
+    let P : Answer → Type 0 = λ x. IsDeltaAnswer t history x in
+    subst P (sym is) delta

@@ -1,0 +1,9 @@
+//! The answer to a query by rows: by any view of what all routers do with all addresses, with links taken as down.
+#![tactic(auto)]
+
+mod answers;
+mod asked;
+mod named;
+mod pending;
+
+pub use answers::answer;

@@ -1,0 +1,6 @@
+pub mod Adding
+pub mod Falling
+pub mod Order
+pub mod Placed
+pub mod Row
+pub mod Telling

@@ -1,0 +1,17 @@
+use Rattle.std.proofs.Common.{rules, ◌≡◌, ◌<◌, IfOk, ℕ, ◌+◌, ◌-◌, ◌*◌, ◌≤◌, length, ◌/◌, ◌%◌, Bool, true, false, nat_eq, nat_lt, List, [], ◌∷◌, ◌++◌, slice_index_or, slice_set, bit_and, bit_or, Fits, w8, w32, w64, Bor, MutBor}
+use Rattle.dn_model.specs.Forwarding.{does}
+use Rattle.dn_model.specs.Holes.{AreHoles}
+use Rattle.blackhole.specs.Gathering.{AreHolesOf}
+use Rattle.blackhole.proofs.holes.holes_of.Goals as goal
+
+-- src/holes.rt:20:5
+pub loop-fall-init : goal.loop-fall-init
+loop-fall-init c = ?
+
+-- src/holes.rt:20:5
+pub loop-fall-preserved : goal.loop-fall-preserved
+loop-fall-preserved c = ?
+
+-- src/holes.rt:16:1
+pub returns : goal.returns
+returns c = ?

@@ -1,0 +1,149 @@
+//! What falls where, gathered while rows go by.
+
+ghost use Rattle.std.specs.Prelude.{◌≡◌, ℕ, Bool, true, false, ◌+◌, ◌<◌, ◌≤◌, IfSome, OnOk, Some, length, slice_index_or, vec_len};
+ghost use Rattle.dn_model.specs.Forwarding.{AreForwarding};
+ghost use Rattle.dn_model.specs.Holes.{cause_rank, is_cause};
+ghost use Rattle.dn_model.specs.declared.ids.RouterId.{RouterId as RouterIs};
+ghost use Rattle.dn_model.specs.declared.target.Target.{Target as TargetIs};
+ghost use Rattle.label_view.specs.Places.{IsInRow, begin_of};
+ghost use Rattle.blackhole.specs.Falls.{is_fall, is_before, is_same};
+ghost use Rattle.blackhole.specs.Gathering.{AreFalls};
+ghost use Rattle.blackhole.specs.declared.fall.Fall.{Fall as FallIs};
+
+use crate::fall::Fall;
+use dn_model::{DropKind, OutOfMemory, RouterId, Target};
+use label_view::LabelView;
+use label_view::runs::RunList;
+use std::alloc::Global;
+
+/// The place of a cause in the order in which causes are told; 0 for what is none.
+fn rank(target: Target) -> u32
+    ensures { result ≡ cause_rank target }
+{
+    match target {
+        Target::NoRoute => 1,
+        Target::Dropped(DropKind::Blackhole) => 2,
+        Target::Dropped(DropKind::Unreachable) => 3,
+        Target::Dropped(DropKind::Prohibit) => 4,
+        Target::LinkDown(link) => 5 + u32::from(link.0),
+        _ => 0,
+    }
+}
+
+/// Whether a fall comes before others: by router, then by cause.
+fn comes_before(fall: &Fall, router: RouterId, cause: Target) -> bool
+    ensures { result ≡ is_before fall.now.router fall.now.cause router cause }
+{
+    if fall.router.0 == router.0 {
+        return rank(fall.cause) < rank(cause);
+    }
+    fall.router.0 < router.0
+}
+
+/// Whether a fall is at this router by this cause.
+fn is_at(fall: &Fall, router: RouterId, cause: Target) -> bool
+    ensures { result ≡ is_same fall.now.router fall.now.cause router cause }
+{
+    if fall.router.0 == router.0 {
+        return rank(fall.cause) == rank(cause);
+    }
+    false
+}
+
+/// How many falls come before a router and a cause; they are the first ones.
+fn place_of(falls: &[Fall], router: RouterId, cause: Target) -> usize
+    ensures inside { result ≤ length falls.now }
+    ensures before { (k : ℕ) (d : FallIs) → k < result →
+        is_before (slice_index_or falls.now k d).router (slice_index_or falls.now k d).cause router cause ≡ true }
+    ensures at { (d : FallIs) → result < length falls.now →
+        is_before (slice_index_or falls.now result d).router (slice_index_or falls.now result d).cause router cause ≡ false }
+{
+    let mut place = 0;
+    'search: while place < falls.len() {
+        if !comes_before(&falls[place], router, cause) {
+            return place;
+        }
+        place += 1;
+    }
+    place
+}
+
+/// Whether the fall at a place, if there is one, is at this router by this cause.
+fn is_there(falls: &[Fall], place: usize, router: RouterId, cause: Target) -> bool
+    requires { place ≤ length falls.now }
+    ensures inside { result ≡ true → place < length falls.now }
+    ensures same { result ≡ true → (d : FallIs) →
+        is_same (slice_index_or falls.now place d).router (slice_index_or falls.now place d).cause router cause ≡ true }
+    ensures other { result ≡ false → place < length falls.now → (d : FallIs) →
+        is_same (slice_index_or falls.now place d).router (slice_index_or falls.now place d).cause router cause ≡ false }
+{
+    if place == falls.len() {
+        return false;
+    }
+    is_at(&falls[place], router, cause)
+}
+
+/// Adds the addresses of the row at a place to what falls at a router by a cause. Falls stay in order, by router and
+/// cause.
+fn add_fall<V: LabelView>(
+    alloc: Global,
+    falls: &mut Vec<Fall>,
+    view: &V,
+    i: u64,
+    router: RouterId,
+    cause: Target,
+) -> Result<(), OutOfMemory>
+    requires form { AreForwarding (V.width view.now) (V.rows view.now) }
+    requires place { i < length (V.rows view.now) }
+    requires order { (k : ℕ) (d : FallIs) → k < vec_len falls.old →
+        (slice_index_or falls.old.items k d).runs.past ≤ begin_of (V.rows view.now) i }
+    requires cause { is_cause cause ≡ true }
+    ensures { OnOk result ((test : RouterIs → TargetIs → ℕ → Bool) →
+        AreFalls falls.old.items (V.rows view.now) i test →
+        ((r : RouterIs) (t : TargetIs) (a : ℕ) → IsInRow (V.rows view.now) i a → is_fall (Some (router, cause)) r t ≡ test r t a) →
+        AreFalls falls.new.items (V.rows view.now) (i + 1) test) }
+{
+    let place = place_of(falls.as_slice(), router, cause);
+    if is_there(falls.as_slice(), place, router, cause) {
+        falls[place].runs.push_row_if(view, i, true)?;
+        return Ok(());
+    }
+    let mut runs = RunList::new(alloc);
+    runs.push_row_if(view, i, true)?;
+    falls.insert(
+        place,
+        Fall {
+            router,
+            cause,
+            runs,
+        },
+    )?;
+    Ok(())
+}
+
+/// Adds the addresses of the row at a place where they fall, if they do. Falls stay in order, by router and cause.
+pub fn add_row<V: LabelView>(
+    alloc: Global,
+    falls: &mut Vec<Fall>,
+    view: &V,
+    i: u64,
+    end: Option<(RouterId, Target)>,
+) -> Result<(), OutOfMemory>
+    requires form { AreForwarding (V.width view.now) (V.rows view.now) }
+    requires place { i < length (V.rows view.now) }
+    requires order { (k : ℕ) (d : FallIs) → k < vec_len falls.old →
+        (slice_index_or falls.old.items k d).runs.past ≤ begin_of (V.rows view.now) i }
+    requires cause { IfSome end (λ e. is_cause e.1 ≡ true) }
+    ensures { OnOk result ((test : RouterIs → TargetIs → ℕ → Bool) →
+        AreFalls falls.old.items (V.rows view.now) i test →
+        ((r : RouterIs) (t : TargetIs) (a : ℕ) → IsInRow (V.rows view.now) i a → is_fall end r t ≡ test r t a) →
+        AreFalls falls.new.items (V.rows view.now) (i + 1) test) }
+{
+    match end {
+        None => Ok(()),
+        Some((router, cause)) => {
+            add_fall(alloc, falls, view, i, router, cause)?;
+            Ok(())
+        }
+    }
+}

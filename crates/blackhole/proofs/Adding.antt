@@ -89,7 +89,7 @@ one-added n rows i old new x s u end test form l some added fall h is =
     let tells : (r : RouterId) (t : Target) (a : ℕ) → IsInRow rows i a → is_fall (Some (s, u)) r t ≡ test r t a = λ r t a inside. sym (ap (λ (o : Option (RouterId × Target)). is_fall o r t) some) ∙ is r t a inside in
     let P : Fall → Type 0 = λ f. IsFall f rows (i + 1) test in
     record {
-      order = λ j k d b c. before-from (get_or new j d).router (get_or new j d).cause (get_or new k d).router (get_or new k d).cause (added.order j k d b c);
+      order = record { rise = λ j k d b c. before-from (get_or new j d).router (get_or new j d).cause (get_or new k d).router (get_or new k d).cause (added.order j k d b c) };
       each = λ k d b. ⊎_elim
           (λ (e : get_or new k d ≡ x). subst P (sym e) fall)
           (λ (o : (j : ℕ) × ((j < length old) × (get_or new k d ≡ get_or old j d) × (s.0 ≡ (get_or old j d).router.0 → cause_rank u ≡ cause_rank (get_or old j d).cause → ⊥))).

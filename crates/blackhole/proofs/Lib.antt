@@ -3,4 +3,5 @@ pub mod Falling
 pub mod Order
 pub mod Placed
 pub mod Row
+pub mod Search
 pub mod Telling

@@ -25,7 +25,7 @@ abbrev pub Tells : List ForwardingRow → ℕ → RouterId → Target → (Route
 Tells rows i s u test = (r : RouterId) (t : Target) (a : ℕ) → IsInRow rows i a → is_fall (Some (s, u)) r t ≡ test r t a
 
 all-in-order : (falls : List Fall) (rows : List ForwardingRow) (i : ℕ) (test : RouterId → Target → ℕ → Bool) → AreFalls falls rows i test → AllInOrder falls
-all-in-order falls rows i test h = λ j k d b c. before-is (get_or falls j d).router (get_or falls j d).cause (get_or falls k d).router (get_or falls k d).cause (h.order j k d b c)
+all-in-order falls rows i test h = λ j k d b c. before-is (get_or falls j d).router (get_or falls j d).cause (get_or falls k d).router (get_or falls k d).cause (h.order.rise j k d b c)
 
 -- the fall that is there is lengthened
 pub grown : (n : ℕ) (rows : List ForwardingRow) (i : ℕ) (falls : List Fall) (p : ℕ) (x y : Fall) (s : RouterId) (u : Target) (test : RouterId → Target → ℕ → Bool) → AreForwarding n rows → i < length rows → p < length falls → ((d : Fall) → y ≡ get_or falls p d) → x.router ≡ y.router → x.cause ≡ y.cause → ((d : Fall) → is_same (get_or falls p d).router (get_or falls p d).cause s u ≡ true) → is_cause u ≡ true →

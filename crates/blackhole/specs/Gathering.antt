@@ -23,10 +23,14 @@ pub record HasFall (falls : List Fall) (r : RouterId) (t : Target) : Type 0 wher
   pub router : (d : Fall) → (slice_index_or falls at d).router.0 ≡ r.0
   pub cause : (d : Fall) → cause_rank (slice_index_or falls at d).cause ≡ cause_rank t
 
+-- falls by router, then cause, each once
+pub record AreOrdered (falls : List Fall) : Type 0 where
+  pub rise : (j k : ℕ) (d : Fall) → j < k → k < length falls →
+      is_before (slice_index_or falls j d).router (slice_index_or falls j d).cause (slice_index_or falls k d).router (slice_index_or falls k d).cause ≡ true
+
 -- all that falls in the rows before a place, by router and cause, each once
 pub record AreFalls (falls : List Fall) (rows : List ForwardingRow) (i : ℕ) (test : RouterId → Target → ℕ → Bool) : Type 0 where
-  pub order : (j k : ℕ) (d : Fall) → j < k → k < length falls →
-      is_before (slice_index_or falls j d).router (slice_index_or falls j d).cause (slice_index_or falls k d).router (slice_index_or falls k d).cause ≡ true
+  pub order : AreOrdered falls
   pub each : (k : ℕ) (d : Fall) → k < length falls → IsFall (slice_index_or falls k d) rows i test
   pub all : (r : RouterId) (t : Target) (a : ℕ) → a < begin_of rows i → test r t a ≡ true → HasFall falls r t
 

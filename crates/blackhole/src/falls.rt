@@ -7,7 +7,7 @@ ghost use Rattle.dn_model.specs.declared.ids.RouterId.{RouterId as RouterIs};
 ghost use Rattle.dn_model.specs.declared.target.Target.{Target as TargetIs};
 ghost use Rattle.label_view.specs.Places.{IsInRow, begin_of};
 ghost use Rattle.blackhole.specs.Falls.{is_fall, is_before, is_same};
-ghost use Rattle.blackhole.specs.Gathering.{AreFalls};
+ghost use Rattle.blackhole.specs.Gathering.{AreFalls, AreOrdered};
 ghost use Rattle.blackhole.specs.declared.fall.Fall.{Fall as FallIs};
 
 use crate::fall::Fall;
@@ -50,22 +50,26 @@ fn is_at(fall: &Fall, router: RouterId, cause: Target) -> bool
     false
 }
 
-/// How many falls come before a router and a cause; they are the first ones.
+/// How many falls come before a router and a cause; they are the first ones. It halves what is left at each look.
 fn place_of(falls: &[Fall], router: RouterId, cause: Target) -> usize
+    requires { AreOrdered falls.now }
     ensures inside { result ≤ length falls.now }
     ensures before { (k : ℕ) (d : FallIs) → k < result →
         is_before (slice_index_or falls.now k d).router (slice_index_or falls.now k d).cause router cause ≡ true }
     ensures at { (d : FallIs) → result < length falls.now →
         is_before (slice_index_or falls.now result d).router (slice_index_or falls.now result d).cause router cause ≡ false }
 {
-    let mut place = 0;
-    'search: while place < falls.len() {
-        if !comes_before(&falls[place], router, cause) {
-            return place;
+    let mut low = 0;
+    let mut high = falls.len();
+    'search: while low < high {
+        let middle = low + (high - low) / 2;
+        if comes_before(&falls[middle], router, cause) {
+            low = middle + 1;
+        } else {
+            high = middle;
         }
-        place += 1;
     }
-    place
+    low
 }
 
 /// Whether the fall at a place, if there is one, is at this router by this cause.
@@ -95,6 +99,7 @@ fn add_fall<V: LabelView>(
 ) -> Result<(), OutOfMemory>
     requires form { AreForwarding (V.width view.now) (V.rows view.now) }
     requires place { i < length (V.rows view.now) }
+    requires rise { AreOrdered falls.old.items }
     requires order { (k : ℕ) (d : FallIs) → k < vec_len falls.old →
         (slice_index_or falls.old.items k d).runs.past ≤ begin_of (V.rows view.now) i }
     requires cause { is_cause cause ≡ true }
@@ -131,6 +136,7 @@ pub fn add_row<V: LabelView>(
 ) -> Result<(), OutOfMemory>
     requires form { AreForwarding (V.width view.now) (V.rows view.now) }
     requires place { i < length (V.rows view.now) }
+    requires rise { AreOrdered falls.old.items }
     requires order { (k : ℕ) (d : FallIs) → k < vec_len falls.old →
         (slice_index_or falls.old.items k d).runs.past ≤ begin_of (V.rows view.now) i }
     requires cause { IfSome end (λ e. is_cause e.1 ≡ true) }

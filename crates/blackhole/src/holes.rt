@@ -49,5 +49,5 @@ pub fn blackholes<V: LabelView>(
         let end = row_fall(view, i, first);
         add_row(alloc, &mut falls, view, i, end)?;
     }
-    Ok(holes_of(alloc, falls)?)
+    holes_of(alloc, falls)
 }

@@ -1,13 +1,14 @@
-use Rattle.std.proofs.Common.{rules, ◌≡◌, ◌<◌, IfOk, ℕ, ◌+◌, ◌-◌, ◌*◌, ◌≤◌, length, ◌/◌, ◌%◌, Bool, true, false, nat_eq, nat_lt, List, [], ◌∷◌, ◌++◌, slice_index_or, slice_set, bit_and, bit_or, Fits, w8, w32, w64, Bor, MutBor}
+use Rattle.std.proofs.Common.{◌≡◌, ◌<◌, ◌≤◌, length, arith}
+use Rattle.std.proofs.lemmas.Result.{IfOk-weaker}
 use Rattle.dn_model.specs.Forwarding.{does}
-use Rattle.dn_model.specs.Holes.{AreHoles}
-use Rattle.blackhole.specs.Gathering.{AreHolesOf}
+use Rattle.dn_model.specs.Holes.{falls}
+use Rattle.blackhole.proofs.Telling.{holes-are, none-yet}
 use Rattle.blackhole.proofs.holes.blackholes.Goals as goal
 
--- src/holes.rt:48:5
 pub loop-i-init : goal.loop-i-init
-loop-i-init g c = ?
+loop-i-init g c = none-yet _ c.new-falls.result.items _ _ c.atoms-i-end.ensures.form c.new-falls.ensures.items
 
--- src/holes.rt:39:1
 pub returns : goal.returns
-returns g c = ?
+returns g c =
+    let end : length (g.V.LabelView.rows c.args.view.now) ≤ c.loop-i.i = omega (arith, c.atoms-i-end.ensures.value) in
+    IfOk-weaker c.holes_of.result _ _ (λ holes are. holes-are (g.V.LabelView.width c.args.view.now) (does (g.V.LabelView.rows c.args.view.now)) c.args.first (g.V.LabelView.rows c.args.view.now) c.loop-i.i holes c.loop-i.falls.items end c.loop-i.invariant are) c.holes_of.ensures

@@ -1,11 +1,10 @@
 -- A row added to what falls where.
-use Rattle.std.proofs.Common.{◌≡◌, ℕ, zero, suc, ◌+◌, ◌<◌, ◌≤◌, ◌⊎◌, ◌∙◌, inl, inr, ⊎_elim, Bool, true, false, Option, None, Some, List, [], ◌∷◌, length, get_or, set, refl, ap, sym, subst, arith}
-use Rattle.std.specs.List.{insert, list_any}
-use Rattle.std.proofs.lemmas.Bool.{cases_eq, cases_lt, cases_order}
-use Rattle.std.proofs.lemmas.List.{get_or-set_other, get_or-set_same, get_or_default, length-set}
-use Rattle.std.proofs.lemmas.List.Edits.{get_or-insert_above, get_or-insert_at, get_or-insert_below, length-insert}
+use Rattle.std.proofs.Common.{◌≡◌, ℕ, suc, ◌+◌, ◌<◌, ◌≤◌, ◌⊎◌, ◌∙◌, inl, inr, ⊎_elim, Bool, true, false, Option, None, Some, List, [], length, get_or, refl, ap, sym, subst, arith}
+use Rattle.std.specs.List.{list_any}
+use Rattle.std.proofs.lemmas.Bool.{cases_lt}
+use Rattle.std.proofs.lemmas.List.{get_or_default}
 use Rattle.dn_model.specs.Forwarding.{AreForwarding, row_low, row_past}
-use Rattle.dn_model.specs.Holes.{cause_rank, is_cause}
+use Rattle.dn_model.specs.Holes.{cause_rank}
 use Rattle.dn_model.specs.Runs.{holds}
 use Rattle.dn_model.specs.declared.forwarding_row.ForwardingRow.{ForwardingRow}
 use Rattle.dn_model.specs.declared.ids.RouterId.{RouterId}
@@ -14,10 +13,10 @@ use Rattle.dn_model.proofs.Covers.{ordered-at}
 use Rattle.label_view.specs.Gathered.{Gathered}
 use Rattle.label_view.specs.Places.{AreGatheredTo, IsInRow, begin_of}
 use Rattle.label_view.proofs.InRow.{some_row, gathered-skip, in-row}
-use Rattle.blackhole.specs.Falls.{is_before, is_fall}
+use Rattle.blackhole.specs.Falls.{is_fall}
 use Rattle.blackhole.specs.Gathering.{AreFalls, HasFall, IsFall}
 use Rattle.blackhole.specs.declared.fall.Fall.{Fall}
-use Rattle.blackhole.proofs.Order.{Before, before-differs, before-from, before-is, before-trans, fall-key, fall-other}
+use Rattle.blackhole.proofs.Order.{Before, before-from, fall-key, fall-other}
 
 -- ---- the addresses of a row
 

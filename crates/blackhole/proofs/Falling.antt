@@ -1,10 +1,10 @@
 -- Where a walk ends, hop by hop.
-use Rattle.std.proofs.Common.{◌≡◌, ℕ, zero, suc, ◌<◌, ◌-◌, ◌∙◌, Bool, true, false, ◌&&◌, cond, Option, None, Some, refl, ap, sym, arith, sub-one}
-use Rattle.std.proofs.lemmas.Bool.{and_left, and_right}
-use Rattle.dn_model.specs.Holes.{cause_rank, ends_by, falls, is_cause}
+use Rattle.std.proofs.Common.{◌≡◌, ℕ, zero, suc, ◌<◌, ◌-◌, ◌∙◌, Bool, false, ◌&&◌, refl, ap, sym, arith, sub-one}
+use Rattle.std.proofs.lemmas.Bool.{and_right}
+use Rattle.dn_model.specs.Holes.{ends_by}
 use Rattle.dn_model.specs.Reach.{is_router}
 use Rattle.dn_model.specs.Walk.{walk_end, walk_last}
-use Rattle.dn_model.specs.declared.answer.PathEnd.TheVariants.{At, Loop}
+use Rattle.dn_model.specs.declared.answer.PathEnd.TheVariants.{At}
 use Rattle.dn_model.specs.declared.ids.LinkId.{LinkId}
 use Rattle.dn_model.specs.declared.ids.RouterId.{RouterId}
 use Rattle.dn_model.specs.declared.target.Target.{Target}

@@ -9,7 +9,7 @@ use Rattle.dn_model.specs.declared.forwarding_row.ForwardingRow.{ForwardingRow}
 use Rattle.dn_model.specs.declared.ids.RouterId.{RouterId}
 use Rattle.dn_model.specs.declared.target.Target.{Target}
 use Rattle.label_view.specs.Gathered.{Gathered}
-use Rattle.label_view.specs.Places.{AreGatheredTo, IsInRow, begin_of}
+use Rattle.label_view.specs.Places.{AreGatheredTo, IsInRow}
 use Rattle.blackhole.specs.Falls.{is_before, is_fall, is_same}
 use Rattle.blackhole.specs.Gathering.{AreFalls, HasFall, IsFall}
 use Rattle.blackhole.specs.declared.fall.Fall.{Fall}
@@ -42,22 +42,22 @@ grown n rows i falls p x y s u test form l inside at xr xc same cause adds h tel
     let R : Target → Type 0 = λ t. AreGatheredTo x.runs rows (i + 1) (test x.router t) in
     let C : Target → Type 0 = λ t. is_cause t ≡ true in
     let fall : IsFall x rows (i + 1) test = record {
-        cause = subst C (sym xc) was.cause;
-        runs = subst R (sym xc) (subst Q (sym xr) runs);
-        some = some-fall n rows i x.runs (test y.router y.cause) form l runs falls_there;
+      cause = subst C (sym xc) was.cause;
+      runs = subst R (sym xc) (subst Q (sym xr) runs);
+      some = some-fall n rows i x.runs (test y.router y.cause) form l runs falls_there;
     } in
     one-added n rows i falls (set falls p x) x s u (Some (s, u)) test form l refl
-        (lengthened falls p x s u inside (λ d. xr ∙ ap (λ (f : Fall). f.router) (at d)) (λ d. xc ∙ ap (λ (f : Fall). f.cause) (at d)) (λ d. (key d).0) (λ d. (key d).1) (all-in-order falls rows i test h))
-        fall h tells
+    (lengthened falls p x s u inside (λ d. xr ∙ ap (λ (f : Fall). f.router) (at d)) (λ d. xc ∙ ap (λ (f : Fall). f.cause) (at d)) (λ d. (key d).0) (λ d. (key d).1) (all-in-order falls rows i test h))
+    fall h tells
 
 -- what comes from a place on comes after
 high-from : (falls : List Fall) (p : ℕ) (s : RouterId) (u : Target) → AllInOrder falls → ((d : Fall) → p < length falls → Before s u (get_or falls p d).router (get_or falls p d).cause) → (k : ℕ) (d : Fall) → p ≤ k → k < length falls → Before s u (get_or falls k d).router (get_or falls k d).cause
 high-from falls p s u order first k d b c = ⊎_elim
     (λ (e : p ≡ k). (let P : ℕ → Type 0 = λ m. Before s u (get_or falls m d).router (get_or falls m d).cause in subst P e (first d (omega arith))))
     (λ (n : p ≡ k → ⊥). ⊎_elim
-        (λ (m : p < k). before-trans s u (get_or falls p d).router (get_or falls p d).cause (get_or falls k d).router (get_or falls k d).cause (first d (omega arith)) (order p k d m c))
-        (λ (m : k ≤ p). absurd (n (omega arith)))
-        (cases_lt p k))
+    (λ (m : p < k). before-trans s u (get_or falls p d).router (get_or falls p d).cause (get_or falls k d).router (get_or falls k d).cause (first d (omega arith)) (order p k d m c))
+    (λ (m : k ≤ p). absurd (n (omega arith)))
+    (cases_lt p k))
     (cases_eq p k)
 
 -- a fall that isn't there is begun
@@ -71,14 +71,14 @@ begun n rows i falls p x none s u test form l inside xr xc cause before at other
     let low : (k : ℕ) (d : Fall) → k < p → Before (get_or falls k d).router (get_or falls k d).cause s u = λ k d b. before-is (get_or falls k d).router (get_or falls k d).cause s u (before k d b) in
     let high : (k : ℕ) (d : Fall) → p ≤ k → k < length falls → Before s u (get_or falls k d).router (get_or falls k d).cause = high-from falls p s u order (λ d b. after-from (get_or falls p d).router (get_or falls p d).cause s u (at d b) (other b d)) in
     let absent : HasFall falls s u → ⊥ = λ has. ⊎_elim
-        (λ (b : has.at < p). before-differs (get_or falls has.at x).router (get_or falls has.at x).cause s u (low has.at x b) (has.router x) (has.cause x))
-        (λ (b : p ≤ has.at). before-differs s u (get_or falls has.at x).router (get_or falls has.at x).cause (high has.at x b has.inside) (sym (has.router x)) (sym (has.cause x)))
-        (cases_lt has.at p) in
+    (λ (b : has.at < p). before-differs (get_or falls has.at x).router (get_or falls has.at x).cause s u (low has.at x b) (has.router x) (has.cause x))
+    (λ (b : p ≤ has.at). before-differs s u (get_or falls has.at x).router (get_or falls has.at x).cause (high has.at x b has.inside) (sym (has.router x)) (sym (has.cause x)))
+    (cases_lt has.at p) in
     let nothing : (a : ℕ) → list_any (holds a) none.runs ≡ false = λ a. ap (list_any (holds a)) empty in
     let start : AreGatheredTo none rows i (test s u) = record {
-        before = omega arith;
-        exact = λ a b. nothing a ∙ ⊎_elim (λ (t : test s u a ≡ true). absurd (absent (h.all s u a b t))) (λ (f : test s u a ≡ false). sym f) (cases_Bool (test s u a));
-        none = λ a b. nothing a;
+      before = omega arith;
+      exact = λ a b. nothing a ∙ ⊎_elim (λ (t : test s u a ≡ true). absurd (absent (h.all s u a b t))) (λ (f : test s u a ≡ false). sym f) (cases_Bool (test s u a));
+      none = λ a b. nothing a;
     } in
     let falls_there : (a : ℕ) → IsInRow rows i a → true ≡ test s u a = λ a b. sym (fall-same s u s u cause refl refl) ∙ tells s u a b in
     let runs : AreGatheredTo x.runs rows (i + 1) (test s u) = adds (test s u) start falls_there in
@@ -86,8 +86,8 @@ begun n rows i falls p x none s u test form l inside xr xc cause before at other
     let R : Target → Type 0 = λ t. AreGatheredTo x.runs rows (i + 1) (test x.router t) in
     let C : Target → Type 0 = λ t. is_cause t ≡ true in
     let fall : IsFall x rows (i + 1) test = record {
-        cause = subst C (sym xc) cause;
-        runs = subst R (sym xc) (subst Q (sym xr) runs);
-        some = some-fall n rows i x.runs (test s u) form l runs falls_there;
+      cause = subst C (sym xc) cause;
+      runs = subst R (sym xc) (subst Q (sym xr) runs);
+      some = some-fall n rows i x.runs (test s u) form l runs falls_there;
     } in
     one-added n rows i falls (insert falls p x) x s u (Some (s, u)) test form l refl (put-in falls p x s u inside xr xc low high order) fall h tells

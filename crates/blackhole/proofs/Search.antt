@@ -1,5 +1,5 @@
 -- A search by halves among falls in order.
-use Rattle.std.proofs.Common.{◌≡◌, ℕ, ◌+◌, ◌<◌, ◌∙◌, ⊎_elim, true, List, length, get_or, ap, sym, subst, arith}
+use Rattle.std.proofs.Common.{◌≡◌, ℕ, ◌+◌, ◌<◌, ◌∙◌, ⊎_elim, true, List, length, get_or, sym, subst, arith}
 use Rattle.std.proofs.lemmas.Bool.{cases_eq}
 use Rattle.std.proofs.lemmas.List.{get_or_default}
 use Rattle.dn_model.specs.declared.ids.RouterId.{RouterId}
@@ -17,6 +17,6 @@ before-up-to falls m x s u order l at before k d b =
     ⊎_elim
     (λ (e : k ≡ m). (let Q : ℕ → Type 0 = λ j. P (get_or falls j d) in subst Q (sym e) here))
     (λ (n : k ≡ m → ⊥). before-from (get_or falls k d).router (get_or falls k d).cause s u (before-trans (get_or falls k d).router (get_or falls k d).cause (get_or falls m d).router (get_or falls m d).cause s u
-        (before-is (get_or falls k d).router (get_or falls k d).cause (get_or falls m d).router (get_or falls m d).cause (order.rise k m d (omega arith) l))
-        (before-is (get_or falls m d).router (get_or falls m d).cause s u here)))
+    (before-is (get_or falls k d).router (get_or falls k d).cause (get_or falls m d).router (get_or falls m d).cause (order.rise k m d (omega arith) l))
+    (before-is (get_or falls m d).router (get_or falls m d).cause s u here)))
     (cases_eq k m)

@@ -5,9 +5,8 @@ ghost use Rattle.dn_model.specs.Forwarding.{AreForwarding};
 ghost use Rattle.dn_model.specs.Holes.{cause_rank, is_cause};
 ghost use Rattle.dn_model.specs.declared.ids.RouterId.{RouterId as RouterIs};
 ghost use Rattle.dn_model.specs.declared.target.Target.{Target as TargetIs};
-ghost use Rattle.label_view.specs.Places.{IsInRow, begin_of};
-ghost use Rattle.blackhole.specs.Falls.{is_fall, is_before, is_same};
-ghost use Rattle.blackhole.specs.Gathering.{AreFalls, AreOrdered};
+ghost use Rattle.label_view.specs.Places.{begin_of};
+ghost use Rattle.blackhole.specs.Gathering.{AreFalls, AreOrdered, TellsRow, is_fall_at, is_fall_before};
 ghost use Rattle.blackhole.specs.declared.fall.Fall.{Fall as FallIs};
 
 use crate::fall::Fall;
@@ -32,7 +31,7 @@ fn rank(target: Target) -> u32
 
 /// Whether a fall comes before others: by router, then by cause.
 fn comes_before(fall: &Fall, router: RouterId, cause: Target) -> bool
-    ensures { result ≡ is_before fall.now.router fall.now.cause router cause }
+    ensures { result ≡ is_fall_before fall.now router cause }
 {
     if fall.router.0 == router.0 {
         return rank(fall.cause) < rank(cause);
@@ -42,7 +41,7 @@ fn comes_before(fall: &Fall, router: RouterId, cause: Target) -> bool
 
 /// Whether a fall is at this router by this cause.
 fn is_at(fall: &Fall, router: RouterId, cause: Target) -> bool
-    ensures { result ≡ is_same fall.now.router fall.now.cause router cause }
+    ensures { result ≡ is_fall_at fall.now router cause }
 {
     if fall.router.0 == router.0 {
         return rank(fall.cause) == rank(cause);
@@ -50,14 +49,15 @@ fn is_at(fall: &Fall, router: RouterId, cause: Target) -> bool
     false
 }
 
-/// How many falls come before a router and a cause; they are the first ones. It halves what is left at each look.
+/// How many falls come before a router and a cause; they are the first ones. Each look halves what is left, so among n
+/// falls there are about log2 n looks.
 fn place_of(falls: &[Fall], router: RouterId, cause: Target) -> usize
     requires { AreOrdered falls.now }
     ensures inside { result ≤ length falls.now }
     ensures before { (k : ℕ) (d : FallIs) → k < result →
-        is_before (slice_index_or falls.now k d).router (slice_index_or falls.now k d).cause router cause ≡ true }
+        is_fall_before (slice_index_or falls.now k d) router cause ≡ true }
     ensures at { (d : FallIs) → result < length falls.now →
-        is_before (slice_index_or falls.now result d).router (slice_index_or falls.now result d).cause router cause ≡ false }
+        is_fall_before (slice_index_or falls.now result d) router cause ≡ false }
 {
     let mut low = 0;
     let mut high = falls.len();
@@ -77,9 +77,9 @@ fn is_there(falls: &[Fall], place: usize, router: RouterId, cause: Target) -> bo
     requires { place ≤ length falls.now }
     ensures inside { result ≡ true → place < length falls.now }
     ensures same { result ≡ true → (d : FallIs) →
-        is_same (slice_index_or falls.now place d).router (slice_index_or falls.now place d).cause router cause ≡ true }
+        is_fall_at (slice_index_or falls.now place d) router cause ≡ true }
     ensures other { result ≡ false → place < length falls.now → (d : FallIs) →
-        is_same (slice_index_or falls.now place d).router (slice_index_or falls.now place d).cause router cause ≡ false }
+        is_fall_at (slice_index_or falls.now place d) router cause ≡ false }
 {
     if place == falls.len() {
         return false;
@@ -88,7 +88,7 @@ fn is_there(falls: &[Fall], place: usize, router: RouterId, cause: Target) -> bo
 }
 
 /// Adds the addresses of the row at a place to what falls at a router by a cause. Falls stay in order, by router and
-/// cause.
+/// cause. Only where nothing fell there before is room taken, and the falls that come after are moved on.
 fn add_fall<V: LabelView>(
     alloc: Global,
     falls: &mut Vec<Fall>,
@@ -105,7 +105,7 @@ fn add_fall<V: LabelView>(
     requires cause { is_cause cause ≡ true }
     ensures { OnOk result ((test : RouterIs → TargetIs → ℕ → Bool) →
         AreFalls falls.old.items (V.rows view.now) i test →
-        ((r : RouterIs) (t : TargetIs) (a : ℕ) → IsInRow (V.rows view.now) i a → is_fall (Some (router, cause)) r t ≡ test r t a) →
+        TellsRow (V.rows view.now) i (Some (router, cause)) test →
         AreFalls falls.new.items (V.rows view.now) (i + 1) test) }
 {
     let place = place_of(falls.as_slice(), router, cause);
@@ -141,15 +141,11 @@ pub fn add_row<V: LabelView>(
         (slice_index_or falls.old.items k d).runs.past ≤ begin_of (V.rows view.now) i }
     requires cause { IfSome end (λ e. is_cause e.1 ≡ true) }
     ensures { OnOk result ((test : RouterIs → TargetIs → ℕ → Bool) →
-        AreFalls falls.old.items (V.rows view.now) i test →
-        ((r : RouterIs) (t : TargetIs) (a : ℕ) → IsInRow (V.rows view.now) i a → is_fall end r t ≡ test r t a) →
+        AreFalls falls.old.items (V.rows view.now) i test → TellsRow (V.rows view.now) i end test →
         AreFalls falls.new.items (V.rows view.now) (i + 1) test) }
 {
     match end {
         None => Ok(()),
-        Some((router, cause)) => {
-            add_fall(alloc, falls, view, i, router, cause)?;
-            Ok(())
-        }
+        Some((router, cause)) => add_fall(alloc, falls, view, i, router, cause),
     }
 }

@@ -1,6 +1,5 @@
-use Rattle.std.proofs.Common.{◌≡◌, ℕ, ◌+◌, ◌-◌, ◌/◌, ◌<◌, ◌∙◌, false, get_or, length, subst, sym, arith}
+use Rattle.std.proofs.Common.{◌≡◌, ℕ, ◌+◌, ◌-◌, ◌/◌, ◌∙◌, false, get_or, subst, sym, arith}
 use Rattle.blackhole.specs.Falls.{is_before}
-use Rattle.blackhole.specs.declared.fall.Fall.{Fall}
 use Rattle.blackhole.proofs.Search.{before-up-to}
 use Rattle.blackhole.proofs.falls.place_of.Goals as goal
 

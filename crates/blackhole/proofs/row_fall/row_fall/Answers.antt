@@ -6,7 +6,7 @@ use Rattle.dn_model.specs.declared.ids.RouterId.{RouterId}
 use Rattle.dn_model.specs.declared.target.Target.TheVariants.{To}
 use Rattle.label_view.proofs.InRow.{leads-within, target-is}
 use Rattle.blackhole.specs.Falls.{is_fall}
-use Rattle.blackhole.proofs.Falling.{falls-here, falls-later, falls-never}
+use Rattle.blackhole.proofs.Falling.{falls-here, falls-later}
 use Rattle.blackhole.proofs.row_fall.row_fall.Goals as goal
 
 pub returns-in_default-clause-falls : goal.returns-in_default-clause-falls

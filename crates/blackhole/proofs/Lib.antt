@@ -1,0 +1,7 @@
+pub mod Adding
+pub mod Falling
+pub mod Order
+pub mod Placed
+pub mod Row
+pub mod Search
+pub mod Telling

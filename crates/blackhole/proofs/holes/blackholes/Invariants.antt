@@ -1,0 +1,8 @@
+use Rattle.dn_model.specs.Forwarding.{does}
+use Rattle.dn_model.specs.Holes.{falls}
+use Rattle.blackhole.specs.Gathering.{AreFalls}
+use Rattle.blackhole.proofs.holes.blackholes.Given as goal
+
+-- what falls where in the rows so far
+abbrev pub invariant-loop-i : goal.invariant-loop-i
+invariant-loop-i g l = AreFalls l.falls.items (g.V.LabelView.rows l.view) l.i (falls (g.V.LabelView.width l.view) (does (g.V.LabelView.rows l.view)) l.first)

@@ -1,0 +1,19 @@
+use Rattle.std.proofs.Common.{◌≡◌, ℕ, ◌<◌}
+use Rattle.dn_model.specs.Forwarding.{does}
+use Rattle.dn_model.specs.Holes.{falls}
+use Rattle.dn_model.specs.Walk.{at_address}
+use Rattle.dn_model.specs.declared.ids.RouterId.{RouterId}
+use Rattle.dn_model.specs.declared.target.Target.{Target}
+use Rattle.label_view.specs.Places.{IsInRow}
+use Rattle.blackhole.proofs.Falling.{walk_falls}
+use Rattle.blackhole.proofs.row_fall.row_fall.Given as goal
+
+-- the walk from here on falls where the whole walk does
+abbrev pub invariant-loop-left : goal.invariant-loop-left
+invariant-loop-left g l = record {
+  within : l.router.0 < g.V.LabelView.width l.view;
+  rest : (last : RouterId) (cause : Target) (a : ℕ) → IsInRow (g.V.LabelView.rows l.view) l.i a → walk_falls (at_address (does (g.V.LabelView.rows l.view)) a) l.left l.router last cause ≡ falls (g.V.LabelView.width l.view) (does (g.V.LabelView.rows l.view)) l.fn.first last cause a;
+}
+
+abbrev pub decreases-loop-left : goal.decreases-loop-left
+decreases-loop-left g l = l.left

@@ -1,0 +1,23 @@
+-- Where walks end without a way on.
+use Rattle.std.specs.Prelude.{Bool, false, Option, None, Some, ◌&&◌, ◌==◌, nat_lt, if◌then◌else◌}
+use Rattle.dn_model.specs.Holes.{cause_rank, is_cause}
+use Rattle.dn_model.specs.Reach.{is_router}
+use Rattle.dn_model.specs.declared.ids.RouterId.{RouterId}
+use Rattle.dn_model.specs.declared.target.Target.{Target}
+
+-- a walk's last router with what it does, if that is a cause
+abbrev pub fall_of : RouterId → Target → Option (RouterId × Target)
+fall_of r target = if is_cause target then Some (r, target) else None
+
+-- whether this is a walk's end at a router by a cause
+abbrev pub is_fall : Option (RouterId × Target) → RouterId → Target → Bool
+is_fall None last cause = false
+is_fall (Some end) last cause = is_router last end.0 && (is_cause end.1 && (cause_rank end.1 == cause_rank cause))
+
+-- whether a router and a cause come before others: by router, then by cause
+abbrev pub is_before : RouterId → Target → RouterId → Target → Bool
+is_before r t s u = if r.0 == s.0 then nat_lt (cause_rank t) (cause_rank u) else nat_lt r.0 s.0
+
+-- whether two routers and causes are the same
+abbrev pub is_same : RouterId → Target → RouterId → Target → Bool
+is_same r t s u = if r.0 == s.0 then cause_rank t == cause_rank u else false

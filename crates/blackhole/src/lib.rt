@@ -1,0 +1,11 @@
+//! Black holes: where walks end without a way on, for which cause, and with which addresses.
+#![tactic(auto)]
+
+mod fall;
+mod falls;
+mod holes;
+mod row_fall;
+#[cfg(test)]
+mod tests;
+
+pub use holes::blackholes;

@@ -1,0 +1,44 @@
+//! Where the addresses of one row end without a way on.
+
+ghost use Rattle.std.specs.Prelude.{◌≡◌, ℕ, true, ◌<◌, IfSome, length};
+ghost use Rattle.dn_model.specs.Forwarding.{does};
+ghost use Rattle.dn_model.specs.Holes.{falls, is_cause};
+ghost use Rattle.dn_model.specs.declared.ids.RouterId.{RouterId as RouterIs};
+ghost use Rattle.dn_model.specs.declared.target.Target.{Target as TargetIs};
+ghost use Rattle.label_view.specs.Places.{IsInRow};
+ghost use Rattle.blackhole.specs.Falls.{fall_of, is_fall};
+
+use dn_model::{RouterId, Target};
+use label_view::LabelView;
+
+/// The last router of a walk and what it does, if that is a cause.
+fn fall_at(router: RouterId, target: Target) -> Option<(RouterId, Target)>
+    ensures value { result ≡ fall_of router target }
+    ensures cause { IfSome result (λ end. is_cause end.1 ≡ true) }
+{
+    match target {
+        Target::NoRoute | Target::Dropped(_) | Target::LinkDown(_) => Some((router, target)),
+        _ => None,
+    }
+}
+
+/// The last router, and the cause, of the walks from a router of the addresses of the row at a place, if they end
+/// without a way on.
+pub fn row_fall<V: LabelView>(view: &V, i: u64, first: RouterId) -> Option<(RouterId, Target)>
+    requires router { first.0 < V.width view.now }
+    requires place { i < length (V.rows view.now) }
+    ensures cause { IfSome result (λ end. is_cause end.1 ≡ true) }
+    ensures falls { (last : RouterIs) (cause : TargetIs) (a : ℕ) → IsInRow (V.rows view.now) i a →
+        is_fall result last cause ≡ falls (V.width view.now) (does (V.rows view.now)) first last cause a }
+{
+    let mut router = first;
+    let mut left = view.routers();
+    while left > 0 {
+        match view.target(router, i) {
+            Target::To(far, _) => router = far,
+            last => return fall_at(router, last),
+        }
+        left -= 1;
+    }
+    None
+}

@@ -1,0 +1,167 @@
+//! Black holes by rows whose answers are found by hand.
+
+ghost use Rattle.std.specs.Prelude.{◌≡◌, ◌∷◌, [], ◌<◌, IfOk};
+
+use super::blackholes;
+use dn_model::{DropKind, ForwardingRow, Hole, LinkId, List, OutOfMemory, RouterId, Run, Target};
+use label_view::{LabelView, ListView};
+use std::alloc::Global;
+use std::test::Fail;
+
+const R1: RouterId = RouterId(0);
+
+const R2: RouterId = RouterId(1);
+
+const R3: RouterId = RouterId(2);
+
+const LAST: u32 = 4_294_967_295;
+
+/// What three routers do with the addresses from `low` up to, and without, `past`.
+fn row(
+    alloc: Global,
+    low: u64,
+    past: u64,
+    first: Target,
+    second: Target,
+    third: Target,
+) -> Result<ForwardingRow, OutOfMemory>
+    ensures low { IfOk result (λ row. row.low ≡ low) }
+    ensures past { IfOk result (λ row. row.past ≡ past) }
+    ensures targets { IfOk result (λ row. row.targets ≡ first ∷ second ∷ third ∷ []) }
+{
+    let mut targets = List::new(alloc);
+    targets.push(first)?;
+    targets.push(second)?;
+    targets.push(third)?;
+    Ok(ForwardingRow { low, past, targets })
+}
+
+/// A line of three routers. r1 goes on to r2 up to 59, and r2 drops from 0 to 19 and from 50 to 59 (unreachable) and
+/// from 40 to 49 (in silence), sends 20 to 29 back, and 30 to 39 on to r3, whose link is down.
+fn line(alloc: Global) -> Result<ListView, OutOfMemory>
+    ensures { IfOk result (λ view. view.routers ≡ 3) }
+{
+    let on = Target::To(R2, LinkId(0));
+    let refused = Target::Dropped(DropKind::Unreachable);
+    let mut rows = List::new(alloc);
+    rows.push(row(alloc, 0, 10, on, refused, Target::Local)?)?;
+    rows.push(row(alloc, 10, 20, on, refused, Target::Local)?)?;
+    rows.push(row(
+        alloc,
+        20,
+        30,
+        on,
+        Target::To(R1, LinkId(0)),
+        Target::NoRoute,
+    )?)?;
+    rows.push(row(
+        alloc,
+        30,
+        40,
+        on,
+        Target::To(R3, LinkId(1)),
+        Target::LinkDown(LinkId(2)),
+    )?)?;
+    rows.push(row(
+        alloc,
+        40,
+        50,
+        on,
+        Target::Dropped(DropKind::Blackhole),
+        Target::Local,
+    )?)?;
+    rows.push(row(alloc, 50, 60, on, refused, Target::Local)?)?;
+    rows.push(row(
+        alloc,
+        60,
+        4_294_967_296,
+        Target::NoRoute,
+        Target::Local,
+        Target::Local,
+    )?)?;
+    Ok(ListView::new(3, rows))
+}
+
+/// Asks by the bound alone.
+fn holes_by<V: LabelView>(
+    alloc: Global,
+    view: &V,
+    first: RouterId,
+) -> Result<List<Hole>, OutOfMemory>
+    requires { first.0 < V.width view.now }
+{
+    blackholes(alloc, view, first)
+}
+
+/// Whether the hole at a place is this one.
+fn is_hole(
+    holes: &List<Hole>,
+    place: usize,
+    router: RouterId,
+    cause: Target,
+    runs: &[Run],
+) -> bool {
+    match holes.as_slice().get(place) {
+        Some(hole) => {
+            hole.router == router && hole.cause == cause && hole.runs.as_slice() == runs
+        }
+        None => false,
+    }
+}
+
+#[test]
+fn holes_come_by_router_then_cause(rt: HostRuntime) -> Result<(), Fail> {
+    let view = line(rt.alloc())?;
+    let holes = holes_by(rt.alloc(), &view, R1)?;
+    let silent = Target::Dropped(DropKind::Blackhole);
+    let refused = Target::Dropped(DropKind::Unreachable);
+    let down = Target::LinkDown(LinkId(2));
+    assert_eq!(rt; holes.len(), 4);
+    assert!(rt;
+        is_hole(
+            &holes,
+            0,
+            R1,
+            Target::NoRoute,
+            &[Run { lo: 60, hi: LAST }][..]
+        )
+    );
+    assert!(rt; is_hole(&holes, 1, R2, silent, &[Run { lo: 40, hi: 49 }][..]));
+    assert!(rt;
+        is_hole(
+            &holes,
+            2,
+            R2,
+            refused,
+            &[Run { lo: 0, hi: 19 }, Run { lo: 50, hi: 59 }][..]
+        )
+    );
+    assert!(rt; is_hole(&holes, 3, R3, down, &[Run { lo: 30, hi: 39 }][..]));
+    Ok(())
+}
+
+#[test]
+fn walks_from_the_last_router_have_holes_of_their_own(rt: HostRuntime) -> Result<(), Fail> {
+    let view = line(rt.alloc())?;
+    let holes = blackholes(rt.alloc(), &view, R3)?;
+    assert_eq!(rt; holes.len(), 2);
+    assert!(rt;
+        is_hole(
+            &holes,
+            0,
+            R3,
+            Target::NoRoute,
+            &[Run { lo: 20, hi: 29 }][..]
+        )
+    );
+    assert!(rt;
+        is_hole(
+            &holes,
+            1,
+            R3,
+            Target::LinkDown(LinkId(2)),
+            &[Run { lo: 30, hi: 39 }][..]
+        )
+    );
+    Ok(())
+}

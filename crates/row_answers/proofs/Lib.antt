@@ -1,2 +1,2 @@
 pub mod SameAnswers
-pub mod Named
+pub mod LinkEnds

@@ -9,7 +9,7 @@ ghost use Rattle.dn_model.specs.declared.query.Ask.TheVariants.{Path, Reach, Use
 ghost use Rattle.row_answers.specs.Shown.{IsShown};
 
 use crate::named::{known_link, known_router, link_at};
-use crate::pending::{blackholes, loops};
+use crate::pending::loops;
 use dn_model::{Answer, Ask, Change, List, Name, OutOfMemory, Query, Topology};
 use label_view::LabelView;
 use std::alloc::Global;
@@ -102,7 +102,7 @@ fn holes<V: LabelView>(
     ensures { IfOk result (IsAnswerOf topology.now (does (V.rows view.now)) (Blackholes name.now)) }
 {
     let first = known_router(topology, name);
-    let holes = blackholes(alloc, view, first)?;
+    let holes = blackhole::blackholes(alloc, view, first)?;
     Ok(Answer::Holes(holes))
 }
 

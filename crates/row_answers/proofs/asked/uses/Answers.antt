@@ -1,4 +1,4 @@
-use Rattle.row_answers.proofs.Named.{uses-is}
+use Rattle.row_answers.proofs.LinkEnds.{uses-is}
 use Rattle.row_answers.proofs.asked.uses.Goals as goal
 
 pub returns : goal.returns

@@ -3,6 +3,7 @@ use Rattle.std.proofs.Common.{◌≡◌, ℕ, zero, suc, ◌<◌, ◌∙◌, tru
 use Rattle.std.specs.List.{list_all}
 use Rattle.std.specs.Prelude.{slice_get, IsSomeAnd}
 use Rattle.std.proofs.lemmas.Bool.{and_parts}
+use Rattle.std.proofs.lemmas.Option.{none-some, same_Some}
 use borrow.Author.Tests.{ltb-true}
 use Rattle.dn_model.specs.Answer.{IsAnswerOf, IsUsesAnswer}
 use Rattle.dn_model.specs.Lookup.{link_of}
@@ -23,22 +24,23 @@ use Rattle.dn_model.specs.declared.topology.Topology.{Topology}
 end-within : (routers : ℕ) (e : TopoEnd) → is_end_of routers e ≡ true → e.router.0 < routers
 end-within routers e sound = ltb-true _ _ (and_parts _ _ (and_parts _ _ sound).0).0
 
-each-sound : (routers i : ℕ) (links : List TopoLink) (d : TopoLink) → i < length links → list_all (is_link_of routers) links ≡ true → is_link_of routers (get_or links i d) ≡ true
-each-sound routers i [] d l sound = absurd (omega arith)
-each-sound routers zero (x ∷ links) d l sound = (and_parts _ _ sound).0
-each-sound routers (suc i) (x ∷ links) d l sound = each-sound routers i links d (omega arith) (and_parts _ _ sound).1
+each-sound : (routers i : ℕ) (links : List TopoLink) (link : TopoLink) → slice_get links i ≡ Some link → list_all (is_link_of routers) links ≡ true → is_link_of routers link ≡ true
+each-sound routers i [] link is sound = absurd (none-some link is)
+each-sound routers zero (x ∷ links) link is sound = subst (λ (y : TopoLink). is_link_of routers y ≡ true) (same_Some x link is) (and_parts _ _ sound).0
+each-sound routers (suc i) (x ∷ links) link is sound = each-sound routers i links link is (and_parts _ _ sound).1
 
 all-sound : (t : Topology) → list_all (is_link_of (length t.routers)) t.links ≡ true
 all-sound t = (and_parts _ _ (and_parts _ _ (and_parts _ _ (and_parts _ _ t.sound).0).0).0).1
 
-ends-of : (t : Topology) (i : ℕ) (d : TopoLink) → i < length t.links → (is_name_text (get_or t.links i d).name && is_end_of (length t.routers) (get_or t.links i d).first && is_end_of (length t.routers) (get_or t.links i d).second) ≡ true
-ends-of t i d l = (and_parts _ _ (each-sound (length t.routers) i t.links d l (all-sound t))).0
+ends-of : (t : Topology) (i : ℕ) (link : TopoLink) → slice_get t.links i ≡ Some link → (is_name_text link.name && is_end_of (length t.routers) link.first && is_end_of (length t.routers) link.second) ≡ true
+ends-of t i link is = (and_parts _ _ (each-sound (length t.routers) i t.links link is (all-sound t))).0
 
-pub first-within : (t : Topology) (i : ℕ) (d : TopoLink) → i < length t.links → (get_or t.links i d).first.router.0 < length t.routers
-first-within t i d l = end-within (length t.routers) (get_or t.links i d).first (and_parts _ _ (and_parts _ _ (ends-of t i d l)).0).1
+-- both ends of a link are at routers of the topology
+pub first-within : (t : Topology) (i n : ℕ) (link : TopoLink) → slice_get t.links i ≡ Some link → n ≡ length t.routers → link.first.router.0 < n
+first-within t i n link is wide = let l : link.first.router.0 < length t.routers = end-within (length t.routers) link.first (and_parts _ _ (and_parts _ _ (ends-of t i link is)).0).1 in omega arith
 
-pub second-within : (t : Topology) (i : ℕ) (d : TopoLink) → i < length t.links → (get_or t.links i d).second.router.0 < length t.routers
-second-within t i d l = end-within (length t.routers) (get_or t.links i d).second (and_parts _ _ (ends-of t i d l)).1
+pub second-within : (t : Topology) (i n : ℕ) (link : TopoLink) → slice_get t.links i ≡ Some link → n ≡ length t.routers → link.second.router.0 < n
+second-within t i n link is wide = let l : link.second.router.0 < length t.routers = end-within (length t.routers) link.second (and_parts _ _ (ends-of t i link is)).1 in omega arith
 
 -- runs at both ends of a named link answer what goes over it
 pub uses-is : (t : Topology) (shows : RouterId → ℕ → Target) (name : List ℕ) (l : LinkId) (link : TopoLink) (first second : List Run) → link_of t name ≡ Some l → slice_get t.links l.0 ≡ Some link →

@@ -1,13 +1,16 @@
 -- What routers do decides the answers: where two functions agree at each address, their answers are the same.
 use Rattle.std.proofs.Common.{◌≡◌, ℕ, zero, suc, ◌<◌, ◌^◌, Bool, true, false, ◌&&◌, ◌∙◌, Option, None, Some, List, [], ◌∷◌, length, refl, ap, sym, subst, IsTrue}
 use Rattle.std.specs.List.{list_any, list_all}
-use Rattle.std.specs.Prelude.{slice_get, IsSomeAnd, nat_lt}
+use Rattle.std.specs.Prelude.{slice_get, IsSomeAnd, IfOk, nat_lt}
+use Rattle.std.specs.declared.result.Result.{Result}
+use Rattle.std.specs.declared.result.Result.TheVariants.{Ok, Err}
 use Rattle.dn_model.specs.Answer.{IsAnswer, IsAnswerOf, IsAnswerTo, IsDeltaAnswer, IsHolesAnswer, IsLoopsAnswer, IsRunsAnswer, IsUsesAnswer, links_of, path_answer}
 use Rattle.dn_model.specs.Cycles.{AreCycles, IsCycle, go_round, goes_round, goes_to, is_cycle}
 use Rattle.dn_model.specs.Delta.{IsDeltaOf}
 use Rattle.dn_model.specs.Forwarding.{StandsFor, does}
 use Rattle.dn_model.specs.Holes.{AreHoles, IsHole, ends_by, falls}
 use Rattle.dn_model.specs.Lookup.{link_of, router_of}
+use Rattle.dn_model.specs.Query.{Question}
 use Rattle.dn_model.specs.Reach.{comes_before, goes_over, is_over, is_router, misses, reaches}
 use Rattle.dn_model.specs.Runs.{AreRuns}
 use Rattle.dn_model.specs.Table.{does_after}
@@ -22,6 +25,7 @@ use Rattle.dn_model.specs.declared.entry.Entry.{Entry}
 use Rattle.dn_model.specs.declared.forwarding_row.ForwardingRow.{ForwardingRow}
 use Rattle.dn_model.specs.declared.ids.LinkId.{LinkId}
 use Rattle.dn_model.specs.declared.ids.RouterId.{RouterId}
+use Rattle.dn_model.specs.declared.memory.OutOfMemory.{OutOfMemory}
 use Rattle.dn_model.specs.declared.query.Ask.{Ask}
 use Rattle.dn_model.specs.declared.query.Ask.TheVariants.{Path, Reach, Uses, Loops, Blackholes, Waypoint, Delta}
 use Rattle.dn_model.specs.declared.run.Run.{Run}
@@ -31,16 +35,6 @@ use Rattle.dn_model.specs.declared.topology.TopoLink.{TopoLink}
 use Rattle.dn_model.specs.declared.topology.Topology.{Topology}
 use Rattle.dn_model.proofs.Walks.{on_far-same, walk-same, walk_end-same}
 use Rattle.row_answers.specs.Shown.{IsShown}
-
--- an address that is asked for is one
-abbrev pub IsShortAsk : Ask → Type 0
-IsShortAsk (Path n a) = a < 2 ^ 32
-IsShortAsk (Reach n m) = Unit {0}
-IsShortAsk (Uses n) = Unit {0}
-IsShortAsk Loops = Unit {0}
-IsShortAsk (Blackholes n) = Unit {0}
-IsShortAsk (Waypoint n m w) = Unit {0}
-IsShortAsk Delta = Unit {0}
 
 -- ---- walks
 
@@ -147,19 +141,20 @@ some-same : {A : Type 0} (o : Option A) (P Q : A → Type 0) → ((x : A) → P 
 some-same None P Q h is = is
 some-same (Some x) P Q h is = h x is
 
-answer-same : (t : Topology) (f g : RouterId → ℕ → Target) (ask : Ask) (answer : Answer) → Agree f g → IsShortAsk ask → IsAnswerOf t f ask answer → IsAnswerOf t g ask answer
-answer-same t f g (Path n a) answer h short is =
-    some-same (router_of t n) _ _ (λ r e. e ∙ path-same (length t.routers) f g r a h short) is
-answer-same t f g (Reach n m) answer h short is =
+reach-same : (t : Topology) (f g : RouterId → ℕ → Target) (n m : List ℕ) (answer : Answer) → Agree f g → IsAnswerOf t f (Reach n m) answer → IsAnswerOf t g (Reach n m) answer
+reach-same t f g n m answer h is =
     some-same (router_of t n) _ _ (λ r. some-same (router_of t m) _ _ (λ s. runs_answer-same _ _ answer (reaches-same (length t.routers) f g r s h))) is
-answer-same t f g (Uses n) answer h short is =
+
+uses-same : (t : Topology) (f g : RouterId → ℕ → Target) (n : List ℕ) (answer : Answer) → Agree f g → IsAnswerOf t f (Uses n) answer → IsAnswerOf t g (Uses n) answer
+uses-same t f g n answer h is =
     some-same (link_of t n) _ _ (λ l. some-same (slice_get t.links l.0) _ _ (λ link. uses_answer-same f g l link answer h)) is
-answer-same t f g Loops answer h short is = loops_answer-same f g answer h is
-answer-same t f g (Blackholes n) answer h short is =
-    some-same (router_of t n) _ _ (λ r. holes_answer-same (length t.routers) f g r answer h) is
-answer-same t f g (Waypoint n m w) answer h short is =
+
+blackholes-same : (t : Topology) (f g : RouterId → ℕ → Target) (n : List ℕ) (answer : Answer) → Agree f g → IsAnswerOf t f (Blackholes n) answer → IsAnswerOf t g (Blackholes n) answer
+blackholes-same t f g n answer h is = some-same (router_of t n) _ _ (λ r. holes_answer-same (length t.routers) f g r answer h) is
+
+waypoint-same : (t : Topology) (f g : RouterId → ℕ → Target) (n m w : List ℕ) (answer : Answer) → Agree f g → IsAnswerOf t f (Waypoint n m w) answer → IsAnswerOf t g (Waypoint n m w) answer
+waypoint-same t f g n m w answer h is =
     some-same (router_of t n) _ _ (λ r. some-same (router_of t m) _ _ (λ s. some-same (router_of t w) _ _ (λ v. runs_answer-same _ _ answer (misses-same (length t.routers) f g r s v h)))) is
-answer-same t f g Delta answer h short is = is
 
 -- ---- over a history
 
@@ -173,21 +168,43 @@ without-none (targets.To s l) = refl
 without-none (targets.LinkDown l) = refl
 
 -- a view that stands for a history shows what the routers do after it
-pub agrees : (t : Topology) (rows : List ForwardingRow) (history : List Entry) → StandsFor t rows history → Agree (does rows) (next t history [])
+agrees : (t : Topology) (rows : List ForwardingRow) (history : List Entry) → StandsFor t rows history → Agree (does rows) (next t history [])
 agrees t rows history stands = λ r a within. stands.exact r a within ∙ without-none (does_after t history r a)
 
 -- and so with links that are down
-pub agrees-down : (t : Topology) (rows : List ForwardingRow) (history : List Entry) (down : List LinkId) (shows : RouterId → ℕ → Target) → StandsFor t rows history → ((r : RouterId) (a : ℕ) → shows r a ≡ with_down down (does rows) r a) → Agree shows (next t history down)
+agrees-down : (t : Topology) (rows : List ForwardingRow) (history : List Entry) (down : List LinkId) (shows : RouterId → ℕ → Target) → StandsFor t rows history → ((r : RouterId) (a : ℕ) → shows r a ≡ with_down down (does rows) r a) → Agree shows (next t history down)
 agrees-down t rows history down shows stands is = λ r a within. is r a ∙ ap (without down) (stands.exact r a within)
 
 -- what is shown is the answer over the history
-pub shown-is : (t : Topology) (shows : RouterId → ℕ → Target) (history : List Entry) (down : List LinkId) (changes : List Change) (ask : Ask) (answer : Answer) → IsShortAsk ask → Agree shows (next t history down) → IsDeltaOf t history changes → IsShown t shows changes ask answer → IsAnswerTo t history down ask answer
-shown-is t shows history down changes (Path n a) answer short h delta is = answer-same t shows (next t history down) (Path n a) answer h short is
-shown-is t shows history down changes (Reach n m) answer short h delta is = answer-same t shows (next t history down) (Reach n m) answer h short is
-shown-is t shows history down changes (Uses n) answer short h delta is = answer-same t shows (next t history down) (Uses n) answer h short is
-shown-is t shows history down changes Loops answer short h delta is = answer-same t shows (next t history down) Loops answer h short is
-shown-is t shows history down changes (Blackholes n) answer short h delta is = answer-same t shows (next t history down) (Blackholes n) answer h short is
-shown-is t shows history down changes (Waypoint n m w) answer short h delta is = answer-same t shows (next t history down) (Waypoint n m w) answer h short is
-shown-is t shows history down changes Delta answer short h delta is =
-    let P : Answer → Type 0 = λ x. IsDeltaAnswer t history x in
-    subst P (sym is) delta
+shown-is : (t : Topology) (shows : RouterId → ℕ → Target) (history : List Entry) (down : List LinkId) (changes : List Change) (ask : Ask) (answer : Answer) → Agree shows (next t history down) → IsDeltaOf t history changes → IsShown t shows changes ask answer → IsAnswerTo t history down ask answer
+shown-is t shows history down changes (Path n a) answer h delta is =
+    some-same (router_of t n) _ _ (λ r e. e ∙ path-same (length t.routers) shows (next t history down) r a h is.0) is.1
+shown-is t shows history down changes (Reach n m) answer h delta is = reach-same t shows (next t history down) n m answer h is
+shown-is t shows history down changes (Uses n) answer h delta is = uses-same t shows (next t history down) n answer h is
+shown-is t shows history down changes Loops answer h delta is = loops_answer-same shows (next t history down) answer h is
+shown-is t shows history down changes (Blackholes n) answer h delta is = blackholes-same t shows (next t history down) n answer h is
+shown-is t shows history down changes (Waypoint n m w) answer h delta is = waypoint-same t shows (next t history down) n m w answer h is
+shown-is t shows history down changes Delta answer h delta is = subst (λ (x : Answer). IsDeltaAnswer t history x) (sym is) delta
+
+-- what a view shows is the answer over the history that it stands for: without a link that is down, and with some
+answers-plain : (t : Topology) (rows : List ForwardingRow) (history : List Entry) (changes : List Change) (q : Question) (answer : Answer) → q.without ≡ [] → StandsFor t rows history → IsDeltaOf t history changes → IsShown t (does rows) changes q.ask answer → IsAnswer t history q answer
+answers-plain t rows history changes q answer none stands delta is =
+    let P : List (List ℕ) → Type 0 = λ names. IsAnswerTo t history (links_of t names) q.ask answer in
+    subst P (sym none) (shown-is t (does rows) history [] changes q.ask answer (agrees t rows history stands) delta is)
+
+answers-down : (t : Topology) (rows : List ForwardingRow) (history : List Entry) (changes : List Change) (q : Question) (answer : Answer) (down : List LinkId) (shows : RouterId → ℕ → Target) → down ≡ links_of t q.without → ((r : RouterId) (a : ℕ) → shows r a ≡ with_down down (does rows) r a) → StandsFor t rows history → IsDeltaOf t history changes → IsShown t shows changes q.ask answer → IsAnswer t history q answer
+answers-down t rows history changes q answer down shows are same stands delta is =
+    let P : List LinkId → Type 0 = λ links. IsAnswerTo t history links q.ask answer in
+    subst P are (shown-is t shows history down changes q.ask answer (agrees-down t rows history down shows stands same) delta is)
+
+-- an answer over whatever history the rows stand for
+abbrev pub IsAnswerBy : Topology → List ForwardingRow → List Change → Question → Answer → Type 0
+IsAnswerBy t rows changes q answer = (history : List Entry) → StandsFor t rows history → IsDeltaOf t history changes → IsAnswer t history q answer
+
+pub answered-plain : (t : Topology) (rows : List ForwardingRow) (changes : List Change) (q : Question) (result : Result Answer OutOfMemory) → q.without ≡ [] → IfOk result (IsShown t (does rows) changes q.ask) → IfOk result (IsAnswerBy t rows changes q)
+answered-plain t rows changes q (Ok answer) none is = λ history stands delta. answers-plain t rows history changes q answer none stands delta is
+answered-plain t rows changes q (Err error) none is = is
+
+pub answered-down : (t : Topology) (rows : List ForwardingRow) (changes : List Change) (q : Question) (result : Result Answer OutOfMemory) (down : List LinkId) (shows : RouterId → ℕ → Target) → down ≡ links_of t q.without → ((r : RouterId) (a : ℕ) → shows r a ≡ with_down down (does rows) r a) → IfOk result (IsShown t shows changes q.ask) → IfOk result (IsAnswerBy t rows changes q)
+answered-down t rows changes q (Ok answer) down shows are same is = λ history stands delta. answers-down t rows history changes q answer down shows are same stands delta is
+answered-down t rows changes q (Err error) down shows are same is = is

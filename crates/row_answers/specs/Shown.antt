@@ -1,5 +1,6 @@
--- The answer to what is asked, where each router does this with each address and an update made these changes.
-use Rattle.std.specs.Prelude.{ℕ, List, ◌≡◌}
+-- The answer to what is asked, where each router does this with each address and an update made these changes. The
+-- address of a path is one.
+use Rattle.std.specs.Prelude.{ℕ, List, ◌≡◌, ◌<◌, ◌^◌}
 use Rattle.dn_model.specs.Answer.{IsAnswerOf}
 use Rattle.dn_model.specs.declared.answer.Answer.{Answer}
 use Rattle.dn_model.specs.declared.answer.Answer.TheVariants as answers
@@ -12,7 +13,7 @@ use Rattle.dn_model.specs.declared.topology.Topology.{Topology}
 
 abbrev pub IsShown : Topology → (RouterId → ℕ → Target) → List Change → Ask → Answer → Type 0
 IsShown t does changes Delta answer = answer ≡ answers.Delta changes
-IsShown t does changes (Path n a) answer = IsAnswerOf t does (Path n a) answer
+IsShown t does changes (Path n a) answer = (a < 2 ^ 32) × IsAnswerOf t does (Path n a) answer
 IsShown t does changes (Reach n m) answer = IsAnswerOf t does (Reach n m) answer
 IsShown t does changes (Uses n) answer = IsAnswerOf t does (Uses n) answer
 IsShown t does changes Loops answer = IsAnswerOf t does Loops answer

@@ -1,6 +1,6 @@
 //! Each kind of query, by a view of which the topology has the routers.
 
-ghost use Rattle.std.specs.Prelude.{◌≡◌, IfOk, IsSome, None, length};
+ghost use Rattle.std.specs.Prelude.{◌≡◌, [], IfOk, IsSome, None, length};
 ghost use Rattle.dn_model.specs.Answer.{IsAnswerOf};
 ghost use Rattle.dn_model.specs.Forwarding.{does};
 ghost use Rattle.dn_model.specs.Lookup.{link_of, router_of};
@@ -24,7 +24,7 @@ fn path<V: LabelView>(
 ) -> Result<Answer, OutOfMemory>
     requires name { IsSome (router_of topology.now name.now) }
     requires wide { V.width view.now ≡ length topology.now.routers }
-    ensures { IfOk result (IsAnswerOf topology.now (does (V.rows view.now)) (Path name.now address)) }
+    ensures { IfOk result (IsShown topology.now (does (V.rows view.now)) [] (Path name.now address)) }
 {
     let first = known_router(topology, name);
     let (hops, end) = walk_check::path(alloc, view, first, address)?;

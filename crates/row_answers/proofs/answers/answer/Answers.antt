@@ -1,10 +1,18 @@
-use Rattle.std.proofs.Common.{◌≡◌, [], ap, sym, subst}
-use Rattle.dn_model.specs.Answer.{IsAnswer, IsAnswerTo, links_of}
-use Rattle.row_answers.proofs.SameAnswers.{agrees, agrees-down, shown-is}
+use Rattle.std.proofs.Common.{◌≡◌, ◌∙◌, length, true, ap, sym, arith}
+use Rattle.std.specs.Prelude.{◌==◌}
+use Rattle.std.proofs.lemmas.Bool.Decides.{nat_tests}
+use Rattle.std.proofs.lemmas.List.{nil_from_length}
+use Rattle.dn_model.specs.Answer.{links_of}
+use Rattle.row_answers.proofs.SameAnswers.{answered-plain, answered-down}
 use Rattle.row_answers.proofs.answers.answer.Goals as goal
 
 pub returns-then-is_empty : goal.returns-then-is_empty
-returns-then-is_empty g c = ?
+returns-then-is_empty g c =
+    let test : (length c.without.result.now == 0) ≡ true = sym c.is_empty.ensures ∙ c.if-is_empty.true in
+    answered-plain c.args.topology.now (g.V.LabelView.rows c.args.view.now) c.args.changes.now c.args.query.now c.shown.result
+    (sym c.without.ensures.value ∙ nil_from_length c.without.result.now (grind (arith, nat_tests))) c.shown.ensures
 
 pub returns : goal.returns
-returns g c = ?
+returns g c =
+    answered-down c.args.topology.now (g.V.LabelView.rows c.args.view.now) c.args.changes.now c.args.query.now c.shown-2.result c.as_slice.result.now _
+    (c.as_slice.ensures.value ∙ c.in_ok-down.ensures ∙ ap (links_of c.args.topology.now) c.without-2.ensures.value) c.new-without.ensures.does c.shown-2.ensures

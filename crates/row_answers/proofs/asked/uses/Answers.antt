@@ -1,5 +1,14 @@
-use Rattle.row_answers.proofs.LinkEnds.{uses-is}
+use Rattle.dn_model.specs.Forwarding.{does}
+use Rattle.row_answers.proofs.LinkEnds.{first-within, second-within, uses-is}
 use Rattle.row_answers.proofs.asked.uses.Goals as goal
 
+pub uses-requires-clause-first : goal.uses-requires-clause-first
+uses-requires-clause-first g c = first-within c.args.topology.now c.known_link-over.result.0 _ c.link_at-link.result.now c.link_at-link.ensures c.requires.wide
+
+pub uses-requires-clause-second : goal.uses-requires-clause-second
+uses-requires-clause-second g c = second-within c.args.topology.now c.known_link-over.result.0 _ c.link_at-link.result.now c.link_at-link.ensures c.requires.wide
+
 pub returns : goal.returns
-returns g c = uses-is _ _ _ _ _ _ _ c.known_link-over.ensures.value c.link_at-link.ensures.value c.in_ok-first.ensures.first c.in_ok-first.ensures.second
+returns g c =
+    uses-is c.args.topology.now (does (g.V.LabelView.rows c.args.view.now)) c.args.name.now c.known_link-over.result c.link_at-link.result.now c.in_ok-first.first c.in_ok-first.second
+    c.known_link-over.ensures.value c.link_at-link.ensures c.in_ok-first.ensures.first c.in_ok-first.ensures.second

@@ -1,26 +1,23 @@
 -- A version that goes on, and what its rows say of a history.
-use Rattle.std.proofs.Common.{◌≡◌, ℕ, zero, suc, ◌<◌, ◌≤◌, ◌^◌, ◌∷◌, ◌++◌, [], List, Option, None, Some, length, get_or, refl, ap, sym, ◌∙◌, subst, arith}
+use Rattle.std.proofs.Common.{◌≡◌, ℕ, ◌<◌, ◌∷◌, ◌++◌, [], List, Option, None, Some, length, refl, sym, ◌∙◌, subst, IfOk}
 use Rattle.std.specs.List.{All}
-use Rattle.std.proofs.lemmas.List.{get_or_past}
+use Rattle.std.specs.declared.result.Result.{Result}
+use Rattle.std.specs.declared.result.Result.TheVariants.{Ok, Err}
 use Rattle.std.proofs.lemmas.List.Elements.{All-push}
-use Rattle.dn_model.specs.Answer.{path_answer}
+use Rattle.dn_model.specs.Answer.{IsAnswer}
 use Rattle.dn_model.specs.Delta.{IsDeltaOf}
 use Rattle.dn_model.specs.Entry.{IsEntryOf, IsOpOf}
-use Rattle.dn_model.specs.Forwarding.{AreEachForwarding, AreForwarding, IsForwarding, row_past, forwarding_at, row_low, does, target_in_row, target_of}
+use Rattle.dn_model.specs.Forwarding.{StandsFor}
+use Rattle.dn_model.specs.Query.{Question}
 use Rattle.dn_model.specs.Version.{Kept, KeptStandsFor, forwarding_of}
-use Rattle.dn_model.specs.Walk.{at_address, next, walk, walk_end, with_down, without}
-use Rattle.dn_model.specs.declared.answer.Answer.TheVariants.{Path}
-use Rattle.dn_model.specs.declared.answer.PathEnd.{PathEnd}
+use Rattle.dn_model.specs.declared.answer.Answer.{Answer}
 use Rattle.dn_model.specs.declared.change.Change.{Change}
 use Rattle.dn_model.specs.declared.entry.Entry.{Entry}
 use Rattle.dn_model.specs.declared.entry.Op.{Op}
-use Rattle.dn_model.specs.declared.ids.LinkId.{LinkId}
-use Rattle.dn_model.specs.declared.ids.RouterId.{RouterId}
 use Rattle.dn_model.specs.declared.forwarding_row.ForwardingRow.{ForwardingRow}
-use Rattle.dn_model.specs.declared.target.Target.TheVariants.{NoRoute}
+use Rattle.dn_model.specs.declared.ids.RouterId.{RouterId}
+use Rattle.dn_model.specs.declared.memory.OutOfMemory.{OutOfMemory}
 use Rattle.dn_model.specs.declared.topology.Topology.{Topology}
-use Rattle.dn_model.proofs.Covers.{holder-at}
-use Rattle.dn_model.proofs.Walks.{walk-same, walk_end-same}
 use Rattle.dn_run.specs.Latest.{After, CanMake, CanMakeAll, IsOf, Latest}
 
 -- ---- updates of the network
@@ -80,35 +77,15 @@ delta-of t latest history changes of after same =
 pub delta-none : (t : Topology) (changes : List Change) → changes ≡ [] → IsDeltaOf t [] changes
 delta-none t changes is = subst (λ (cs : List Change). IsDeltaOf t [] cs) (sym is) (record { form = tt; exact = λ r a within. refl })
 
--- ---- rows
+-- ---- answers by rows
 
-each-at : (n : ℕ) (rows : List ForwardingRow) (i : ℕ) (d : ForwardingRow) → AreEachForwarding n rows → i < length rows → IsForwarding n (get_or rows i d)
-each-at n [] i d each lt = absurd (omega arith)
-each-at n (row ∷ rows) zero d each lt = each.0
-each-at n (row ∷ rows) (suc i) d each lt = each-at n rows i d each.1 (omega arith)
+-- the rows of the version stand for the history
+pub rows-stand : (t : Topology) (latest : Latest) (version : Kept) (history : List Entry) → latest.version ≡ Some version → IsOf t latest.version → After latest history → StandsFor t (forwarding_of version.atoms) history
+rows-stand t latest version history there of after =
+    subst (λ (s : Topology). StandsFor s (forwarding_of version.atoms) history) (of-version t latest version there of) (stands-there latest version history there after).rows
 
--- a router that the rows don't have has no route
-pub none-in-row : (n : ℕ) (rows : List ForwardingRow) (down : List LinkId) (i : ℕ) (r : RouterId) (d : ForwardingRow) → AreEachForwarding n rows → i < length rows → n ≤ r.0 → NoRoute ≡ without down (target_of (get_or rows i d) r)
-none-in-row n rows down i r d each lt past =
-    let all : length (get_or rows i d).targets ≡ n = (each-at n rows i d each lt).all in
-    ap (without down) (sym (get_or_past (get_or rows i d).targets r.0 NoRoute (omega arith)))
-
--- what the row that has an address says is what the rows show of it
-pub next-in-row : (n : ℕ) (rows : List ForwardingRow) (down : List LinkId) (i a : ℕ) (r : RouterId) (d : ForwardingRow) → AreForwarding n rows → i < length rows → (get_or rows i d).low ≤ a → a < (get_or rows i d).past →
-    without down (target_of (get_or rows i d) r) ≡ with_down down (does rows) r a
-next-in-row n rows down i a r d form lt from to =
-    let at : forwarding_at rows a ≡ Some (get_or rows i d) = holder-at row_low row_past 0 rows i d a form.cover lt from to in
-    ap (λ (o : Option ForwardingRow). without down (target_in_row o r)) (sym at)
-
--- a walk by the rows of a version is the walk over the history that it stands for
-pub path-is : (t : Topology) (kept : Kept) (history : List Entry) (down : List LinkId) (first : RouterId) (a : ℕ) (hops : List RouterId) (end : PathEnd) → kept.topology ≡ t → KeptStandsFor kept history → a < 2 ^ 32 →
-    hops ≡ walk (at_address (with_down down (does (forwarding_of kept.atoms))) a) (length kept.topology.routers) first →
-    end ≡ walk_end (at_address (with_down down (does (forwarding_of kept.atoms))) a) (length kept.topology.routers) first →
-    Path hops end ≡ path_answer (length t.routers) (next t history down) first a
-path-is t kept history down first a hops end of stands within hops-are end-is =
-    let same : (r : RouterId) → at_address (with_down down (does (forwarding_of kept.atoms))) a r ≡ at_address (next kept.topology history down) a r = λ r. ap (without down) (stands.rows.exact r a within) in
-    let walked : hops ≡ walk (at_address (next kept.topology history down) a) (length kept.topology.routers) first = hops-are ∙ walk-same _ _ same (length kept.topology.routers) first in
-    let ended : end ≡ walk_end (at_address (next kept.topology history down) a) (length kept.topology.routers) first = end-is ∙ walk_end-same _ _ same (length kept.topology.routers) first in
-    ap (λ hs. Path hs end) walked
-    ∙ ap (λ e. Path (walk (at_address (next kept.topology history down) a) (length kept.topology.routers) first) e) ended
-    ∙ ap (λ (s : Topology). path_answer (length s.routers) (next s history down) first a) of
+-- an answer over whatever history rows stand for is one over this history
+pub answered : (t : Topology) (rows : List ForwardingRow) (history : List Entry) (changes : List Change) (q : Question) (result : Result Answer OutOfMemory) → StandsFor t rows history → IsDeltaOf t history changes →
+    IfOk result (λ answer. (h : List Entry) → StandsFor t rows h → IsDeltaOf t h changes → IsAnswer t h q answer) → IfOk result (IsAnswer t history q)
+answered t rows history changes q (Ok answer) stands delta is = is history stands delta
+answered t rows history changes q (Err error) stands delta is = is

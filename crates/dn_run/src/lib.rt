@@ -22,7 +22,6 @@ mod run_tests;
 mod status;
 mod take;
 mod untaken;
-mod walk;
 mod words;
 
 pub use program::run;

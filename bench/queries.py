@@ -1,0 +1,118 @@
+#!/usr/bin/env python3
+"""Time of each query over N distinct prefixes in all, dealt out to routers in a ring, by the row.
+
+A row is an interval between two ends of prefixes. Each query is asked several times at the end of a run, and its time is
+what the run takes more than one that asks nothing, by the query and the row. The answers are worked out here and compared.
+
+Usage: bench/queries.py [RUNS] [N]..      runs of each script (1), of which the fastest counts, and the N (10000 100000),
+                                          multiples of 64, at most 16777216
+"""
+
+import sys
+import tempfile
+
+from prefixes import MAIN, frame, prefix
+from program import build, run
+from ring import words, write_feeds, write_network
+
+ASKED = 4  # how often each query is asked in a run
+WIDTHS = (8, 64)
+LAST = 2**32 - 1
+
+
+def dotted(a):
+    return ".".join(str(a >> shift & 255) for shift in (24, 16, 8, 0))
+
+
+def runs_of(bases):
+    """The runs of prefixes of length 24, merged, as pairs of both ends."""
+    merged = []
+    for base in sorted(bases):
+        if merged and merged[-1][1] + 1 == base:
+            merged[-1][1] = base + 255
+        else:
+            merged.append([base, base + 255])
+    return merged
+
+
+def beside(runs):
+    """The runs of all other addresses."""
+    low, others = 0, []
+    for lo, hi in runs:
+        if low < lo:
+            others.append([low, lo - 1])
+        low = hi + 1
+    return others + ([[low, LAST]] if low <= LAST else [])
+
+
+def lines_of(runs):
+    return "".join(f"{dotted(lo)}-{dotted(hi)}\n" for lo, hi in runs) or "none\n"
+
+
+def rows_of(count):
+    """How many intervals the ends of so many prefixes make."""
+    ends = {0} | {prefix(j) for j in range(count)} | {prefix(j) + 256 for j in range(count)}
+    return len(ends - {LAST + 1})
+
+
+def answers(count, routers):
+    """Each query with its answer: m0's prefixes go on to m1 over l0, and end there without a route."""
+    first = runs_of(prefix(j) for j in range(0, count, routers))
+    reached, others = lines_of(first), lines_of(beside(first))
+    return {
+        "path m0 0.0.0.1": "hops m0 m1\nend noroute\n",
+        "reach m0 m1": reached,
+        "uses l0": f"from m0\n{reached}from m1\nnone\n",
+        "waypoint m0 m1 m2": reached,
+        "blackholes m0": f"at m0 noroute\n{others}at m1 noroute\n{reached}",
+        "loops": "none\n",
+        "without l0 reach m0 m1": "none\n",
+        "without l0 blackholes m0": f"at m0 noroute\n{others}at m0 linkdown l0\n{reached}",
+        "without l0 loops": "none\n",
+    }
+
+
+def expected(count, routers, query, answer):
+    """The head of the report, and the end with the answers."""
+    feeds = "".join(f"feed {i + 1} m{i} updates {count // routers} skipped 0 refused 0 end\n" for i in range(routers))
+    asked = (f"line {routers + 1 + k} at {count} {query}\n{answer}" for k in range(ASKED if query else 0))
+    return f"{feeds}history {count}\n".encode(), f"job 1\n{''.join(asked)}done\n".encode()
+
+
+def processor_time(folder, count, routers, query, answer, runs):
+    write_network(folder, [query] * ASKED if query else [], routers)
+    due = expected(count, routers, query, answer)
+    return min(run(folder, words(folder, routers), *due)[1] for _ in range(runs))
+
+
+def measure(folder, count, routers, runs):
+    """Microseconds of each query by the row."""
+    write_feeds(folder, count, lambda j: frame(j, MAIN), routers)
+    none = processor_time(folder, count, routers, "", "", runs)
+    rows = rows_of(count)
+    costs = {}
+    for query, answer in answers(count, routers).items():
+        spent = processor_time(folder, count, routers, query, answer, runs) - none
+        costs[query] = spent / ASKED / rows * 1e6
+        print(f"{routers} routers, {count} prefixes, {rows} rows: {query}: {costs[query]:.4f} us a row", flush=True)
+    return costs
+
+
+def main():
+    runs = int(sys.argv[1]) if len(sys.argv) > 1 else 1
+    counts = [int(word) for word in sys.argv[2:]] or [10000, 100000]
+    if any(n % max(WIDTHS) or not 0 < n <= 2**24 for n in counts):
+        # 10,000 and 100,000 are rounded down to whole shares.
+        counts = [n - n % max(WIDTHS) for n in counts]
+    build()
+    for routers in WIDTHS:
+        with tempfile.TemporaryDirectory() as folder:
+            costs = [measure(folder, n, routers, runs) for n in counts]
+        for query in costs[0]:
+            if query.startswith("path"):
+                continue
+            print(f"{routers} routers, {query}: a row at {counts[-1]} over one at {counts[0]}: {costs[-1][query] / costs[0][query]:.2f}")
+
+
+if __name__ == "__main__":
+    main()

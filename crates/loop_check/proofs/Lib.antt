@@ -1,2 +1,3 @@
 pub mod Chains
+pub mod Passing
 pub mod Rounds

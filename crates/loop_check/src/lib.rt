@@ -2,5 +2,7 @@
 #![tactic(auto)]
 
 mod follow;
+mod walk;
 
+pub(crate) use walk::walk_from;
 pub(crate) use follow::find_cycle;

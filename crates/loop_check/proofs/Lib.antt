@@ -1,3 +1,5 @@
 pub mod Chains
 pub mod Passing
+pub mod ByFirst
+pub mod Reading
 pub mod Rounds

@@ -1,2 +1,3 @@
+pub mod FirstOrder
 pub mod Following
 pub mod RowCycles

@@ -1,0 +1,4 @@
+pub mod FirstOrder
+pub mod Following
+pub mod Known
+pub mod RowCycles

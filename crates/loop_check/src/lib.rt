@@ -1,0 +1,13 @@
+//! Loops: the cycles of routers in which addresses go round for ever, found row by row.
+#![tactic(auto)]
+
+mod all_rows;
+mod cycle_order;
+mod first_order;
+mod follow;
+mod known;
+mod row;
+mod walk;
+
+pub use all_rows::loops;
+pub use row::cycles_of_atom;

@@ -9,7 +9,6 @@ ghost use Rattle.dn_model.specs.declared.query.Ask.TheVariants.{Path, Reach, Use
 ghost use Rattle.row_answers.specs.Shown.{IsShown};
 
 use crate::named::{known_link, known_router, link_at};
-use crate::pending::loops;
 use dn_model::{Answer, Ask, Change, List, Name, OutOfMemory, Query, Topology};
 use label_view::LabelView;
 use std::alloc::Global;
@@ -123,7 +122,7 @@ pub fn shown<V: LabelView>(
         Ask::Path(name, address) => path(alloc, topology, view, name, *address),
         Ask::Reach(from, to) => reach(alloc, topology, view, from, to),
         Ask::Uses(name) => uses(alloc, topology, view, name),
-        Ask::Loops => Ok(Answer::Loops(loops(alloc, view)?)),
+        Ask::Loops => Ok(Answer::Loops(loop_check::loops(alloc, view)?)),
         Ask::Blackholes(name) => holes(alloc, topology, view, name),
         Ask::Waypoint(from, to, through) => waypoint(alloc, topology, view, from, to, through),
         Ask::Delta => Ok(Answer::Delta(List::from_vec(Vec::from_slice(alloc, changes)?))),

@@ -4,6 +4,5 @@
 mod answers;
 mod asked;
 mod named;
-mod pending;
 
 pub use answers::answer;

@@ -103,7 +103,14 @@ fn row_cycles(
 {
     let mut cycles = Vec::new(alloc);
     for start in 0..targets.len() {
-        tell_from(alloc, targets, passed, path, &mut cycles, RouterId(start as u16))?;
+        tell_from(
+            alloc,
+            targets,
+            passed,
+            path,
+            &mut cycles,
+            RouterId(start as u16),
+        )?;
     }
     Ok(List::from_vec(cycles))
 }
@@ -125,7 +132,12 @@ pub(crate) fn cycles_at<V: LabelView>(
 {
     read_row(view, i, work.targets.as_mut_slice());
     clear(work.passed.as_mut_slice());
-    row_cycles(alloc, work.targets.as_slice(), work.passed.as_mut_slice(), &mut work.path)
+    row_cycles(
+        alloc,
+        work.targets.as_slice(),
+        work.passed.as_mut_slice(),
+        &mut work.path,
+    )
 }
 
 /// The cycles in which the addresses of the row at a place go round: lists of routers, each of which sends them on to the

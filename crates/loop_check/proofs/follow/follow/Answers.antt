@@ -23,7 +23,7 @@ returns-then-far-first-2 c =
 pub loop-left-preserved : goal.loop-left-preserved
 loop-left-preserved c =
     let more : length c.push-in-loop-left.new.self.items ≡ length c.loop-left.path.items + 1 =
-        ap (λ (rs : List RouterId). length rs) c.in_ok-push-2.ensures.items ∙ length-append c.loop-left.path.items (c.in-To.far ∷ []) in
+    ap (λ (rs : List RouterId). length rs) c.in_ok-push-2.ensures.items ∙ length-append c.loop-left.path.items (c.in-To.far ∷ []) in
     let later : c.args.first.0 < c.in-To.far.0 = omega arith in
     record {
       inside = c.requires.within.inside c.loop-left.last c.in-To.far c.in-To.field-1 (sym c.target_at.ensures ∙ c.in-To.is);

@@ -1,4 +1,4 @@
-use Rattle.std.proofs.Common.{◌≡◌, ◌∙◌, ◌≤◌, ℕ, Option, Some, List, length, sym, subst}
+use Rattle.std.proofs.Common.{◌≡◌, ◌∙◌, ◌≤◌, ℕ, Option, List, length, sym, subst}
 use Rattle.std.specs.List.{Contains}
 use Rattle.std.proofs.lemmas.Result.{on_ok_weaker}
 use Rattle.dn_model.specs.Cycles.{AreInOrder, first_router, goes_round}
@@ -6,7 +6,6 @@ use Rattle.dn_model.specs.CyclesFrom.{AreSomeCycles, IsCycleOf, IsPutAmong, Tell
 use Rattle.dn_model.specs.Forwarding.{does}
 use Rattle.dn_model.specs.declared.answer.Cycle.{Cycle}
 use Rattle.dn_model.specs.declared.forwarding_row.ForwardingRow.{ForwardingRow}
-use Rattle.dn_model.specs.declared.ids.RouterId.{RouterId}
 use Rattle.label_view.specs.Places.{AreGatheredTo}
 use Rattle.loop_check.proofs.Telling.{tell-put}
 use Rattle.loop_check.proofs.cycle_order.tell_cycle.Goals as goal

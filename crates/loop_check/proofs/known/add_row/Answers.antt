@@ -1,12 +1,10 @@
-use Rattle.std.proofs.Common.{◌≡◌, ◌<◌, ◌+◌, ◌∙◌, Bool, List, length, slice_index_or, refl, ap, sym, subst, arith}
-use Rattle.std.specs.List.{Contains}
+use Rattle.std.proofs.Common.{◌<◌, ◌∙◌, Bool, List, length, slice_index_or, refl, ap, sym, arith}
 use Rattle.dn_model.specs.Cycles.{is_cycle}
 use Rattle.dn_model.specs.Forwarding.{target_of}
 use Rattle.dn_model.specs.declared.ids.RouterId.{RouterId}
-use Rattle.label_view.specs.Places.{AreGatheredTo}
 use Rattle.label_view.proofs.InRow.{some_row}
 use Rattle.loop_check.specs.declared.known.KnownCycle.{KnownCycle}
-use Rattle.loop_check.proofs.Knowing.{done-more, kept-all, known-end, known-start, left-less, listed-is, round, routers-same, row-round, Gathers}
+use Rattle.loop_check.proofs.Knowing.{done-more, known-start, left-less, listed-is, round, routers-same, row-round}
 use Rattle.loop_check.proofs.known.add_row.Goals as goal
 
 pub loop-one-init : goal.loop-one-init

@@ -1,4 +1,4 @@
-use Rattle.std.proofs.Common.{◌≡◌, ◌≤◌, ◌+◌, ◌∙◌, ℕ, true, List, refl, sym, subst, arith}
+use Rattle.std.proofs.Common.{◌+◌, ◌∙◌, List, refl, sym, subst}
 use Rattle.dn_model.specs.declared.ids.RouterId.{RouterId}
 use Rattle.label_view.specs.Places.{AreGatheredTo}
 use Rattle.label_view.proofs.InRow.{some_row}

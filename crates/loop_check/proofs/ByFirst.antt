@@ -1,8 +1,8 @@
 -- The cycles of one row, put together by first router.
-use Rattle.std.proofs.Common.{◌≡◌, ℕ, ◌+◌, ◌<◌, ◌≤◌, ◌⊎◌, ◌∙◌, Bool, true, false, Option, Some, None, List, [], ◌∷◌, length, get_or, refl, ap, sym, subst, inl, inr, ⊎_elim, arith, IsTrue, IsSomeAnd}
+use Rattle.std.proofs.Common.{◌≡◌, ℕ, ◌+◌, ◌<◌, ◌≤◌, ◌⊎◌, ◌∙◌, true, Option, None, List, [], ◌∷◌, length, get_or, refl, ap, sym, subst, inl, inr, ⊎_elim, arith}
 use Rattle.std.specs.List.{Contains, insert}
 use Rattle.std.specs.Option.{is_some}
-use Rattle.std.proofs.lemmas.Bool.{cases_lt, cases_eq, false≢true}
+use Rattle.std.proofs.lemmas.Bool.{cases_eq, false≢true}
 use Rattle.std.proofs.lemmas.List.Elements.{Contains-get_or}
 use Rattle.dn_model.specs.Cycles.{is_cycle, first_router}
 use Rattle.dn_model.specs.declared.ids.RouterId.{RouterId}

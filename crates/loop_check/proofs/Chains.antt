@@ -1,7 +1,7 @@
 -- Following a row from a router on, past routers that stand after it.
-use Rattle.std.proofs.Common.{◌≡◌, ℕ, zero, suc, ◌+◌, ◌<◌, ◌≤◌, ◌⊎◌, ◌∙◌, Bool, true, false, ◌&&◌, nat_lt, List, [], ◌∷◌, ◌++◌, length, get_or, refl, ap, sym, subst, inl, inr, ⊎_elim, arith}
+use Rattle.std.proofs.Common.{◌≡◌, ℕ, ◌+◌, ◌<◌, ◌≤◌, ◌∙◌, true, false, ◌&&◌, nat_lt, List, [], ◌∷◌, ◌++◌, length, refl, ap, sym, subst, ⊎_elim, arith}
 use Rattle.std.specs.List.{list_all}
-use Rattle.std.proofs.lemmas.Bool.{cases_lt, lt-ltb, and_from, and_parts, both_ways, false≢true}
+use Rattle.std.proofs.lemmas.Bool.{cases_lt, lt-ltb, and_from, and_parts, false≢true}
 use Rattle.std.proofs.lemmas.List.{get_or_past}
 use Rattle.dn_model.specs.Cycles.{goes_to, go_round, is_cycle}
 use Rattle.dn_model.specs.Reach.{is_router}
@@ -11,7 +11,7 @@ use Rattle.dn_model.specs.declared.ids.LinkId.{LinkId}
 use Rattle.dn_model.specs.declared.ids.RouterId.{RouterId}
 use Rattle.dn_model.specs.declared.target.Target.{Target}
 use Rattle.dn_model.specs.declared.target.Target.TheVariants.{NoRoute, To}
-use Rattle.loop_check.specs.Following.{Follows, IsInNone, LeadInside, hops, is_among}
+use Rattle.loop_check.specs.Following.{Follows, IsInNone, hops, is_among}
 use Rattle.loop_check.proofs.Rounds.{differs, few-routers, goes-there, in-none, linked, linked-push, no-longer, rotated, split-round, step, among-head}
 
 -- routers from a first one on, each of which goes on to the next, and all of which but the first stand after it

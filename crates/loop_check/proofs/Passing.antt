@@ -1,5 +1,5 @@
 -- Routers that walks have passed, with one more.
-use Rattle.std.proofs.Common.{◌≡◌, ℕ, ◌<◌, ◌⊎◌, ◌∙◌, Bool, true, false, Option, Some, None, List, length, get_or, slice_set, refl, ap, sym, subst, inl, inr, ⊎_elim, arith}
+use Rattle.std.proofs.Common.{◌≡◌, ℕ, ◌<◌, ◌⊎◌, ◌∙◌, true, Option, Some, None, List, length, get_or, slice_set, ap, sym, subst, inl, inr, ⊎_elim}
 use Rattle.std.specs.Option.{is_some}
 use Rattle.std.proofs.lemmas.Bool.{cases_eq}
 use Rattle.std.proofs.lemmas.List.{get_or-set_same, get_or-set_other}

@@ -1,9 +1,9 @@
 -- Reading a row: what its routers do, by one list.
-use Rattle.std.proofs.Common.{◌≡◌, ◌≢◌, ℕ, ◌+◌, ◌<◌, ◌≤◌, ◌∙◌, Bool, true, false, Option, None, List, [], ◌∷◌, ◌&&◌, length, get_or, slice_set, refl, ap, sym, subst, ⊎_elim, arith}
+use Rattle.std.proofs.Common.{◌≡◌, ℕ, ◌+◌, ◌<◌, ◌≤◌, ◌∙◌, false, Option, None, List, [], ◌∷◌, ◌&&◌, length, get_or, slice_set, refl, ap, sym, ⊎_elim, arith}
 use Rattle.std.proofs.lemmas.Bool.{cases_eq, cases_lt}
 use Rattle.std.proofs.lemmas.List.{get_or-set_same, get_or-set_other, get_or_past}
 use Rattle.dn_model.specs.Cycles.{goes_to, go_round, is_cycle}
-use Rattle.dn_model.specs.Forwarding.{AreForwarding, IsForwarding, target_of}
+use Rattle.dn_model.specs.Forwarding.{AreForwarding, target_of}
 use Rattle.dn_model.specs.Reach.{is_router}
 use Rattle.dn_model.specs.Walk.{on_far}
 use Rattle.dn_model.specs.declared.forwarding_row.ForwardingRow.{ForwardingRow}

@@ -1,9 +1,9 @@
 -- Routers that go round: what cycles that share a router have in common, and a cycle from another of its routers on.
-use Rattle.std.proofs.Common.{◌≡◌, ℕ, zero, suc, ◌+◌, ◌<◌, ◌≤◌, ◌⊎◌, ◌∙◌, Bool, true, false, not, ◌&&◌, ◌||◌, nat_lt, List, [], ◌∷◌, ◌++◌, length, refl, ap, sym, subst, inl, inr, ⊎_elim, arith}
-use Rattle.std.specs.List.{list_any, list_all}
-use Rattle.std.proofs.lemmas.Bool.{cases_lt, cases_Bool, ltb-true, lt-ltb, eqb-true, eq-eqb, and_from, and_parts, or_cases, or_left, or_right, both_ways, not_from_false, true≢false, false≢true}
+use Rattle.std.proofs.Common.{◌≡◌, ℕ, ◌+◌, ◌<◌, ◌≤◌, ◌⊎◌, ◌∙◌, Bool, true, false, not, ◌&&◌, nat_lt, List, [], ◌∷◌, ◌++◌, length, refl, ap, sym, subst, inl, inr, ⊎_elim, arith}
+use Rattle.std.specs.List.{list_all}
+use Rattle.std.proofs.lemmas.Bool.{cases_Bool, ltb-true, lt-ltb, eqb-true, eq-eqb, and_from, and_parts, or_cases, or_left, or_right, both_ways, not_from_false, false≢true}
 use Rattle.std.proofs.lemmas.List.{length-append}
-use Rattle.dn_model.specs.Cycles.{goes_to, go_round, is_cycle, first_router}
+use Rattle.dn_model.specs.Cycles.{goes_to, go_round, is_cycle}
 use Rattle.dn_model.specs.Reach.{is_router}
 use Rattle.dn_model.specs.Topology.{all_differ}
 use Rattle.dn_model.specs.Walk.{on_far}

@@ -1,12 +1,12 @@
 -- What is known of all rows, as it is told.
-use Rattle.std.proofs.Common.{◌≡◌, ℕ, zero, suc, ◌+◌, ◌<◌, ◌≤◌, ◌^◌, ◌⊎◌, ◌∙◌, Bool, true, false, Option, Some, None, List, [], ◌∷◌, ◌++◌, length, get_or, refl, ap, sym, subst, inl, inr, ⊎_elim, arith}
-use Rattle.std.specs.List.{Contains, list_any}
-use Rattle.std.proofs.lemmas.Bool.{both_ways, false≢true}
+use Rattle.std.proofs.Common.{◌≡◌, ℕ, zero, suc, ◌<◌, ◌≤◌, ◌^◌, ◌⊎◌, ◌∙◌, true, Some, None, List, [], ◌∷◌, ◌++◌, length, get_or, refl, ap, sym, subst, inl, inr, ⊎_elim, arith}
+use Rattle.std.specs.List.{Contains}
+use Rattle.std.proofs.lemmas.Bool.{both_ways}
 use Rattle.std.proofs.lemmas.List.Elements.{Contains-append_left, Contains-push, Contains-push_cases}
-use Rattle.dn_model.specs.Cycles.{AreCycles, AreInOrder, BeginAt, HasCycle, IsCycle, first_router, goes_round}
+use Rattle.dn_model.specs.Cycles.{AreCycles, AreInOrder, HasCycle, IsCycle, first_router, goes_round}
 use Rattle.dn_model.specs.CyclesFrom.{AreSomeCycles, IsCycleOf, IsPutAmong, TellsCycle}
 use Rattle.dn_model.specs.Forwarding.{does}
-use Rattle.dn_model.specs.Runs.{AreApart, AreRuns, addresses_in, holds}
+use Rattle.dn_model.specs.Runs.{AreApart, addresses_in}
 use Rattle.dn_model.specs.declared.answer.Cycle.{Cycle}
 use Rattle.dn_model.specs.declared.forwarding_row.ForwardingRow.{ForwardingRow}
 use Rattle.dn_model.specs.declared.ids.RouterId.{RouterId}

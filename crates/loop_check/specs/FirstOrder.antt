@@ -25,5 +25,6 @@ pub record AreSomeOf (target_at : RouterId → Target) (cycles : List (List Rout
   pub each : (x : List RouterId) → Contains cycles x → IsTrue (is_cycle target_at x)
 
 -- all cycles of which a router was passed are among these
-pub record TellPassed (target_at : RouterId → Target) (passed : List (Option RouterId)) (cycles : List (List RouterId)) : Type 0 where
+pub record TellPassed (target_at : RouterId → Target) (passed : List (Option RouterId)) (cycles : List (List RouterId)) :
+    Type 0 where
   pub all : (x : List RouterId) → IsTrue (is_cycle target_at x) → MeetsPassed passed x → Contains cycles x

@@ -25,7 +25,8 @@ is_among routers r = list_any (is_router r) routers
 -- each cycle that has a router has another one
 abbrev pub Follows : (RouterId → Target) → RouterId → RouterId → Type 0
 Follows target_at x y =
-    (routers : List RouterId) → IsTrue (is_cycle target_at routers) → IsTrue (is_among routers x) → IsTrue (is_among routers y)
+    (routers : List RouterId) → IsTrue (is_cycle target_at routers) → IsTrue (is_among routers x)
+    → IsTrue (is_among routers y)
 
 -- no cycle has a router
 abbrev pub IsInNone : (RouterId → Target) → RouterId → Type 0

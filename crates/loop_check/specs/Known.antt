@@ -15,11 +15,13 @@ pub record HasKnown (known : List KnownCycle) (routers : List RouterId) : Type 0
 
 -- the runs of each are of the addresses of the rows before a place that go round it
 pub record AreKnownTo (rows : List ForwardingRow) (i : ℕ) (known : List KnownCycle) : Type 0 where
-  pub each : (one : KnownCycle) → Contains known one → AreGatheredTo one.runs rows i (goes_round (does rows) one.routers)
+  pub each : (one : KnownCycle) → Contains known one
+      → AreGatheredTo one.runs rows i (goes_round (does rows) one.routers)
 
 -- all cycles of the addresses of the rows before a place are among these
 pub record HaveAllBefore (rows : List ForwardingRow) (i : ℕ) (known : List KnownCycle) : Type 0 where
-  pub all : (routers : List RouterId) (a : ℕ) → a < begin_of rows i → IsTrue (goes_round (does rows) routers a) → HasKnown known routers
+  pub all : (routers : List RouterId) (a : ℕ) → a < begin_of rows i → IsTrue (goes_round (does rows) routers a)
+      → HasKnown known routers
 
 -- what is known stays known
 pub record KeepKnown (old new : List KnownCycle) : Type 0 where

@@ -1,6 +1,8 @@
 -- The cycles of one address, or of addresses that every router treats alike.
-use Rattle.std.specs.Prelude.{List, [], ◌∷◌, ◌<◌, Contains, IsTrue}
+use Rattle.std.specs.Prelude.{ℕ, List, [], ◌∷◌, ◌<◌, Contains, IsTrue, slice_index_or}
 use Rattle.dn_model.specs.Cycles.{is_cycle, first_router}
+use Rattle.dn_model.specs.Forwarding.{target_of}
+use Rattle.dn_model.specs.declared.forwarding_row.ForwardingRow.{ForwardingRow}
 use Rattle.dn_model.specs.declared.ids.RouterId.{RouterId}
 use Rattle.dn_model.specs.declared.target.Target.{Target}
 
@@ -15,3 +17,7 @@ pub record AreCyclesOf (target_at : RouterId → Target) (cycles : List (List Ro
   pub order : AreInFirstOrder cycles
   pub each : (routers : List RouterId) → Contains cycles routers → IsTrue (is_cycle target_at routers)
   pub all : (routers : List RouterId) → IsTrue (is_cycle target_at routers) → Contains cycles routers
+
+-- all cycles of the addresses of the row at a place
+abbrev pub AreCyclesAt : List ForwardingRow → ℕ → List (List RouterId) → Type 0
+AreCyclesAt rows i cycles = (d : ForwardingRow) → AreCyclesOf (target_of (slice_index_or rows i d)) cycles

@@ -1,7 +1,6 @@
 //! Cycles in the order in which they are told: by least address, then by first router.
 
 ghost use Rattle.std.specs.Prelude.{◌≡◌, ◌<◌, ◌≤◌, ℕ, List as Listed, IfOk, OnOk, IsTrue, IsFalse, Contains, false, length, slice_index_or};
-
 ghost use Rattle.dn_model.specs.Cycles.{AreInOrder, HasCycle, first_router, goes_round};
 ghost use Rattle.dn_model.specs.CyclesFrom.{is_before, AreSomeCycles, IsCycleOf, IsPutAmong, TellsCycle};
 ghost use Rattle.dn_model.specs.Forwarding.{does};
@@ -57,7 +56,7 @@ fn place_of(cycles: &[Cycle], cycle: &Cycle) -> usize
 fn put_cycle(cycles: &mut Vec<Cycle>, cycle: Cycle) -> Result<(), OutOfMemory>
     ensures { OnOk result (AreInOrder cycles.old.items
         → ((c : CycleIs) → Contains cycles.old.items c → c.least ≡ cycle.least
-            → first_router c.routers ≡ first_router cycle.routers → ⊥)
+        → first_router c.routers ≡ first_router cycle.routers → ⊥)
         → IsPutAmong cycle cycles.old.items cycles.new.items) }
 {
     let place = place_of(cycles.as_slice(), &cycle);

@@ -23,8 +23,8 @@ pub(crate) fn target_at(targets: &[Target], router: RouterId) -> Target
     targets[router.0 as usize]
 }
 
-/// Follows a row from a router on until it comes back, or to a router that stands before it, or ends. The routers passed
-/// are left in `path`. A way that doesn't come back makes as many hops as there are routers at most.
+/// Follows a row from a router on until it comes back, or to a router that stands before it, or ends. The routers
+/// passed are left in `path`. A way that doesn't come back makes as many hops as there are routers at most.
 fn follow(
     targets: &[Target],
     first: RouterId,

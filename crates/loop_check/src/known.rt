@@ -5,7 +5,7 @@ ghost use Rattle.dn_model.specs.Cycles.{is_cycle};
 ghost use Rattle.dn_model.specs.Forwarding.{AreForwarding, target_of};
 ghost use Rattle.dn_model.specs.declared.forwarding_row.ForwardingRow.{ForwardingRow as Row};
 ghost use Rattle.loop_check.specs.Known.{AreKnownTo, HasKnown, HaveAllBefore, KeepKnown};
-ghost use Rattle.loop_check.specs.RowCycles.{AreCyclesOf};
+ghost use Rattle.loop_check.specs.RowCycles.{AreCyclesAt};
 
 use dn_model::{List, OutOfMemory, RouterId};
 use label_view::LabelView;
@@ -63,7 +63,7 @@ fn add_row<V: LabelView>(
     requires form { AreForwarding (V.width view.now) (V.rows view.now) }
     requires place { i < length (V.rows view.now) }
     requires known { AreKnownTo (V.rows view.now) i known.old }
-    requires cycles { (d : Row) → AreCyclesOf (target_of (slice_index_or (V.rows view.now) i d)) cycles.now }
+    requires cycles { AreCyclesAt (V.rows view.now) i cycles.now }
     ensures known { OnOk result (AreKnownTo (V.rows view.now) (i + 1) known.new) }
     ensures kept { OnOk result (KeepKnown known.old known.new) }
 {
@@ -74,7 +74,8 @@ fn add_row<V: LabelView>(
     Ok(())
 }
 
-/// Makes a cycle known that the addresses of the row at a place go round, if it isn't; none before them goes round it then.
+/// Makes a cycle known that the addresses of the row at a place go round, if it isn't; then none before them goes round
+/// it.
 fn tell_new<V: LabelView>(
     alloc: Global,
     view: &V,
@@ -112,7 +113,7 @@ fn add_new<V: LabelView>(
     requires place { i < length (V.rows view.now) }
     requires known { AreKnownTo (V.rows view.now) (i + 1) known.old.items }
     requires before { HaveAllBefore (V.rows view.now) i known.old.items }
-    requires cycles { (d : Row) → AreCyclesOf (target_of (slice_index_or (V.rows view.now) i d)) cycles }
+    requires cycles { AreCyclesAt (V.rows view.now) i cycles }
     ensures known { OnOk result (AreKnownTo (V.rows view.now) (i + 1) known.new.items) }
     ensures before { OnOk result (HaveAllBefore (V.rows view.now) (i + 1) known.new.items) }
 {
@@ -123,8 +124,8 @@ fn add_new<V: LabelView>(
     Ok(())
 }
 
-/// Adds the row at a place, of which these are the cycles, to what is known. Where it has none, nothing is done. Otherwise
-/// each of its cycles is looked for among all that are known: distinct cycles are few.
+/// Adds the row at a place, of which these are the cycles, to what is known. Where it has none, nothing is done.
+/// Otherwise each of its cycles is looked for among all that are known: distinct cycles are few.
 pub(crate) fn add_cycles<V: LabelView>(
     alloc: Global,
     view: &V,
@@ -136,7 +137,7 @@ pub(crate) fn add_cycles<V: LabelView>(
     requires place { i < length (V.rows view.now) }
     requires known { AreKnownTo (V.rows view.now) i known.old.items }
     requires before { HaveAllBefore (V.rows view.now) i known.old.items }
-    requires cycles { (d : Row) → AreCyclesOf (target_of (slice_index_or (V.rows view.now) i d)) cycles }
+    requires cycles { AreCyclesAt (V.rows view.now) i cycles }
     ensures known { OnOk result (AreKnownTo (V.rows view.now) (i + 1) known.new.items) }
     ensures before { OnOk result (HaveAllBefore (V.rows view.now) (i + 1) known.new.items) }
 {

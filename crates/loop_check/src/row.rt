@@ -6,7 +6,7 @@ ghost use Rattle.dn_model.specs.declared.forwarding_row.ForwardingRow.{Forwardin
 ghost use Rattle.dn_model.specs.declared.ids.RouterId.{RouterId as Router};
 ghost use Rattle.loop_check.specs.FirstOrder.{AreSomeOf, TellPassed};
 ghost use Rattle.loop_check.specs.Following.{IsPassed, LeadInside, hops};
-ghost use Rattle.loop_check.specs.RowCycles.{AreCyclesOf};
+ghost use Rattle.loop_check.specs.RowCycles.{AreCyclesAt, AreCyclesOf};
 
 use crate::first_order::put_cycle;
 use crate::follow::find_cycle;
@@ -103,7 +103,14 @@ fn row_cycles(
 {
     let mut cycles = Vec::new(alloc);
     for start in 0..targets.len() {
-        tell_from(alloc, targets, passed, path, &mut cycles, RouterId(start as u16))?;
+        tell_from(
+            alloc,
+            targets,
+            passed,
+            path,
+            &mut cycles,
+            RouterId(start as u16),
+        )?;
     }
     Ok(List::from_vec(cycles))
 }
@@ -121,23 +128,28 @@ pub(crate) fn cycles_at<V: LabelView>(
     requires passed { vec_len work.old.passed ≡ V.width view.now }
     ensures targets { vec_len work.new.targets ≡ V.width view.now }
     ensures passed { vec_len work.new.passed ≡ V.width view.now }
-    ensures cycles { IfOk result (λ cycles. (d : Row) → AreCyclesOf (target_of (slice_index_or (V.rows view.now) i d)) cycles) }
+    ensures cycles { IfOk result (λ cycles. AreCyclesAt (V.rows view.now) i cycles) }
 {
     read_row(view, i, work.targets.as_mut_slice());
     clear(work.passed.as_mut_slice());
-    row_cycles(alloc, work.targets.as_slice(), work.passed.as_mut_slice(), &mut work.path)
+    row_cycles(
+        alloc,
+        work.targets.as_slice(),
+        work.passed.as_mut_slice(),
+        &mut work.path,
+    )
 }
 
-/// The cycles in which the addresses of the row at a place go round: lists of routers, each of which sends them on to the
-/// next and the last one back to the first. Each cycle is told once, from that of its routers on that is the first in
-/// the topology's order, and the cycles come by first router. It looks at each router once.
+/// The cycles in which the addresses of the row at a place go round: lists of routers, each of which sends them on to
+/// the next and the last one back to the first. Each cycle is told once, from that of its routers on that is the first
+/// in the topology's order, and the cycles come by first router. It looks at each router once.
 pub fn cycles_of_atom<V: LabelView>(
     alloc: Global,
     view: &V,
     i: u64,
 ) -> Result<List<List<RouterId>>, OutOfMemory>
     requires { i < length (V.rows view.now) }
-    ensures { IfOk result (λ cycles. (d : Row) → AreCyclesOf (target_of (slice_index_or (V.rows view.now) i d)) cycles) }
+    ensures { IfOk result (λ cycles. AreCyclesAt (V.rows view.now) i cycles) }
 {
     let mut work = Workspace::new(alloc, view.routers())?;
     cycles_at(alloc, view, i, &mut work)

@@ -37,8 +37,8 @@ pub(crate) fn walk_from(
     ensures start { IsPassed passed.new start }
     ensures kept { (r : Router) → IsPassed passed.old r → IsPassed passed.new r }
     ensures met { IfSome result (λ r. r.0 < length targets.now) }
-    ensures told { (routers : List Router) → IsTrue (is_cycle (hops targets.now) routers) → MeetsPassed passed.new routers
-        → MeetsPassed passed.old routers ⊎ IsSomeAnd result (λ r. IsTrue (is_among routers r)) }
+    ensures told { (routers : List Router) → IsTrue (is_cycle (hops targets.now) routers)
+        → MeetsPassed passed.new routers → MeetsPassed passed.old routers ⊎ IsSomeAnd result (λ r. IsTrue (is_among routers r)) }
 {
     let mut router = start;
     'passing: while mark_of(passed, router).is_none() {

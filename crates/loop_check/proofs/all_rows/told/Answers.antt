@@ -1,4 +1,4 @@
-use Rattle.std.proofs.Common.{◌≡◌, ℕ, length, arith}
+use Rattle.std.proofs.Common.{◌≡◌, length, arith}
 use Rattle.loop_check.proofs.Telling.{told-start, told-next, told-all}
 use Rattle.loop_check.proofs.all_rows.told.Goals as goal
 

@@ -1,4 +1,4 @@
-use Rattle.std.proofs.Common.{◌≡◌, ◌<◌, ◌≤◌, ◌∙◌, List, length, slice_index_or, refl, ap, sym, subst, arith}
+use Rattle.std.proofs.Common.{◌<◌, ◌≤◌, ◌∙◌, List, length, slice_index_or, refl, ap, arith}
 use Rattle.dn_model.specs.Runs.{addresses_in}
 use Rattle.dn_model.specs.declared.run.Run.{Run}
 use Rattle.loop_check.proofs.Telling.{cycle-none, cycle-some}

@@ -1,10 +1,10 @@
-use Rattle.std.proofs.Common.{◌≡◌, ◌+◌, ◌<◌, ◌∙◌, sym, ap, length, List, ◌++◌, [], ◌∷◌, arith}
+use Rattle.std.proofs.Common.{◌≡◌, ◌+◌, ◌<◌, ◌∙◌, sym, ap, length, List, [], ◌∷◌, arith}
 use Rattle.std.proofs.lemmas.List.{length-append}
 use Rattle.dn_model.specs.declared.ids.LinkId.{LinkId}
 use Rattle.dn_model.specs.declared.ids.RouterId.{RouterId}
 use Rattle.dn_model.specs.declared.target.Target.TheVariants.{To}
 use Rattle.loop_check.specs.Following.{hops}
-use Rattle.loop_check.proofs.Chains.{chain-start, chain-next, chain-back, chain-earlier, chain-ends, chain-long}
+use Rattle.loop_check.proofs.Chains.{chain-next, chain-back, chain-earlier, chain-ends, chain-long}
 use Rattle.loop_check.proofs.follow.follow.Goals as goal
 
 pub returns-in_default : goal.returns-in_default
@@ -23,7 +23,7 @@ returns-then-far-first-2 c =
 pub loop-left-preserved : goal.loop-left-preserved
 loop-left-preserved c =
     let more : length c.push-in-loop-left.new.self.items ≡ length c.loop-left.path.items + 1 =
-        ap (λ (rs : List RouterId). length rs) c.in_ok-push-2.ensures.items ∙ length-append c.loop-left.path.items (c.in-To.far ∷ []) in
+    ap (λ (rs : List RouterId). length rs) c.in_ok-push-2.ensures.items ∙ length-append c.loop-left.path.items (c.in-To.far ∷ []) in
     let later : c.args.first.0 < c.in-To.far.0 = omega arith in
     record {
       inside = c.requires.within.inside c.loop-left.last c.in-To.far c.in-To.field-1 (sym c.target_at.ensures ∙ c.in-To.is);

@@ -1,10 +1,10 @@
-use Rattle.std.proofs.Common.{◌≡◌, ◌∙◌, List, length, slice_index_or, sym, subst}
+use Rattle.std.proofs.Common.{◌∙◌, List, length, slice_index_or, sym, subst}
 use Rattle.std.proofs.lemmas.Bool.{eqb-true}
 use Rattle.dn_model.specs.Forwarding.{target_of}
 use Rattle.dn_model.specs.declared.ids.RouterId.{RouterId}
 use Rattle.label_view.proofs.InRow.{some_row}
 use Rattle.loop_check.specs.RowCycles.{AreCyclesOf}
-use Rattle.loop_check.proofs.Knowing.{before-kept, before-none, known-skip}
+use Rattle.loop_check.proofs.Knowing.{before-none, known-skip}
 use Rattle.loop_check.proofs.known.add_cycles.Goals as goal
 
 pub returns-then-is_empty-clause-known : goal.returns-then-is_empty-clause-known

@@ -1,4 +1,4 @@
-use Rattle.std.proofs.Common.{◌≡◌, ◌+◌, ◌⊎◌, List, IsTrue, length, slice_index_or}
+use Rattle.std.proofs.Common.{◌+◌, ◌⊎◌, List, IsTrue, length, slice_index_or}
 use Rattle.std.specs.List.{Contains}
 use Rattle.dn_model.specs.Cycles.{is_cycle}
 use Rattle.dn_model.specs.Forwarding.{target_of}

@@ -1,12 +1,10 @@
-use Rattle.std.proofs.Common.{◌≡◌, ◌<◌, ◌+◌, ◌∙◌, Bool, List, length, slice_index_or, refl, ap, sym, subst, arith}
-use Rattle.std.specs.List.{Contains}
+use Rattle.std.proofs.Common.{◌<◌, ◌∙◌, Bool, List, length, slice_index_or, refl, ap, sym, arith}
 use Rattle.dn_model.specs.Cycles.{is_cycle}
 use Rattle.dn_model.specs.Forwarding.{target_of}
 use Rattle.dn_model.specs.declared.ids.RouterId.{RouterId}
-use Rattle.label_view.specs.Places.{AreGatheredTo}
 use Rattle.label_view.proofs.InRow.{some_row}
 use Rattle.loop_check.specs.declared.known.KnownCycle.{KnownCycle}
-use Rattle.loop_check.proofs.Knowing.{done-more, kept-all, known-end, known-start, left-less, listed-is, round, routers-same, row-round, Gathers}
+use Rattle.loop_check.proofs.Knowing.{done-more, known-start, left-less, listed-is, round, routers-same, row-round}
 use Rattle.loop_check.proofs.known.add_row.Goals as goal
 
 pub loop-one-init : goal.loop-one-init
@@ -24,7 +22,7 @@ loop-one-preserved g c =
     let listed = listed-is (target_of (slice_index_or (g.V.LabelView.rows c.args.view.now) c.args.i some_row)) c.args.cycles.now c.as_slice.result.now c.is_listed-passes.result (c.requires.cycles some_row) c.is_listed-passes.ensures.yes c.is_listed-passes.ensures.refused in
     let row : List RouterId → Bool = is_cycle (target_of (slice_index_or (g.V.LabelView.rows c.args.view.now) c.args.i some_row)) in
     let now = c.in_ok-push_row_if.ensures (round (g.V.LabelView.rows c.args.view.now) (slice_index_or c.loop-one.known c.loop-one.one-index c.one-item.result).routers) was
-        (λ a in_row. listed ∙ ap row c.as_slice.ensures.value ∙ sym (row-round (g.V.LabelView.width c.args.view.now) (g.V.LabelView.rows c.args.view.now) c.args.i a (slice_index_or c.loop-one.known c.loop-one.one-index c.one-item.result).routers c.requires.form c.requires.place in_row)) in
+    (λ a in_row. listed ∙ ap row c.as_slice.ensures.value ∙ sym (row-round (g.V.LabelView.width c.args.view.now) (g.V.LabelView.rows c.args.view.now) c.args.i a (slice_index_or c.loop-one.known c.loop-one.one-index c.one-item.result).routers c.requires.form c.requires.place in_row)) in
     record {
       done = done-more (g.V.LabelView.rows c.args.view.now) c.args.i c.loop-one.known _ c.loop-one.one-index one inside refl now c.loop-one.invariant.done;
       left = left-less (g.V.LabelView.rows c.args.view.now) c.args.i c.loop-one.known _ c.loop-one.one-index one refl c.loop-one.invariant.left;

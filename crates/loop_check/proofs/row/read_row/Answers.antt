@@ -1,4 +1,4 @@
-use Rattle.std.proofs.Common.{◌≡◌, ◌≤◌, ◌<◌, ◌∙◌, ℕ, refl, length, sym, slice_index_or, arith}
+use Rattle.std.proofs.Common.{◌<◌, ◌∙◌, ℕ, refl, length, slice_index_or, arith}
 use Rattle.std.proofs.lemmas.List.{length-set}
 use Rattle.dn_model.specs.declared.target.Target.TheVariants.{NoRoute}
 use Rattle.loop_check.proofs.Reading.{read-more, read-all}

@@ -1,4 +1,4 @@
-use Rattle.std.proofs.Common.{◌≤◌, length, arith}
+use Rattle.std.proofs.Common.{arith}
 use Rattle.loop_check.proofs.ByFirst.{row-told}
 use Rattle.loop_check.proofs.row.row_cycles.Goals as goal
 

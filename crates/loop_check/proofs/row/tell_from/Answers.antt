@@ -1,7 +1,6 @@
-use Rattle.std.proofs.Common.{◌≡◌, ◌⊎◌, ◌∙◌, Bool, true, Option, List, IsSomeAnd, sym, subst}
-use Rattle.dn_model.specs.Cycles.{is_cycle}
+use Rattle.std.proofs.Common.{Bool, true, List, subst}
 use Rattle.dn_model.specs.declared.ids.RouterId.{RouterId}
-use Rattle.loop_check.specs.Following.{IsCycleAt, MeetsPassed, hops, is_among}
+use Rattle.loop_check.specs.Following.{IsCycleAt, hops}
 use Rattle.loop_check.specs.FirstOrder.{IsPutByFirst}
 use Rattle.loop_check.proofs.ByFirst.{some-put, told-put}
 use Rattle.loop_check.proofs.row.tell_from.Goals as goal

@@ -1,5 +1,4 @@
-use Rattle.std.proofs.Common.{◌≡◌, ◌<◌, ◌⊎◌, ◌∙◌, List, None, Some, length, slice_index_or, true, refl, sym, inl, inr, ⊎_elim, subst, arith}
-use Rattle.dn_model.specs.Cycles.{is_cycle}
+use Rattle.std.proofs.Common.{◌≡◌, ◌<◌, ◌∙◌, length, true, refl, sym, inl, inr, ⊎_elim, subst, arith}
 use Rattle.dn_model.specs.declared.ids.LinkId.{LinkId}
 use Rattle.dn_model.specs.declared.ids.RouterId.{RouterId}
 use Rattle.dn_model.specs.declared.target.Target.TheVariants.{To}

@@ -10,6 +10,7 @@ mod jobs;
 #[cfg(test)]
 mod jobs_tests;
 mod latest;
+mod laws;
 mod load;
 mod parts;
 mod program;
@@ -25,5 +26,6 @@ mod untaken;
 mod walk;
 mod words;
 
+pub use laws::runs_have_one_verdict;
 pub use program::run;
 pub use status::Status;

@@ -42,6 +42,10 @@ out-still c0 c1 c2 more name place out is at = rw (is, out, at) (state_at-middle
 
 -- ---- readers
 
+unread : (file : Option (List ℕ)) (count : ℕ) (rest : Option (List ℕ)) → count ≡ 0 → IfSome file (λ bytes. rest ≡ Some bytes) → IsUnread file (back_with count rest)
+unread None count rest none is = rw none refl
+unread (Some bytes) count rest none is = rw (none, is) refl
+
 module _ {S : Type 0} where
   any-push : (p : Reader S → Bool) (rs : List (Reader S)) (r : Reader S) (rest : Bool) → (list_any p (rs ++ r ∷ []) || rest) ≡ (list_any p rs || (p r || rest))
   any-push p [] r rest = or-none (p r) rest
@@ -84,10 +88,6 @@ module _ {S : Type 0} where
 
   routers-push : (rs : List (Reader S)) (r : Reader S) (routers : List RouterId) → routers_of_readers (rs ++ r ∷ []) ++ routers ≡ routers_of_readers rs ++ r.told.router ∷ routers
   routers-push rs r routers = ap (λ xs. xs ++ routers) (map-append (λ r. r.told.router) rs (r ∷ [])) ∙ append_assoc (routers_of_readers rs) (r.told.router ∷ []) routers
-
-  unread : (file : Option (List ℕ)) (count : ℕ) (rest : Option (List ℕ)) → count ≡ 0 → IfSome file (λ bytes. rest ≡ Some bytes) → IsUnread file (back_with count rest)
-  unread None count rest none is = rw none refl
-  unread (Some bytes) count rest none is = rw (none, is) refl
 
   untouched : (t : Topology) (faults : S → ℕ) (left : S → Option (List ℕ)) (rs : List (Reader S)) (files : List (Option (List ℕ))) → All (IsFresh t faults) rs → AreLeft left rs files → All IsUntouched (opened faults left files rs)
   untouched t faults left [] [] fresh are = All-nil IsUntouched

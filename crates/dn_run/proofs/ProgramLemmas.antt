@@ -1,5 +1,5 @@
 -- How the steps of a run follow one another.
-use Rattle.std.proofs.Common.{◌≡◌, ℕ, Bool, true, false, ◌||◌, Result, Ok, Err, IsSomeAnd, List, [], ◌∷◌, ◌++◌, Option, None, Some, refl, ap, sym, ◌∙◌, inl, inr, append_assoc}
+use Rattle.std.proofs.Common.{◌≡◌, ℕ, ◌+◌, Bool, true, false, ◌||◌, Result, Ok, Err, IsSomeAnd, List, [], ◌∷◌, ◌++◌, Option, None, Some, refl, ap, sym, ◌∙◌, inl, inr, append_assoc}
 use Rattle.std.specs.Result.{IsErrAnd}
 use Rattle.std.proofs.lemmas.List.{append-nil}
 use Rattle.dn_io.specs.Calls.{Call, CallState, Out, Refused, Back, call_of, names_of, some_out, some_failed, state_failed, state_is_out}
@@ -26,9 +26,9 @@ or-map Stopped calls P Q f (inl none) = inl none
 or-map Stopped calls P Q f (inr p) = inr (f p)
 
 -- the exit of a `?`
-pub stops-at : {Q : OutOfMemory → Type 0} (result : Result Ruling OutOfMemory) → IsErrAnd result Q → ending_of result ≡ Stopped
-stops-at (Ok x) is = absurd is
-stops-at (Err e) is = refl
+pub stops-at : (Q : OutOfMemory → Type 0) (result : Result Ruling OutOfMemory) → IsErrAnd result Q → ending_of result ≡ Stopped
+stops-at Q (Ok x) is = absurd is
+stops-at Q (Err e) is = refl
 
 -- whether something failed, where a line says so
 pub fails-as : (ending : Ending) (verdict : Verdict) (error : ErrorLine) (b : Bool) → b ≡ is_fault verdict → IsLine ending verdict error → IfRuled ending (λ v t. b ≡ is_fault v)

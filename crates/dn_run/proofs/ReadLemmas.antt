@@ -1,5 +1,5 @@
 -- What reading a file whole leaves in the world's calls, and what bytes it gives.
-use Rattle.std.proofs.Common.{◌≡◌, ℕ, ◌+◌, ◌≤◌, List, [], ◌∷◌, ◌++◌, Option, None, Some, Result, Ok, Err, IfOk, OnOk, IfSome, IsSome, IsSomeAnd, length, take, refl, ap, sym, ◌∙◌, inl, inr, arith, subst, true, not, ◌==◌}
+use Rattle.std.proofs.Common.{◌≡◌, ℕ, ◌+◌, ◌≤◌, List, [], ◌∷◌, ◌++◌, Option, None, Some, Result, Ok, Err, IfOk, OnOk, IfSome, IsSome, IsSomeAnd, length, take, refl, ap, sym, ◌∙◌, inl, inr, arith, subst, true, false, not, ◌==◌}
 use Rattle.std.proofs.lemmas.Bool.Decides.{nat_tests}
 use Rattle.std.proofs.lemmas.List.{append-nil, take_all}
 use Rattle.std.proofs.Math.Seq.{take-append_seam}

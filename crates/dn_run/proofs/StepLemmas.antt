@@ -22,6 +22,7 @@ use Rattle.dn_run.specs.Run.{IsErrorLine, IsLine, FromFeeds, FromJobs, FromScrip
 use Rattle.dn_run.specs.Stage.{Stage}
 use Rattle.dn_run.specs.Tracks.{tags_of}
 use Rattle.dn_run.specs.declared.load.Loaded.TheVariants as loaded
+use Rattle.dn_run.specs.declared.status.Verdict.{Verdict}
 use Rattle.dn_run.specs.declared.status.Verdict.TheVariants.{BadWords, BadTopology, BadScript, ReadFault}
 use Rattle.route_feed.specs.FeedReader.{Reader}
 use Rattle.dn_run.proofs.ProgramLemmas.{or-go, or-map, on-bytes-map, on-fault}

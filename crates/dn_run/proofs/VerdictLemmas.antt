@@ -1,6 +1,7 @@
 -- Words, files and the states of the calls fix what a run comes to.
 use Rattle.std.proofs.Common.{◌≡◌, ℕ, suc, Bool, true, false, Result, Ok, Err, IsSomeAnd, MatchResult, MatchOption, IsTrue, List, [], ◌∷◌, ◌++◌, Option, None, Some, refl, ap, sym, ◌∙◌, ◌⊎◌, inl, inr, subst, nat_lt, ◌+◌, length, if◌then◌else◌}
 use Rattle.std.specs.Bool.{MatchBool}
+use Rattle.std.proofs.Math.Bool.{So-prop}
 use Rattle.std.proofs.lemmas.List.{append_cancel_right}
 use Rattle.dn_io.specs.Calls.{Call, CallState, Out, Refused, Back}
 use Rattle.dn_io.specs.Files.{Files, bytes_of}
@@ -14,6 +15,7 @@ use Rattle.dn_model.specs.Topology.{is_sound_topology}
 use Rattle.dn_model.specs.declared.ids.RouterId.{RouterId}
 use Rattle.dn_model.specs.declared.topology.Topology.{Topology}
 use Rattle.dn_formats.specs.declared.error_line.ErrorLine.{ErrorLine}
+use Rattle.dn_formats.specs.declared.error_line.ErrorLine.TheVariants as errors
 use Rattle.dn_formats.specs.declared.script.Line.{Line}
 use Rattle.dn_formats.specs.declared.told.FeedTold.{FeedTold}
 use Rattle.dn_run.specs.Alike.{AreAlike, AreRunsOfOne}
@@ -22,13 +24,12 @@ use Rattle.dn_run.specs.Ending.{Ruled}
 use Rattle.dn_run.specs.Run.{AreReadOf, FromFeeds, FromJobs, FromParts, FromRouters, FromScripts, FromTopology, FromWords, IsErrorLine, IsReadOf, IsReadOfBytes, IsRunOf, IsToldOf, OnFile, OnFeed, OpenedFeed, all_well, feed_limit, most_jobs, routers_of, some_faulted, taken_by_scripts, untaken, verdict_of}
 use Rattle.dn_run.specs.Stage.{may_end_early, is_fault}
 use Rattle.dn_run.specs.declared.status.Verdict.{Verdict}
-use Rattle.dn_run.specs.declared.status.Verdict.TheVariants.{Done, Refusals, ReadFault}
+use Rattle.dn_run.specs.declared.status.Verdict.TheVariants.{Done, Refusals, BadWords, BadTopology, BadScript, ReadFault}
 
 -- ---- a network is what its parts are
 
 true-prop : (b : Bool) (x y : IsTrue b) → x ≡ y
-true-prop true x y = refl
-true-prop false x y = absurd x
+true-prop b x y = So-prop b x y
 
 abbrev IsSound : Parts → Type 0
 IsSound p = IsTrue (is_sound_topology p.routers p.links p.edges)
@@ -143,11 +144,11 @@ both-runs : (t : Topology) (routers : List RouterId) (scripts : List (List Line)
 both-runs t routers scripts opened v w x y told p q =
     (p.verdict_is ∙ ap verdict_of (same-tolds t 1 routers opened p.feeds q.feeds p.tolds q.tolds told p.read q.read) ∙ sym q.verdict_is, inr (t, routers, scripts, opened, p, q))
 
-both-opened : {R : Type 0} (fs : Files) (part : ℕ) (name : List ℕ) (opened : List OpenedFeed) (state : CallState) (more : List Call) (v w : Verdict) (x y : List ℕ) (P Q : List OpenedFeed → Type 0) →
+both-opened : (fs : Files) (part : ℕ) (name : List ℕ) (opened : List OpenedFeed) (state : CallState) (more : List Call) (v w : Verdict) (x y : List ℕ) (P Q : List OpenedFeed → Type 0) →
     ((later : List OpenedFeed) → AllTold later → P later → Q later → AreAlike v x w y) → AllTold opened →
     OnFeed (Some fs) part name opened state more (Ruled v x) P → OnFeed (Some fs) part name opened state more (Ruled w y) Q → AreAlike v x w y
 both-opened fs part name opened Out more v w x y P Q next told p q = absurd p
-both-opened fs part name opened Refused more v w x y P Q next told p q = both-lines more _ _ v w x y p.1 q.1
+both-opened fs part name opened Refused more v w x y P Q next told p q = both-lines more ReadFault (errors.ReadPart part) v w x y p.1 q.1
 both-opened fs part name opened (Back failed left) more v w x y P Q next told p q =
     both-some (bytes_of fs name) _ _ (λ bytes a b. next (opened ++ record { bytes = Some bytes; state = Back failed left } ∷ []) (told-push opened bytes (Back failed left) told) a b) p q
 
@@ -162,35 +163,35 @@ both-feeds fs t routers scripts opened (feed ∷ feeds) (call ∷ more) v w x y 
 both-jobs : (fs : Files) (t : Topology) (routers : List RouterId) (scripts : List (List Line)) (feeds : List (ℕ × FeedWords)) (calls : List Call) (v w : Verdict) (x y : List ℕ) →
     FromJobs (Some fs) t routers scripts feeds calls (Ruled v x) → FromJobs (Some fs) t routers scripts feeds calls (Ruled w y) → AreAlike v x w y
 both-jobs fs t routers scripts feeds calls v w x y p q =
-    both-bools (nat_lt most_jobs (length scripts + length (untaken scripts routers))) _ _ _ _ (both-lines calls _ _ v w x y) (both-feeds fs t routers scripts [] feeds calls v w x y tt) p q
+    both-bools (nat_lt most_jobs (length scripts + length (untaken scripts routers))) _ _ _ _ (both-lines calls BadWords errors.TooManyJobs v w x y) (both-feeds fs t routers scripts [] feeds calls v w x y tt) p q
 
 both-scripts : (fs : Files) (t : Topology) (routers : List RouterId) (read : List (List Line)) (scripts : List (ℕ × List ℕ)) (feeds : List (ℕ × FeedWords)) (calls : List Call) (v w : Verdict) (x y : List ℕ) →
     FromScripts (Some fs) t routers read scripts feeds calls (Ruled v x) → FromScripts (Some fs) t routers read scripts feeds calls (Ruled w y) → AreAlike v x w y
 both-scripts fs t routers read [] feeds calls v w x y p q = both-jobs fs t routers read feeds calls v w x y p q
 both-scripts fs t routers read (script ∷ scripts) feeds [] v w x y p q = absurd p
 both-scripts fs t routers read (script ∷ scripts) feeds (call ∷ more) v w x y p q =
-    both-files fs script.1 call.state _ _ _ _ (both-lines more _ _ v w x y)
+    both-files fs script.1 call.state _ _ _ _ (both-lines more ReadFault (errors.ReadPart script.0) v w x y)
     (λ bytes a b. both-results (script_of t.routers routers (taken_by_scripts read) bytes) _ _ _ _
-    (λ lines c d. both-scripts fs t routers (read ++ lines ∷ []) scripts feeds more v w x y c d) (λ fault c d. both-lines more _ _ v w x y c d) a b) p.1 q.1
+    (λ lines c d. both-scripts fs t routers (read ++ lines ∷ []) scripts feeds more v w x y c d) (λ fault c d. both-lines more BadScript (errors.Script script.0 fault.line fault.cause) v w x y c d) a b) p.1 q.1
 
 both-routers : (said : PartsSaid) (fs : Files) (t u : Topology) (calls : List Call) (v w : Verdict) (x y : List ℕ) → t ≡ u →
     FromRouters said (Some fs) t calls (Ruled v x) → FromRouters said (Some fs) u calls (Ruled w y) → AreAlike v x w y
 both-routers said fs t u calls v w x y same p q =
-    both-results (routers_of t said.feeds) _ _ _ _ (λ routers a b. both-scripts fs t routers [] said.scripts said.feeds calls v w x y a b) (λ error a b. both-lines calls _ _ v w x y a b)
+    both-results (routers_of t said.feeds) _ _ _ _ (λ routers a b. both-scripts fs t routers [] said.scripts said.feeds calls v w x y a b) (λ error a b. both-lines calls BadWords error v w x y a b)
     p (subst (λ (z : Topology). FromRouters said (Some fs) z calls (Ruled w y)) (sym same) q)
 
 both-topologies : (topology : List ℕ) (said : PartsSaid) (fs : Files) (calls : List Call) (v w : Verdict) (x y : List ℕ) →
     FromTopology topology said (Some fs) calls (Ruled v x) → FromTopology topology said (Some fs) calls (Ruled w y) → AreAlike v x w y
 both-topologies topology said fs [] v w x y p q = absurd p
 both-topologies topology said fs (call ∷ more) v w x y p q =
-    both-files fs topology call.state _ _ _ _ (both-lines more _ _ v w x y)
+    both-files fs topology call.state _ _ _ _ (both-lines more ReadFault errors.ReadTopology v w x y)
     (λ bytes a b. both-results (topology_of bytes) _ _ _ _
-    (λ network c d. both-routers said fs c.0 d.0 more v w x y (same-topology c.0 d.0 (c.1 ∙ sym d.1)) c.2 d.2) (λ fault c d. both-lines more _ _ v w x y c d) a b) p.1 q.1
+    (λ network c d. both-routers said fs c.0 d.0 more v w x y (same-topology c.0 d.0 (c.1 ∙ sym d.1)) c.2 d.2) (λ fault c d. both-lines more BadTopology (errors.Topology fault) v w x y c d) a b) p.1 q.1
 
 both-parts : (command : RunWords) (fs : Files) (calls : List Call) (v w : Verdict) (x y : List ℕ) →
     FromParts command (Some fs) calls (Ruled v x) → FromParts command (Some fs) calls (Ruled w y) → AreAlike v x w y
 both-parts command fs calls v w x y p q =
-    both-results (parts_of command.parts) _ _ _ _ (λ said a b. both-topologies command.topology said fs calls v w x y a b) (λ error a b. both-lines calls _ _ v w x y a b) p q
+    both-results (parts_of command.parts) _ _ _ _ (λ said a b. both-topologies command.topology said fs calls v w x y a b) (λ error a b. both-lines calls BadWords error v w x y a b) p q
 
 both-commands : (command : Option RunWords) (fs : Files) (calls : List Call) (v w : Verdict) (x y : List ℕ) (line line' : Type 0) → (line → line' → AreAlike v x w y) →
     MatchOption command line (λ c. FromParts c (Some fs) calls (Ruled v x)) → MatchOption command line' (λ c. FromParts c (Some fs) calls (Ruled w y)) → AreAlike v x w y
@@ -199,7 +200,7 @@ both-commands (Some command) fs calls v w x y line line' f p q = both-parts comm
 
 pub runs-alike : (words : List (List ℕ)) (fs : Files) (calls : List Call) (v w : Verdict) (x y : List ℕ) →
     FromWords words (Some fs) calls (Ruled v x) → FromWords words (Some fs) calls (Ruled w y) → AreAlike v x w y
-runs-alike words fs calls v w x y p q = both-commands (command_of words) fs calls v w x y _ _ (both-lines calls _ _ v w x y) p q
+runs-alike words fs calls v w x y p q = both-commands (command_of words) fs calls v w x y _ _ (both-lines calls BadWords errors.Words v w x y) p q
 
 -- ---- where no job ran
 

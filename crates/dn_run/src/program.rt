@@ -45,7 +45,7 @@ fn from_jobs<W: World, G: Gate>(
     requires few { length feeds.now ≤ 64 }
     requires known { All (λ r. r.0 < length (arc_value topology.now).routers) routers.now }
     requires apart { IsTrue (all_differ same_router routers.now) }
-    ensures stage { Stage (W.calls world.old) (W.calls world.new) (feed_files (map feed_texts feeds.now)) (ending_of result)
+    ensures { Stage (W.calls world.old) (W.calls world.new) (feed_files (map feed_texts feeds.now)) (ending_of result)
         (λ calls. FromJobs (W.files world.old) (arc_value topology.now) routers.now (scripts_of (option_copied script.entry)) (map feed_texts feeds.now) calls (ending_of result)) }
 {
     if has_too_many_jobs(routers, script) {
@@ -79,7 +79,7 @@ fn from_script<W: World, G: Gate>(
     requires few { length feeds.now ≤ 64 }
     requires known { All (λ r. r.0 < length (arc_value topology.now).routers) routers.now }
     requires apart { IsTrue (all_differ same_router routers.now) }
-    ensures stage { Stage (W.calls world.old) (W.calls world.new) (string_bytes part.now.file ∷ feed_files (map feed_texts feeds.now)) (ending_of result)
+    ensures { Stage (W.calls world.old) (W.calls world.new) (string_bytes part.now.file ∷ feed_files (map feed_texts feeds.now)) (ending_of result)
         (λ calls. FromScripts (W.files world.old) (arc_value topology.now) routers.now [] (script_texts part.now ∷ []) (map feed_texts feeds.now) calls (ending_of result)) }
 {
     match load_script(
@@ -124,7 +124,7 @@ fn from_scripts<W: World, G: Gate>(
     requires one { length parts.now.scripts.items ≤ 1 }
     requires known { All (λ r. r.0 < length (arc_value topology.now).routers) routers.now }
     requires apart { IsTrue (all_differ same_router routers.now) }
-    ensures stage { Stage (W.calls world.old) (W.calls world.new) (script_files (parts_texts parts.now).scripts ++ feed_files (parts_texts parts.now).feeds) (ending_of result)
+    ensures { Stage (W.calls world.old) (W.calls world.new) (script_files (parts_texts parts.now).scripts ++ feed_files (parts_texts parts.now).feeds) (ending_of result)
         (λ calls. FromScripts (W.files world.old) (arc_value topology.now) routers.now [] (parts_texts parts.now).scripts (parts_texts parts.now).feeds calls (ending_of result)) }
 {
     let feeds = parts.feeds.as_slice();
@@ -146,7 +146,7 @@ fn from_routers<W: World, G: Gate>(
     requires room { length (W.calls world.old) + 1 + length parts.now.feeds.items ≤ 2 ^ 32 }
     requires few { length parts.now.feeds.items ≤ 64 }
     requires one { length parts.now.scripts.items ≤ 1 }
-    ensures stage { Stage (W.calls world.old) (W.calls world.new) (script_files (parts_texts parts.now).scripts ++ feed_files (parts_texts parts.now).feeds) (ending_of result)
+    ensures { Stage (W.calls world.old) (W.calls world.new) (script_files (parts_texts parts.now).scripts ++ feed_files (parts_texts parts.now).feeds) (ending_of result)
         (λ calls. FromRouters (parts_texts parts.now) (W.files world.old) (arc_value topology.now) calls (ending_of result)) }
 {
     match find_routers(alloc, topology, parts.feeds.as_slice()) {
@@ -167,7 +167,7 @@ fn from_topology<W: World, G: Gate>(
     requires room { length (W.calls world.old) + 2 + length parts.now.feeds.items ≤ 2 ^ 32 }
     requires few { length parts.now.feeds.items ≤ 64 }
     requires one { length parts.now.scripts.items ≤ 1 }
-    ensures stage { Stage (W.calls world.old) (W.calls world.new) (names_due topology.now (parts_texts parts.now)) (ending_of result)
+    ensures { Stage (W.calls world.old) (W.calls world.new) (names_due topology.now (parts_texts parts.now)) (ending_of result)
         (λ calls. FromTopology topology.now (parts_texts parts.now) (W.files world.old) calls (ending_of result)) }
 {
     match load_topology(alloc, topology, world)? {
@@ -188,7 +188,7 @@ fn from_parts<W: World, G: Gate>(
     gate: &G,
 ) -> Result<Ruling, OutOfMemory>
     requires fresh { W.calls world.old ≡ [] }
-    ensures stage { Stage [] (W.calls world.new) (names_of_parts (command_texts command.now).topology (parts_of (command_texts command.now).parts)) (ending_of result)
+    ensures { Stage [] (W.calls world.new) (names_of_parts (command_texts command.now).topology (parts_of (command_texts command.now).parts)) (ending_of result)
         (λ calls. FromParts (command_texts command.now) (W.files world.old) calls (ending_of result)) }
 {
     match read_parts(alloc, command.parts.as_slice()) {
@@ -206,7 +206,7 @@ fn from_words<W: World, G: Gate>(
     gate: &G,
 ) -> Result<Ruling, OutOfMemory>
     requires fresh { W.calls world.old ≡ [] }
-    ensures stage { Stage [] (W.calls world.new) (names_of_words (map string_bytes words.now)) (ending_of result)
+    ensures { Stage [] (W.calls world.new) (names_of_words (map string_bytes words.now)) (ending_of result)
         (λ calls. FromWords (map string_bytes words.now) (W.files world.old) calls (ending_of result)) }
 {
     match read_words(alloc, words) {

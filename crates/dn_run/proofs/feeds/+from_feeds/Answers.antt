@@ -48,7 +48,7 @@ returns-in-Err-Failed-clause-opens g t c =
     c.requires.open.fresh (rw (c.in-Err-Failed.field-0-is, c.as_str.ensures.value) at c.in-Err-Failed.ensures.refused) c.refusal.ensures)))
 
 pub returns-in_err-reserve-clause-opens : goal.returns-in_err-reserve-clause-opens
-returns-in_err-reserve-clause-opens g t c = rw (stops-at c.from_residual.result c.from_residual.ensures.1) (opens-stops _ _ _ _ _ _ _ _ _ _)
+returns-in_err-reserve-clause-opens g t c = rw (stops-at _ c.from_residual.result c.from_residual.ensures.1) (opens-stops _ _ _ _ _ _ _ _ _ _)
 
 pub returns-in-Err-OutOfMemory-clause-opens : goal.returns-in-Err-OutOfMemory-clause-opens
 returns-in-Err-OutOfMemory-clause-opens g t c = rw (rw c.in-Err-OutOfMemory.field-0-is at c.in-Err-OutOfMemory.ensures.refused) (opens-stops _ _ _ _ _ _ _ _ _ _)

@@ -1,4 +1,4 @@
-use Rattle.std.proofs.Common.{◌∙◌}
+use Rattle.std.proofs.Common.{◌∙◌, refl}
 use Rattle.dn_run.proofs.CallsLemmas.{state_at-with_out}
 use Rattle.dn_run.proofs.ReadLemmas.{given_back, was_read, was_fault, called_one}
 use Rattle.dn_run.proofs.files.read_file.Goals as goal

@@ -1,8 +1,10 @@
 -- Which names were asked for.
-use Rattle.std.proofs.Common.{◌≡◌, ℕ, true, List, [], ◌∷◌, Option, refl, ap, sym, subst}
+use Rattle.std.proofs.Common.{◌≡◌, ℕ, true, List, [], ◌∷◌, Option, refl, ap, sym, ◌∙◌, subst}
 use Rattle.std.proofs.lemmas.List.{append-nil}
-use Rattle.dn_run.specs.Run.{IsFinished}
-use Rattle.dn_run.specs.Stage.{AsksFor, IsFrontOf, WereAsked, may_end_early}
+use Rattle.dn_formats.specs.declared.error_line.ErrorLine.{ErrorLine}
+use Rattle.dn_run.specs.Ending.{Ending, Ruled, Stopped}
+use Rattle.dn_run.specs.Run.{IsFinished, IsLine}
+use Rattle.dn_run.specs.Stage.{AreAsked, AsksFor, IsFrontOf, WereAsked, may_end_early}
 use Rattle.dn_run.specs.declared.status.Status.{Status}
 use Rattle.dn_run.specs.declared.status.Status.TheVariants as statuses
 use Rattle.dn_run.specs.declared.status.Verdict.{Verdict}
@@ -39,6 +41,20 @@ asked-front BadWords asked names early is = is
 asked-front BadTopology asked names early is = is
 asked-front BadScript asked names early is = is
 asked-front ReadFault asked names early is = is
+
+-- the same of an ending
+pub are-cons : (ending : Ending) (name : List ℕ) (asked names : List (List ℕ)) → AreAsked ending asked names → AreAsked ending (name ∷ asked) (name ∷ names)
+are-cons (Ruled v t) name asked names is = asked-cons v name asked names is
+are-cons Stopped name asked names is = front-cons name asked names is
+
+pub are-all : (ending : Ending) (names : List (List ℕ)) → AreAsked ending names names
+are-all (Ruled v t) names = asked-all v names
+are-all Stopped names = front-all names
+
+pub are-early : (ending : Ending) (verdict : Verdict) (error : ErrorLine) (asked names : List (List ℕ)) → may_end_early verdict ≡ true → IsLine ending verdict error → IsFrontOf asked names →
+    AreAsked ending asked names
+are-early (Ruled v t) verdict error asked names early line is = asked-front v asked names (ap may_end_early line.0 ∙ early) is
+are-early Stopped verdict error asked names early line is = is
 
 front-same : (asked names : List (List ℕ)) → asked ≡ names → IsFrontOf asked names
 front-same asked names is = subst (λ (ns : List (List ℕ)). IsFrontOf asked ns) is (front-all asked)

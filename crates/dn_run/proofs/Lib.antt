@@ -20,3 +20,4 @@ pub mod StrandLemmas
 pub mod TakesLemmas
 pub mod TellLemmas
 pub mod TracksLemmas
+pub mod VerdictLemmas

@@ -2,7 +2,7 @@
 use Rattle.std.proofs.Common.{◌≡◌, ℕ, zero, suc, ◌+◌, ◌<◌, ◌≤◌, Bool, true, false, nat_lt, List, [], ◌∷◌, length, take, Option, None, Some, IfSome, IsSomeAnd, Result, Ok, Err, IfOk, OnErr, refl, ap, sym, ◌∙◌, inr, arith, subst}
 use Rattle.std.proofs.lemmas.Bool.{ltb-true, ltb-false, lt-ltb}
 use Rattle.std.proofs.lemmas.List.{take_all, length-take-le}
-use Rattle.dn_io.specs.Calls.{Call, Back, call_of, names_of}
+use Rattle.dn_io.specs.Calls.{Call, Back}
 use Rattle.dn_io.specs.Files.{Files, bytes_of}
 use Rattle.dn_formats.specs.TopologyText.{topology_of, top_fault}
 use Rattle.dn_formats.specs.ScriptText.{script_of}
@@ -13,10 +13,9 @@ use Rattle.dn_formats.specs.declared.script.Script.{Script}
 use Rattle.dn_model.specs.declared.topology.Topology.{Topology}
 use Rattle.dn_run.specs.Loaded.{SaysTopology, SaysScript, Loads, LoadsTopology, LoadsScript}
 use Rattle.dn_io.specs.Told.{with_front}
-use Rattle.dn_run.specs.Opened.{WasRead, ComesFrom, IsReadUpTo, MayNameOne}
+use Rattle.dn_run.specs.Opened.{WasRead, ComesFrom, IsReadUpTo, MayCallOne, OnBytes}
 use Rattle.dn_run.specs.declared.load.Loaded.{Loaded}
 use Rattle.dn_run.specs.declared.load.Loaded.TheVariants.{Read, Refused, Failed}
-use Rattle.dn_run.proofs.CallsLemmas.{names_of-append}
 
 -- what is the same of every text past a limit can be seen at one byte past it
 cut-same-by : {A : Type 0} (f : List ℕ → A) (long : A) (limit : ℕ) (bytes : List ℕ) → ((b : List ℕ) → nat_lt limit (length b) ≡ true → f b ≡ long) →
@@ -62,8 +61,8 @@ good-of good (Some all) bytes left cut is said =
     (is.0 ∙ ap (λ (b : List ℕ). with_front b left) is.1, cut all (subst good is.1 said))
 
 good-all : (good : List ℕ → Type 0) (files : Option Files) (name bytes : List ℕ) (left : Option (List ℕ)) → ((all : List ℕ) → good (take (16777216 + 1) all) → good all) →
-    ComesFrom files name 16777216 bytes left → good bytes → IfSome files (λ fs. IsSomeAnd (bytes_of fs name) (λ all. IsReadUpTo all (16777216 + 1) left × good all))
-good-all good None name bytes left cut is said = tt
+    ComesFrom files name 16777216 bytes left → good bytes → OnBytes files name left good
+good-all good None name bytes left cut is said = (bytes, is, said)
 good-all good (Some fs) name bytes left cut is said = good-of good (bytes_of fs name) bytes left cut is said
 
 loads : {T E : Type 0} (says : List ℕ → Loaded T → Type 0) (cut : (bytes : List ℕ) (x : Loaded T) → says (take (16777216 + 1) bytes) x → says bytes x)
@@ -83,7 +82,7 @@ pub loads-script : {E : Type 0} (t : Topology) (routers taken : List RouterId) (
     WasRead files 16777216 old name new bytes → IfOk result (SaysScript t routers taken part bytes) → IfOk result (LoadsScript t routers taken part files old name new)
 loads-script t routers taken part = loads (SaysScript t routers taken part) (says-script t routers taken part) (λ bytes said. said)
 
--- a file that was read was asked for, whatever comes after
-pub named-read : {X E : Type 0} (result : Result X E) (files : Option Files) (old new : List Call) (name bytes : List ℕ) → WasRead files 16777216 old name new bytes → OnErr result (MayNameOne old name new)
-named-read (Ok x) files old new name bytes read = tt
-named-read (Err e) files old new name bytes read = inr (ap names_of read.1 ∙ names_of-append old (call_of name (Back false read.0) ∷ []))
+-- a file that was read was asked for and given back, whatever comes after
+pub called-read : {X E : Type 0} (result : Result X E) (files : Option Files) (old new : List Call) (name bytes : List ℕ) → WasRead files 16777216 old name new bytes → OnErr result (MayCallOne old name new)
+called-read (Ok x) files old new name bytes read = tt
+called-read (Err e) files old new name bytes read = inr (Back false read.0, read.1, refl)

@@ -1,5 +1,5 @@
 -- What the jobs of a run came to, as the run's report has it.
-use Rattle.std.proofs.Common.{◌≡◌, ℕ, suc, ◌+◌, ◌<◌, ◌≤◌, Bool, true, false, ◌==◌, not, Result, Ok, Err, IfOk, List, [], ◌∷◌, length, map, All, Option, None, Some, refl, ap, sym, ◌∙◌, arith, subst, if◌then◌else◌}
+use Rattle.std.proofs.Common.{◌≡◌, ℕ, suc, ◌+◌, ◌<◌, ◌≤◌, Bool, true, false, ◌==◌, not, Result, Ok, Err, IfOk, IfSome, List, [], ◌∷◌, length, map, All, Option, None, Some, refl, ap, sym, ◌∙◌, arith, subst, if◌then◌else◌}
 use Rattle.std.proofs.lemmas.Bool.Decides.{nat_tests}
 use Rattle.std.proofs.lemmas.List.Elements.{All-head, All-tail}
 use Rattle.dn_io.specs.Calls.{Back, back_with}
@@ -18,7 +18,7 @@ use Rattle.dn_formats.specs.declared.told.JobTold.{JobTold}
 use Rattle.dn_run.specs.Feeds.{opened, AreLeft, some_rose, routers_of_readers}
 use Rattle.dn_run.specs.Jobs.{AreNumbered, IsReadBy, AreReadBy, HasRun}
 use Rattle.dn_run.specs.Network.{StandsBy, CountsBy, CountsFaults}
-use Rattle.dn_run.specs.Run.{IsReadOf, AreReadOf, IsReadToEnd, IsRunOf, verdict_of, is_faulted, some_faulted, all_well, feed_limit}
+use Rattle.dn_run.specs.Run.{IsReadOf, IsReadOfBytes, IsToldOf, AreReadOf, IsReadToEnd, IsRunOf, verdict_of, is_faulted, some_faulted, all_well, feed_limit}
 use Rattle.dn_run.specs.Stage.{is_fault}
 use Rattle.dn_run.specs.Takes.{tag_of}
 use Rattle.dn_run.specs.Tracks.{tags_of}
@@ -66,7 +66,7 @@ module _ {S : Type 0} where
   -- ---- one feed
 
   record ReadAs (t : Topology) (reader : Reader S) (bytes : List ℕ) (faults : ℕ) (left : Option (List ℕ)) (f : FeedRead) : Type 0 where
-    pub read : IsReadOf t bytes (back_with faults left) f
+    pub read : IsReadOfBytes t bytes (back_with faults left) f
     pub told : reader.told ≡ told_of f
 
   ended : (t : Topology) (reader : Reader S) (bytes : List ℕ) (faults : ℕ) (left : Option (List ℕ)) (f : FeedRead) (end : FeedEnd) →
@@ -83,7 +83,7 @@ module _ {S : Type 0} where
   }
 
   faulted-read : (t : Topology) (reader : Reader S) (bytes front : List ℕ) (left : Option (List ℕ)) (f : FeedRead) → f.router ≡ reader.told.router → f.end ≡ ends.Faulted →
-      IsFaultedReading t reader.told.router front f.steps → length front ≤ feed_limit → Some bytes ≡ with_front front left → IsReadOf t bytes (Back true left) f
+      IsFaultedReading t reader.told.router front f.steps → length front ≤ feed_limit → Some bytes ≡ with_front front left → IsReadOfBytes t bytes (Back true left) f
   faulted-read t reader bytes front None f router is reading within whole = absurd (cc)
   faulted-read t reader bytes front (Some rest) f router is reading within whole =
       (front, cc, within, subst (λ r. IsFaultedReading t r front f.steps) (sym router) reading, is)
@@ -92,7 +92,7 @@ module _ {S : Type 0} where
       f.feed_no ≡ reader.told.feed_no → f.router ≡ reader.told.router → reader.limit ≡ feed_limit → f.end ≡ ends.Faulted →
       HasFaulted t reader left bytes f.steps → 0 < faults → ReadAs t reader bytes faults left f
   faulted t reader bytes faults left f numbered router limit is has some = record {
-    read = subst (λ b. IsReadOf t bytes (Back b left) f) (some-rise faults some)
+    read = subst (λ b. IsReadOfBytes t bytes (Back b left) f) (some-rise faults some)
         (faulted-read t reader bytes has.front left f router is has.reading (subst (λ l. length has.front ≤ l) limit has.within) has.whole);
     told = has.counted ∙ rw (sym numbered, sym router, sym is) refl;
   }
@@ -114,60 +114,68 @@ module _ {S : Type 0} where
       by-end t new bytes (faults new.source) (left new.source) f f.end by.feed_no by.router limit refl (by.stands bytes is)
       (subst (λ e. CountsBy e (faults new.source)) by.end_is counts)
 
+  -- the same where its bytes may not be told
+  record ReadTold (t : Topology) (reader : Reader S) (file : Option (List ℕ)) (faults : ℕ) (left : Option (List ℕ)) (f : FeedRead) : Type 0 where
+    pub read : IsReadOf t file (back_with faults left) f
+    pub told : IsToldOf file f reader.told
+
+  one-told : (t : Topology) (faults : S → ℕ) (left : S → Option (List ℕ)) (old new : Reader S) (f : FeedRead) (file : Option (List ℕ)) →
+      IsReadBy t left old new f → CountsFaults new (faults new.source) → new.limit ≡ feed_limit → IfSome file (λ bytes. left old.source ≡ Some bytes) →
+      ReadTold t new file (faults new.source) (left new.source) f
+  one-told t faults left old new f None by counts limit is =
+      let by_end : CountsBy (Some f.end) (faults new.source) = subst (λ e. CountsBy e (faults new.source)) by.end_is counts in
+      record {
+        read = (fault-counts (Some f.end) (faults new.source) by_end, λ full. subst (λ e. CountsBy (Some e) (faults new.source)) full by_end);
+        told = (sym by.feed_no, sym by.router, by.end_is);
+      }
+  one-told t faults left old new f (Some bytes) by counts limit is =
+      let one = one-read t faults left old new f bytes by counts limit is in
+      record { read = one.read; told = one.told }
+
   -- ---- all feeds
 
-  record AllRead (t : Topology) (faults : S → ℕ) (left : S → Option (List ℕ)) (n : ℕ) (olds news : List (Reader S)) (files : List (List ℕ)) (feeds : List FeedRead) : Type 0 where
-    pub read : AreReadOf t n (routers_of_readers olds) (opened faults left files news) feeds
-    pub tolds : map (λ r. r.told) news ≡ map told_of feeds
-
-  all-read : (t : Topology) (place faults : S → ℕ) (left : S → Option (List ℕ)) (n : ℕ) (olds news : List (Reader S)) (files : List (List ℕ)) (feeds : List FeedRead) →
+  all-read : (t : Topology) (place faults : S → ℕ) (left : S → Option (List ℕ)) (n : ℕ) (olds news : List (Reader S)) (files : List (Option (List ℕ))) (feeds : List FeedRead) →
       AreNumbered n olds → All (λ r. r.limit ≡ feed_limit) olds → AreReadBy t left olds news feeds → All (λ r. CountsFaults r (faults r.source)) news →
-      tags_of place news ≡ tags_of place olds → AreLeft left olds files → AllRead t faults left n olds news files feeds
-  all-read t place faults left n [] [] [] [] numbered limits by counts same are = record { read = tt; tolds = refl }
-  all-read t place faults left n [] [] (bytes ∷ files) [] numbered limits by counts same are = absurd (cc)
+      tags_of place news ≡ tags_of place olds → AreLeft left olds files → AreReadOf t n (routers_of_readers olds) (opened faults left files news) feeds (map (λ r. r.told) news)
+  all-read t place faults left n [] [] [] [] numbered limits by counts same are = tt
+  all-read t place faults left n [] [] (bytes ∷ files) [] numbered limits by counts same are = absurd are
   all-read t place faults left n [] [] files (f ∷ feeds) numbered limits by counts same are = absurd by
   all-read t place faults left n [] (new ∷ news) files [] numbered limits by counts same are = absurd by
   all-read t place faults left n [] (new ∷ news) files (f ∷ feeds) numbered limits by counts same are = absurd by
   all-read t place faults left n (old ∷ olds) [] files [] numbered limits by counts same are = absurd by
   all-read t place faults left n (old ∷ olds) [] files (f ∷ feeds) numbered limits by counts same are = absurd by
   all-read t place faults left n (old ∷ olds) (new ∷ news) files [] numbered limits by counts same are = absurd by
-  all-read t place faults left n (old ∷ olds) (new ∷ news) [] (f ∷ feeds) numbered limits by counts same are = absurd (cc)
-  all-read t place faults left n (old ∷ olds) (new ∷ news) (bytes ∷ files) (f ∷ feeds) numbered limits by counts same are =
+  all-read t place faults left n (old ∷ olds) (new ∷ news) [] (f ∷ feeds) numbered limits by counts same are = absurd are
+  all-read t place faults left n (old ∷ olds) (new ∷ news) (file ∷ files) (f ∷ feeds) numbered limits by counts same are =
       let tag : tag_of place new ≡ tag_of place old = cc in
       let rest : tags_of place news ≡ tags_of place olds = cc in
-      let here : left old.source ≡ Some bytes = cc in
-      let there : AreLeft left olds files = cc in
       let limit : new.limit ≡ feed_limit = ap (λ g. g.limit) tag ∙ All-head (λ r. r.limit ≡ feed_limit) old olds limits in
       let number : f.feed_no ≡ n = by.0.feed_no ∙ ap (λ g. g.feed_no) tag ∙ numbered.0 in
       let router : f.router ≡ old.told.router = by.0.router ∙ ap (λ g. g.router) tag in
-      let one = one-read t faults left old new f bytes by.0 (All-head (λ r. CountsFaults r (faults r.source)) new news counts) limit here in
+      let one = one-told t faults left old new f file by.0 (All-head (λ r. CountsFaults r (faults r.source)) new news counts) limit are.0 in
       let more = all-read t place faults left (suc n) olds news files feeds numbered.1 (All-tail (λ r. r.limit ≡ feed_limit) old olds limits) by.1
-      (All-tail (λ r. CountsFaults r (faults r.source)) new news counts) rest there in
-      record {
-        read = (number, router, one.read, more.read);
-        tolds = rw (one.told, more.tolds) refl;
-      }
+      (All-tail (λ r. CountsFaults r (faults r.source)) new news counts) rest are.1 in
+      (number, router, one.read, one.told, more)
 
   pub ran : {X E : Type 0} (verdict : X → Verdict) (text : X → List ℕ) (result : Result X E) (t : Topology) (place faults : S → ℕ) (left : S → Option (List ℕ)) (olds news : List (Reader S))
       (history : List Posted) (scripts : List (List Line)) (jobs : List JobTold) (tolds : List FeedTold) →
       AreNumbered 1 olds → All (λ r. r.limit ≡ feed_limit) olds → HasRun t left olds news history scripts jobs → All (λ r. CountsFaults r (faults r.source)) news →
       tags_of place news ≡ tags_of place olds → tolds ≡ map (λ r. r.told) news →
       IfOk result (λ x. verdict x ≡ verdict_of tolds) → IfOk result (λ x. text x ≡ report t tolds (entries history) jobs) →
-      IfOk result (λ x. (files : List (List ℕ)) → AreLeft left olds files → IsRunOf t (routers_of_readers olds) scripts (opened faults left files news) (verdict x) (text x))
+      IfOk result (λ x. (files : List (Option (List ℕ))) → AreLeft left olds files → IsRunOf t (routers_of_readers olds) scripts (opened faults left files news) (verdict x) (text x))
   ran verdict text (Err e) t place faults left olds news history scripts jobs tolds numbered limits has counts same are is says = tt
   ran verdict text (Ok x) t place faults left olds news history scripts jobs tolds numbered limits has counts same are is says = λ files lefts.
-      let all = all-read t place faults left 1 olds news files has.feeds numbered limits has.read counts same lefts in
-      let told : tolds ≡ map told_of has.feeds = are ∙ all.tolds in
       record {
         feeds = has.feeds;
-        read = all.read;
+        tolds = map (λ r. r.told) news;
+        read = all-read t place faults left 1 olds news files has.feeds numbered limits has.read counts same lefts;
         reported = record {
           history = entries history;
           told = jobs;
           shuffle = has.shuffle;
           order = has.order;
           tells = has.tells;
-          text_is = says ∙ ap (λ ts. report t ts (entries history) jobs) told;
+          text_is = says ∙ ap (λ ts. report t ts (entries history) jobs) are;
         };
-        verdict_is = is ∙ ap verdict_of told;
+        verdict_is = is ∙ ap verdict_of are;
       }

@@ -1,15 +1,15 @@
 -- What reading a file whole leaves in the world's calls, and what bytes it gives.
-use Rattle.std.proofs.Common.{◌≡◌, ℕ, ◌+◌, ◌≤◌, List, [], ◌∷◌, ◌++◌, Option, None, Some, Result, Ok, Err, IfOk, OnOk, IfSome, IsSome, IsSomeAnd, length, take, refl, ap, sym, ◌∙◌, inl, inr, arith, subst, true, not, ◌==◌}
+use Rattle.std.proofs.Common.{◌≡◌, ℕ, ◌+◌, ◌≤◌, List, [], ◌∷◌, ◌++◌, Option, None, Some, Result, Ok, Err, IfOk, OnOk, IfSome, IsSome, IsSomeAnd, length, take, refl, ap, sym, ◌∙◌, inl, inr, arith, subst, true, false, not, ◌==◌}
 use Rattle.std.proofs.lemmas.Bool.Decides.{nat_tests}
 use Rattle.std.proofs.lemmas.List.{append-nil, take_all}
 use Rattle.std.proofs.Math.Seq.{take-append_seam}
 use Rattle.std.proofs.lemmas.Grind.{common_steps}
 use Rattle.dn_io.specs.Told.{with_front}
-use Rattle.dn_io.specs.Calls.{Call, CallState, Refused, Back, call_of, with_out, with_state, back_with, names_of}
+use Rattle.dn_io.specs.Calls.{Call, CallState, Refused, Back, call_of, with_out, with_state, back_with, state_is_out}
 use Rattle.dn_io.specs.Files.{Files, bytes_of}
 use Rattle.dn_io.specs.Faults.{Rose}
-use Rattle.dn_run.specs.Opened.{WasRead, ComesFrom, IsReadTo, IsReadFront, LeavesFront, FailsAt, WasFault, MayNameOne}
-use Rattle.dn_run.proofs.CallsLemmas.{with_state-with_out, names_of-append}
+use Rattle.dn_run.specs.Opened.{WasRead, ComesFrom, IsReadTo, IsReadFront, LeavesFront, FailsAt, WasFault, MayCallOne}
+use Rattle.dn_run.proofs.CallsLemmas.{with_state-with_out}
 
 -- the calls once the source of a name was given back
 pub given_back : (old mid new : List Call) (name : List ℕ) (place : ℕ) (state : CallState) → mid ≡ with_out old name → place ≡ length old → new ≡ with_state mid place state → new ≡ old ++ call_of name state ∷ []
@@ -30,7 +30,7 @@ front_read limit front (Some rest) (Some bytes) is same (inr past) within =
 
 comes_from : (files : Option Files) (name : List ℕ) (limit : ℕ) (bytes : List ℕ) (before after : Option (List ℕ)) → IfSome files (λ fs. IsSome (bytes_of fs name)) → IfSome files (λ fs. before ≡ bytes_of fs name) →
     with_front bytes after ≡ before → IsReadTo limit bytes after → length bytes ≤ limit + 1 → ComesFrom files name limit bytes after
-comes_from None name limit bytes before after has is front end within = tt
+comes_from None name limit bytes before after has is front end within = within
 comes_from (Some fs) name limit bytes before after has is front end within = front_read limit bytes after (bytes_of fs name) has (front ∙ is) end within
 
 pub was_read : {X E : Type 0} (items : X → List ℕ) (r : Result X E) (files : Option Files) (limit : ℕ) (old new : List Call) (name : List ℕ) (count count' : ℕ) (before after : Option (List ℕ)) →
@@ -64,8 +64,8 @@ was_fault files limit old new name count count' before after n z rose leaves has
     let failed = rose_from_zero count count' z (rose p) in
     (back_with count' after, n, failed, refl, fails_at files name limit count' before after has is failed (leaves p))
 
-pub named_one : (old new : List Call) (name : List ℕ) (state : CallState) → new ≡ old ++ call_of name state ∷ [] → MayNameOne old name new
-named_one old new name state n = inr (ap names_of n ∙ names_of-append old (call_of name state ∷ []))
+pub called_one : (old new : List Call) (name : List ℕ) (state : CallState) → new ≡ old ++ call_of name state ∷ [] → state_is_out state ≡ false → MayCallOne old name new
+called_one old new name state n back = inr (state, n, back)
 
 -- a source that was not opened is a fault
 pub was_refused : (files : Option Files) (limit : ℕ) (old new : List Call) (name : List ℕ) → new ≡ old ++ call_of name Refused ∷ [] → WasFault files limit old name new

@@ -1,7 +1,7 @@
 -- What became of a topology or a script that was to be read from a file.
-use Rattle.std.specs.Prelude.{◌≡◌, ◌+◌, ℕ, List, [], ◌∷◌, ◌++◌, Option, IfSome, IsSomeAnd, Ok, Err, All, false}
+use Rattle.std.specs.Prelude.{◌≡◌, ◌+◌, ℕ, List, [], ◌∷◌, ◌++◌, Option, Ok, Err, All, false}
 use Rattle.dn_io.specs.Calls.{Call, Back, call_of}
-use Rattle.dn_io.specs.Files.{Files, bytes_of}
+use Rattle.dn_io.specs.Files.{Files}
 use Rattle.dn_formats.specs.TopologyText.{topology_of, parts}
 use Rattle.dn_formats.specs.ScriptText.{ScriptFault, script_of}
 use Rattle.dn_model.specs.declared.ids.RouterId.{RouterId}
@@ -9,7 +9,7 @@ use Rattle.dn_formats.specs.declared.script.Script.{Script}
 use Rattle.dn_formats.specs.declared.error_line.ErrorLine.TheVariants as errors
 use Rattle.dn_model.specs.declared.topology.Topology.{Topology}
 use Rattle.dn_formats.specs.declared.topology_fault.TopoFault.{TopoFault}
-use Rattle.dn_run.specs.Opened.{text_limit, IsReadUpTo, WasFault}
+use Rattle.dn_run.specs.Opened.{text_limit, OnBytes, WasFault}
 use Rattle.dn_run.specs.declared.load.Loaded.{Loaded}
 use Rattle.dn_run.specs.declared.load.Loaded.TheVariants.{Read, Refused, Failed}
 
@@ -26,11 +26,10 @@ SaysScript t routers taken part bytes (Refused line) =
     (fault : ScriptFault) × (script_of t.routers routers taken bytes ≡ Err fault) × (line ≡ errors.Script part fault.line fault.cause)
 SaysScript t routers taken part bytes Failed = ⊥
 
--- the file of this name was read and given back, and where the world tells it, this is said of its bytes
+-- the file of this name was read and given back, and this is said of its bytes
 abbrev pub LoadsBytes : Option Files → List Call → List ℕ → List Call → (List ℕ → Type 0) → Type 0
 LoadsBytes files old name new good =
-    (left : Option (List ℕ)) × (new ≡ old ++ call_of name (Back false left) ∷ [])
-    × IfSome files (λ fs. IsSomeAnd (bytes_of fs name) (λ bytes. IsReadUpTo bytes (text_limit + 1) left × good bytes))
+    (left : Option (List ℕ)) × (new ≡ old ++ call_of name (Back false left) ∷ []) × OnBytes files name left good
 
 -- what a file came to: its text says so, or it failed
 abbrev pub Loads : {T : Type 0} → (List ℕ → Loaded T → Type 0) → Option Files → List Call → List ℕ → List Call → Loaded T → Type 0

@@ -1,11 +1,11 @@
 -- What a run comes to: its steps in order, of which the first that refuses ends it.
-use Rattle.std.specs.Prelude.{ℕ, suc, Bool, true, false, List, [], ◌∷◌, ◌++◌, ◌≡◌, ◌≤◌, ◌+◌, ◌==◌, ◌&&◌, nat_lt, not, All, length, map, filter, Option, None, Some, IsSomeAnd, MatchOption, MatchResult, Result, Ok, Err, if◌then◌else◌}
+use Rattle.std.specs.Prelude.{ℕ, suc, Bool, true, false, List, [], ◌∷◌, ◌++◌, ◌≡◌, ◌≤◌, ◌+◌, ◌==◌, ◌&&◌, nat_lt, not, All, length, map, filter, Option, None, Some, MatchOption, MatchResult, Result, Ok, Err, if◌then◌else◌}
 use Rattle.std.specs.List.{list_all, list_any, filter_map, flat_map}
 use Rattle.std.specs.Option.{option_to_list}
 use Rattle.std.specs.Bool.{MatchBool}
 use Rattle.dn_io.specs.Told.{with_end, NothingLeft}
-use Rattle.dn_io.specs.Files.{Files, bytes_of}
-use Rattle.dn_io.specs.Calls.{Call, CallState, Out, Refused, Back}
+use Rattle.dn_io.specs.Files.{Files}
+use Rattle.dn_io.specs.Calls.{Call, CallState, Out, Refused, Back, state_failed}
 use Rattle.dn_formats.specs.Words.{FeedWords, PartsSaid, parts_of, unless_faulty}
 use Rattle.dn_formats.specs.TopologyText.{topology_of, parts}
 use Rattle.dn_model.specs.Lookup.{router_of}
@@ -26,7 +26,8 @@ use Rattle.dn_formats.specs.declared.told.JobTold.{JobTold}
 use Rattle.dn_formats.specs.declared.error_line.ErrorLine.{ErrorLine}
 use Rattle.dn_formats.specs.declared.error_line.ErrorLine.TheVariants as errors
 use Rattle.dn_run.specs.CommandLine.{RunWords, command_of}
-use Rattle.dn_run.specs.Opened.{text_limit, IsReadFront, IsReadUpTo, FailsAt}
+use Rattle.dn_run.specs.Ending.{Ending, Ruled, Stopped, IfRuled, OrStops}
+use Rattle.dn_run.specs.Opened.{text_limit, IsReadFront, OnBytes, WithBytes, FailsWhereTold}
 use Rattle.dn_run.specs.declared.status.Verdict.{Verdict}
 use Rattle.dn_run.specs.declared.status.Verdict.TheVariants.{Done, Refusals, BadWords, BadTopology, BadScript, ReadFault}
 use Rattle.dn_run.specs.declared.status.Status.{Status}
@@ -40,11 +41,13 @@ feed_limit = 1073741824
 abbrev pub most_jobs : ℕ
 most_jobs = 64
 
+-- this verdict, with this error line
+abbrev pub IsLine : Ending → Verdict → ErrorLine → Type 0
+IsLine ending due error = IfRuled ending (λ verdict text. (verdict ≡ due) × (text ≡ error_text error))
+
 -- an error line instead of a report, with no further name asked for
-pub record IsErrorLine (verdict : Verdict) (text : List ℕ) (calls : List Call) (due : Verdict) (error : ErrorLine) : Type 0 where
-  pub verdict_is : verdict ≡ due
-  pub text_is : text ≡ error_text error
-  pub last : calls ≡ []
+abbrev pub IsErrorLine : Ending → List Call → Verdict → ErrorLine → Type 0
+IsErrorLine ending calls due error = (calls ≡ []) × IsLine ending due error
 
 -- ---- how a run ends
 
@@ -82,15 +85,15 @@ verdict_of tolds = if some_faulted tolds then ReadFault else (if all_well tolds 
 
 -- ---- the report
 
--- The report of a run: one history that is a shuffle of what the feeds gave, in which each job's own entries stand in
--- the order in which it takes them; and each query's answer over its pin.
-pub record IsReported (t : Topology) (scripts : List (List Line)) (feeds : List FeedRead) (text : List ℕ) : Type 0 where
+-- The report of a run, which tells this of the feeds: one history that is a shuffle of what the feeds gave, in which each
+-- job's own entries stand in the order in which it takes them; and each query's answer over its pin.
+pub record IsReported (t : Topology) (scripts : List (List Line)) (feeds : List FeedRead) (tolds : List FeedTold) (text : List ℕ) : Type 0 where
   pub history : List Entry
   pub told : List JobTold
   pub shuffle : IsShuffle feeds history
   pub order : All (KeepsOrder history) (jobs_of scripts feeds)
   pub tells : TellsAll t history 1 (jobs_of scripts feeds) told
-  pub text_is : text ≡ report t (map told_of feeds) history told
+  pub text_is : text ≡ report t tolds history told
 
 -- of a feed that ended of itself, or inside a frame, nothing is left
 abbrev pub IsReadToEnd : FeedEnd → Option (List ℕ) → Type 0
@@ -103,64 +106,81 @@ IsReadToEnd ends.Faulted left = Unit {0}
 
 -- What was read of a feed whose file has these bytes: all of it up to the limit, or where reading failed what came
 -- before the bytes that are left. No byte past one beyond the limit is read.
-abbrev pub IsReadOf : Topology → List ℕ → CallState → FeedRead → Type 0
-IsReadOf t bytes Out f = ⊥
-IsReadOf t bytes Refused f = ⊥
-IsReadOf t bytes (Back false left) f =
+abbrev pub IsReadOfBytes : Topology → List ℕ → CallState → FeedRead → Type 0
+IsReadOfBytes t bytes Out f = ⊥
+IsReadOfBytes t bytes Refused f = ⊥
+IsReadOfBytes t bytes (Back false left) f =
     IsReading t f.router bytes feed_limit f.steps f.end × IsReadFront bytes (feed_limit + 1) left × IsReadToEnd f.end left
-IsReadOf t bytes (Back true None) f = ⊥
-IsReadOf t bytes (Back true (Some left)) f = (read : List ℕ) × (bytes ≡ read ++ left) × (length read ≤ feed_limit) × IsFaultedReading t f.router read f.steps × (f.end ≡ ends.Faulted)
+IsReadOfBytes t bytes (Back true None) f = ⊥
+IsReadOfBytes t bytes (Back true (Some left)) f = (read : List ℕ) × (bytes ≡ read ++ left) × (length read ≤ feed_limit) × IsFaultedReading t f.router read f.steps × (f.end ≡ ends.Faulted)
 
--- a feed that was opened: the bytes of its file, and what became of the call that asked for it
+-- Of a feed whose bytes aren't told: its end tells a fault exactly where reading it failed, and never a full history.
+abbrev pub IsReadOf : Topology → Option (List ℕ) → CallState → FeedRead → Type 0
+IsReadOf t None state f = (is_faulted (Some f.end) ≡ state_failed state) × (f.end ≡ ends.Full → ⊥)
+IsReadOf t (Some bytes) state f = IsReadOfBytes t bytes state f
+
+-- What the report tells of a feed: what was read of it, with its counts; where its bytes aren't told, its number, router and end.
+abbrev pub IsToldOf : Option (List ℕ) → FeedRead → FeedTold → Type 0
+IsToldOf None f told = (told.feed_no ≡ f.feed_no) × (told.router ≡ f.router) × (told.end ≡ Some f.end)
+IsToldOf (Some bytes) f told = told ≡ told_of f
+
+-- a feed that was opened: the bytes of its file, where the world tells them, and what became of the call that asked for it
 pub record OpenedFeed : Type 0 where
-  pub bytes : List ℕ
+  pub bytes : Option (List ℕ)
   pub state : CallState
 
--- what was read of the opened feeds, which are of these routers, the first with this number
-abbrev pub AreReadOf : Topology → ℕ → List RouterId → List OpenedFeed → List FeedRead → Type 0
-AreReadOf t n [] [] [] = Unit {0}
-AreReadOf t n (r ∷ rs) (o ∷ os) (f ∷ fs) = (f.feed_no ≡ n) × (f.router ≡ r) × IsReadOf t o.bytes o.state f × AreReadOf t (suc n) rs os fs
-AreReadOf t n _ _ _ = ⊥
+-- what was read and is told of the opened feeds, which are of these routers, the first with this number
+abbrev pub AreReadOf : Topology → ℕ → List RouterId → List OpenedFeed → List FeedRead → List FeedTold → Type 0
+AreReadOf t n [] [] [] [] = Unit {0}
+AreReadOf t n (r ∷ rs) (o ∷ os) (f ∷ fs) (told ∷ tolds) =
+    (f.feed_no ≡ n) × (f.router ≡ r) × IsReadOf t o.bytes o.state f × IsToldOf o.bytes f told × AreReadOf t (suc n) rs os fs tolds
+AreReadOf t n _ _ _ _ = ⊥
 
 -- the feeds, whose files were handed out and given back, are read, and the report is printed
 pub record IsRunOf (t : Topology) (routers : List RouterId) (scripts : List (List Line)) (opened : List OpenedFeed) (verdict : Verdict) (text : List ℕ) : Type 0 where
   pub feeds : List FeedRead
-  pub read : AreReadOf t 1 routers opened feeds
-  pub reported : IsReported t scripts feeds text
-  pub verdict_is : verdict ≡ verdict_of (map told_of feeds)
+  pub tolds : List FeedTold
+  pub read : AreReadOf t 1 routers opened feeds tolds
+  pub reported : IsReported t scripts feeds tolds text
+  pub verdict_is : verdict ≡ verdict_of tolds
 
 -- ---- the steps
 
--- a name was asked for first, and its state and the further calls are these
-abbrev pub Asks : List Call → List ℕ → (CallState → List Call → Type 0) → Type 0
-Asks [] name next = ⊥
-Asks (call ∷ more) name next = (call.name ≡ name) × next call.state more
+-- A name was asked for first, and its state and the further calls are these. Where memory is wanted the run stops after it,
+-- or goes on like any other.
+abbrev pub Asks : Ending → List Call → List ℕ → (CallState → List Call → Type 0) → Type 0
+Asks ending [] name next = ⊥
+Asks ending (call ∷ more) name next = (call.name ≡ name) × OrStops ending more (next call.state more)
 
 -- what follows where a file is read whole, but no further than one byte past the limit: a fault where it failed, and
 -- else what is made of its bytes
-abbrev pub OnFile : Files → List ℕ → CallState → Type 0 → (List ℕ → Type 0) → Type 0
+abbrev pub OnFile : Option Files → List ℕ → CallState → Type 0 → (List ℕ → Type 0) → Type 0
 OnFile files name Out fault good = ⊥
 OnFile files name Refused fault good = fault
-OnFile files name (Back true left) fault good = fault × FailsAt files name text_limit (Back true left)
-OnFile files name (Back false left) fault good = IsSomeAnd (bytes_of files name) (λ bytes. IsReadUpTo bytes (text_limit + 1) left × good bytes)
+OnFile files name (Back true left) fault good = fault × FailsWhereTold files name text_limit (Back true left)
+OnFile files name (Back false left) fault good = OnBytes files name left good
 
--- a feed that was opened and given back, of which nothing was read
+-- a feed that was opened and given back, of which nothing was read, as far as its bytes are told
+abbrev pub IsUnread : Option (List ℕ) → CallState → Type 0
+IsUnread None state = state_failed state ≡ false
+IsUnread (Some bytes) state = state ≡ Back false (Some bytes)
+
 abbrev pub IsUntouched : OpenedFeed → Type 0
-IsUntouched o = o.state ≡ Back false (Some o.bytes)
+IsUntouched o = IsUnread o.bytes o.state
 
 -- What follows where a feed is opened. Where it can't be, the run ends, and no byte of the feeds before it was read.
-abbrev pub OnFeed : Files → ℕ → List ℕ → List OpenedFeed → CallState → List Call → Verdict → List ℕ → (List OpenedFeed → Type 0) → Type 0
-OnFeed files part name opened Out more verdict text next = ⊥
-OnFeed files part name opened Refused more verdict text next = All IsUntouched opened × IsErrorLine verdict text more ReadFault (errors.ReadPart part)
-OnFeed files part name opened (Back failed left) more verdict text next =
-    IsSomeAnd (bytes_of files name) (λ bytes. next (opened ++ record { bytes = bytes; state = Back failed left } ∷ []))
+abbrev pub OnFeed : Option Files → ℕ → List ℕ → List OpenedFeed → CallState → List Call → Ending → (List OpenedFeed → Type 0) → Type 0
+OnFeed files part name opened Out more ending next = ⊥
+OnFeed files part name opened Refused more ending next = All IsUntouched opened × IsErrorLine ending more ReadFault (errors.ReadPart part)
+OnFeed files part name opened (Back failed left) more ending next =
+    WithBytes files name (λ bytes. next (opened ++ record { bytes = bytes; state = Back failed left } ∷ []))
 
 -- the feeds are opened in order, and then the jobs run
-abbrev pub FromFeeds : Files → Topology → List RouterId → List (List Line) → List OpenedFeed → List (ℕ × FeedWords) → List Call → Verdict → List ℕ → Type 0
-FromFeeds files t routers scripts opened [] calls verdict text = (calls ≡ []) × IsRunOf t routers scripts opened verdict text
-FromFeeds files t routers scripts opened (feed ∷ feeds) calls verdict text =
-    Asks calls feed.1.file (λ state more. OnFeed files feed.0 feed.1.file opened state more verdict text
-    (λ opened. FromFeeds files t routers scripts opened feeds more verdict text))
+abbrev pub FromFeeds : Option Files → Topology → List RouterId → List (List Line) → List OpenedFeed → List (ℕ × FeedWords) → List Call → Ending → Type 0
+FromFeeds files t routers scripts opened [] calls ending = (calls ≡ []) × IfRuled ending (λ verdict text. IsRunOf t routers scripts opened verdict text)
+FromFeeds files t routers scripts opened (feed ∷ feeds) calls ending =
+    Asks ending calls feed.1.file (λ state more. OnFeed files feed.0 feed.1.file opened state more ending
+    (λ opened. FromFeeds files t routers scripts opened feeds more ending))
 
 -- whether a script takes the feed of this router
 abbrev pub takes_router : RouterId → List Line → Bool
@@ -171,11 +191,11 @@ abbrev pub untaken : List (List Line) → List RouterId → List RouterId
 untaken scripts routers = filter (λ r. not (list_any (takes_router r) scripts)) routers
 
 -- each script is a job, and so is each feed that no script takes; the jobs must not be too many
-abbrev pub FromJobs : Files → Topology → List RouterId → List (List Line) → List (ℕ × FeedWords) → List Call → Verdict → List ℕ → Type 0
-FromJobs files t routers scripts feeds calls verdict text =
+abbrev pub FromJobs : Option Files → Topology → List RouterId → List (List Line) → List (ℕ × FeedWords) → List Call → Ending → Type 0
+FromJobs files t routers scripts feeds calls ending =
     MatchBool (nat_lt most_jobs (length scripts + length (untaken scripts routers)))
-    (IsErrorLine verdict text calls BadWords errors.TooManyJobs)
-    (FromFeeds files t routers scripts [] feeds calls verdict text)
+    (IsErrorLine ending calls BadWords errors.TooManyJobs)
+    (FromFeeds files t routers scripts [] feeds calls ending)
 
 -- the routers whose feeds a line takes
 abbrev pub taken_by_line : Line → List RouterId
@@ -187,14 +207,14 @@ abbrev pub taken_by_scripts : List (List Line) → List RouterId
 taken_by_scripts scripts = flat_map (flat_map taken_by_line) scripts
 
 -- the scripts are read in order
-abbrev pub FromScripts : Files → Topology → List RouterId → List (List Line) → List (ℕ × List ℕ) → List (ℕ × FeedWords) → List Call → Verdict → List ℕ → Type 0
-FromScripts files t routers read [] feeds calls verdict text = FromJobs files t routers read feeds calls verdict text
-FromScripts files t routers read (script ∷ scripts) feeds calls verdict text =
-    Asks calls script.1 (λ state more.
-    OnFile files script.1 state (IsErrorLine verdict text more ReadFault (errors.ReadPart script.0)) (λ bytes.
+abbrev pub FromScripts : Option Files → Topology → List RouterId → List (List Line) → List (ℕ × List ℕ) → List (ℕ × FeedWords) → List Call → Ending → Type 0
+FromScripts files t routers read [] feeds calls ending = FromJobs files t routers read feeds calls ending
+FromScripts files t routers read (script ∷ scripts) feeds calls ending =
+    Asks ending calls script.1 (λ state more.
+    OnFile files script.1 state (IsErrorLine ending more ReadFault (errors.ReadPart script.0)) (λ bytes.
     MatchResult (script_of t.routers routers (taken_by_scripts read) bytes)
-    (λ lines. FromScripts files t routers (read ++ lines ∷ []) scripts feeds more verdict text)
-    (λ fault. IsErrorLine verdict text more BadScript (errors.Script script.0 fault.line fault.cause))))
+    (λ lines. FromScripts files t routers (read ++ lines ∷ []) scripts feeds more ending)
+    (λ fault. IsErrorLine ending more BadScript (errors.Script script.0 fault.line fault.cause))))
 
 -- the faults of a feed's router, which these routers of feeds stand before: the topology doesn't have it, or it is one of them
 abbrev pub router_faults : List RouterId → ℕ → Option RouterId → List ErrorLine
@@ -217,34 +237,39 @@ abbrev pub routers_of : Topology → List (ℕ × FeedWords) → Result (List Ro
 routers_of t feeds = unless_faulty (routers_faults t [] feeds) (routers_said t feeds)
 
 -- the feeds' routers are looked up
-abbrev pub FromRouters : PartsSaid → Files → Topology → List Call → Verdict → List ℕ → Type 0
-FromRouters said files t calls verdict text =
+abbrev pub FromRouters : PartsSaid → Option Files → Topology → List Call → Ending → Type 0
+FromRouters said files t calls ending =
     MatchResult (routers_of t said.feeds)
-    (λ routers. FromScripts files t routers [] said.scripts said.feeds calls verdict text)
-    (λ error. IsErrorLine verdict text calls BadWords error)
+    (λ routers. FromScripts files t routers [] said.scripts said.feeds calls ending)
+    (λ error. IsErrorLine ending calls BadWords error)
 
 -- the topology is read
-abbrev pub FromTopology : List ℕ → PartsSaid → Files → List Call → Verdict → List ℕ → Type 0
-FromTopology topology said files calls verdict text =
-    Asks calls topology (λ state more.
-    OnFile files topology state (IsErrorLine verdict text more ReadFault errors.ReadTopology) (λ bytes.
+abbrev pub FromTopology : List ℕ → PartsSaid → Option Files → List Call → Ending → Type 0
+FromTopology topology said files calls ending =
+    Asks ending calls topology (λ state more.
+    OnFile files topology state (IsErrorLine ending more ReadFault errors.ReadTopology) (λ bytes.
     MatchResult (topology_of bytes)
-    (λ network. (t : Topology) × (parts t ≡ network) × FromRouters said files t more verdict text)
-    (λ fault. IsErrorLine verdict text more BadTopology (errors.Topology fault))))
+    (λ network. (t : Topology) × (parts t ≡ network) × FromRouters said files t more ending)
+    (λ fault. IsErrorLine ending more BadTopology (errors.Topology fault))))
 
 -- the parts are read
-abbrev pub FromParts : RunWords → Files → List Call → Verdict → List ℕ → Type 0
-FromParts command files calls verdict text =
+abbrev pub FromParts : RunWords → Option Files → List Call → Ending → Type 0
+FromParts command files calls ending =
     MatchResult (parts_of command.parts)
-    (λ said. FromTopology command.topology said files calls verdict text)
-    (λ error. IsErrorLine verdict text calls BadWords error)
+    (λ said. FromTopology command.topology said files calls ending)
+    (λ error. IsErrorLine ending calls BadWords error)
 
 -- the words are read
-abbrev pub FromWords : List (List ℕ) → Files → List Call → Verdict → List ℕ → Type 0
-FromWords words files calls verdict text =
+abbrev pub FromWords : List (List ℕ) → Option Files → List Call → Ending → Type 0
+FromWords words files calls ending =
     MatchOption (command_of words)
-    (IsErrorLine verdict text calls BadWords errors.Words)
-    (λ command. FromParts command files calls verdict text)
+    (IsErrorLine ending calls BadWords errors.Words)
+    (λ command. FromParts command files calls ending)
+
+-- What the words, the files and the states of the calls make of a run. Where memory is wanted, its calls are the first of a
+-- run that goes on like this.
+abbrev pub IsDue : List (List ℕ) → Option Files → List Call → Ending → Type 0
+IsDue words files calls ending = OrStops ending calls (FromWords words files calls ending)
 
 -- ---- what is written
 
@@ -258,16 +283,16 @@ status_of BadScript = statuses.BadScript
 status_of ReadFault = statuses.ReadFault
 
 -- What was written at each status: all of the text that was due, a front of it where writing failed, or nothing.
-abbrev pub IsWritten : (Verdict → List ℕ → Type 0) → Status → Option (List ℕ) → Option (List ℕ) → Type 0
-IsWritten due statuses.Done old new = (text : List ℕ) × due Done text × (new ≡ with_end old text)
-IsWritten due statuses.Refusals old new = (text : List ℕ) × due Refusals text × (new ≡ with_end old text)
-IsWritten due statuses.BadWords old new = (text : List ℕ) × due BadWords text × (new ≡ with_end old text)
-IsWritten due statuses.BadTopology old new = (text : List ℕ) × due BadTopology text × (new ≡ with_end old text)
-IsWritten due statuses.BadScript old new = (text : List ℕ) × due BadScript text × (new ≡ with_end old text)
-IsWritten due statuses.ReadFault old new = (text : List ℕ) × due ReadFault text × (new ≡ with_end old text)
+abbrev pub IsWritten : (Ending → Type 0) → Status → Option (List ℕ) → Option (List ℕ) → Type 0
+IsWritten due statuses.Done old new = (text : List ℕ) × due (Ruled Done text) × (new ≡ with_end old text)
+IsWritten due statuses.Refusals old new = (text : List ℕ) × due (Ruled Refusals text) × (new ≡ with_end old text)
+IsWritten due statuses.BadWords old new = (text : List ℕ) × due (Ruled BadWords text) × (new ≡ with_end old text)
+IsWritten due statuses.BadTopology old new = (text : List ℕ) × due (Ruled BadTopology text) × (new ≡ with_end old text)
+IsWritten due statuses.BadScript old new = (text : List ℕ) × due (Ruled BadScript text) × (new ≡ with_end old text)
+IsWritten due statuses.ReadFault old new = (text : List ℕ) × due (Ruled ReadFault text) × (new ≡ with_end old text)
 IsWritten due statuses.WriteFault old new =
-    (verdict : Verdict) × (front back : List ℕ) × due verdict (front ++ back) × (new ≡ with_end old front)
-IsWritten due statuses.OutOfMemory old new = new ≡ old
+    (verdict : Verdict) × (front back : List ℕ) × due (Ruled verdict (front ++ back)) × (new ≡ with_end old front)
+IsWritten due statuses.OutOfMemory old new = due Stopped × (new ≡ old)
 
 -- the text of a verdict was written whole, and the status is the verdict's; or a front of it, where writing failed
 abbrev pub IsFinished : Verdict → List ℕ → Status → Option (List ℕ) → Option (List ℕ) → Type 0

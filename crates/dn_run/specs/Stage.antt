@@ -1,8 +1,8 @@
 -- What a stage of a run leaves in the world's calls, and what it came to.
-use Rattle.std.specs.Prelude.{ℕ, Bool, true, false, List, ◌++◌, ◌≡◌, Option, IfSome}
+use Rattle.std.specs.Prelude.{ℕ, Bool, true, false, List, ◌++◌, ◌≡◌}
 use Rattle.dn_io.specs.Faults.{Rose}
-use Rattle.dn_io.specs.Files.{Files}
 use Rattle.dn_io.specs.Calls.{Call, names_of, some_out, some_failed}
+use Rattle.dn_run.specs.Ending.{Ending, Ruled, Stopped, IfRuled, OrStops}
 use Rattle.dn_run.specs.declared.status.Status.{Status}
 use Rattle.dn_run.specs.declared.status.Status.TheVariants as statuses
 use Rattle.dn_run.specs.declared.status.Verdict.{Verdict}
@@ -39,21 +39,19 @@ is_fault BadTopology = false
 is_fault BadScript = false
 is_fault ReadFault = true
 
+abbrev pub AreAsked : Ending → List (List ℕ) → List (List ℕ) → Type 0
+AreAsked (Ruled verdict text) asked names = WereAsked verdict asked names
+AreAsked Stopped asked names = IsFrontOf asked names
+
 -- Further names were asked for, all or the first of these, in order. Every source was given back, and one failed exactly where
--- the verdict is a read fault. Where the world tells its files, the verdict is due by them and by what became of the calls.
-pub record Stage (old new : List Call) (names : List (List ℕ)) (verdict : Verdict) (files : Option Files) (due : Files → List Call → Type 0) : Type 0 where
+-- the verdict is a read fault. What the run came to is due by what became of the calls.
+pub record Stage (old new : List Call) (names : List (List ℕ)) (ending : Ending) (due : List Call → Type 0) : Type 0 where
   pub more : List Call
   pub appended : new ≡ old ++ more
-  pub asked : WereAsked verdict (names_of more) names
+  pub asked : AreAsked ending (names_of more) names
   pub given_back : some_out more ≡ false
-  pub failed : some_failed more ≡ is_fault verdict
-  pub due_is : IfSome files (λ fs. due fs more)
-
--- further names were asked for, the first of these
-pub record Names (old new : List Call) (names : List (List ℕ)) : Type 0 where
-  pub more : List (List ℕ)
-  pub appended : names_of new ≡ names_of old ++ more
-  pub front : IsFrontOf more names
+  pub failed : IfRuled ending (λ verdict text. some_failed more ≡ is_fault verdict)
+  pub due_is : OrStops ending more (due more)
 
 -- Which names each status says were asked for: all of them at 0 and 1, and else the first of them.
 abbrev pub AsksFor : Status → List (List ℕ) → List (List ℕ) → Type 0
@@ -67,7 +65,7 @@ AsksFor statuses.WriteFault asked names = IsFrontOf asked names
 AsksFor statuses.OutOfMemory asked names = IsFrontOf asked names
 
 -- What each status says of the calls: every source was given back, and one failed exactly at a read fault. At a write
--- fault of an error line or report one may have failed; where memory was wanted nothing is said.
+-- fault of an error line or report, and where memory was wanted, one may have failed.
 abbrev pub AnswersCalls : Status → List Call → Type 0
 AnswersCalls statuses.Done calls = (some_out calls ≡ false) × (some_failed calls ≡ false)
 AnswersCalls statuses.Refusals calls = (some_out calls ≡ false) × (some_failed calls ≡ false)
@@ -76,7 +74,7 @@ AnswersCalls statuses.BadTopology calls = (some_out calls ≡ false) × (some_fa
 AnswersCalls statuses.BadScript calls = (some_out calls ≡ false) × (some_failed calls ≡ false)
 AnswersCalls statuses.ReadFault calls = (some_out calls ≡ false) × (some_failed calls ≡ true)
 AnswersCalls statuses.WriteFault calls = some_out calls ≡ false
-AnswersCalls statuses.OutOfMemory calls = Unit {0}
+AnswersCalls statuses.OutOfMemory calls = some_out calls ≡ false
 
 -- the sink's count of faults: it rose at a write fault, and else is as before
 abbrev pub CountsWrites : Status → ℕ → ℕ → Type 0

@@ -1,14 +1,15 @@
 //! The feeds of a run: opened in order, read by the jobs, and given back.
 
-ghost use Rattle.std.specs.Prelude.{◌≡◌, ◌+◌, ◌<◌, ◌≤◌, ◌++◌, ◌∷◌, ◌^◌, [], ℕ, List, length, map, All, IfOk, OnErr, MatchOption, Some, vec_len};
+ghost use Rattle.std.specs.Prelude.{◌≡◌, ◌+◌, ◌<◌, ◌≤◌, ◌++◌, ◌∷◌, ◌^◌, [], ℕ, List, length, map, All, IfOk, MatchOption, Option, Some, vec_len};
 ghost use Rattle.std.specs.Arc.{arc_value};
 ghost use Rattle.std.specs.Option.{option_copied};
 ghost use Rattle.dn_io.specs.Calls.{names_of, back_with, with_state, state_at};
-ghost use Rattle.dn_run.specs.Feeds.{Appends, AreOpen, AreLeft, Opens, opened, some_rose, routers_of_readers};
+ghost use Rattle.dn_run.specs.Ending.{ending_of};
+ghost use Rattle.dn_run.specs.Feeds.{AreOpen, AreLeft, Opens, opened, some_rose, routers_of_readers};
 ghost use Rattle.dn_run.specs.Jobs.{scripts_of};
 ghost use Rattle.dn_run.specs.PartsRead.{feed_texts};
-ghost use Rattle.dn_run.specs.Run.{IsRunOf, feed_files};
-ghost use Rattle.dn_run.specs.Stage.{Names, is_fault};
+ghost use Rattle.dn_run.specs.Run.{IsRunOf};
+ghost use Rattle.dn_run.specs.Stage.{is_fault};
 ghost use Rattle.dn_run.specs.Tracks.{tags_of};
 
 use crate::jobs::run_jobs;
@@ -64,7 +65,7 @@ fn run_readers<S: Source, G: Gate>(
 ) -> Result<Ruling, OutOfMemory>
     requires open { AreOpen (arc_value topology.now) S.faults readers.old.items [] }
     ensures same { tags_of S.place readers.new.items ≡ tags_of S.place readers.old.items }
-    ensures ran { IfOk result (λ ruling. (files : List (List ℕ)) → AreLeft S.left readers.old.items files →
+    ensures ran { IfOk result (λ ruling. (files : List (Option (List ℕ))) → AreLeft S.left readers.old.items files →
         IsRunOf (arc_value topology.now) (routers_of_readers readers.old.items) (scripts_of (option_copied script.entry)) (opened S.faults S.left files readers.new.items) ruling.verdict ruling.text.items) }
     ensures faults { IfOk result (λ ruling. some_rose S.faults readers.new.items ≡ is_fault ruling.verdict) }
 {
@@ -109,10 +110,8 @@ pub fn from_feeds<W: World, G: Gate>(
     requires as_many { length routers.now ≡ length feeds.now }
     requires open { AreOpen (arc_value topology.now) W.Src.faults readers.old.items routers.now }
     ensures same { tags_of W.Src.place readers.new.items ≡ tags_of W.Src.place readers.old.items }
-    ensures opens { IfOk result (λ ruling. Opens (arc_value topology.now) W.Src.faults W.Src.left (W.files world.old) routers.now (scripts_of (option_copied script.entry))
-        readers.old.items readers.new.items (map feed_texts feeds.now) (W.calls world.old) (W.calls world.new) ruling.verdict ruling.text.items) }
-    ensures memory { OnErr result (Names (W.calls world.old) (W.calls world.new) (feed_files (map feed_texts feeds.now))) }
-    ensures keeps { Appends (W.calls world.old) (W.calls world.new) }
+    ensures opens { Opens (arc_value topology.now) W.Src.faults W.Src.left (W.files world.old) routers.now (scripts_of (option_copied script.entry))
+        readers.old.items readers.new.items (map feed_texts feeds.now) (W.calls world.old) (W.calls world.new) (ending_of result) }
     ensures same_files { W.files world.new ≡ W.files world.old }
 {
     let Some((feed, router, later, others)) = first_feed(feeds, routers) else {

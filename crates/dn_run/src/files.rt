@@ -3,7 +3,7 @@
 ghost use Rattle.std.specs.Prelude.{◌≡◌, ℕ, ◌+◌, ◌<◌, ◌≤◌, ◌^◌, ◌++◌, ◌∷◌, [], take, length, IfOk, OnOk, vec_len};
 ghost use Rattle.dn_io.specs.Told.{with_front, NothingLeft};
 ghost use Rattle.dn_io.specs.Faults.{Rose};
-ghost use Rattle.dn_run.specs.Opened.{WasRead, IsReadTo, WasFault, MayNameOne, LeavesFront};
+ghost use Rattle.dn_run.specs.Opened.{WasRead, IsReadTo, WasFault, MayCallOne, LeavesFront};
 ghost use Rattle.dn_run.specs.Refusals.{as_file_refused};
 ghost use Rattle.dn_run.specs.declared.files.FileRefused.TheVariants.{Failed as file_failed, OutOfMemory as file_memory};
 
@@ -119,7 +119,7 @@ pub fn read_file<W: World>(
     requires small { limit < 2 ^ 32 }
     ensures read { IfOk result (λ bytes. WasRead (W.files world.old) limit (W.calls world.old) name.now (W.calls world.new) bytes.items) }
     ensures failed { result ≡ Err FileRefused.Failed → WasFault (W.files world.old) limit (W.calls world.old) name.now (W.calls world.new) }
-    ensures memory { result ≡ Err FileRefused.OutOfMemory → MayNameOne (W.calls world.old) name.now (W.calls world.new) }
+    ensures memory { result ≡ Err FileRefused.OutOfMemory → MayCallOne (W.calls world.old) name.now (W.calls world.new) }
     ensures same_files { W.files world.new ≡ W.files world.old }
 {
     let mut source = world.source_of(name)?;

@@ -10,6 +10,7 @@ mod jobs;
 #[cfg(test)]
 mod jobs_tests;
 mod latest;
+mod laws;
 mod load;
 mod parts;
 mod program;
@@ -24,5 +25,6 @@ mod take;
 mod untaken;
 mod words;
 
+pub use laws::runs_have_one_verdict;
 pub use program::run;
 pub use status::Status;

@@ -1,7 +1,7 @@
 //! The topology and the scripts, read from their files.
 
 ghost use Rattle.std.specs.Prelude.{◌≡◌, ◌<◌, ◌^◌, length, IfOk, OnErr};
-ghost use Rattle.dn_run.specs.Opened.{MayNameOne};
+ghost use Rattle.dn_run.specs.Opened.{MayCallOne};
 ghost use Rattle.dn_run.specs.Loaded.{LoadsTopology, SaysTopology, LoadsScript, SaysScript};
 
 use crate::files::{FileRefused, read_file};
@@ -45,7 +45,7 @@ pub fn load_topology<W: World>(
 ) -> Result<Loaded<Topology>, OutOfMemory>
     requires { length (W.calls world.old) < 2 ^ 32 }
     ensures loads { IfOk result (LoadsTopology (W.files world.old) (W.calls world.old) name.now (W.calls world.new)) }
-    ensures memory { OnErr result (MayNameOne (W.calls world.old) name.now (W.calls world.new)) }
+    ensures memory { OnErr result (MayCallOne (W.calls world.old) name.now (W.calls world.new)) }
     ensures same_files { W.files world.new ≡ W.files world.old }
 {
     match read_file(alloc, world, name, TEXT_LIMIT) {
@@ -89,7 +89,7 @@ pub fn load_script<W: World>(
 ) -> Result<Loaded<Script>, OutOfMemory>
     requires { length (W.calls world.old) < 2 ^ 32 }
     ensures loads { IfOk result (LoadsScript topology.now routers.now taken.now part (W.files world.old) (W.calls world.old) name.now (W.calls world.new)) }
-    ensures memory { OnErr result (MayNameOne (W.calls world.old) name.now (W.calls world.new)) }
+    ensures memory { OnErr result (MayCallOne (W.calls world.old) name.now (W.calls world.new)) }
     ensures same_files { W.files world.new ≡ W.files world.old }
 {
     match read_file(alloc, world, name, TEXT_LIMIT) {

@@ -1,16 +1,17 @@
 //! The program: from the words of the command line to what was written.
 
-ghost use Rattle.std.specs.Prelude.{◌≡◌, ◌<◌, ◌≤◌, ◌+◌, ◌^◌, ◌++◌, ◌∷◌, [], ℕ, List, length, map, All, IfOk, OnErr, IfSome, IsTrue};
+ghost use Rattle.std.specs.Prelude.{◌≡◌, ◌<◌, ◌≤◌, ◌+◌, ◌^◌, ◌++◌, ◌∷◌, [], ℕ, List, length, map, All, IfOk, IsTrue};
 ghost use Rattle.std.specs.Arc.{arc_value};
 ghost use Rattle.std.specs.Option.{option_copied};
 ghost use Rattle.std.specs.String.{string_bytes};
 ghost use Rattle.dn_io.specs.Calls.{names_of};
 ghost use Rattle.dn_io.specs.Files.{Files};
 ghost use Rattle.dn_model.specs.Topology.{all_differ};
+ghost use Rattle.dn_run.specs.Ending.{ending_of};
 ghost use Rattle.dn_run.specs.Jobs.{scripts_of, same_router};
 ghost use Rattle.dn_run.specs.PartsRead.{feed_texts, script_texts, parts_texts};
-ghost use Rattle.dn_run.specs.Run.{FromWords, FromParts, FromTopology, FromRouters, FromScripts, FromJobs, IsWritten, IsFinished, status_of, names_due, names_of_parts, names_of_words, names_of_command, feed_files, script_files, most_jobs, untaken, takes_router};
-ghost use Rattle.dn_run.specs.Stage.{Stage, Names, AsksFor, AnswersCalls, CountsWrites};
+ghost use Rattle.dn_run.specs.Run.{FromWords, FromParts, FromTopology, FromRouters, FromScripts, FromJobs, IsDue, IsLine, IsWritten, IsFinished, status_of, names_due, names_of_parts, names_of_words, names_of_command, feed_files, script_files, most_jobs, untaken, takes_router};
+ghost use Rattle.dn_run.specs.Stage.{Stage, AsksFor, AnswersCalls, CountsWrites};
 ghost use Rattle.dn_run.specs.WordsRefused.{command_texts};
 ghost use Rattle.dn_formats.specs.Words.{parts_of};
 
@@ -44,9 +45,8 @@ fn from_jobs<W: World, G: Gate>(
     requires few { length feeds.now ≤ 64 }
     requires known { All (λ r. r.0 < length (arc_value topology.now).routers) routers.now }
     requires apart { IsTrue (all_differ same_router routers.now) }
-    ensures stage { IfOk result (λ ruling. Stage (W.calls world.old) (W.calls world.new) (feed_files (map feed_texts feeds.now)) ruling.verdict (W.files world.old)
-        (λ files calls. FromJobs files (arc_value topology.now) routers.now (scripts_of (option_copied script.entry)) (map feed_texts feeds.now) calls ruling.verdict ruling.text.items)) }
-    ensures memory { OnErr result (Names (W.calls world.old) (W.calls world.new) (feed_files (map feed_texts feeds.now))) }
+    ensures { Stage (W.calls world.old) (W.calls world.new) (feed_files (map feed_texts feeds.now)) (ending_of result)
+        (λ calls. FromJobs (W.files world.old) (arc_value topology.now) routers.now (scripts_of (option_copied script.entry)) (map feed_texts feeds.now) calls (ending_of result)) }
 {
     if has_too_many_jobs(routers, script) {
         return refusal(alloc, Verdict::BadWords, ErrorLine::TooManyJobs);
@@ -79,9 +79,8 @@ fn from_script<W: World, G: Gate>(
     requires few { length feeds.now ≤ 64 }
     requires known { All (λ r. r.0 < length (arc_value topology.now).routers) routers.now }
     requires apart { IsTrue (all_differ same_router routers.now) }
-    ensures stage { IfOk result (λ ruling. Stage (W.calls world.old) (W.calls world.new) (string_bytes part.now.file ∷ feed_files (map feed_texts feeds.now)) ruling.verdict (W.files world.old)
-        (λ files calls. FromScripts files (arc_value topology.now) routers.now [] (script_texts part.now ∷ []) (map feed_texts feeds.now) calls ruling.verdict ruling.text.items)) }
-    ensures memory { OnErr result (Names (W.calls world.old) (W.calls world.new) (string_bytes part.now.file ∷ feed_files (map feed_texts feeds.now))) }
+    ensures { Stage (W.calls world.old) (W.calls world.new) (string_bytes part.now.file ∷ feed_files (map feed_texts feeds.now)) (ending_of result)
+        (λ calls. FromScripts (W.files world.old) (arc_value topology.now) routers.now [] (script_texts part.now ∷ []) (map feed_texts feeds.now) calls (ending_of result)) }
 {
     match load_script(
         alloc,
@@ -125,9 +124,8 @@ fn from_scripts<W: World, G: Gate>(
     requires one { length parts.now.scripts.items ≤ 1 }
     requires known { All (λ r. r.0 < length (arc_value topology.now).routers) routers.now }
     requires apart { IsTrue (all_differ same_router routers.now) }
-    ensures stage { IfOk result (λ ruling. Stage (W.calls world.old) (W.calls world.new) (script_files (parts_texts parts.now).scripts ++ feed_files (parts_texts parts.now).feeds) ruling.verdict (W.files world.old)
-        (λ files calls. FromScripts files (arc_value topology.now) routers.now [] (parts_texts parts.now).scripts (parts_texts parts.now).feeds calls ruling.verdict ruling.text.items)) }
-    ensures memory { OnErr result (Names (W.calls world.old) (W.calls world.new) (script_files (parts_texts parts.now).scripts ++ feed_files (parts_texts parts.now).feeds)) }
+    ensures { Stage (W.calls world.old) (W.calls world.new) (script_files (parts_texts parts.now).scripts ++ feed_files (parts_texts parts.now).feeds) (ending_of result)
+        (λ calls. FromScripts (W.files world.old) (arc_value topology.now) routers.now [] (parts_texts parts.now).scripts (parts_texts parts.now).feeds calls (ending_of result)) }
 {
     let feeds = parts.feeds.as_slice();
     match parts.scripts.as_slice() {
@@ -148,9 +146,8 @@ fn from_routers<W: World, G: Gate>(
     requires room { length (W.calls world.old) + 1 + length parts.now.feeds.items ≤ 2 ^ 32 }
     requires few { length parts.now.feeds.items ≤ 64 }
     requires one { length parts.now.scripts.items ≤ 1 }
-    ensures stage { IfOk result (λ ruling. Stage (W.calls world.old) (W.calls world.new) (script_files (parts_texts parts.now).scripts ++ feed_files (parts_texts parts.now).feeds) ruling.verdict (W.files world.old)
-        (λ files calls. FromRouters (parts_texts parts.now) files (arc_value topology.now) calls ruling.verdict ruling.text.items)) }
-    ensures memory { OnErr result (Names (W.calls world.old) (W.calls world.new) (script_files (parts_texts parts.now).scripts ++ feed_files (parts_texts parts.now).feeds)) }
+    ensures { Stage (W.calls world.old) (W.calls world.new) (script_files (parts_texts parts.now).scripts ++ feed_files (parts_texts parts.now).feeds) (ending_of result)
+        (λ calls. FromRouters (parts_texts parts.now) (W.files world.old) (arc_value topology.now) calls (ending_of result)) }
 {
     match find_routers(alloc, topology, parts.feeds.as_slice()) {
         Ok(routers) => from_scripts(alloc, topology, routers.as_slice(), parts, world, gate),
@@ -170,9 +167,8 @@ fn from_topology<W: World, G: Gate>(
     requires room { length (W.calls world.old) + 2 + length parts.now.feeds.items ≤ 2 ^ 32 }
     requires few { length parts.now.feeds.items ≤ 64 }
     requires one { length parts.now.scripts.items ≤ 1 }
-    ensures stage { IfOk result (λ ruling. Stage (W.calls world.old) (W.calls world.new) (names_due topology.now (parts_texts parts.now)) ruling.verdict (W.files world.old)
-        (λ files calls. FromTopology topology.now (parts_texts parts.now) files calls ruling.verdict ruling.text.items)) }
-    ensures memory { OnErr result (Names (W.calls world.old) (W.calls world.new) (names_due topology.now (parts_texts parts.now))) }
+    ensures { Stage (W.calls world.old) (W.calls world.new) (names_due topology.now (parts_texts parts.now)) (ending_of result)
+        (λ calls. FromTopology topology.now (parts_texts parts.now) (W.files world.old) calls (ending_of result)) }
 {
     match load_topology(alloc, topology, world)? {
         Loaded::Read(topology) => {
@@ -192,9 +188,8 @@ fn from_parts<W: World, G: Gate>(
     gate: &G,
 ) -> Result<Ruling, OutOfMemory>
     requires fresh { W.calls world.old ≡ [] }
-    ensures stage { IfOk result (λ ruling. Stage [] (W.calls world.new) (names_of_parts (command_texts command.now).topology (parts_of (command_texts command.now).parts)) ruling.verdict (W.files world.old)
-        (λ files calls. FromParts (command_texts command.now) files calls ruling.verdict ruling.text.items)) }
-    ensures memory { OnErr result (Names [] (W.calls world.new) (names_of_parts (command_texts command.now).topology (parts_of (command_texts command.now).parts))) }
+    ensures { Stage [] (W.calls world.new) (names_of_parts (command_texts command.now).topology (parts_of (command_texts command.now).parts)) (ending_of result)
+        (λ calls. FromParts (command_texts command.now) (W.files world.old) calls (ending_of result)) }
 {
     match read_parts(alloc, command.parts.as_slice()) {
         Ok(parts) => from_topology(alloc, command.topology.as_str(), &parts, world, gate),
@@ -211,9 +206,8 @@ fn from_words<W: World, G: Gate>(
     gate: &G,
 ) -> Result<Ruling, OutOfMemory>
     requires fresh { W.calls world.old ≡ [] }
-    ensures stage { IfOk result (λ ruling. Stage [] (W.calls world.new) (names_of_words (map string_bytes words.now)) ruling.verdict (W.files world.old)
-        (λ files calls. FromWords (map string_bytes words.now) files calls ruling.verdict ruling.text.items)) }
-    ensures memory { OnErr result (Names [] (W.calls world.new) (names_of_words (map string_bytes words.now))) }
+    ensures { Stage [] (W.calls world.new) (names_of_words (map string_bytes words.now)) (ending_of result)
+        (λ calls. FromWords (map string_bytes words.now) (W.files world.old) calls (ending_of result)) }
 {
     match read_words(alloc, words) {
         Ok(command) => from_parts(alloc, &command, world, gate),
@@ -262,8 +256,7 @@ pub fn run<W: World, K: Sink, G: Gate>(
     requires fresh_world { W.calls world.old ≡ [] }
     requires fresh_sink { K.faults sink.old ≡ 0 }
     // What was written is what is due by the words, the files' bytes and what became of each file that was asked for.
-    ensures headline { IfSome (W.files world.old) (λ files.
-        IsWritten (FromWords (map string_bytes words.now) files (W.calls world.new)) result (K.written sink.old) (K.written sink.new)) }
+    ensures headline { IsWritten (IsDue (map string_bytes words.now) (W.files world.old) (W.calls world.new)) result (K.written sink.old) (K.written sink.new) }
     // The names of the words are asked for in order: all of them at the statuses 0 and 1, else the first of them.
     ensures names { AsksFor result (names_of (W.calls world.new)) (names_of_words (map string_bytes words.now)) }
     // Every source was given back, save where memory was wanted; and one failed exactly where the status says so.

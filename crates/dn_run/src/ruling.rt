@@ -1,9 +1,10 @@
 //! What a run comes to, with the text that it prints.
 
 ghost use Rattle.std.specs.Prelude.{◌≡◌, ◌&&◌, ◌==◌, length, IfOk};
-ghost use Rattle.dn_formats.specs.Report.{error_text, report};
+ghost use Rattle.dn_formats.specs.Report.{report};
 ghost use Rattle.dn_model.specs.Entry.{entries};
-ghost use Rattle.dn_run.specs.Run.{verdict_of, ended_well, is_faulted, some_faulted, all_well};
+ghost use Rattle.dn_run.specs.Ending.{ending_of};
+ghost use Rattle.dn_run.specs.Run.{IsLine, verdict_of, ended_well, is_faulted, some_faulted, all_well};
 
 use crate::status::Verdict;
 use dn_formats::{ErrorLine, FeedEnd, FeedTold, JobTold};
@@ -20,8 +21,7 @@ pub struct Ruling {
 
 /// The ruling of a refusal: its error line.
 pub fn refusal(alloc: Global, verdict: Verdict, error: ErrorLine) -> Result<Ruling, OutOfMemory>
-    ensures verdict { IfOk result (λ ruling. ruling.verdict ≡ verdict) }
-    ensures text { IfOk result (λ ruling. ruling.text.items ≡ error_text error) }
+    ensures { IsLine (ending_of result) verdict error }
 {
     let text = error_line(alloc, error)?;
     Ok(Ruling { verdict, text })

@@ -1,6 +1,6 @@
-use Rattle.std.proofs.Common.{◌∙◌}
+use Rattle.std.proofs.Common.{◌∙◌, refl}
 use Rattle.dn_run.proofs.CallsLemmas.{state_at-with_out}
-use Rattle.dn_run.proofs.ReadLemmas.{given_back, was_read, was_fault, named_one}
+use Rattle.dn_run.proofs.ReadLemmas.{given_back, was_read, was_fault, called_one}
 use Rattle.dn_run.proofs.files.read_file.Goals as goal
 
 pub give_back-requires : goal.give_back-requires
@@ -22,4 +22,4 @@ returns-clause-failed g c =
 
 pub returns-clause-memory : goal.returns-clause-memory
 returns-clause-memory g c h =
-    named_one _ _ _ _ (given_back _ _ _ _ _ _ c.in_ok-source.ensures.handed_out (c.read_to_end-read.ensures.stays ∙ c.in_ok-source.ensures.place) c.give_back.ensures.back)
+    called_one _ _ _ _ (given_back _ _ _ _ _ _ c.in_ok-source.ensures.handed_out (c.read_to_end-read.ensures.stays ∙ c.in_ok-source.ensures.place) c.give_back.ensures.back) refl

@@ -1,52 +1,50 @@
-use Rattle.std.proofs.Common.{◌+◌, ◌++◌, IsSomeAnd, ap}
-use Rattle.dn_io.specs.Files.{bytes_of}
-use Rattle.dn_run.specs.Loaded.{SaysTopology}
-use Rattle.dn_run.specs.Opened.{IsReadUpTo, text_limit}
+use Rattle.std.proofs.Common.{◌++◌, false, refl, inl, inr}
+use Rattle.dn_io.specs.Calls.{Back}
+use Rattle.dn_formats.specs.declared.error_line.ErrorLine.TheVariants as errors
+use Rattle.dn_run.specs.Ending.{ending_of, Stopped}
 use Rattle.dn_run.specs.PartsRead.{parts_texts}
 use Rattle.dn_run.specs.Run.{FromTopology, FromRouters, feed_files, script_files}
-use Rattle.dn_run.specs.Stage.{is_fault, may_end_early}
-use Rattle.dn_run.specs.declared.load.Loaded.TheVariants as loaded
-use Rattle.dn_run.proofs.ProgramLemmas.{on-err, names-one, names-then, stage-read, stage-refused, stage-fault}
-use Rattle.dn_run.proofs.StepLemmas.{ok-then, ok-both, topology-read, topology-refused, topology-failed}
+use Rattle.dn_run.specs.declared.status.Verdict.TheVariants.{BadTopology, ReadFault}
+use Rattle.dn_run.proofs.ProgramLemmas.{stage-read, stage-line, stage-may, stops-at}
+use Rattle.dn_run.proofs.StepLemmas.{topology-read, topology-refused, topology-failed}
 use Rattle.dn_run.proofs.program.from_topology.Goals as goal
 
-pub returns-in_err-topology-in-Read-clause-memory : goal.returns-in_err-topology-in-Read-clause-memory
-returns-in_err-topology-in-Read-clause-memory g c =
+pub returns-in_err-topology-in-Read : goal.returns-in_err-topology-in-Read
+returns-in_err-topology-in-Read g c =
     let loads = rw c.in-Read.is at c.in_ok-topology.ensures.loads in
-    on-err c.from_residual-in_err-topology-in-Read.result (names-one _ _ _ _ _ loads.1)
+    rw (stops-at _ c.from_residual-in_err-topology-in-Read.result c.from_residual-in_err-topology-in-Read.ensures.1)
+    (stage-may (λ calls. FromTopology c.args.topology.now (parts_texts c.args.parts.now) (g.W.World.files c.args.world.now) calls Stopped)
+    (g.W.World.calls c.args.world.now) _ c.args.topology.now (script_files (parts_texts c.args.parts.now).scripts ++ feed_files (parts_texts c.args.parts.now).feeds)
+    (inr (Back false loads.0, loads.1, refl)) (λ state. (refl, inl refl)))
 
-pub returns-in_ok-topology-in-Read-clause-stage : goal.returns-in_ok-topology-in-Read-clause-stage
-returns-in_ok-topology-in-Read-clause-stage g c =
+pub returns-in_ok-topology-in-Read : goal.returns-in_ok-topology-in-Read
+returns-in_ok-topology-in-Read g c =
     let loads = rw c.in-Read.is at c.in_ok-topology.ensures.loads in
-    stage-read (λ fs. IsSomeAnd (bytes_of fs c.args.topology.now) (λ bytes. IsReadUpTo bytes (text_limit + 1) loads.0 × SaysTopology bytes (loaded.Read c.in-Read.topology))) (λ x fs calls. FromTopology c.args.topology.now (parts_texts c.args.parts.now) fs calls x.verdict x.text.items)
-    (λ x fs calls. FromRouters (parts_texts c.args.parts.now) fs c.in-Read.topology calls x.verdict x.text.items) (λ x. x.verdict) c.from_routers.result (g.W.World.files c.args.world.now) _ (g.W.World.calls c.args.world.now) _ _ c.args.topology.now (script_files (parts_texts c.args.parts.now).scripts ++ feed_files (parts_texts c.args.parts.now).feeds) loads.0
-    loads.1 c.in_ok-topology.ensures.same_files loads.2 (λ x fs more says after. topology-read fs c.args.topology.now (parts_texts c.args.parts.now) c.in-Read.topology loads.0 more x.verdict x.text.items says after) (rw c.in_ok-topology-in-Read.ensures.ok at c.from_routers.ensures.stage)
+    stage-read (ending_of c.from_routers.result) (λ calls. FromRouters (parts_texts c.args.parts.now) (g.W.World.files c.args.world.now) c.in-Read.topology calls (ending_of c.from_routers.result))
+    (λ calls. FromTopology c.args.topology.now (parts_texts c.args.parts.now) (g.W.World.files c.args.world.now) calls (ending_of c.from_routers.result))
+    (g.W.World.calls c.args.world.now) _ _ c.args.topology.now (script_files (parts_texts c.args.parts.now).scripts ++ feed_files (parts_texts c.args.parts.now).feeds) loads.0
+    loads.1 (λ more. topology-read (g.W.World.files c.args.world.now) c.args.topology.now (parts_texts c.args.parts.now) c.in-Read.topology loads.0 more (ending_of c.from_routers.result) loads.2)
+    (rw (c.in_ok-topology-in-Read.ensures.ok, c.in_ok-topology.ensures.same_files) at c.from_routers.ensures)
 
-pub returns-in_ok-topology-in-Read-clause-memory : goal.returns-in_ok-topology-in-Read-clause-memory
-returns-in_ok-topology-in-Read-clause-memory g c =
-    let loads = rw c.in-Read.is at c.in_ok-topology.ensures.loads in
-    names-then c.from_routers.result _ _ _ _ _ _ loads.1 c.from_routers.ensures.memory
-
-pub returns-in-Refused-clause-stage : goal.returns-in-Refused-clause-stage
-returns-in-Refused-clause-stage g c =
+pub returns-in-Refused : goal.returns-in-Refused
+returns-in-Refused g c =
     let loads = rw c.in-Refused.is at c.in_ok-topology.ensures.loads in
-    stage-refused (λ fs. IsSomeAnd (bytes_of fs c.args.topology.now) (λ bytes. IsReadUpTo bytes (text_limit + 1) loads.0 × SaysTopology bytes (loaded.Refused c.in-Refused.line))) (λ x fs calls. FromTopology c.args.topology.now (parts_texts c.args.parts.now) fs calls x.verdict x.text.items) (λ x. x.verdict) c.refusal.result (g.W.World.files c.args.world.now) (g.W.World.calls c.args.world.now) _ c.args.topology.now (script_files (parts_texts c.args.parts.now).scripts ++ feed_files (parts_texts c.args.parts.now).feeds) loads.0
-    loads.1 loads.2 (ok-then c.refusal.result (λ x is. ap may_end_early is) c.refusal.ensures.verdict) (ok-then c.refusal.result (λ x is. ap is_fault is) c.refusal.ensures.verdict)
-    (ok-both c.refusal.result (λ x is prints fs says. topology-refused fs c.args.topology.now (parts_texts c.args.parts.now) c.in-Refused.line loads.0 x.verdict x.text.items says is prints) c.refusal.ensures.verdict c.refusal.ensures.text)
+    stage-line (ending_of c.refusal.result) BadTopology c.in-Refused.line (λ calls. FromTopology c.args.topology.now (parts_texts c.args.parts.now) (g.W.World.files c.args.world.now) calls (ending_of c.refusal.result))
+    (g.W.World.calls c.args.world.now) _ c.args.topology.now (script_files (parts_texts c.args.parts.now).scripts ++ feed_files (parts_texts c.args.parts.now).feeds) (Back false loads.0)
+    loads.1 refl refl refl c.refusal.ensures
+    (topology-refused (g.W.World.files c.args.world.now) c.args.topology.now (parts_texts c.args.parts.now) c.in-Refused.line loads.0 (ending_of c.refusal.result) loads.2 c.refusal.ensures)
 
-pub returns-in-Refused-clause-memory : goal.returns-in-Refused-clause-memory
-returns-in-Refused-clause-memory g c =
-    let loads = rw c.in-Refused.is at c.in_ok-topology.ensures.loads in
-    on-err c.refusal.result (names-one _ _ _ _ _ loads.1)
-
-pub returns-in-Failed-clause-stage : goal.returns-in-Failed-clause-stage
-returns-in-Failed-clause-stage g c =
+pub returns-in-Failed : goal.returns-in-Failed
+returns-in-Failed g c =
     let loads = rw c.in-Failed.is at c.in_ok-topology.ensures.loads in
-    stage-fault (λ x fs calls. FromTopology c.args.topology.now (parts_texts c.args.parts.now) fs calls x.verdict x.text.items) (λ x. x.verdict) c.refusal-in-Failed.result (g.W.World.files c.args.world.now) (g.W.World.calls c.args.world.now) _ c.args.topology.now (script_files (parts_texts c.args.parts.now).scripts ++ feed_files (parts_texts c.args.parts.now).feeds)
-    loads (ok-then c.refusal-in-Failed.result (λ x is. ap may_end_early is) c.refusal-in-Failed.ensures.verdict) (ok-then c.refusal-in-Failed.result (λ x is. ap is_fault is) c.refusal-in-Failed.ensures.verdict)
-    (ok-both c.refusal-in-Failed.result (λ x is prints fs state fails. topology-failed fs c.args.topology.now (parts_texts c.args.parts.now) state x.verdict x.text.items fails is prints) c.refusal-in-Failed.ensures.verdict c.refusal-in-Failed.ensures.text)
+    stage-line (ending_of c.refusal-in-Failed.result) ReadFault errors.ReadTopology (λ calls. FromTopology c.args.topology.now (parts_texts c.args.parts.now) (g.W.World.files c.args.world.now) calls (ending_of c.refusal-in-Failed.result))
+    (g.W.World.calls c.args.world.now) _ c.args.topology.now (script_files (parts_texts c.args.parts.now).scripts ++ feed_files (parts_texts c.args.parts.now).feeds) loads.0
+    loads.1 loads.3 loads.2 refl c.refusal-in-Failed.ensures
+    (topology-failed (g.W.World.files c.args.world.now) c.args.topology.now (parts_texts c.args.parts.now) loads.0 (ending_of c.refusal-in-Failed.result) loads.2 loads.4 c.refusal-in-Failed.ensures)
 
-pub returns-in-Failed-clause-memory : goal.returns-in-Failed-clause-memory
-returns-in-Failed-clause-memory g c =
-    let loads = rw c.in-Failed.is at c.in_ok-topology.ensures.loads in
-    on-err c.refusal-in-Failed.result (names-one _ _ _ _ _ loads.1)
+pub returns-in_err-topology : goal.returns-in_err-topology
+returns-in_err-topology g c =
+    rw (stops-at _ c.from_residual.result c.from_residual.ensures.1)
+    (stage-may (λ calls. FromTopology c.args.topology.now (parts_texts c.args.parts.now) (g.W.World.files c.args.world.now) calls Stopped)
+    (g.W.World.calls c.args.world.now) _ c.args.topology.now (script_files (parts_texts c.args.parts.now).scripts ++ feed_files (parts_texts c.args.parts.now).feeds)
+    c.in_err-topology.ensures.memory (λ state. (refl, inl refl)))

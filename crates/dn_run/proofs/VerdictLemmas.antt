@@ -1,0 +1,222 @@
+-- Words, files and the states of the calls fix what a run comes to.
+use Rattle.std.proofs.Common.{◌≡◌, ℕ, suc, Bool, true, false, Result, Ok, Err, IsSomeAnd, MatchResult, MatchOption, IsTrue, List, [], ◌∷◌, ◌++◌, Option, None, Some, refl, ap, sym, ◌∙◌, ◌⊎◌, inl, inr, subst, nat_lt, ◌+◌, length, if◌then◌else◌}
+use Rattle.std.specs.Bool.{MatchBool}
+use Rattle.std.proofs.Math.Bool.{So-prop}
+use Rattle.std.proofs.lemmas.List.{append_cancel_right}
+use Rattle.dn_io.specs.Calls.{Call, CallState, Out, Refused, Back}
+use Rattle.dn_io.specs.Files.{Files, bytes_of}
+use Rattle.dn_formats.specs.Feed.{IsReading, IsFaultedReading}
+use Rattle.dn_formats.specs.ScriptText.{script_of}
+use Rattle.dn_formats.specs.Steps.{FeedRead, told_of}
+use Rattle.dn_formats.specs.TopologyText.{Parts, topology_of, parts}
+use Rattle.dn_formats.specs.Words.{FeedWords, PartsSaid, parts_of}
+use Rattle.dn_formats.proofs.FeedLemmas.{reading_once, faulted_once}
+use Rattle.dn_model.specs.Topology.{is_sound_topology}
+use Rattle.dn_model.specs.declared.ids.RouterId.{RouterId}
+use Rattle.dn_model.specs.declared.topology.Topology.{Topology}
+use Rattle.dn_formats.specs.declared.error_line.ErrorLine.{ErrorLine}
+use Rattle.dn_formats.specs.declared.error_line.ErrorLine.TheVariants as errors
+use Rattle.dn_formats.specs.declared.script.Line.{Line}
+use Rattle.dn_formats.specs.declared.told.FeedTold.{FeedTold}
+use Rattle.dn_run.specs.Alike.{AreAlike, AreRunsOfOne}
+use Rattle.dn_run.specs.CommandLine.{RunWords, command_of}
+use Rattle.dn_run.specs.Ending.{Ruled}
+use Rattle.dn_run.specs.Run.{AreReadOf, FromFeeds, FromJobs, FromParts, FromRouters, FromScripts, FromTopology, FromWords, IsErrorLine, IsReadOf, IsReadOfBytes, IsRunOf, IsToldOf, OnFile, OnFeed, OpenedFeed, all_well, feed_limit, most_jobs, routers_of, some_faulted, taken_by_scripts, untaken, verdict_of}
+use Rattle.dn_run.specs.Stage.{may_end_early, is_fault}
+use Rattle.dn_run.specs.declared.status.Verdict.{Verdict}
+use Rattle.dn_run.specs.declared.status.Verdict.TheVariants.{Done, Refusals, BadWords, BadTopology, BadScript, ReadFault}
+
+-- ---- a network is what its parts are
+
+true-prop : (b : Bool) (x y : IsTrue b) → x ≡ y
+true-prop b x y = So-prop b x y
+
+abbrev IsSound : Parts → Type 0
+IsSound p = IsTrue (is_sound_topology p.routers p.links p.edges)
+
+abbrev made-of : (p : Parts) → IsSound p → Topology
+made-of p s = record { routers = p.routers; links = p.links; edges = p.edges; sound = s }
+
+same-made : (p q : Parts) (s : IsSound p) (s' : IsSound q) → p ≡ q → made-of p s ≡ made-of q s'
+same-made p q s s' e = subst (λ (r : Parts). (z : IsSound r) → made-of p s ≡ made-of r z) e (λ z. ap (made-of p) (true-prop _ s z)) s'
+
+same-topology : (t u : Topology) → parts t ≡ parts u → t ≡ u
+same-topology t u e = same-made (parts t) (parts u) t.sound u.sound e
+
+-- ---- a feed has one reading
+
+same-read : (f g : FeedRead) → f.feed_no ≡ g.feed_no → f.router ≡ g.router → f.steps ≡ g.steps → f.end ≡ g.end → told_of f ≡ told_of g
+same-read f g a b c d = rw (a, b, c, d) refl
+
+same-feed : (t : Topology) (r : RouterId) (bytes : List ℕ) (state : CallState) (f g : FeedRead) → f.feed_no ≡ g.feed_no → f.router ≡ r → g.router ≡ r →
+    IsReadOfBytes t bytes state f → IsReadOfBytes t bytes state g → told_of f ≡ told_of g
+same-feed t r bytes Out f g number rf rg p q = absurd p
+same-feed t r bytes Refused f g number rf rg p q = absurd p
+same-feed t r bytes (Back false left) f g number rf rg p q =
+    let once = reading_once t r bytes feed_limit f.steps g.steps f.end g.end
+    (subst (λ x. IsReading t x bytes feed_limit f.steps f.end) rf p.0) (subst (λ x. IsReading t x bytes feed_limit g.steps g.end) rg q.0) in
+    same-read f g number (rf ∙ sym rg) once.0 once.1
+same-feed t r bytes (Back true None) f g number rf rg p q = absurd p
+same-feed t r bytes (Back true (Some left)) f g number rf rg p q =
+    let front : p.0 ≡ q.0 = append_cancel_right p.0 q.0 left (sym p.1 ∙ q.1) in
+    let steps = faulted_once t r q.0 f.steps g.steps
+    (subst (λ xs. IsFaultedReading t r xs f.steps) front (subst (λ x. IsFaultedReading t x p.0 f.steps) rf p.3)) (subst (λ x. IsFaultedReading t x q.0 g.steps) rg q.3) in
+    same-read f g number (rf ∙ sym rg) steps (p.4 ∙ sym q.4)
+
+-- feeds whose bytes are told
+abbrev AllTold : List OpenedFeed → Type 0
+AllTold [] = Unit {0}
+AllTold (o ∷ os) = ((bytes : List ℕ) × (o.bytes ≡ Some bytes)) × AllTold os
+
+told-push : (os : List OpenedFeed) (bytes : List ℕ) (state : CallState) → AllTold os → AllTold (os ++ record { bytes = Some bytes; state = state } ∷ [])
+told-push [] bytes state told = ((bytes, refl), tt)
+told-push (o ∷ os) bytes state told = (told.0, told-push os bytes state told.1)
+
+record First (t : Topology) (n : ℕ) (r : RouterId) (rs : List RouterId) (o : OpenedFeed) (os : List OpenedFeed) (tolds : List FeedTold) : Type 0 where
+  pub f : FeedRead
+  pub fs : List FeedRead
+  pub told : FeedTold
+  pub rest : List FeedTold
+  pub are : tolds ≡ told ∷ rest
+  pub number : f.feed_no ≡ n
+  pub router : f.router ≡ r
+  pub read : IsReadOf t o.bytes o.state f
+  pub told_is : IsToldOf o.bytes f told
+  pub later : AreReadOf t (suc n) rs os fs rest
+
+first-of : (t : Topology) (n : ℕ) (r : RouterId) (rs : List RouterId) (o : OpenedFeed) (os : List OpenedFeed) (fs : List FeedRead) (tolds : List FeedTold) →
+    AreReadOf t n (r ∷ rs) (o ∷ os) fs tolds → First t n r rs o os tolds
+first-of t n r rs o os [] [] are = absurd are
+first-of t n r rs o os [] (u ∷ us) are = absurd are
+first-of t n r rs o os (f ∷ fs) [] are = absurd are
+first-of t n r rs o os (f ∷ fs) (u ∷ us) are = record { f = f; fs = fs; told = u; rest = us; are = refl; number = are.0; router = are.1; read = are.2; told_is = are.3; later = are.4 }
+
+none-of : (t : Topology) (n : ℕ) (fs : List FeedRead) (tolds : List FeedTold) → AreReadOf t n [] [] fs tolds → tolds ≡ []
+none-of t n [] [] are = refl
+none-of t n [] (u ∷ us) are = absurd are
+none-of t n (f ∷ fs) [] are = absurd are
+none-of t n (f ∷ fs) (u ∷ us) are = absurd are
+
+same-told : (t : Topology) (r : RouterId) (file : Option (List ℕ)) (bytes : List ℕ) (state : CallState) (f g : FeedRead) (u v : FeedTold) → file ≡ Some bytes → f.feed_no ≡ g.feed_no → f.router ≡ r → g.router ≡ r →
+    IsReadOf t file state f → IsToldOf file f u → IsReadOf t file state g → IsToldOf file g v → u ≡ v
+same-told t r None bytes state f g u v is number rf rg p pu q qv = absurd (cc)
+same-told t r (Some file) bytes state f g u v is number rf rg p pu q qv = pu ∙ same-feed t r file state f g number rf rg p q ∙ sym qv
+
+same-tolds : (t : Topology) (n : ℕ) (rs : List RouterId) (os : List OpenedFeed) (fs gs : List FeedRead) (us vs : List FeedTold) → AllTold os →
+    AreReadOf t n rs os fs us → AreReadOf t n rs os gs vs → us ≡ vs
+same-tolds t n [] [] fs gs us vs told p q = none-of t n fs us p ∙ sym (none-of t n gs vs q)
+same-tolds t n [] (o ∷ os) fs gs us vs told p q = absurd p
+same-tolds t n (r ∷ rs) [] fs gs us vs told p q = absurd p
+same-tolds t n (r ∷ rs) (o ∷ os) fs gs us vs told p q =
+    let a = first-of t n r rs o os fs us p in
+    let b = first-of t n r rs o os gs vs q in
+    let head : a.told ≡ b.told = same-told t r o.bytes told.0.0 o.state a.f b.f a.told b.told told.0.1 (a.number ∙ sym b.number) a.router b.router a.read a.told_is b.read b.told_is in
+    let tail : a.rest ≡ b.rest = same-tolds t (suc n) rs os a.fs b.fs a.rest b.rest told.1 a.later b.later in
+    a.are ∙ ap (λ x. x ∷ a.rest) head ∙ ap (λ xs. b.told ∷ xs) tail ∙ sym b.are
+
+-- ---- two runs step by step
+
+both-lines : (calls : List Call) (due : Verdict) (error : ErrorLine) (v w : Verdict) (x y : List ℕ) → IsErrorLine (Ruled v x) calls due error → IsErrorLine (Ruled w y) calls due error → AreAlike v x w y
+both-lines calls due error v w x y p q = (p.1.0 ∙ sym q.1.0, inl (p.1.1 ∙ sym q.1.1))
+
+both-some : {A R : Type 0} (o : Option A) (P Q : A → Type 0) → ((a : A) → P a → Q a → R) → IsSomeAnd o P → IsSomeAnd o Q → R
+both-some None P Q f p q = absurd p
+both-some (Some a) P Q f p q = f a p q
+
+both-results : {A E R : Type 0} (r : Result A E) (P P' : A → Type 0) (Q Q' : E → Type 0) → ((a : A) → P a → P' a → R) → ((e : E) → Q e → Q' e → R) →
+    MatchResult r P Q → MatchResult r P' Q' → R
+both-results (Ok a) P P' Q Q' f g p q = f a p q
+both-results (Err e) P P' Q Q' f g p q = g e p q
+
+both-bools : {R : Type 0} (b : Bool) (P P' Q Q' : Type 0) → (P → P' → R) → (Q → Q' → R) → MatchBool b P Q → MatchBool b P' Q' → R
+both-bools true P P' Q Q' f g p q = f p q
+both-bools false P P' Q Q' f g p q = g p q
+
+both-files : {R : Type 0} (fs : Files) (name : List ℕ) (state : CallState) (F G : Type 0) (P Q : List ℕ → Type 0) → (F → G → R) → ((bytes : List ℕ) → P bytes → Q bytes → R) →
+    OnFile (Some fs) name state F P → OnFile (Some fs) name state G Q → R
+both-files fs name Out F G P Q f g p q = absurd p
+both-files fs name Refused F G P Q f g p q = f p q
+both-files fs name (Back true left) F G P Q f g p q = f p.0 q.0
+both-files fs name (Back false left) F G P Q f g p q = both-some (bytes_of fs name) _ _ (λ bytes a b. g bytes a.1 b.1) p q
+
+both-runs : (t : Topology) (routers : List RouterId) (scripts : List (List Line)) (opened : List OpenedFeed) (v w : Verdict) (x y : List ℕ) → AllTold opened →
+    IsRunOf t routers scripts opened v x → IsRunOf t routers scripts opened w y → AreAlike v x w y
+both-runs t routers scripts opened v w x y told p q =
+    (p.verdict_is ∙ ap verdict_of (same-tolds t 1 routers opened p.feeds q.feeds p.tolds q.tolds told p.read q.read) ∙ sym q.verdict_is, inr (t, routers, scripts, opened, p, q))
+
+both-opened : (fs : Files) (part : ℕ) (name : List ℕ) (opened : List OpenedFeed) (state : CallState) (more : List Call) (v w : Verdict) (x y : List ℕ) (P Q : List OpenedFeed → Type 0) →
+    ((later : List OpenedFeed) → AllTold later → P later → Q later → AreAlike v x w y) → AllTold opened →
+    OnFeed (Some fs) part name opened state more (Ruled v x) P → OnFeed (Some fs) part name opened state more (Ruled w y) Q → AreAlike v x w y
+both-opened fs part name opened Out more v w x y P Q next told p q = absurd p
+both-opened fs part name opened Refused more v w x y P Q next told p q = both-lines more ReadFault (errors.ReadPart part) v w x y p.1 q.1
+both-opened fs part name opened (Back failed left) more v w x y P Q next told p q =
+    both-some (bytes_of fs name) _ _ (λ bytes a b. next (opened ++ record { bytes = Some bytes; state = Back failed left } ∷ []) (told-push opened bytes (Back failed left) told) a b) p q
+
+both-feeds : (fs : Files) (t : Topology) (routers : List RouterId) (scripts : List (List Line)) (opened : List OpenedFeed) (feeds : List (ℕ × FeedWords)) (calls : List Call) (v w : Verdict) (x y : List ℕ) → AllTold opened →
+    FromFeeds (Some fs) t routers scripts opened feeds calls (Ruled v x) → FromFeeds (Some fs) t routers scripts opened feeds calls (Ruled w y) → AreAlike v x w y
+both-feeds fs t routers scripts opened [] calls v w x y told p q = both-runs t routers scripts opened v w x y told p.1 q.1
+both-feeds fs t routers scripts opened (feed ∷ feeds) [] v w x y told p q = absurd p
+both-feeds fs t routers scripts opened (feed ∷ feeds) (call ∷ more) v w x y told p q =
+    both-opened fs feed.0 feed.1.file opened call.state more v w x y (λ later. FromFeeds (Some fs) t routers scripts later feeds more (Ruled v x)) (λ later. FromFeeds (Some fs) t routers scripts later feeds more (Ruled w y))
+    (λ later all a b. both-feeds fs t routers scripts later feeds more v w x y all a b) told p.1 q.1
+
+both-jobs : (fs : Files) (t : Topology) (routers : List RouterId) (scripts : List (List Line)) (feeds : List (ℕ × FeedWords)) (calls : List Call) (v w : Verdict) (x y : List ℕ) →
+    FromJobs (Some fs) t routers scripts feeds calls (Ruled v x) → FromJobs (Some fs) t routers scripts feeds calls (Ruled w y) → AreAlike v x w y
+both-jobs fs t routers scripts feeds calls v w x y p q =
+    both-bools (nat_lt most_jobs (length scripts + length (untaken scripts routers))) _ _ _ _ (both-lines calls BadWords errors.TooManyJobs v w x y) (both-feeds fs t routers scripts [] feeds calls v w x y tt) p q
+
+both-scripts : (fs : Files) (t : Topology) (routers : List RouterId) (read : List (List Line)) (scripts : List (ℕ × List ℕ)) (feeds : List (ℕ × FeedWords)) (calls : List Call) (v w : Verdict) (x y : List ℕ) →
+    FromScripts (Some fs) t routers read scripts feeds calls (Ruled v x) → FromScripts (Some fs) t routers read scripts feeds calls (Ruled w y) → AreAlike v x w y
+both-scripts fs t routers read [] feeds calls v w x y p q = both-jobs fs t routers read feeds calls v w x y p q
+both-scripts fs t routers read (script ∷ scripts) feeds [] v w x y p q = absurd p
+both-scripts fs t routers read (script ∷ scripts) feeds (call ∷ more) v w x y p q =
+    both-files fs script.1 call.state _ _ _ _ (both-lines more ReadFault (errors.ReadPart script.0) v w x y)
+    (λ bytes a b. both-results (script_of t.routers routers (taken_by_scripts read) bytes) _ _ _ _
+    (λ lines c d. both-scripts fs t routers (read ++ lines ∷ []) scripts feeds more v w x y c d) (λ fault c d. both-lines more BadScript (errors.Script script.0 fault.line fault.cause) v w x y c d) a b) p.1 q.1
+
+both-routers : (said : PartsSaid) (fs : Files) (t u : Topology) (calls : List Call) (v w : Verdict) (x y : List ℕ) → t ≡ u →
+    FromRouters said (Some fs) t calls (Ruled v x) → FromRouters said (Some fs) u calls (Ruled w y) → AreAlike v x w y
+both-routers said fs t u calls v w x y same p q =
+    both-results (routers_of t said.feeds) _ _ _ _ (λ routers a b. both-scripts fs t routers [] said.scripts said.feeds calls v w x y a b) (λ error a b. both-lines calls BadWords error v w x y a b)
+    p (subst (λ (z : Topology). FromRouters said (Some fs) z calls (Ruled w y)) (sym same) q)
+
+both-topologies : (topology : List ℕ) (said : PartsSaid) (fs : Files) (calls : List Call) (v w : Verdict) (x y : List ℕ) →
+    FromTopology topology said (Some fs) calls (Ruled v x) → FromTopology topology said (Some fs) calls (Ruled w y) → AreAlike v x w y
+both-topologies topology said fs [] v w x y p q = absurd p
+both-topologies topology said fs (call ∷ more) v w x y p q =
+    both-files fs topology call.state _ _ _ _ (both-lines more ReadFault errors.ReadTopology v w x y)
+    (λ bytes a b. both-results (topology_of bytes) _ _ _ _
+    (λ network c d. both-routers said fs c.0 d.0 more v w x y (same-topology c.0 d.0 (c.1 ∙ sym d.1)) c.2 d.2) (λ fault c d. both-lines more BadTopology (errors.Topology fault) v w x y c d) a b) p.1 q.1
+
+both-parts : (command : RunWords) (fs : Files) (calls : List Call) (v w : Verdict) (x y : List ℕ) →
+    FromParts command (Some fs) calls (Ruled v x) → FromParts command (Some fs) calls (Ruled w y) → AreAlike v x w y
+both-parts command fs calls v w x y p q =
+    both-results (parts_of command.parts) _ _ _ _ (λ said a b. both-topologies command.topology said fs calls v w x y a b) (λ error a b. both-lines calls BadWords error v w x y a b) p q
+
+both-commands : (command : Option RunWords) (fs : Files) (calls : List Call) (v w : Verdict) (x y : List ℕ) (line line' : Type 0) → (line → line' → AreAlike v x w y) →
+    MatchOption command line (λ c. FromParts c (Some fs) calls (Ruled v x)) → MatchOption command line' (λ c. FromParts c (Some fs) calls (Ruled w y)) → AreAlike v x w y
+both-commands None fs calls v w x y line line' f p q = f p q
+both-commands (Some command) fs calls v w x y line line' f p q = both-parts command fs calls v w x y p q
+
+pub runs-alike : (words : List (List ℕ)) (fs : Files) (calls : List Call) (v w : Verdict) (x y : List ℕ) →
+    FromWords words (Some fs) calls (Ruled v x) → FromWords words (Some fs) calls (Ruled w y) → AreAlike v x w y
+runs-alike words fs calls v w x y p q = both-commands (command_of words) fs calls v w x y _ _ (both-lines calls BadWords errors.Words v w x y) p q
+
+-- ---- where no job ran
+
+no-run-by : (a b : Bool) → may_end_early (if a then ReadFault else (if b then Done else Refusals)) ≡ true → is_fault (if a then ReadFault else (if b then Done else Refusals)) ≡ false → ⊥
+no-run-by true b early fine = cc
+no-run-by false true early fine = cc
+no-run-by false false early fine = cc
+
+no-run : (t : Topology) (routers : List RouterId) (scripts : List (List Line)) (opened : List OpenedFeed) (v : Verdict) (x : List ℕ) → IsRunOf t routers scripts opened v x →
+    may_end_early v ≡ true → is_fault v ≡ false → ⊥
+no-run t routers scripts opened v x run early fine =
+    no-run-by (some_faulted run.tolds) (all_well run.tolds) (ap may_end_early (sym run.verdict_is) ∙ early) (ap is_fault (sym run.verdict_is) ∙ fine)
+
+pub lines-same : (v w : Verdict) (x y : List ℕ) → AreAlike v x w y → may_end_early v ≡ true → is_fault v ≡ false → x ≡ y
+lines-same v w x y alike early fine = by alike.1
+  where
+    by : (x ≡ y) ⊎ AreRunsOfOne v x w y → x ≡ y
+    by (inl same) = same
+    by (inr run) = absurd (no-run run.0 run.1 run.2 run.3 v x run.4 early fine)

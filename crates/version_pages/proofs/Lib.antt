@@ -4,5 +4,4 @@ pub mod Ending
 pub mod Grows
 pub mod Joined
 pub mod Parted
-pub mod Removes
 pub mod Within

@@ -39,12 +39,12 @@ pub fn page_of_both<T: Clone>(
     alloc: Global,
     room: usize,
     first: &[T],
-    second: &[T],
+    then: &[T],
 ) -> Result<Vec<T>, OutOfMemory>
     requires { (x y : T) → T.is_clone x y → y ≡ x }
-    ensures { IfOk result (λ page. page.items ≡ first.now ++ second.now) }
+    ensures { IfOk result (λ page. page.items ≡ first.now ++ then.now) }
 {
     let mut page = page_of(alloc, room, first)?;
-    add_copies(&mut page, second)?;
+    add_copies(&mut page, then)?;
     Ok(page)
 }

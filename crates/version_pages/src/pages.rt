@@ -1,7 +1,7 @@
 //! A list in shared pages.
 
 ghost use Rattle.std.specs.Prelude.{◌≡◌, ◌+◌, ◌*◌, ◌<◌, ◌≤◌, ◌^◌, ◌↔◌, ◌++◌, ◌∷◌, []};
-ghost use Rattle.std.specs.Prelude.{IfOk, OnErr, IfSome, IsSome, is_ok, if◌then◌else◌, length, set, insert, remove, take, drop, slice_index_or};
+ghost use Rattle.std.specs.Prelude.{IfOk, OnErr, IfSome, IsSome, is_ok, if◌then◌else◌, length, set, insert, take, drop, slice_index_or};
 ghost use Rattle.version_pages.specs.Changes.{Changes};
 ghost use Rattle.version_pages.specs.Growth.{grown, CanGrow};
 ghost use Rattle.version_pages.specs.Search.{Ends};
@@ -184,22 +184,6 @@ impl<T: Clone> Pages<T> {
         ensures { self.new ≡ (if is_ok result then set (insert self.old (i + 1) upper) i lower else self.old) }
     {
         return self.grow(alloc, i, Growth::Parts(lower, upper));
-    }
-
-    /// Takes an element away. After `OutOfMemory` the list is as before.
-    pub fn remove_at(&mut self, alloc: Global, i: u64) -> Result<(), OutOfMemory>
-        requires inside { i < length self.old }
-        requires clones { (x y : T) → T.is_clone x y → y ≡ x }
-        ensures { self.new ≡ (if is_ok result then remove self.old i else self.old) }
-    {
-        if self.len() == 1 {
-            self.root = None;
-            return Ok(());
-        }
-        let Some(root) = &mut self.root else {
-            return Err(OutOfMemory);
-        };
-        return root.shrink_whole(alloc, i);
     }
 
     /// The list of the elements of a `Vec`.

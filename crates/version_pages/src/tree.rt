@@ -10,7 +10,6 @@ mod grow;
 mod own;
 mod parts;
 mod search;
-mod shrink;
 
 pub use parts::page_kid;
 use std::alloc::Global;

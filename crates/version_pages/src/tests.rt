@@ -4,7 +4,7 @@ ghost use Rattle.std.specs.Prelude.{◌≡◌, IfOk};
 ghost use Rattle.std.specs.Arc.{arc_value};
 
 use super::Pages;
-use dn_model::{AtomId, AtomRow, OutOfMemory};
+use dn_model::OutOfMemory;
 use std::alloc::{AllocError, Global};
 use std::marker::Model;
 use std::process::Abort;
@@ -70,6 +70,63 @@ fn compare(rt: &impl Abort, pages: &Pages<u64>, plain: &Vec<u64>) {
     assert_eq!(rt; pages.get(pages.len()), None);
 }
 
+/// The numbers below a count, in order, as a `Vec` and as a list.
+fn rising(alloc: Global, len: u64) -> Result<(Pages<u64>, Vec<u64>), OutOfMemory> {
+    let mut pages = Pages::new();
+    let mut plain = Vec::new(alloc);
+    for k in 0..len {
+        pages.push(alloc, k)?;
+        plain.push(k)?;
+    }
+    Ok((pages, plain))
+}
+
+/// Writes at one place of both.
+fn write(
+    alloc: Global,
+    pages: &mut Pages<u64>,
+    plain: &mut Vec<u64>,
+    k: u64,
+    value: u64,
+) -> Result<(), OutOfMemory> {
+    if k < pages.len() && k < plain.len() as u64 {
+        pages.put(alloc, k, value)?;
+        plain[k as usize] = value;
+    }
+    Ok(())
+}
+
+/// Puts one more element into both, before the one at a place.
+fn insert(
+    alloc: Global,
+    pages: &mut Pages<u64>,
+    plain: &mut Vec<u64>,
+    k: u64,
+    value: u64,
+) -> Result<(), OutOfMemory> {
+    if k <= pages.len() && k <= plain.len() as u64 {
+        pages.insert_at(alloc, k, value)?;
+        plain.insert(k as usize, value)?;
+    }
+    Ok(())
+}
+
+/// Puts two elements in the place of one of both.
+fn split(
+    alloc: Global,
+    pages: &mut Pages<u64>,
+    plain: &mut Vec<u64>,
+    k: u64,
+    value: u64,
+) -> Result<(), OutOfMemory> {
+    if k < pages.len() && k < plain.len() as u64 {
+        pages.replace_by_two(alloc, k, value, value ^ 1)?;
+        plain[k as usize] = value ^ 1;
+        plain.insert(k as usize, value)?;
+    }
+    Ok(())
+}
+
 #[test]
 fn a_new_list_is_empty(rt: HostRuntime) -> Result<(), Fail> {
     let pages: Pages<u64> = Pages::new();
@@ -82,68 +139,36 @@ fn a_new_list_is_empty(rt: HostRuntime) -> Result<(), Fail> {
     Ok(())
 }
 
-#[test]
-fn elements_go_to_the_end(rt: HostRuntime) -> Result<(), Fail> {
-    let mut pages = Pages::new();
-    for k in 0..200u64 {
-        pages.push(rt.alloc(), k)?;
+/// One element is changed where there is one, and the change answers what was there.
+fn change(
+    alloc: Global,
+    pages: &mut Pages<u64>,
+    k: u64,
+    value: u64,
+) -> Result<Option<u64>, OutOfMemory> {
+    if k < pages.len() {
+        let old = pages.change(alloc, k, |element| {
+            let old = *element;
+            *element = value;
+            old
+        })?;
+        return Ok(Some(old));
     }
-    assert_eq!(rt; pages.len(), 200);
-    for k in 0..200u64 {
-        assert_eq!(rt; pages.get(k).copied(), Some(k));
-    }
-    assert_eq!(rt; pages.get(200), None);
-    assert_eq!(rt; pages.get(u64::MAX), None);
-    assert_eq!(rt; pages.run_from(200).len(), 0);
-    Ok(())
-}
-
-#[test]
-fn elements_go_to_the_front(rt: HostRuntime) -> Result<(), Fail> {
-    let mut pages = Pages::new();
-    for k in 0..200u64 {
-        pages.insert_at(rt.alloc(), 0, k)?;
-    }
-    assert_eq!(rt; pages.len(), 200);
-    for k in 0..200u64 {
-        assert_eq!(rt; pages.get(k).copied(), Some(199 - k));
-    }
-    Ok(())
-}
-
-/// Each element goes between the halves of those before it, so that the odd ones rise and then the even ones fall.
-#[test]
-fn elements_go_to_the_middle(rt: HostRuntime) -> Result<(), Fail> {
-    let mut pages = Pages::new();
-    for k in 0..200u64 {
-        let middle = pages.len() / 2;
-        pages.insert_at(rt.alloc(), middle, k)?;
-    }
-    assert_eq!(rt; pages.len(), 200);
-    for k in 0..100u64 {
-        assert_eq!(rt; pages.get(k).copied(), Some(2 * k + 1));
-        assert_eq!(rt; pages.get(100 + k).copied(), Some(198 - 2 * k));
-    }
-    Ok(())
+    Ok(None)
 }
 
 #[test]
 fn the_copy_reads_as_before(rt: HostRuntime) -> Result<(), Fail> {
-    let mut plain = Vec::new(rt.alloc());
-    for k in 0..100u64 {
-        plain.push(k)?;
-    }
+    let (_, old) = rising(rt.alloc(), 100)?;
+    let mut plain = old.clone()?;
     let mut pages = Pages::from_vec(rt.alloc(), plain.clone()?)?;
     let copy = pages.copy()?;
-    pages.put(rt.alloc(), 70, 7)?;
-    pages.insert_at(rt.alloc(), 70, 8)?;
-    pages.replace_by_two(rt.alloc(), 0, 1000, 1001)?;
-    let answer = pages.change(rt.alloc(), 2, |element| {
-        *element = 5;
-        true
-    })?;
-    assert!(rt; answer);
-    compare(&rt, &copy, &plain);
+    write(rt.alloc(), &mut pages, &mut plain, 70, 7)?;
+    insert(rt.alloc(), &mut pages, &mut plain, 70, 8)?;
+    split(rt.alloc(), &mut pages, &mut plain, 0, 1000)?;
+    compare(&rt, &pages, &plain);
+    assert_eq!(rt; change(rt.alloc(), &mut pages, 2, 5)?, Some(1));
+    compare(&rt, &copy, &old);
     assert_eq!(rt; pages.len(), 102);
     assert_eq!(rt; pages.get(0).copied(), Some(1000));
     assert_eq!(rt; pages.get(1).copied(), Some(1001));
@@ -166,30 +191,6 @@ fn a_search_ends_where_elements_begin_to_fail(rt: HostRuntime) -> Result<(), Fai
         assert_eq!(rt; pages.partition_point(|x: &u64| *x <= 3 * k), k + 1);
     }
     assert_eq!(rt; pages.partition_point(|x: &u64| *x < 1_000_000), 5000);
-    Ok(())
-}
-
-#[test]
-fn rows_of_atoms_are_elements(rt: HostRuntime) -> Result<(), Fail> {
-    let row = AtomRow {
-        atom: AtomId(0),
-        low: 0,
-        past: 4_294_967_296,
-    };
-    let upper = AtomRow {
-        atom: AtomId(1),
-        low: 5,
-        past: 4_294_967_296,
-    };
-    let mut rows = Pages::new();
-    rows.insert_at(rt.alloc(), 0, row)?;
-    crosses(&rows);
-    let one = rows.copy()?;
-    rows.replace_by_two(rt.alloc(), 0, row, upper)?;
-    assert_eq!(rt; rows.len(), 2);
-    assert_eq!(rt; rows.get(0).copied(), Some(row));
-    assert_eq!(rt; rows.get(1).copied(), Some(upper));
-    assert_eq!(rt; one.len(), 1);
     Ok(())
 }
 
@@ -229,26 +230,20 @@ fn pages_stand_low(rt: HostRuntime) -> Result<(), Fail> {
     Ok(())
 }
 
-/// A write at every place of a hundred thousand elements, while a copy is held and while none is.
+/// A write at every place of a hundred thousand elements, first while a copy holds all of them, and then once more, when
+/// nobody else holds what was copied.
 #[test]
 fn writes_at_every_place(rt: HostRuntime) -> Result<(), Fail> {
-    let mut plain = Vec::new(rt.alloc());
-    let mut pages = Pages::new();
-    for k in 0..100_000u64 {
-        plain.push(k)?;
-        pages.push(rt.alloc(), k)?;
-    }
+    let (mut pages, mut plain) = rising(rt.alloc(), 100_000)?;
     let old = plain.clone()?;
     let held = pages.copy()?;
     for k in 0..100_000u64 {
-        pages.put(rt.alloc(), k, k ^ 0x5555)?;
-        plain[k as usize] = k ^ 0x5555;
+        write(rt.alloc(), &mut pages, &mut plain, k, k ^ 0x5555)?;
     }
     compare(&rt, &pages, &plain);
     compare(&rt, &held, &old);
     for k in 0..100_000u64 {
-        pages.change(rt.alloc(), k, |element| *element ^= 0x1234)?;
-        plain[k as usize] = k ^ 0x5555 ^ 0x1234;
+        write(rt.alloc(), &mut pages, &mut plain, k, k ^ 0x1234)?;
     }
     compare(&rt, &pages, &plain);
     compare(&rt, &held, &old);
@@ -258,23 +253,19 @@ fn writes_at_every_place(rt: HostRuntime) -> Result<(), Fail> {
 /// Elements go in at places all over, with a copy taken now and then that keeps what it has.
 #[test]
 fn insertions_all_over(rt: HostRuntime) -> Result<(), Fail> {
-    let mut plain = Vec::new(rt.alloc());
-    let mut pages = Pages::new();
-    let mut old = Vec::new(rt.alloc());
-    let mut held = Pages::new();
+    let (mut pages, mut plain) = rising(rt.alloc(), 1)?;
+    let mut held = pages.copy()?;
+    let mut old = plain.clone()?;
     let mut state = 1u64;
     for k in 0..20_000u64 {
         state = state
             .wrapping_mul(6364136223846793005)
             .wrapping_add(1442695040888963407);
-        let at = (state >> 33) % (pages.len() + 1);
-        if k % 2 == 0 || at == pages.len() {
-            pages.insert_at(rt.alloc(), at, k)?;
-            plain.insert(at as usize, k)?;
+        let at = (state >> 33) % (k + 1);
+        if k % 2 == 0 {
+            insert(rt.alloc(), &mut pages, &mut plain, at, k)?;
         } else {
-            pages.replace_by_two(rt.alloc(), at, k, k + 1)?;
-            plain[at as usize] = k + 1;
-            plain.insert(at as usize, k)?;
+            split(rt.alloc(), &mut pages, &mut plain, at, k)?;
         }
         if k % 1999 == 0 {
             compare(&rt, &held, &old);
@@ -282,6 +273,7 @@ fn insertions_all_over(rt: HostRuntime) -> Result<(), Fail> {
             old = plain.clone()?;
         }
     }
+    assert_eq!(rt; pages.len(), 20_001);
     compare(&rt, &pages, &plain);
     compare(&rt, &held, &old);
     Ok(())

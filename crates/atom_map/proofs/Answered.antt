@@ -8,7 +8,7 @@ use Rattle.dn_model.specs.declared.atom_row.AtomRow.{AtomRow}
 use Rattle.dn_model.specs.declared.ids.AtomId.{AtomId}
 use Rattle.dn_model.proofs.Covers.{high-at}
 use Rattle.dn_model.proofs.Cuts.{cut-at, length-after-cut}
-use Rattle.atom_map.specs.Index.{IsIndexed, first_below}
+use Rattle.atom_map.specs.Index.{AgreeBelow, IsIndexed, IsNoted, IsPartedAt, first_below}
 use Rattle.atom_map.proofs.Begun.{atom-at, below-at, contained, cut-indexed, few-atoms, no-boundary, number-at}
 use Rattle.atom_map.proofs.Meeting.{atoms-met, from-place}
 use Rattle.atom_map.proofs.Placed.{two-for-one}
@@ -68,10 +68,9 @@ met-found self rows got place lo hi e h inside from to o is =
     ∙ ap (λ (xs : List AtomRow). atoms_in xs lo hi) e
 
 -- two parts in the place of an atom
-pub parted : (rows longer made : List AtomRow) (place at : ℕ) (new : AtomId) (row d : AtomRow) → place < length rows → ((d : AtomRow) → row ≡ get_or rows place d) → longer ≡ insert rows (place + 1) (upper_part at new row) → made ≡ set longer place (lower_part at row) → made ≡ take place rows ++ lower_part at (get_or rows place d) ∷ upper_part at new (get_or rows place d) ∷ drop (place + 1) rows
-parted rows longer made place at new row d l is e s =
-    s
-    ∙ ap (λ (zs : List AtomRow). set zs place (lower_part at row)) e
+pub parted : (rows made : List AtomRow) (place at : ℕ) (new : AtomId) (row d : AtomRow) → place < length rows → ((d : AtomRow) → row ≡ get_or rows place d) → made ≡ set (insert rows (place + 1) (upper_part at new row)) place (lower_part at row) → IsPartedAt rows made place at new d
+parted rows made place at new row d l is e =
+    e
     ∙ two-for-one rows place row (lower_part at row) (upper_part at new row) l
     ∙ ap (λ (r : AtomRow). take place rows ++ lower_part at r ∷ upper_part at new r ∷ drop (place + 1) rows) (is d)
 
@@ -99,12 +98,13 @@ is-cut self items got place at row new e f is =
     ∙ ap (λ k. take place self ++ lower_part at (get_or self place row) ∷ upper_part at new (get_or self place row) ∷ drop k self) s
     ∙ sym (cut-at 0 self place row at new f.atoms.cover f.inside f.from f.to)
 
-pub indexed-found : (self items got : List AtomRow) (lows more : List ℕ) (place at : ℕ) (row : AtomRow) (new : AtomId) → items ≡ self → IsIndexed items lows → Found self place at row → (row.low ≡ at → ⊥) → at < 2 ^ 32 → new.0 ≡ length self → got ≡ cut_rows self at new → more ≡ lows ++ at ∷ [] → IsIndexed got more
-indexed-found self items got lows more place at row new e x f apart b n is m =
+pub indexed-found : (self items got : List AtomRow) (lows more : List ℕ) (place at : ℕ) (row : AtomRow) (new : AtomId) → items ≡ self → IsIndexed items lows → Found self place at row → (row.low ≡ at → ⊥) → at < 2 ^ 32 → new.0 ≡ length items → got ≡ cut_rows self at new → AgreeBelow lows more (length items) → IsNoted more (length items) at → IsIndexed got more
+indexed-found self items got lows more place at row new e x f apart b n is agree noted =
     let I : List AtomRow → Type 0 = λ xs. IsIndexed xs lows in
     let P : List AtomRow → Type 0 = λ xs. IsIndexed xs more in
-    let Q : List ℕ → Type 0 = λ ys. IsIndexed (cut_rows self at new) ys in
-    subst P (sym is) (subst Q (sym m) (cut-indexed self lows place at row new (subst I e x) b f.inside (strict self place at row f apart) f.to n))
+    let A : ℕ → Type 0 = λ k. AgreeBelow lows more k in
+    let N : ℕ → Type 0 = λ k. IsNoted more k at in
+    subst P (sym is) (cut-indexed self lows more place at row new (subst I e x) b f.inside (strict self place at row f apart) f.to (n ∙ ap length e) (subst A (ap length e) agree) (subst N (ap length e) noted))
 
 pub length-found : (self got : List AtomRow) (at : ℕ) (new : AtomId) → AreAtoms self → at < 2 ^ 32 → got ≡ cut_rows self at new → length got ≡ suc (length self)
 length-found self got at new h b is = ap (λ (xs : List AtomRow). length xs) is ∙ length-after-cut 0 self at new h.cover (omega arith) b

@@ -1,8 +1,6 @@
 -- Where the atoms begin, by number: at first, after a cut, and where one is asked for.
 use Rattle.std.proofs.Common.{◌≡◌, ℕ, ◌+◌, ◌<◌, ◌≤◌, ◌^◌, ◌∙◌, ⊎_elim, zero, suc, true, false, Some, option_map, Contains, List, [], ◌∷◌, ◌++◌, length, get_or, refl, ap, sym, subst, arith, leb, ltb, lit<}
-use Rattle.std.specs.List.{insert}
 use Rattle.std.proofs.lemmas.Bool.{cases_Bool, cases_lt, and_parts, leb-true, ne_eqb}
-use Rattle.std.proofs.lemmas.List.{get_or_append_left, get_or_push, length_push}
 use Rattle.std.proofs.lemmas.Option.{none-some}
 use Rattle.dn_model.specs.Rows.{is_within, CoverFrom}
 use Rattle.dn_model.specs.Atoms.{AreAtoms, AreBelow, atom_of, atom_low, atom_past, has_address, row_at, row_of, is_boundary, lower_part, upper_part, cut_rows, part_of}
@@ -10,7 +8,7 @@ use Rattle.dn_model.specs.declared.atom_row.AtomRow.{AtomRow}
 use Rattle.dn_model.specs.declared.ids.AtomId.{AtomId}
 use Rattle.dn_model.proofs.Covers.{within-yes, holder-first, holder-rest, holder-at, few-rows}
 use Rattle.dn_model.proofs.Cuts.{boundary-at, boundary-parts, row-after-cut, length-after-cut, atoms-after-cut, part-whole, part-lower, part-upper}
-use Rattle.atom_map.specs.Index.{one_atom, Begins, IsIndexed}
+use Rattle.atom_map.specs.Index.{one_atom, AgreeBelow, Begins, IsIndexed, IsNoted}
 
 -- the one atom
 one-begins : (n : ℕ) → n < length one_atom → Begins one_atom n (get_or (0 ∷ []) n 0)
@@ -25,17 +23,16 @@ one-begins (suc n) l = absurd (omega arith)
 pub one-indexed : IsIndexed one_atom (0 ∷ [])
 one-indexed = record {
   atoms = record { cover = (refl, lit< tt, refl); below = (lit< tt, tt); once = (tt, tt) };
-  long = refl;
+  long = omega arith;
   begins = one-begins;
 }
 
--- the one atom in a list that had none, and its beginning
-pub one-made : (rows none : List AtomRow) (lows unbegun : List ℕ) → none ≡ [] → rows ≡ insert none 0 (row_of (record { 0 = 0 }) 0 (2 ^ 32)) → unbegun ≡ [] → lows ≡ insert unbegun 0 0 → IsIndexed rows lows
-one-made rows none lows unbegun n r u l =
+-- the one atom in a list, and its beginning
+pub one-made : (rows : List AtomRow) (lows : List ℕ) → rows ≡ one_atom → lows ≡ 0 ∷ [] → IsIndexed rows lows
+one-made rows lows r l =
     let P : List AtomRow → Type 0 = λ xs. IsIndexed xs lows in
     let Q : List ℕ → Type 0 = λ ys. IsIndexed one_atom ys in
-    subst P (sym (r ∙ ap (λ (xs : List AtomRow). insert xs 0 (row_of (record { 0 = 0 }) 0 (2 ^ 32))) n))
-    (subst Q (sym (l ∙ ap (λ (ys : List ℕ). insert ys 0 0) u)) one-indexed)
+    subst P (sym r) (subst Q (sym l) one-indexed)
 
 -- the row of an address doesn't begin at an address where none begins
 not-boundary : (rows : List AtomRow) (b at : ℕ) (row : AtomRow) → row_at rows b ≡ Some row → is_boundary rows at ≡ false → row.low ≡ at → ⊥
@@ -94,27 +91,36 @@ new-begins rows place at d new h l from to =
 pub no-boundary : (rows : List AtomRow) (place at : ℕ) (d : AtomRow) → AreAtoms rows → place < length rows → atom_low (get_or rows place d) < at → at < atom_past (get_or rows place d) → is_boundary rows at ≡ false
 no-boundary rows place at d h l from to = boundary-at 0 rows place d at h.cover l (omega arith) to ∙ ne_eqb (atom_low (get_or rows place d)) at (λ (q : atom_low (get_or rows place d) ≡ at). omega arith)
 
-pub cut-indexed : (rows : List AtomRow) (lows : List ℕ) (place at : ℕ) (d : AtomRow) (new : AtomId) → IsIndexed rows lows → at < 2 ^ 32 → place < length rows → atom_low (get_or rows place d) < at → at < atom_past (get_or rows place d) → new.0 ≡ length rows → IsIndexed (cut_rows rows at new) (lows ++ at ∷ [])
-cut-indexed rows lows place at d new h b l from to e =
+pub cut-indexed : (rows : List AtomRow) (lows more : List ℕ) (place at : ℕ) (d : AtomRow) (new : AtomId) → IsIndexed rows lows → at < 2 ^ 32 → place < length rows → atom_low (get_or rows place d) < at → at < atom_past (get_or rows place d) → new.0 ≡ length rows → AgreeBelow lows more (length rows) → IsNoted more (length rows) at → IsIndexed (cut_rows rows at new) more
+cut-indexed rows lows more place at d new h b l from to e agree noted =
     let none : is_boundary rows at ≡ false = no-boundary rows place at d h.atoms l from to in
     let long : length (cut_rows rows at new) ≡ suc (length rows) = length-after-cut 0 rows at new h.atoms.cover (omega arith) b in
-    let same : length lows ≡ length rows = h.long in
     record {
       atoms = atoms-after-cut rows at new h.atoms b none e;
-      long = length_push lows at ∙ (let s : length lows + 1 ≡ suc (length rows) = omega arith in s) ∙ sym long;
+      long = omega (arith, long, noted.long);
       begins = λ n k.
           ⊎_elim
           (λ (o : n < length rows).
           let P : ℕ → Type 0 = λ x. Begins (cut_rows rows at new) n x in
-          subst P (sym (get_or_append_left lows (at ∷ []) 0 n (omega arith))) (old-begins rows at n (get_or lows n 0) new h.atoms none (h.begins n o)))
+          subst P (sym (agree.same n 0 o)) (old-begins rows at n (get_or lows n 0) new h.atoms none (h.begins n o)))
           (λ (o : length rows ≤ n).
-          let is : length lows ≡ n = omega (arith, long) in
+          let is : length rows ≡ n = omega (arith, long) in
           let number : new.0 ≡ n = omega arith in
           let P : ℕ → Type 0 = λ x. Begins (cut_rows rows at new) n x in
           let Q : ℕ → Type 0 = λ x. Begins (cut_rows rows at new) x at in
-          subst P (sym (get_or_push lows at 0 n is)) (subst Q number (new-begins rows place at d new h.atoms l (omega arith) to)))
+          subst P (sym (ap (λ m. get_or more m 0) (sym is) ∙ noted.there 0)) (subst Q number (new-begins rows place at d new h.atoms l (omega arith) to)))
           (cases_lt n (length rows));
     }
+
+-- what is noted beyond the atoms means nothing
+pub kept-indexed : (old rows : List AtomRow) (lows more : List ℕ) → IsIndexed old lows → rows ≡ old → AgreeBelow lows more (length old) → IsIndexed rows more
+kept-indexed old rows lows more h e agree =
+    let P : List AtomRow → Type 0 = λ xs. IsIndexed xs more in
+    subst P (sym e) (record {
+      atoms = h.atoms;
+      long = agree.long;
+      begins = λ n k. let Q : ℕ → Type 0 = λ x. Begins old n x in subst Q (sym (agree.same n 0 k)) (h.begins n k);
+    })
 
 -- the atom with a number is the one of the address where it begins
 pub number-at : (rows : List AtomRow) (lows : List ℕ) (n place low : ℕ) (d : AtomRow) → IsIndexed rows lows → n < length rows → low ≡ get_or lows n 0 → place < length rows → atom_low (get_or rows place d) ≤ low → low < atom_past (get_or rows place d) → (get_or rows place d).atom.0 ≡ n

@@ -1,7 +1,7 @@
 -- Atoms may cross to another thread, and be shared between threads.
 use denote.Param.Send.{IsSend, IsSync, sendable}
 use Rattle.std.proofs.Crossing.{crosses}
-use Rattle.version_pages.proofs.tree.Tree.TheLaws.TheKnot as knot
+use Rattle.version_pages.proofs.tree.Kid.TheLaws.TheKnot as knot
 use Rattle.atom_map.specs.contracts.map.AtomMap.{the_row}
 
 pub AtomMap-send : IsSend the_row

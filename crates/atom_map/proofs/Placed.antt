@@ -1,8 +1,9 @@
 -- A search by halving, and two parts in the place of one.
-use Rattle.std.proofs.Common.{◌≡◌, ℕ, ◌+◌, ◌<◌, ◌≤◌, ◌^◌, ◌∙◌, suc, List, [], ◌∷◌, ◌++◌, length, get_or, set, take, drop, ap, subst, append_assoc, arith, lit<}
+use Rattle.std.proofs.Common.{◌≡◌, ℕ, ◌+◌, ◌<◌, ◌≤◌, ◌^◌, ◌∙◌, ◌-◌, ⊎_elim, sym, suc, List, [], ◌∷◌, ◌++◌, length, get_or, set, take, drop, ap, subst, append_assoc, arith, lit<}
 use Rattle.std.specs.List.{insert}
+use Rattle.std.proofs.lemmas.Bool.{cases_lt}
 use Rattle.std.proofs.lemmas.List.{get_or_read, take_more, set_at, length-take-le}
-use Rattle.dn_model.specs.Atoms.{AreAtoms, atom_low, atom_past}
+use Rattle.dn_model.specs.Atoms.{AreAtoms, atom_low, atom_past, row_of}
 use Rattle.dn_model.specs.declared.atom_row.AtomRow.{AtomRow}
 use Rattle.dn_model.proofs.Covers.{some-row, first-low, halved}
 use Rattle.atom_map.specs.Index.{IsLeft}
@@ -15,34 +16,28 @@ first-from rows a d h =
     let e : atom_low (get_or rows 0 d) ≡ 0 = first-low atom_low atom_past 0 rows d h.cover (some-atom rows h) in
     omega arith
 
-pub all-left : (rows : List AtomRow) (a past : ℕ) → AreAtoms rows → past ≡ length rows → IsLeft rows a 0 past
-all-left rows a past h e =
-    let some : 0 < length rows = some-atom rows h in
+-- the atoms that don't begin above an address end after the one that has it
+pub some-past : (rows : List AtomRow) (a past : ℕ) → AreAtoms rows → ((d : AtomRow) → past < length rows → a < (get_or rows past d).low) → 0 < past
+some-past rows a past h after =
+    ⊎_elim
+    (λ (y : 0 < past). y)
+    (λ (y : past ≤ 0).
+    let z : past ≡ 0 = omega arith in
+    let P : ℕ → Type 0 = λ n. (d : AtomRow) → n < length rows → a < (get_or rows n d).low in
+    let none : AtomRow = row_of (record { 0 = 0 }) 0 0 in
+    let above : a < atom_low (get_or rows 0 none) = subst P z after none (some-atom rows h) in
+    let below : atom_low (get_or rows 0 none) ≤ a = first-from rows a none h in
+    absurd (omega arith))
+    (cases_lt 0 past)
+
+pub left-of : (rows : List AtomRow) (a past place : ℕ) → 0 < past → place ≡ past - 1 → past ≤ length rows → ((d : AtomRow) → 0 < past → (get_or rows (past - 1) d).low ≤ a) → ((d : AtomRow) → past < length rows → a < (get_or rows past d).low) → IsLeft rows a place past
+left-of rows a past place some e inside before after =
+    let P : ℕ → Type 0 = λ n. (d : AtomRow) → (get_or rows n d).low ≤ a in
     record {
       order = omega arith;
-      inside = omega arith;
-      from = λ d. first-from rows a d h;
-      next = λ d l. absurd (omega arith);
-    }
-
-pub left-above : (rows : List AtomRow) (a place past middle : ℕ) (row : AtomRow) → IsLeft rows a place past → middle < past → row ≡ get_or rows middle row → row.low ≤ a → IsLeft rows a middle past
-left-above rows a place past middle row h l is from =
-    let inside : past ≤ length rows = h.inside in
-    record {
-      order = l;
       inside = inside;
-      from = λ d. let P : AtomRow → Type 0 = λ r. r.low ≤ a in subst P (get_or_read rows middle row (omega arith) is d) from;
-      next = h.next;
-    }
-
-pub left-below : (rows : List AtomRow) (a place past middle : ℕ) (row : AtomRow) → IsLeft rows a place past → place < middle → middle < past → row ≡ get_or rows middle row → a < row.low → IsLeft rows a place middle
-left-below rows a place past middle row h o l is to =
-    let inside : past ≤ length rows = h.inside in
-    record {
-      order = o;
-      inside = omega arith;
-      from = h.from;
-      next = λ d k. let P : AtomRow → Type 0 = λ r. a < r.low in subst P (get_or_read rows middle row (omega arith) is d) to;
+      from = subst P (sym e) (λ d. before d some);
+      next = after;
     }
 
 pub found-to : (rows : List AtomRow) (place past a : ℕ) (d : AtomRow) → AreAtoms rows → IsLeft rows a place past → past ≤ suc place → a < 2 ^ 32 → a < atom_past (get_or rows place d)

@@ -1,7 +1,8 @@
 -- Atoms, and beside them where the atom of each number begins.
-use Rattle.std.specs.Prelude.{ℕ, List, [], ◌∷◌, Some, length, ◌≡◌, ◌<◌, ◌≤◌, ◌^◌, nat_lt, slice_index_or, if◌then◌else◌}
-use Rattle.dn_model.specs.Atoms.{AreAtoms, row_at, row_of}
+use Rattle.std.specs.Prelude.{ℕ, List, [], ◌∷◌, ◌++◌, ◌+◌, Some, length, take, drop, ◌≡◌, ◌<◌, ◌≤◌, ◌^◌, nat_lt, slice_index_or, if◌then◌else◌}
+use Rattle.dn_model.specs.Atoms.{AreAtoms, lower_part, row_at, row_of, upper_part}
 use Rattle.dn_model.specs.declared.atom_row.AtomRow.{AtomRow}
+use Rattle.dn_model.specs.declared.ids.AtomId.{AtomId}
 
 -- one atom, number 0, of all addresses
 abbrev pub one_atom : List AtomRow
@@ -19,10 +20,10 @@ pub record Begins (rows : List AtomRow) (number : ℕ) (first : ℕ) : Type 0 wh
   pub low : row.low ≡ first
   pub is : row.atom.0 ≡ number
 
--- the atom of each number begins where the list of beginnings says
+-- the atom of each number begins where the list of beginnings says; what that has beyond them means nothing
 pub record IsIndexed (rows : List AtomRow) (lows : List ℕ) : Type 0 where
   pub atoms : AreAtoms rows
-  pub long : length lows ≡ length rows
+  pub long : length rows ≤ length lows
   pub begins : (number : ℕ) → number < length rows → Begins rows number (slice_index_or lows number 0)
 
 -- the atom of an address `a` is one of those from `place` up to, and without, `past`: the first of them doesn't begin
@@ -32,3 +33,17 @@ pub record IsLeft (rows : List AtomRow) (a place past : ℕ) : Type 0 where
   pub inside : past ≤ length rows
   pub from : (d : AtomRow) → (slice_index_or rows place d).low ≤ a
   pub next : (d : AtomRow) → past < length rows → a < (slice_index_or rows past d).low
+
+-- what stands in a list before a place, another has too
+pub record AgreeBelow (old new : List ℕ) (number : ℕ) : Type 0 where
+  pub long : number ≤ length new
+  pub same : (k d : ℕ) → k < number → slice_index_or new k d ≡ slice_index_or old k d
+
+-- and the other has this at the place
+pub record IsNoted (new : List ℕ) (number at : ℕ) : Type 0 where
+  pub long : number < length new
+  pub there : (d : ℕ) → slice_index_or new number d ≡ at
+
+-- the two parts of an atom stand in its place
+abbrev pub IsPartedAt : List AtomRow → List AtomRow → ℕ → ℕ → AtomId → AtomRow → Type 0
+IsPartedAt old new place at number d = new ≡ take place old ++ lower_part at (slice_index_or old place d) ∷ upper_part at number (slice_index_or old place d) ∷ drop (place + 1) old

@@ -44,8 +44,10 @@ impl AtomMap {
             low: 0,
             past: END,
         };
-        let rows = Pages::new().insert(alloc, 0, row)?;
-        let lows = Pages::new().insert(alloc, 0, 0)?;
+        let mut rows = Pages::new();
+        rows.push(alloc, row)?;
+        let mut lows = Pages::new();
+        lows.push(alloc, 0)?;
         Ok(AtomMap { rows, lows })
     }
 
@@ -63,10 +65,7 @@ impl AtomMap {
         if row.low == at as u64 {
             return Ok(None);
         }
-        let new = AtomId(self.rows.len() as u32);
-        let (rows, lows) = part(alloc, &self.rows, &self.lows, place, at, new)?;
-        self.rows = rows;
-        self.lows = lows;
+        let new = part(alloc, &mut self.rows, &mut self.lows, place, at)?;
         Ok(Some((row.atom, new)))
     }
 
@@ -144,8 +143,8 @@ impl AtomMap {
         Ok(List::from_vec(rows))
     }
 
-    /// The same atoms again. The two share all that they keep.
-    pub fn copy(&self, _alloc: Global) -> Result<AtomMap, OutOfMemory>
+    /// The same atoms again. The two share all that they keep, and each stays as it is when the other is cut.
+    pub fn copy(&self) -> Result<AtomMap, OutOfMemory>
         ensures { IfOk result (λ atoms. atoms ≡ self.now) }
     {
         let rows = self.rows.copy()?;

@@ -1,9 +1,9 @@
 //! Atoms in order: the one of an address, the first ones, and two in the place of one.
 
-ghost use Rattle.std.specs.Prelude.{◌≡◌, ◌+◌, ◌-◌, ◌<◌, ◌≤◌, ◌^◌, ◌∷◌, ◌++◌, [], IfOk, length, map, take, drop, slice_index_or};
-ghost use Rattle.dn_model.specs.Atoms.{AreAtoms, atom_of, lower_part, upper_part};
+ghost use Rattle.std.specs.Prelude.{◌≡◌, ◌<◌, ◌≤◌, ◌^◌, IfOk, OnOk, OnErr, length, map, drop, slice_index_or};
+ghost use Rattle.dn_model.specs.Atoms.{AreAtoms, atom_of};
 ghost use Rattle.dn_model.specs.declared.atom_row.AtomRow.{AtomRow};
-ghost use Rattle.atom_map.specs.Index.{first_below, IsLeft};
+ghost use Rattle.atom_map.specs.Index.{first_below, AgreeBelow, IsNoted, IsPartedAt};
 
 use dn_model::{AtomId, AtomRow, OutOfMemory};
 use std::alloc::Global;
@@ -20,32 +20,15 @@ pub fn read<T: Copy>(pages: &Pages<T>, i: u64) -> T
     }
 }
 
-/// The half of what is left, from one place up to, and without, another, where the atom of an address is.
-fn halve(rows: &Pages<AtomRow>, place: u64, past: u64, a: u32) -> (u64, u64)
-    requires left { IsLeft rows.now a place past }
-    requires more { place + 1 < past }
-    ensures left { IsLeft rows.now a result.0 result.1 }
-    ensures fewer { result.1 - result.0 < past - place }
-{
-    let middle = place + (past - place) / 2;
-    if read(rows, middle).low <= a as u64 {
-        return (middle, past);
-    }
-    (place, middle)
-}
-
-/// Which of all atoms, by place, has an address. It halves what is left until one is.
+/// Which of all atoms, by place, has an address: the last that doesn't begin above it. It is found in one descent.
 pub fn place_of(rows: &Pages<AtomRow>, a: u32) -> u64
     requires { AreAtoms rows.now }
     ensures inside { result < length rows.now }
     ensures from { (d : AtomRow) → (slice_index_or rows.now result d).low ≤ a }
     ensures to { (d : AtomRow) → a < (slice_index_or rows.now result d).past }
 {
-    let mut left = (0, rows.len());
-    'halving: while left.1 - left.0 > 1 {
-        left = halve(rows, left.0, left.1, a);
-    }
-    left.0
+    let past = rows.partition_point(|row: &AtomRow| row.low <= a as u64);
+    past - 1
 }
 
 /// The first atoms from a place on, up to the first that begins at this address or above it.
@@ -69,22 +52,42 @@ pub fn atoms_below(
     Ok(atoms)
 }
 
-/// The atoms with the two parts of one in its place, and where the atoms of all numbers begin with the beginning of
-/// the new part last. Both share what stays with the lists before. It fails for want of memory alone.
+/// Notes where the atom of a number begins. What is noted of lower numbers stays, also where it fails, for which want
+/// of memory is the one cause.
+fn note(alloc: Global, lows: &mut Pages<u32>, number: u64, at: u32) -> Result<(), OutOfMemory>
+    requires { number ≤ length lows.old }
+    ensures below { AgreeBelow lows.old lows.new number }
+    ensures there { OnOk result (IsNoted lows.new number at) }
+{
+    if number < lows.len() {
+        lows.put(alloc, number, at)?;
+        return Ok(());
+    }
+    lows.push(alloc, at)?;
+    Ok(())
+}
+
+/// Puts the two parts of an atom in its place, and notes where the new one begins. It fails for want of memory alone,
+/// and the atoms are then as before.
 pub fn part(
     alloc: Global,
-    rows: &Pages<AtomRow>,
-    lows: &Pages<u32>,
+    rows: &mut Pages<AtomRow>,
+    lows: &mut Pages<u32>,
     place: u64,
     at: u32,
-    new: AtomId,
-) -> Result<(Pages<AtomRow>, Pages<u32>), OutOfMemory>
-    requires inside { place < length rows.now }
-    requires few { length rows.now < 2 ^ 32 }
-    ensures rows { IfOk result (λ made. (d : AtomRow) → made.0 ≡ take place rows.now ++ lower_part at (slice_index_or rows.now place d) ∷ upper_part at new (slice_index_or rows.now place d) ∷ drop (place + 1) rows.now) }
-    ensures lows { IfOk result (λ made. made.1 ≡ lows.now ++ at ∷ []) }
+) -> Result<AtomId, OutOfMemory>
+    requires inside { place < length rows.old }
+    requires few { length rows.old < 2 ^ 32 }
+    requires begun { length rows.old ≤ length lows.old }
+    ensures number { IfOk result (λ new. new.0 ≡ length rows.old) }
+    ensures rows { IfOk result (λ new. (d : AtomRow) → IsPartedAt rows.old rows.new place at new d) }
+    ensures same { OnErr result (rows.new ≡ rows.old) }
+    ensures below { AgreeBelow lows.old lows.new (length rows.old) }
+    ensures noted { OnOk result (IsNoted lows.new (length rows.old) at) }
 {
     let row = read(rows, place);
+    let number = rows.len();
+    let new = AtomId(number as u32);
     let lower = AtomRow {
         atom: row.atom,
         low: row.low,
@@ -95,8 +98,7 @@ pub fn part(
         low: at as u64,
         past: row.past,
     };
-    let longer = rows.insert(alloc, place + 1, upper)?;
-    let parted = longer.set(alloc, place, lower)?;
-    let begun = lows.insert(alloc, lows.len(), at)?;
-    Ok((parted, begun))
+    note(alloc, lows, number, at)?;
+    rows.replace_by_two(alloc, place, lower, upper)?;
+    Ok(new)
 }

@@ -25,7 +25,7 @@ fn a_cut_parts_the_atom_of_all_addresses(rt: HostRuntime) -> Result<(), Fail> {
 fn the_parts_of_a_cut_are_told(rt: HostRuntime) -> Result<(), Fail> {
     let mut atoms = AtomMap::new(rt.alloc())?;
     let _parts = atoms.cut(rt.alloc(), 167_772_160)?;
-    let copy = atoms.copy(rt.alloc())?;
+    let copy = atoms.copy()?;
     assert_eq!(rt; copy.bounds(copy.atom_of(5)), (0, 167_772_160));
     assert_eq!(rt;
         copy.bounds(copy.atom_of(167_772_160)),
@@ -53,7 +53,7 @@ fn many_cuts_are_told_in_order(rt: HostRuntime) -> Result<(), Fail> {
         let parts = atoms.cut(rt.alloc(), (200 - k) * 20_000_000)?;
         assert_eq!(rt; parts, Some((AtomId(0), AtomId(k))));
     }
-    let old = atoms.copy(rt.alloc())?;
+    let old = atoms.copy()?;
     let parts = atoms.cut(rt.alloc(), 30_000_000)?;
     assert_eq!(rt; parts, Some((AtomId(199), AtomId(200))));
     assert_eq!(rt; old.count(), 200);

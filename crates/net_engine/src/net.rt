@@ -138,7 +138,7 @@ impl Net {
         ensures value { IfOk result (λ net. net ≡ self.now) }
         ensures form { IfOk result (λ net. IsNet net) }
     {
-        let atoms = self.atoms.copy(alloc)?;
+        let atoms = self.atoms.copy()?;
         let labels = self.labels.copy(alloc)?;
         let owners = copies(alloc, &self.owners)?;
         Ok(Net {

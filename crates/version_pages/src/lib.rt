@@ -1,7 +1,8 @@
-//! Lists in shared pages: a write makes a new list, which shares with the old one all pages but those on its way. The
-//! old list reads as before.
+//! Lists in shared pages. A write works in place where nobody else holds a page, and copies the page and the way to it
+//! where somebody does. Other lists read as before.
 #![tactic(auto)]
 
+mod growth;
 mod page;
 mod pages;
 #[cfg(test)]

@@ -1,16 +1,10 @@
-//! Pages: short lists, each in one block, which are copied as a whole.
+//! Pages: short lists, each in one block.
 
-ghost use Rattle.std.specs.Prelude.{◌≡◌, ◌<◌, ◌≤◌, ◌++◌, ◌∷◌, [], OnOk, IfOk, length, set, insert};
+ghost use Rattle.std.specs.Prelude.{◌≡◌, ◌++◌, ◌∷◌, [], OnOk, IfOk};
 
 use dn_model::OutOfMemory;
 use std::alloc::Global;
 use std::vec::VecCloneMethods;
-
-/// The most elements that a page has.
-pub const FULL: usize = 64;
-
-/// The place at which a full page is parted.
-pub const HALF: usize = 32;
 
 /// Adds copies of elements at a page's end.
 fn add_copies<T: Clone>(page: &mut Vec<T>, items: &[T]) -> Result<(), OutOfMemory>
@@ -21,54 +15,36 @@ fn add_copies<T: Clone>(page: &mut Vec<T>, items: &[T]) -> Result<(), OutOfMemor
     Ok(())
 }
 
-/// A page of one element.
-pub fn page_of_one<T: Drop>(alloc: Global, value: T) -> Result<Vec<T>, OutOfMemory>
+/// A page of one element, with room for as many.
+pub fn page_of_one<T: Drop>(alloc: Global, room: usize, value: T) -> Result<Vec<T>, OutOfMemory>
     ensures { IfOk result (λ page. page.items ≡ value ∷ []) }
 {
-    let mut page = Vec::with_capacity(alloc, 1)?;
+    let mut page = Vec::with_capacity(alloc, room)?;
     page.push(value)?;
     Ok(page)
 }
 
-/// A page of these elements.
-pub fn page_of<T: Clone>(alloc: Global, items: &[T]) -> Result<Vec<T>, OutOfMemory>
+/// A page of copies of these elements, with room for as many.
+pub fn page_of<T: Clone>(alloc: Global, room: usize, items: &[T]) -> Result<Vec<T>, OutOfMemory>
     requires { (x y : T) → T.is_clone x y → y ≡ x }
     ensures { IfOk result (λ page. page.items ≡ items.now) }
 {
-    Ok(Vec::from_clones(alloc, items)?)
-}
-
-/// A page of these elements with another value in the place of one.
-pub fn page_set<T: Clone>(
-    alloc: Global,
-    items: &[T],
-    i: usize,
-    value: T,
-) -> Result<Vec<T>, OutOfMemory>
-    requires inside { i < length items.now }
-    requires clones { (x y : T) → T.is_clone x y → y ≡ x }
-    ensures { IfOk result (λ page. page.items ≡ set items.now i value) }
-{
-    let mut page = page_of(alloc, items)?;
-    page[i] = value;
+    let mut page = Vec::with_capacity(alloc, room)?;
+    add_copies(&mut page, items)?;
     Ok(page)
 }
 
-/// A page of these elements with one more among them.
-pub fn page_insert<T: Clone>(
+/// A page of copies of these elements and then those, with room for as many.
+pub fn page_of_both<T: Clone>(
     alloc: Global,
-    items: &[T],
-    i: usize,
-    value: T,
+    room: usize,
+    first: &[T],
+    then: &[T],
 ) -> Result<Vec<T>, OutOfMemory>
-    requires inside { i ≤ length items.now }
-    requires few { length items.now < FULL }
-    requires clones { (x y : T) → T.is_clone x y → y ≡ x }
-    ensures { IfOk result (λ page. page.items ≡ insert items.now i value) }
+    requires { (x y : T) → T.is_clone x y → y ≡ x }
+    ensures { IfOk result (λ page. page.items ≡ first.now ++ then.now) }
 {
-    let mut page = Vec::with_capacity(alloc, items.len() + 1)?;
-    add_copies(&mut page, &items[..i])?;
-    page.push(value)?;
-    add_copies(&mut page, &items[i..])?;
+    let mut page = page_of(alloc, room, first)?;
+    add_copies(&mut page, then)?;
     Ok(page)
 }

@@ -1,28 +1,34 @@
 //! A list in shared pages.
 
-ghost use Rattle.std.specs.Prelude.{◌≡◌, ◌<◌, ◌≤◌, ◌↔◌, [], IfOk, IfSome, IsSome, length, set, insert, slice_index_or};
+ghost use Rattle.std.specs.Prelude.{◌≡◌, ◌+◌, ◌*◌, ◌<◌, ◌≤◌, ◌^◌, ◌↔◌, ◌++◌, ◌∷◌, []};
+ghost use Rattle.std.specs.Prelude.{IfOk, OnErr, IfSome, IsSome, is_ok, if◌then◌else◌, length, set, insert, take, drop, slice_index_or};
+ghost use Rattle.version_pages.specs.Changes.{Changes};
+ghost use Rattle.version_pages.specs.Growth.{grown, CanGrow};
+ghost use Rattle.version_pages.specs.Search.{Ends};
 
+use crate::growth::Growth;
 use crate::page::page_of_one;
-use crate::tree::{Tree, leaf};
+use crate::tree::{Kid, page_kid};
 use dn_model::OutOfMemory;
 use std::alloc::Global;
 use std::marker::Model;
-use std::sync::Arc;
 
-/// A list whose elements stand in pages of 1 to 64. A contract sees it as the list of its elements, in order. A write
-/// makes a new list, which shares with the old one all pages but those on its way; the old one reads as before.
+/// A list whose elements stand in pages of 1 to 64. A contract sees it as the list of its elements, in order.
+///
+/// A copy is one count. A write changes in place the pages, and the nodes above them, that no other list holds, and
+/// copies those that another list holds too: what the other list reads stays.
 #[derive(Drop)]
 pub struct Pages<T> {
-    tree: Option<Arc<Tree<T>, Global>>,
+    root: Option<Kid<T>>,
 }
 
 impl<T> Model for Pages<T> {
     ghost use Rattle.std.specs.Prelude.{List, [], option_map, unwrap_or};
-    ghost use Rattle.std.specs.Arc.{arc_value};
+    ghost use Rattle.version_pages.specs.Shape.{items_of};
 
     ghost Value = { List T };
 
-    ghost view = { λ p. unwrap_or (option_map arc_value p.tree) [] };
+    ghost view = { λ p. unwrap_or (option_map items_of p.root) [] };
 }
 
 impl<T> Pages<T> {
@@ -30,16 +36,28 @@ impl<T> Pages<T> {
     pub fn new() -> Pages<T>
         ensures { result ≡ [] }
     {
-        Pages { tree: None }
+        Pages { root: None }
     }
 
-    /// How many elements there are.
+    /// How many elements there are, in constant time.
     pub fn len(&self) -> u64
         ensures { result ≡ length self.now }
     {
-        match &self.tree {
+        match &self.root {
             None => 0,
-            Some(tree) => tree.len(),
+            Some(root) => root.len(),
+        }
+    }
+
+    /// How many forks stand above each page: all pages stand equally deep, so it is a logarithm of the length, between
+    /// the one of base 2 and that of base 32. Each call that goes to a place passes through so many forks.
+    pub fn height(&self) -> u64
+        ensures many { 2 ^ result ≤ length self.now + 1 }
+        ensures few { length self.now ≤ 64 * 32 ^ result }
+    {
+        match &self.root {
+            None => 0,
+            Some(root) => root.tree().height(),
         }
     }
 
@@ -49,52 +67,149 @@ impl<T> Pages<T> {
         ensures inside { IsSome result ↔ (i < length self.now) }
         ensures element { (d : T) → IfSome result (λ x. x.now ≡ slice_index_or self.now i d) }
     {
-        match &self.tree {
-            None => None,
-            Some(tree) => tree.get(i),
+        let Some(root) = &self.root else {
+            return None;
+        };
+        if i < root.len() {
+            return Some(root.tree().get(i));
         }
+        None
     }
 
-    /// The same list again, which shares all pages with this one.
+    /// The elements from a place to the end of its page, at least one where there is one at the place. So a loop over
+    /// many elements goes down the tree once for each page.
+    pub fn run_from(&self, i: u64) -> &[T]
+        ensures some { i < length self.now → 0 < length result.now }
+        ensures run { take (length result.now) (drop i self.now) ≡ result.now }
+    {
+        let Some(root) = &self.root else {
+            return &[];
+        };
+        if i < root.len() {
+            return root.tree().run_from(i);
+        }
+        &[]
+    }
+}
+
+impl<T: Drop> Pages<T> {
+    /// The same list again, which shares all pages with this one. It fails for want of memory alone.
     pub fn copy(&self) -> Result<Pages<T>, OutOfMemory>
         ensures { IfOk result (λ pages. pages ≡ self.now) }
     {
-        match &self.tree {
-            None => Ok(Pages { tree: None }),
-            Some(tree) => Ok(Pages {
-                tree: Some(Arc::try_clone(tree)?),
+        match &self.root {
+            None => Ok(Pages { root: None }),
+            Some(root) => Ok(Pages {
+                root: Some(root.clone()?),
             }),
         }
     }
 }
 
 impl<T: Clone> Pages<T> {
-    /// The list with another value in the place of an element. The page of that element is copied, and all others are
-    /// shared with this list, which stays as it is.
-    pub fn set(&self, alloc: Global, i: u64, value: T) -> Result<Pages<T>, OutOfMemory>
-        requires inside { i < length self.now }
+    /// Has an element changed in its place. After `OutOfMemory` the list is as before, and the change was not called.
+    pub fn change<R, F: FnOnce(&mut T) -> R>(
+        &mut self,
+        alloc: Global,
+        i: u64,
+        change: F,
+    ) -> Result<R, OutOfMemory>
+        requires inside { i < length self.old }
         requires clones { (x y : T) → T.is_clone x y → y ≡ x }
-        ensures { IfOk result (λ pages. pages ≡ set self.now i value) }
+        requires callable { F.IsAlwaysCallable change }
+        ensures changed { IfOk result (Changes F.FnOnce change self.old self.new i) }
+        ensures same { OnErr result (self.new ≡ self.old) }
     {
-        match &self.tree {
-            None => Ok(Pages { tree: None }),
-            Some(tree) => Ok(Pages {
-                tree: Some(tree.set(alloc, i, value)?),
-            }),
-        }
+        let Some(root) = &mut self.root else {
+            return Err(OutOfMemory);
+        };
+        return root.change(alloc, i, change);
     }
 
-    /// The list with one more element, before the one that stands at the place now. The page of that place is copied,
-    /// in two halves where it is full, and all others are shared with this list, which stays as it is.
-    pub fn insert(&self, alloc: Global, i: u64, value: T) -> Result<Pages<T>, OutOfMemory>
-        requires inside { i ≤ length self.now }
+    /// Puts another value in the place of an element. After `OutOfMemory` the list is as before.
+    pub fn put(&mut self, alloc: Global, i: u64, value: T) -> Result<(), OutOfMemory>
+        requires inside { i < length self.old }
         requires clones { (x y : T) → T.is_clone x y → y ≡ x }
-        ensures { IfOk result (λ pages. pages ≡ insert self.now i value) }
+        ensures { self.new ≡ (if is_ok result then set self.old i value else self.old) }
     {
-        let tree = match &self.tree {
-            None => leaf(alloc, page_of_one(alloc, value)?)?,
-            Some(tree) => tree.insert(alloc, i, value)?,
+        self.change(alloc, i, |element| *element = value)
+    }
+
+    /// Grows by one element at a place. After `OutOfMemory` the list is as before.
+    fn grow(&mut self, alloc: Global, i: u64, growth: Growth<T>) -> Result<(), OutOfMemory>
+        requires inside { CanGrow growth self.old i }
+        requires some { 0 < length self.old }
+        requires clones { (x y : T) → T.is_clone x y → y ≡ x }
+        ensures { self.new ≡ (if is_ok result then grown growth self.old i else self.old) }
+    {
+        let Some(root) = &mut self.root else {
+            return Err(OutOfMemory);
         };
-        Ok(Pages { tree: Some(tree) })
+        return root.grow_whole(alloc, i, growth);
+    }
+
+    /// Puts one more element before the one that stands at the place now, or at the end. After `OutOfMemory` the list
+    /// is as before.
+    pub fn insert_at(&mut self, alloc: Global, i: u64, value: T) -> Result<(), OutOfMemory>
+        requires inside { i ≤ length self.old }
+        requires clones { (x y : T) → T.is_clone x y → y ≡ x }
+        ensures { self.new ≡ (if is_ok result then insert self.old i value else self.old) }
+    {
+        if self.len() == 0 {
+            self.root = Some(page_kid(alloc, page_of_one(alloc, 1, value)?)?);
+            return Ok(());
+        }
+        return self.grow(alloc, i, Growth::Before(value));
+    }
+
+    /// Puts one more element at the end. After `OutOfMemory` the list is as before.
+    pub fn push(&mut self, alloc: Global, value: T) -> Result<(), OutOfMemory>
+        requires { (x y : T) → T.is_clone x y → y ≡ x }
+        ensures { self.new ≡ (if is_ok result then self.old ++ value ∷ [] else self.old) }
+    {
+        let len = self.len();
+        return self.insert_at(alloc, len, value);
+    }
+
+    /// Puts two elements in the place of one. After `OutOfMemory` the list is as before.
+    pub fn replace_by_two(
+        &mut self,
+        alloc: Global,
+        i: u64,
+        lower: T,
+        upper: T,
+    ) -> Result<(), OutOfMemory>
+        requires inside { i < length self.old }
+        requires clones { (x y : T) → T.is_clone x y → y ≡ x }
+        ensures { self.new ≡ (if is_ok result then set (insert self.old (i + 1) upper) i lower else self.old) }
+    {
+        return self.grow(alloc, i, Growth::Parts(lower, upper));
+    }
+
+    /// The list of the elements of a `Vec`.
+    pub fn from_vec(alloc: Global, items: Vec<T>) -> Result<Pages<T>, OutOfMemory>
+        requires { (x y : T) → T.is_clone x y → y ≡ x }
+        ensures { IfOk result (λ pages. pages ≡ items.items) }
+    {
+        let mut pages = Pages::new();
+        for item in items {
+            pages.push(alloc, item)?;
+        }
+        Ok(pages)
+    }
+}
+
+impl<T> Pages<T> {
+    /// The place of the first element that fails a test, where none that passes it comes after one that fails: the
+    /// element before passes, and the one at the place fails. It goes down once, looks at the logarithm of the length
+    /// many elements, and takes no memory.
+    pub fn partition_point<P: Fn(&T) -> bool>(&self, test: P) -> u64
+        requires { P.IsAlwaysCallable test }
+        ensures { Ends P.Fn test self.now result }
+    {
+        match &self.root {
+            None => 0,
+            Some(root) => root.search(&test),
+        }
     }
 }

@@ -1,14 +1,13 @@
-//! Lists whose elements were worked out by hand.
+//! Lists whose elements were worked out by hand, or are compared with a plain `Vec`.
 
 ghost use Rattle.std.specs.Prelude.{◌≡◌, IfOk};
 ghost use Rattle.std.specs.Arc.{arc_value};
 
 use super::Pages;
-use crate::page::page_of_one;
-use crate::tree::leaf;
-use dn_model::{AtomId, AtomRow, OutOfMemory};
+use dn_model::OutOfMemory;
 use std::alloc::{AllocError, Global};
 use std::marker::Model;
+use std::process::Abort;
 use std::sync::Arc;
 use std::test::Fail;
 
@@ -54,111 +53,144 @@ impl Clone for Shared {
 /// Lists cross to another thread.
 fn crosses<T: Send + Sync>(_value: &T) {}
 
+/// The list has the elements of the `Vec`, in order.
+fn compare(rt: &impl Abort, pages: &Pages<u64>, plain: &Vec<u64>) {
+    assert_eq!(rt; pages.len(), plain.len() as u64);
+    let mut from = 0;
+    for k in 0..plain.len() {
+        if k as u64 == from {
+            let run = pages.run_from(from);
+            assert!(rt; run.len() > 0);
+            assert!(rt; run.len() <= 64);
+            from = from.saturating_add(run.len() as u64);
+        }
+        assert_eq!(rt; pages.get(k as u64).copied(), plain.get(k).copied());
+    }
+    assert_eq!(rt; from, pages.len());
+    assert_eq!(rt; pages.get(pages.len()), None);
+}
+
+/// The numbers below a count, in order, as a `Vec` and as a list.
+fn rising(alloc: Global, len: u64) -> Result<(Pages<u64>, Vec<u64>), OutOfMemory> {
+    let mut pages = Pages::new();
+    let mut plain = Vec::new(alloc);
+    for k in 0..len {
+        pages.push(alloc, k)?;
+        plain.push(k)?;
+    }
+    Ok((pages, plain))
+}
+
+/// Writes at one place of both.
+fn write(
+    alloc: Global,
+    pages: &mut Pages<u64>,
+    plain: &mut Vec<u64>,
+    k: u64,
+    value: u64,
+) -> Result<(), OutOfMemory> {
+    if k < pages.len() && k < plain.len() as u64 {
+        pages.put(alloc, k, value)?;
+        plain[k as usize] = value;
+    }
+    Ok(())
+}
+
+/// Puts one more element into both, before the one at a place.
+fn insert(
+    alloc: Global,
+    pages: &mut Pages<u64>,
+    plain: &mut Vec<u64>,
+    k: u64,
+    value: u64,
+) -> Result<(), OutOfMemory> {
+    if k <= pages.len() && k <= plain.len() as u64 {
+        pages.insert_at(alloc, k, value)?;
+        plain.insert(k as usize, value)?;
+    }
+    Ok(())
+}
+
+/// Puts two elements in the place of one of both.
+fn split(
+    alloc: Global,
+    pages: &mut Pages<u64>,
+    plain: &mut Vec<u64>,
+    k: u64,
+    value: u64,
+) -> Result<(), OutOfMemory> {
+    if k < pages.len() && k < plain.len() as u64 {
+        pages.replace_by_two(alloc, k, value, value ^ 1)?;
+        plain[k as usize] = value ^ 1;
+        plain.insert(k as usize, value)?;
+    }
+    Ok(())
+}
+
 #[test]
 fn a_new_list_is_empty(rt: HostRuntime) -> Result<(), Fail> {
     let pages: Pages<u64> = Pages::new();
     crosses(&pages);
     assert_eq!(rt; pages.len(), 0);
+    assert_eq!(rt; pages.height(), 0);
     assert_eq!(rt; pages.get(0), None);
+    assert_eq!(rt; pages.run_from(0).len(), 0);
     assert_eq!(rt; pages.copy()?.len(), 0);
     Ok(())
 }
 
-#[test]
-fn elements_go_to_the_end(rt: HostRuntime) -> Result<(), Fail> {
-    let mut pages = Pages::new();
-    for k in 0..200u64 {
-        pages = pages.insert(rt.alloc(), pages.len(), k)?;
+/// One element is changed where there is one, and the change answers what was there.
+fn change(
+    alloc: Global,
+    pages: &mut Pages<u64>,
+    k: u64,
+    value: u64,
+) -> Result<Option<u64>, OutOfMemory> {
+    if k < pages.len() {
+        let old = pages.change(alloc, k, |element| {
+            let old = *element;
+            *element = value;
+            old
+        })?;
+        return Ok(Some(old));
     }
-    assert_eq!(rt; pages.len(), 200);
-    for k in 0..200u64 {
-        assert_eq!(rt; pages.get(k).copied(), Some(k));
-    }
-    assert_eq!(rt; pages.get(200), None);
-    assert_eq!(rt; pages.get(u64::MAX), None);
-    Ok(())
+    Ok(None)
 }
 
 #[test]
-fn elements_go_to_the_front(rt: HostRuntime) -> Result<(), Fail> {
-    let mut pages = Pages::new();
-    for k in 0..200u64 {
-        pages = pages.insert(rt.alloc(), 0, k)?;
-    }
-    assert_eq!(rt; pages.len(), 200);
-    for k in 0..200u64 {
-        assert_eq!(rt; pages.get(k).copied(), Some(199 - k));
-    }
-    Ok(())
-}
-
-/// Each element goes between the halves of those before it, so that the odd ones rise and then the even ones fall.
-#[test]
-fn elements_go_to_the_middle(rt: HostRuntime) -> Result<(), Fail> {
-    let mut pages = Pages::new();
-    for k in 0..200u64 {
-        pages = pages.insert(rt.alloc(), pages.len() / 2, k)?;
-    }
-    assert_eq!(rt; pages.len(), 200);
-    for k in 0..100u64 {
-        assert_eq!(rt; pages.get(k).copied(), Some(2 * k + 1));
-        assert_eq!(rt; pages.get(100 + k).copied(), Some(198 - 2 * k));
-    }
-    Ok(())
-}
-
-#[test]
-fn the_old_list_reads_as_before(rt: HostRuntime) -> Result<(), Fail> {
-    let mut pages = Pages::new();
-    for k in 0..100u64 {
-        pages = pages.insert(rt.alloc(), pages.len(), k)?;
-    }
+fn the_copy_reads_as_before(rt: HostRuntime) -> Result<(), Fail> {
+    let (_, old) = rising(rt.alloc(), 100)?;
+    let mut plain = old.clone()?;
+    let mut pages = Pages::from_vec(rt.alloc(), plain.clone()?)?;
     let copy = pages.copy()?;
-    assert_eq!(rt; pages.len(), 100);
-    let with_set = pages.set(rt.alloc(), 70, 7)?;
-    let with_more = pages.insert(rt.alloc(), 70, 8)?;
-    for k in 0..100u64 {
-        assert_eq!(rt; pages.get(k).copied(), Some(k));
-        assert_eq!(rt; copy.get(k).copied(), Some(k));
-        let set = if k == 70 { 7 } else { k };
-        assert_eq!(rt; with_set.get(k).copied(), Some(set));
-    }
-    assert_eq!(rt; with_set.len(), 100);
-    assert_eq!(rt; with_more.len(), 101);
-    assert_eq!(rt; with_more.get(69).copied(), Some(69));
-    assert_eq!(rt; with_more.get(70).copied(), Some(8));
-    assert_eq!(rt; with_more.get(71).copied(), Some(70));
-    assert_eq!(rt; with_more.get(100).copied(), Some(99));
+    write(rt.alloc(), &mut pages, &mut plain, 70, 7)?;
+    insert(rt.alloc(), &mut pages, &mut plain, 70, 8)?;
+    split(rt.alloc(), &mut pages, &mut plain, 0, 1000)?;
+    compare(&rt, &pages, &plain);
+    assert_eq!(rt; change(rt.alloc(), &mut pages, 2, 5)?, Some(1));
+    compare(&rt, &copy, &old);
+    assert_eq!(rt; pages.len(), 102);
+    assert_eq!(rt; pages.get(0).copied(), Some(1000));
+    assert_eq!(rt; pages.get(1).copied(), Some(1001));
+    assert_eq!(rt; pages.get(2).copied(), Some(5));
+    assert_eq!(rt; pages.get(71).copied(), Some(8));
+    assert_eq!(rt; pages.get(72).copied(), Some(7));
+    assert_eq!(rt; pages.get(73).copied(), Some(71));
     Ok(())
 }
 
 #[test]
-fn rows_of_atoms_are_elements(rt: HostRuntime) -> Result<(), Fail> {
-    let row = AtomRow {
-        atom: AtomId(0),
-        low: 0,
-        past: 4_294_967_296,
-    };
-    let upper = AtomRow {
-        atom: AtomId(1),
-        low: 5,
-        past: 4_294_967_296,
-    };
-    let one = Pages::new().insert(rt.alloc(), 0, row)?;
-    crosses(&one);
-    assert_eq!(rt; one.len(), 1);
-    let two = one.insert(rt.alloc(), 1, upper)?;
-    assert_eq!(rt; two.len(), 2);
-    assert_eq!(rt; two.get(0).copied(), Some(row));
-    assert_eq!(rt; two.get(1).copied(), Some(upper));
-    let lower = AtomRow {
-        atom: AtomId(0),
-        low: 0,
-        past: 5,
-    };
-    let cut = two.set(rt.alloc(), 0, lower)?;
-    assert_eq!(rt; cut.get(0).copied(), Some(lower));
-    assert_eq!(rt; two.get(0).copied(), Some(row));
+fn a_search_ends_where_elements_begin_to_fail(rt: HostRuntime) -> Result<(), Fail> {
+    let mut pages = Pages::new();
+    assert_eq!(rt; pages.partition_point(|x: &u64| *x < 5), 0);
+    for k in 0..5000u64 {
+        pages.push(rt.alloc(), 3 * k)?;
+    }
+    for k in 0..5000u64 {
+        assert_eq!(rt; pages.partition_point(|x: &u64| *x < 3 * k), k);
+        assert_eq!(rt; pages.partition_point(|x: &u64| *x <= 3 * k), k + 1);
+    }
+    assert_eq!(rt; pages.partition_point(|x: &u64| *x < 1_000_000), 5000);
     Ok(())
 }
 
@@ -166,34 +198,83 @@ fn rows_of_atoms_are_elements(rt: HostRuntime) -> Result<(), Fail> {
 fn pointers_are_elements(rt: HostRuntime) -> Result<(), Fail> {
     let first = Shared::new(rt.alloc(), 11)?;
     let second = Shared::new(rt.alloc(), 22)?;
-    let one = Pages::new().insert(rt.alloc(), 0, first)?;
-    crosses(&one);
-    assert_eq!(rt; one.len(), 1);
-    let two = one.insert(rt.alloc(), 0, second)?;
-    assert_eq!(rt; two.get(0).map(|shared| shared.number()), Some(22));
-    assert_eq!(rt; two.get(1).map(|shared| shared.number()), Some(11));
+    let mut pages = Pages::new();
+    pages.push(rt.alloc(), first)?;
+    crosses(&pages);
+    let one = pages.copy()?;
+    pages.insert_at(rt.alloc(), 0, second)?;
+    assert_eq!(rt; pages.get(0).map(|shared| shared.number()), Some(22));
+    assert_eq!(rt; pages.get(1).map(|shared| shared.number()), Some(11));
     assert_eq!(rt; one.get(0).map(|shared| shared.number()), Some(11));
     Ok(())
 }
 
-/// A thousand and one elements, each put at one end, are 30 pages of 32 and one of 41; put elsewhere they are no more
-/// pages. Above 31 pages there are at least 5 forks, and at most 6 in a balanced tree, which has 34 pages at least where
-/// there are 7.
+/// A hundred thousand elements in pages that are at least half full, under forks that are at least half full, stand
+/// under 3 forks at least, since 64 * 32 * 32 are fewer, and under 4 at most, since 2 * 16^3 * 32 are more.
 #[test]
-fn a_tree_stays_low(rt: HostRuntime) -> Result<(), Fail> {
-    let mut at_end = leaf(rt.alloc(), page_of_one(rt.alloc(), 0u64)?)?;
-    let mut at_front = leaf(rt.alloc(), page_of_one(rt.alloc(), 0u64)?)?;
-    let mut in_middle = leaf(rt.alloc(), page_of_one(rt.alloc(), 0u64)?)?;
-    for k in 0..1000u64 {
-        at_end = at_end.insert(rt.alloc(), at_end.len(), k)?;
-        at_front = at_front.insert(rt.alloc(), 0, k)?;
-        in_middle = in_middle.insert(rt.alloc(), in_middle.len() / 2, k)?;
+fn pages_stand_low(rt: HostRuntime) -> Result<(), Fail> {
+    let mut at_end = Pages::new();
+    let mut at_front = Pages::new();
+    let mut in_middle = Pages::new();
+    for k in 0..100_000u64 {
+        at_end.push(rt.alloc(), k)?;
+        at_front.insert_at(rt.alloc(), 0, k)?;
+        let middle = in_middle.len() / 2;
+        in_middle.insert_at(rt.alloc(), middle, k)?;
     }
-    assert_eq!(rt; at_end.len(), 1001);
-    assert!(rt; at_end.height() >= 5);
-    assert!(rt; at_end.height() <= 6);
-    assert!(rt; at_front.height() >= 5);
-    assert!(rt; at_front.height() <= 6);
-    assert!(rt; in_middle.height() <= 6);
+    assert_eq!(rt; at_end.len(), 100_000);
+    assert_eq!(rt; at_end.height(), 3);
+    assert_eq!(rt; at_front.height(), 3);
+    assert!(rt; in_middle.height() <= 4);
+    assert_eq!(rt; in_middle.get(0).copied(), Some(1));
+    Ok(())
+}
+
+/// A write at every place of a hundred thousand elements, first while a copy holds all of them, and then once more, when
+/// nobody else holds what was copied.
+#[test]
+fn writes_at_every_place(rt: HostRuntime) -> Result<(), Fail> {
+    let (mut pages, mut plain) = rising(rt.alloc(), 100_000)?;
+    let old = plain.clone()?;
+    let held = pages.copy()?;
+    for k in 0..100_000u64 {
+        write(rt.alloc(), &mut pages, &mut plain, k, k ^ 0x5555)?;
+    }
+    compare(&rt, &pages, &plain);
+    compare(&rt, &held, &old);
+    for k in 0..100_000u64 {
+        write(rt.alloc(), &mut pages, &mut plain, k, k ^ 0x1234)?;
+    }
+    compare(&rt, &pages, &plain);
+    compare(&rt, &held, &old);
+    Ok(())
+}
+
+/// Elements go in at places all over, with a copy taken now and then that keeps what it has.
+#[test]
+fn insertions_all_over(rt: HostRuntime) -> Result<(), Fail> {
+    let (mut pages, mut plain) = rising(rt.alloc(), 1)?;
+    let mut held = pages.copy()?;
+    let mut old = plain.clone()?;
+    let mut state = 1u64;
+    for k in 0..20_000u64 {
+        state = state
+            .wrapping_mul(6364136223846793005)
+            .wrapping_add(1442695040888963407);
+        let at = (state >> 33) % (k + 1);
+        if k % 2 == 0 {
+            insert(rt.alloc(), &mut pages, &mut plain, at, k)?;
+        } else {
+            split(rt.alloc(), &mut pages, &mut plain, at, k)?;
+        }
+        if k % 1999 == 0 {
+            compare(&rt, &held, &old);
+            held = pages.copy()?;
+            old = plain.clone()?;
+        }
+    }
+    assert_eq!(rt; pages.len(), 20_001);
+    compare(&rt, &pages, &plain);
+    compare(&rt, &held, &old);
     Ok(())
 }

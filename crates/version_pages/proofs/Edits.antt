@@ -1,0 +1,29 @@
+-- An edit of one child of a fork is an edit of the fork.
+use Rattle.std.proofs.Common.{◌≡◌, ℕ, ◌+◌, ◌<◌, ◌≤◌, List, length, get_or, set, take, refl, ap, sym, subst, ◌∙◌, arith, IfOk, OnErr, is_ok, if◌then◌else◌}
+use Rattle.std.specs.declared.result.Result.{Result}
+use Rattle.std.specs.declared.result.Result.TheVariants.{Ok, Err}
+use Rattle.std.specs.Fn.{FnOnceReturnsAtMut}
+use denote.Param.Members.{Once}
+use denote.Ref.{MutBor}
+use Rattle.version_pages.specs.Shape.{Shape, items_of, joined}
+use Rattle.version_pages.specs.Changes.{Changes}
+use Rattle.version_pages.proofs.Joined.{get-in, set-in, same-in}
+
+module _ {F T R E : Type 0} (g : Once F (MutBor T × Unit {0}) (R × (MutBor T × Unit {0}))) (f : F) where
+  pub changed-in : (kids : List (Shape T)) (all : List T) (k i j : ℕ) (kid x : Shape T) (res : Result R E) → joined kids ≡ all → kid ≡ get_or kids k kid → k < length kids → i ≡ length (joined (take k kids)) + j → j < length (items_of (get_or kids k kid)) → IfOk res (Changes g f (items_of kid) (items_of x) j) → IfOk res (Changes g f all (joined (set kids k x)) i)
+  changed-in kids all k i j kid x (Ok r) e is l place in' h = record {
+    value = h.value;
+    called = λ d. subst (λ t. FnOnceReturnsAtMut g f t r h.value) (ap (λ s. get_or (items_of s) j d) is ∙ sym (get-in kids k i j kid d l place in') ∙ ap (λ t. get_or t i d) e) (h.called d);
+    list = set-in kids k i j kid x h.value l place in' (h.list ∙ ap (λ s. set (items_of s) j h.value) is) ∙ ap (λ t. set t i h.value) e;
+  }
+  changed-in kids all k i j kid x (Err r) e is l place in' h = tt
+
+-- the elements stay where those of the child do
+pub same-kept : {T R E : Type 0} (kids : List (Shape T)) (all : List T) (k : ℕ) (kid x : Shape T) (res : Result R E) → joined kids ≡ all → kid ≡ get_or kids k kid → k < length kids → OnErr res (items_of x ≡ items_of kid) → OnErr res (joined (set kids k x) ≡ all)
+same-kept kids all k kid x (Ok r) e is l h = tt
+same-kept kids all k kid x (Err r) e is l h = same-in kids k kid x l (h ∙ ap items_of is) ∙ e
+
+-- a call that leaves one value whatever was there puts that value
+pub put-kept : {F T R E : Type 0} (g : Once F (MutBor T × Unit {0}) (R × (MutBor T × Unit {0}))) (f : F) (old new : List T) (i : ℕ) (v : T) (res : Result R E) → ((x y : T) (r : R) → FnOnceReturnsAtMut g f x r y → y ≡ v) → IfOk res (Changes g f old new i) → OnErr res (new ≡ old) → new ≡ (if is_ok res then set old i v else old)
+put-kept g f old new i v (Ok r) puts changed same = changed.list ∙ ap (λ y. set old i y) (puts (get_or old i v) changed.value r (changed.called v))
+put-kept g f old new i v (Err e) puts changed same = same

@@ -1,0 +1,45 @@
+use Rattle.std.proofs.Common.{◌≡◌, ◌+◌, ◌-◌, ◌<◌, ◌≤◌, ◌^◌, ◌∙◌, ap, sym, subst, length, arith, rules}
+use Rattle.std.proofs.lemmas.Grind.{common_steps}
+use Rattle.version_pages.specs.Growth.{CanGrow}
+use Rattle.version_pages.specs.Nodes.{shape_of, IsKept}
+use Rattle.version_pages.specs.Shape.{Shape, fork_shape, items_of, joined, AreKids, IsAt}
+use Rattle.version_pages.proofs.Grows.{can-at, grown-kept, kid-few, kid-level, kids-ready, kids-set}
+use Rattle.version_pages.proofs.tree.+grow.Goals as goal
+
+pub Tree::grow-invariant_of-self : goal.Tree::grow-invariant_of-self
+Tree::grow-invariant_of-self g t c =
+    let kept : AreKids c.in-Fork.height c.in-Fork.kids.items = subst IsKept c.in-Fork.is c.self.invariant in
+    let room : 0 < 32 - length c.in-Fork.kids.items = subst (λ (s : Shape _). 0 < s.room) (sym (ap shape_of (sym c.in-Fork.is) ∙ c.self.view_is)) c.requires.room in
+    kids-ready _ _ _ kept room c.ready.ensures.least c.ready.ensures.most c.ready.ensures.under
+
+pub Tree::grow-returns-in-Fork-clause-items : goal.Tree::grow-returns-in-Fork-clause-items
+Tree::grow-returns-in-Fork-clause-items g t c =
+    let e : joined c.ready.new.kids.items ≡ c.args.self.now.items = c.ready.ensures.same ∙ ap items_of (ap shape_of (sym c.in-Fork.is) ∙ c.self.view_is) in
+    let at : IsAt c.ready.new.kids.items c.args.i c.in_ok-k-in-Fork.k c.in_ok-k-in-Fork.j = c.in_ok-k-in-Fork.ensures.child in
+    let is = c.index_mut-kid.ensures.value in
+    grown-kept c.ready.new.kids.items _ c.args.i c.in_ok-k-in-Fork.k c.in_ok-k-in-Fork.j _ _ c.args.growth _ e at is (can-at _ _ _ _ _ _ c.args.growth e at is c.requires.inside) c.grow.ensures.items
+
+pub Tree::grow-invariant_of-self-in-Fork : goal.Tree::grow-invariant_of-self-in-Fork
+Tree::grow-invariant_of-self-in-Fork g t c =
+    let kept : AreKids c.in-Fork.height c.in-Fork.kids.items = subst IsKept c.in-Fork.is c.self.invariant in
+    let room : 0 < 32 - length c.in-Fork.kids.items = subst (λ (s : Shape _). 0 < s.room) (sym (ap shape_of (sym c.in-Fork.is) ∙ c.self.view_is)) c.requires.room in
+    let new : AreKids c.in-Fork.height c.ready.new.kids.items = kids-ready _ _ _ kept room c.ready.ensures.least c.ready.ensures.most c.ready.ensures.under in
+    let at : IsAt c.ready.new.kids.items c.args.i c.in_ok-k-in-Fork.k c.in_ok-k-in-Fork.j = c.in_ok-k-in-Fork.ensures.child in
+    kids-set _ _ _ c.index_mut-kid.result.now _ new at.child c.index_mut-kid.ensures.value c.grow.ensures.level c.grow.ensures.deep
+
+pub Tree::grow-grow-requires : goal.Tree::grow-grow-requires
+Tree::grow-grow-requires g t c κs within =
+    let e : joined c.ready.new.kids.items ≡ c.args.self.now.items = c.ready.ensures.same ∙ ap items_of (ap shape_of (sym c.in-Fork.is) ∙ c.self.view_is) in
+    let at : IsAt c.ready.new.kids.items c.args.i c.in_ok-k-in-Fork.k c.in_ok-k-in-Fork.j = c.in_ok-k-in-Fork.ensures.child in
+    let is = c.index_mut-kid.ensures.value in
+    let can : CanGrow c.args.growth c.index_mut-kid.result.now.items c.in_ok-k-in-Fork.j = can-at _ _ _ _ _ _ c.args.growth e at is c.requires.inside in
+    let kept : AreKids c.in-Fork.height c.in-Fork.kids.items = subst IsKept c.in-Fork.is c.self.invariant in
+    let shape : fork_shape c.in-Fork.height c.in-Fork.kids.items ≡ c.args.self.now = ap shape_of (sym c.in-Fork.is) ∙ c.self.view_is in
+    let room : 0 < 32 - length c.in-Fork.kids.items = subst (λ (s : Shape _). 0 < s.room) (sym shape) c.requires.room in
+    let new : AreKids c.in-Fork.height c.ready.new.kids.items = kids-ready _ _ _ kept room c.ready.ensures.least c.ready.ensures.most c.ready.ensures.under in
+    let level : c.index_mut-kid.result.now.height + 1 ≡ c.in-Fork.height = kid-level _ _ _ _ new at.child is in
+    let high : c.in-Fork.height ≡ c.args.self.now.height = ap (λ (s : Shape _). s.height) shape in
+    let few : length c.index_mut-kid.result.now.items ≤ length (joined c.ready.new.kids.items) = kid-few _ _ _ at.child is in
+    let all : length (joined c.ready.new.kids.items) + 1 < 2 ^ 64 = omega (arith, ap length e, c.requires.few) in
+    let roomy : 0 < c.index_mut-kid.result.now.room = rw is (c.in_ok-k-in-Fork.ensures.room c.index_mut-kid.result.now) in
+    (search rules, (search rules, (can, (roomy, (omega arith, c.requires.clones)))))

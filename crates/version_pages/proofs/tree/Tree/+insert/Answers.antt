@@ -1,7 +1,0 @@
-use Rattle.std.proofs.Common.{arith}
-use Rattle.std.proofs.lemmas.Grind.{common_steps}
-use Rattle.std.proofs.lemmas.List.Edits.{insert-append_right}
-use Rattle.version_pages.proofs.tree.Tree.+insert.Goals as goal
-
-pub returns-in_ok-try_clone-in-Fork-2 : goal.returns-in_ok-try_clone-in-Fork-2
-returns-in_ok-try_clone-in-Fork-2 g t c = grind (arith, common_steps, insert-append_right)

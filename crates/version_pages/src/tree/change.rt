@@ -1,0 +1,71 @@
+//! An element changed in its place.
+
+ghost use Rattle.std.specs.Prelude.{◌≡◌, ◌<◌, IfOk, OnErr, length};
+ghost use Rattle.std.specs.Fn.{FnOnceReturnsAtMut};
+ghost use Rattle.version_pages.specs.Changes.{Changes};
+
+use super::own::unshare;
+use super::{Kid, Node, Tree, find};
+use dn_model::OutOfMemory;
+use std::alloc::Global;
+use std::sync::Arc;
+
+/// Calls a change on a value.
+fn call_at<T, R, F: FnOnce(&mut T) -> R>(change: F, value: &mut T) -> R
+    requires { F.IsAlwaysCallable change }
+    ensures { FnOnceReturnsAtMut F.FnOnce change value.old result value.new }
+{
+    change(value)
+}
+
+impl<T: Clone> Tree<T> {
+    /// Has an element changed in its place. After `OutOfMemory` the list is as before, and the change was not called.
+    fn change<R, F: FnOnce(&mut T) -> R>(
+        &mut self,
+        alloc: Global,
+        i: u64,
+        change: F,
+    ) -> Result<R, OutOfMemory>
+        requires inside { i < length self.old.items }
+        requires clones { (x y : T) → T.is_clone x y → y ≡ x }
+        requires callable { F.IsAlwaysCallable change }
+        ensures changed { IfOk result (Changes F.FnOnce change self.old.items self.new.items i) }
+        ensures same { OnErr result (self.new.items ≡ self.old.items) }
+        ensures level { self.new.height ≡ self.old.height }
+    {
+        match &mut self.node {
+            Node::Page(items) => Ok(call_at(change, &mut items[i as usize])),
+            Node::Fork { kids, .. } => {
+                let (k, j) = find(kids, i);
+                let kid = &mut kids[k];
+                unshare(alloc, &mut kid.tree)?;
+                let Some(child) = Arc::get_mut(&mut kid.tree) else {
+                    return Err(OutOfMemory);
+                };
+                return child.change(alloc, j, change);
+            }
+        }
+    }
+}
+
+impl<T: Clone> Kid<T> {
+    /// Has an element changed in its place. After `OutOfMemory` the list is as before, and the change was not called.
+    pub fn change<R, F: FnOnce(&mut T) -> R>(
+        &mut self,
+        alloc: Global,
+        i: u64,
+        change: F,
+    ) -> Result<R, OutOfMemory>
+        requires inside { i < length self.old.items }
+        requires clones { (x y : T) → T.is_clone x y → y ≡ x }
+        requires callable { F.IsAlwaysCallable change }
+        ensures changed { IfOk result (Changes F.FnOnce change self.old.items self.new.items i) }
+        ensures same { OnErr result (self.new.items ≡ self.old.items) }
+    {
+        unshare(alloc, &mut self.tree)?;
+        let Some(tree) = Arc::get_mut(&mut self.tree) else {
+            return Err(OutOfMemory);
+        };
+        return tree.change(alloc, i, change);
+    }
+}

@@ -1,0 +1,127 @@
+//! A tree that grows by one element. Each full node on the way is parted before anything grows, so that all memory is
+//! taken first, and no node is filled beyond its most.
+
+ghost use Rattle.std.specs.Prelude.{◌≡◌, ◌+◌, ◌<◌, ◌≤◌, ◌^◌, ℕ, IfOk, OnOk, OnErr, is_ok, if◌then◌else◌, length, slice_index_or, All};
+ghost use Rattle.version_pages.specs.Shape.{Shape, AreHalves, IsAt, IsDeep, IsParted, IsUnder, joined};
+ghost use Rattle.version_pages.specs.Growth.{grown, CanGrow};
+
+use super::own::unshare;
+use super::{Kid, Node, Tree, find};
+use crate::growth::{Growth, grow_page};
+use dn_model::OutOfMemory;
+use std::alloc::Global;
+use std::sync::Arc;
+
+/// Puts the two halves of a child in its place.
+fn part<T: Drop>(
+    kids: &mut Vec<Kid<T>>,
+    k: usize,
+    lower: Kid<T>,
+    upper: Kid<T>,
+) -> Result<(), OutOfMemory>
+    requires child { k < length kids.old.items }
+    requires halves { (d : Shape T) → AreHalves lower upper (slice_index_or kids.old.items k d) }
+    ensures parted { OnOk result (IsParted kids.old.items kids.new.items k lower upper) }
+    ensures same { OnErr result (kids.new.items ≡ kids.old.items) }
+{
+    kids.insert(k + 1, upper)?;
+    kids[k] = lower;
+    Ok(())
+}
+
+/// The child that has the element at a place, with the element's place in it. It has room for one more: a full one is
+/// parted before.
+fn ready<T: Clone>(
+    alloc: Global,
+    kids: &mut Vec<Kid<T>>,
+    i: u64,
+) -> Result<(usize, u64), OutOfMemory>
+    requires some { 0 < length kids.old.items }
+    requires clones { (x y : T) → T.is_clone x y → y ≡ x }
+    ensures same { joined kids.new.items ≡ joined kids.old.items }
+    ensures under { (h : ℕ) → All (IsUnder h) kids.old.items → All (IsUnder h) kids.new.items }
+    ensures least { length kids.old.items ≤ length kids.new.items }
+    ensures most { length kids.new.items ≤ length kids.old.items + 1 }
+    ensures child { IfOk result (λ p. IsAt kids.new.items i p.0 p.1) }
+    ensures room { IfOk result (λ p. (d : Shape T) → 0 < (slice_index_or kids.new.items p.0 d).room) }
+{
+    let (k, j) = find(kids, i);
+    let kid = &kids[k];
+    if kid.tree.has_room() {
+        return Ok((k, j));
+    }
+    let (lower, upper) = kid.halves(alloc, j == kid.len)?;
+    let len = lower.len();
+    part(kids, k, lower, upper)?;
+    if j < len {
+        return Ok((k, j));
+    }
+    Ok((k + 1, j - len))
+}
+
+impl<T: Clone> Kid<T> {
+    /// Grows by one element at a place. After `OutOfMemory` the list is as before.
+    #[cycle(grow)]
+    fn grow(&mut self, alloc: Global, i: u64, growth: Growth<T>) -> Result<(), OutOfMemory>
+        requires inside { CanGrow growth self.old.items i }
+        requires room { 0 < self.old.room }
+        requires few { length self.old.items + 1 < 2 ^ 64 }
+        requires clones { (x y : T) → T.is_clone x y → y ≡ x }
+        ensures items { self.new.items ≡ (if is_ok result then grown growth self.old.items i else self.old.items) }
+        ensures level { self.new.height ≡ self.old.height }
+        ensures deep { IsDeep self.old → IsDeep self.new }
+    {
+        unshare(alloc, &mut self.tree)?;
+        let Some(tree) = Arc::get_mut(&mut self.tree) else {
+            return Err(OutOfMemory);
+        };
+        tree.grow(alloc, i, growth)?;
+        let _height = tree.height();
+        self.len += 1;
+        Ok(())
+    }
+
+    /// Grows by one element at a place, one level higher where it is full. After `OutOfMemory` the list is as before.
+    pub fn grow_whole(
+        &mut self,
+        alloc: Global,
+        i: u64,
+        growth: Growth<T>,
+    ) -> Result<(), OutOfMemory>
+        requires inside { CanGrow growth self.old.items i }
+        requires clones { (x y : T) → T.is_clone x y → y ≡ x }
+        ensures { self.new.items ≡ (if is_ok result then grown growth self.old.items i else self.old.items) }
+    {
+        let len = self.len;
+        if len == u64::MAX {
+            return Err(OutOfMemory);
+        }
+        if self.tree.has_room() {
+            return self.grow(alloc, i, growth);
+        }
+        self.raise(alloc, i == len)?;
+        return self.grow(alloc, i, growth);
+    }
+}
+
+impl<T: Clone> Tree<T> {
+    /// Grows by one element at a place. After `OutOfMemory` the list is as before.
+    #[cycle(grow)]
+    fn grow(&mut self, alloc: Global, i: u64, growth: Growth<T>) -> Result<(), OutOfMemory>
+        requires inside { CanGrow growth self.old.items i }
+        requires room { 0 < self.old.room }
+        requires few { length self.old.items + 1 < 2 ^ 64 }
+        requires clones { (x y : T) → T.is_clone x y → y ≡ x }
+        ensures items { self.new.items ≡ (if is_ok result then grown growth self.old.items i else self.old.items) }
+        ensures level { self.new.height ≡ self.old.height }
+    {
+        match &mut self.node {
+            Node::Page(items) => grow_page(items, i as usize, growth),
+            Node::Fork { kids, .. } => {
+                let (k, j) = ready(alloc, kids, i)?;
+                let kid = &mut kids[k];
+                return kid.grow(alloc, j, growth);
+            }
+        }
+    }
+}

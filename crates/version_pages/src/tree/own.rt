@@ -1,0 +1,60 @@
+//! A tree that others hold too is copied before it is changed.
+
+ghost use Rattle.std.specs.Prelude.{◌≡◌, IfOk};
+ghost use Rattle.std.specs.Arc.{arc_value};
+
+use super::{FULL, Kid, Node, Tree, WIDE};
+use crate::page::page_of;
+use dn_model::OutOfMemory;
+use std::alloc::{AllocError, Global};
+use std::sync::Arc;
+
+impl<T: Drop> Clone for Kid<T> {
+    ghost is_clone = { λ kid copy. copy ≡ kid };
+
+    fn clone(&self) -> Result<Kid<T>, AllocError> {
+        let tree = Arc::try_clone(&self.tree)?;
+        Ok(Kid {
+            tree,
+            len: self.len,
+        })
+    }
+}
+
+impl<T: Clone> Tree<T> {
+    /// The same tree again: a page of copies, or a fork that shares its children.
+    fn duplicate(&self, alloc: Global) -> Result<Tree<T>, OutOfMemory>
+        requires { (x y : T) → T.is_clone x y → y ≡ x }
+        ensures { IfOk result (λ tree. tree ≡ self.now) }
+    {
+        match &self.node {
+            Node::Page(items) => {
+                let items = page_of(alloc, (2 * items.len()).min(FULL), items)?;
+                Ok(Tree {
+                    node: Node::Page(items),
+                })
+            }
+            Node::Fork { kids, height } => {
+                let kids = page_of(alloc, (2 * kids.len()).min(WIDE), kids)?;
+                Ok(Tree {
+                    node: Node::Fork {
+                        kids,
+                        height: *height,
+                    },
+                })
+            }
+        }
+    }
+}
+
+/// Makes a pointer the only one to its tree: where somebody else holds it too, this one gets a copy.
+pub fn unshare<T: Clone>(alloc: Global, tree: &mut Arc<Tree<T>, Global>) -> Result<(), OutOfMemory>
+    requires { (x y : T) → T.is_clone x y → y ≡ x }
+    ensures { arc_value tree.new ≡ arc_value tree.old }
+{
+    if Arc::strong_count(tree) != 1 {
+        let copy = tree.duplicate(alloc)?;
+        *tree = Arc::new(alloc, copy)?;
+    }
+    Ok(())
+}

@@ -17,7 +17,10 @@ use Rattle.dn_model.specs.declared.entry.Op.{Op}
 use Rattle.dn_model.specs.declared.forwarding_row.ForwardingRow.{ForwardingRow}
 use Rattle.dn_model.specs.declared.ids.RouterId.{RouterId}
 use Rattle.dn_model.specs.declared.memory.OutOfMemory.{OutOfMemory}
+use Rattle.dn_model.specs.declared.query.Ask.{Ask}
+use Rattle.dn_model.specs.declared.query.Ask.TheVariants.{Path, Reach, Uses, Loops, Blackholes, Waypoint, Delta}
 use Rattle.dn_model.specs.declared.topology.Topology.{Topology}
+use Rattle.row_answers.specs.Shown.{AreToldIf}
 use Rattle.dn_run.specs.Latest.{After, CanMake, CanMakeAll, IsOf, Latest}
 
 -- ---- updates of the network
@@ -84,8 +87,17 @@ pub rows-stand : (t : Topology) (latest : Latest) (version : Kept) (history : Li
 rows-stand t latest version history there of after =
     subst (λ (s : Topology). StandsFor s (forwarding_of version.atoms) history) (of-version t latest version there of) (stands-there latest version history there after).rows
 
+told-for : (t : Topology) (history : List Entry) (changes : List Change) (ask : Ask) → IsDeltaOf t history changes → AreToldIf t history changes ask
+told-for t history changes Delta delta = delta
+told-for t history changes (Path n a) delta = tt
+told-for t history changes (Reach n m) delta = tt
+told-for t history changes (Uses n) delta = tt
+told-for t history changes Loops delta = tt
+told-for t history changes (Blackholes n) delta = tt
+told-for t history changes (Waypoint n m w) delta = tt
+
 -- an answer over whatever history rows stand for is one over this history
 pub answered : (t : Topology) (rows : List ForwardingRow) (history : List Entry) (changes : List Change) (q : Question) (result : Result Answer OutOfMemory) → StandsFor t rows history → IsDeltaOf t history changes →
-    IfOk result (λ answer. (h : List Entry) → StandsFor t rows h → IsDeltaOf t h changes → IsAnswer t h q answer) → IfOk result (IsAnswer t history q)
-answered t rows history changes q (Ok answer) stands delta is = is history stands delta
+    IfOk result (λ answer. (h : List Entry) → StandsFor t rows h → AreToldIf t h changes q.ask → IsAnswer t h q answer) → IfOk result (IsAnswer t history q)
+answered t rows history changes q (Ok answer) stands delta is = is history stands (told-for t history changes q.ask delta)
 answered t rows history changes q (Err error) stands delta is = is

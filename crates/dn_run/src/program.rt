@@ -259,7 +259,7 @@ pub fn run<W: World, K: Sink, G: Gate>(
     ensures headline { IsWritten (IsDue (map string_bytes words.now) (W.files world.old) (W.calls world.new)) result (K.written sink.old) (K.written sink.new) }
     // The names of the words are asked for in order: all of them at the statuses 0 and 1, else the first of them.
     ensures names { AsksFor result (names_of (W.calls world.new)) (names_of_words (map string_bytes words.now)) }
-    // Every source was given back, save where memory was wanted; and one failed exactly where the status says so.
+    // Every source was given back, and one failed exactly where the status says so.
     ensures files { AnswersCalls result (W.calls world.new) }
     // A write failed exactly where the status says so, and nothing was written where memory was wanted.
     ensures writes { CountsWrites result (K.faults sink.old) (K.faults sink.new) }

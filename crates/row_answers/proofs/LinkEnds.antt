@@ -1,5 +1,5 @@
 -- The links of a topology: their ends are at its routers.
-use Rattle.std.proofs.Common.{◌≡◌, ℕ, zero, suc, ◌<◌, ◌∙◌, true, ◌&&◌, Option, Some, List, [], ◌∷◌, length, get_or, refl, sym, subst, arith}
+use Rattle.std.proofs.Common.{◌≡◌, ℕ, zero, suc, ◌<◌, true, ◌&&◌, Option, Some, List, [], ◌∷◌, length, sym, subst, arith}
 use Rattle.std.specs.List.{list_all}
 use Rattle.std.specs.Prelude.{slice_get, IsSomeAnd}
 use Rattle.std.proofs.lemmas.Bool.{and_parts}

@@ -1,12 +1,11 @@
 -- What routers do decides the answers: where two functions agree at each address, their answers are the same.
-use Rattle.std.proofs.Common.{◌≡◌, ℕ, zero, suc, ◌<◌, ◌^◌, Bool, true, false, ◌&&◌, ◌∙◌, Option, None, Some, List, [], ◌∷◌, length, refl, ap, sym, subst, IsTrue}
+use Rattle.std.proofs.Common.{◌≡◌, ℕ, zero, suc, ◌<◌, ◌^◌, Bool, false, ◌&&◌, ◌∙◌, Option, None, Some, List, [], ◌∷◌, length, refl, ap, sym, subst}
 use Rattle.std.specs.List.{list_any, list_all}
 use Rattle.std.specs.Prelude.{slice_get, IsSomeAnd, IfOk, nat_lt}
 use Rattle.std.specs.declared.result.Result.{Result}
 use Rattle.std.specs.declared.result.Result.TheVariants.{Ok, Err}
 use Rattle.dn_model.specs.Answer.{IsAnswer, IsAnswerOf, IsAnswerTo, IsDeltaAnswer, IsHolesAnswer, IsLoopsAnswer, IsRunsAnswer, IsUsesAnswer, links_of, path_answer}
 use Rattle.dn_model.specs.Cycles.{AreCycles, IsCycle, go_round, goes_round, goes_to, is_cycle}
-use Rattle.dn_model.specs.Delta.{IsDeltaOf}
 use Rattle.dn_model.specs.Forwarding.{StandsFor, does}
 use Rattle.dn_model.specs.Holes.{AreHoles, IsHole, ends_by, falls}
 use Rattle.dn_model.specs.Lookup.{link_of, router_of}
@@ -34,7 +33,7 @@ use Rattle.dn_model.specs.declared.target.Target.TheVariants as targets
 use Rattle.dn_model.specs.declared.topology.TopoLink.{TopoLink}
 use Rattle.dn_model.specs.declared.topology.Topology.{Topology}
 use Rattle.dn_model.proofs.Walks.{on_far-same, walk-same, walk_end-same}
-use Rattle.row_answers.specs.Shown.{IsShown}
+use Rattle.row_answers.specs.Shown.{AreToldIf, IsShown}
 
 -- ---- walks
 
@@ -176,7 +175,7 @@ agrees-down : (t : Topology) (rows : List ForwardingRow) (history : List Entry) 
 agrees-down t rows history down shows stands is = λ r a within. is r a ∙ ap (without down) (stands.exact r a within)
 
 -- what is shown is the answer over the history
-shown-is : (t : Topology) (shows : RouterId → ℕ → Target) (history : List Entry) (down : List LinkId) (changes : List Change) (ask : Ask) (answer : Answer) → Agree shows (next t history down) → IsDeltaOf t history changes → IsShown t shows changes ask answer → IsAnswerTo t history down ask answer
+shown-is : (t : Topology) (shows : RouterId → ℕ → Target) (history : List Entry) (down : List LinkId) (changes : List Change) (ask : Ask) (answer : Answer) → Agree shows (next t history down) → AreToldIf t history changes ask → IsShown t shows changes ask answer → IsAnswerTo t history down ask answer
 shown-is t shows history down changes (Path n a) answer h delta is =
     some-same (router_of t n) _ _ (λ r e. e ∙ path-same (length t.routers) shows (next t history down) r a h is.0) is.1
 shown-is t shows history down changes (Reach n m) answer h delta is = reach-same t shows (next t history down) n m answer h is
@@ -187,19 +186,19 @@ shown-is t shows history down changes (Waypoint n m w) answer h delta is = waypo
 shown-is t shows history down changes Delta answer h delta is = subst (λ (x : Answer). IsDeltaAnswer t history x) (sym is) delta
 
 -- what a view shows is the answer over the history that it stands for: without a link that is down, and with some
-answers-plain : (t : Topology) (rows : List ForwardingRow) (history : List Entry) (changes : List Change) (q : Question) (answer : Answer) → q.without ≡ [] → StandsFor t rows history → IsDeltaOf t history changes → IsShown t (does rows) changes q.ask answer → IsAnswer t history q answer
+answers-plain : (t : Topology) (rows : List ForwardingRow) (history : List Entry) (changes : List Change) (q : Question) (answer : Answer) → q.without ≡ [] → StandsFor t rows history → AreToldIf t history changes q.ask → IsShown t (does rows) changes q.ask answer → IsAnswer t history q answer
 answers-plain t rows history changes q answer none stands delta is =
     let P : List (List ℕ) → Type 0 = λ names. IsAnswerTo t history (links_of t names) q.ask answer in
     subst P (sym none) (shown-is t (does rows) history [] changes q.ask answer (agrees t rows history stands) delta is)
 
-answers-down : (t : Topology) (rows : List ForwardingRow) (history : List Entry) (changes : List Change) (q : Question) (answer : Answer) (down : List LinkId) (shows : RouterId → ℕ → Target) → down ≡ links_of t q.without → ((r : RouterId) (a : ℕ) → shows r a ≡ with_down down (does rows) r a) → StandsFor t rows history → IsDeltaOf t history changes → IsShown t shows changes q.ask answer → IsAnswer t history q answer
+answers-down : (t : Topology) (rows : List ForwardingRow) (history : List Entry) (changes : List Change) (q : Question) (answer : Answer) (down : List LinkId) (shows : RouterId → ℕ → Target) → down ≡ links_of t q.without → ((r : RouterId) (a : ℕ) → shows r a ≡ with_down down (does rows) r a) → StandsFor t rows history → AreToldIf t history changes q.ask → IsShown t shows changes q.ask answer → IsAnswer t history q answer
 answers-down t rows history changes q answer down shows are same stands delta is =
     let P : List LinkId → Type 0 = λ links. IsAnswerTo t history links q.ask answer in
     subst P are (shown-is t shows history down changes q.ask answer (agrees-down t rows history down shows stands same) delta is)
 
 -- an answer over whatever history the rows stand for
 abbrev pub IsAnswerBy : Topology → List ForwardingRow → List Change → Question → Answer → Type 0
-IsAnswerBy t rows changes q answer = (history : List Entry) → StandsFor t rows history → IsDeltaOf t history changes → IsAnswer t history q answer
+IsAnswerBy t rows changes q answer = (history : List Entry) → StandsFor t rows history → AreToldIf t history changes q.ask → IsAnswer t history q answer
 
 pub answered-plain : (t : Topology) (rows : List ForwardingRow) (changes : List Change) (q : Question) (result : Result Answer OutOfMemory) → q.without ≡ [] → IfOk result (IsShown t (does rows) changes q.ask) → IfOk result (IsAnswerBy t rows changes q)
 answered-plain t rows changes q (Ok answer) none is = λ history stands delta. answers-plain t rows history changes q answer none stands delta is

@@ -2,9 +2,11 @@
 -- address of a path is one.
 use Rattle.std.specs.Prelude.{ℕ, List, ◌≡◌, ◌<◌, ◌^◌}
 use Rattle.dn_model.specs.Answer.{IsAnswerOf}
+use Rattle.dn_model.specs.Delta.{IsDeltaOf}
 use Rattle.dn_model.specs.declared.answer.Answer.{Answer}
 use Rattle.dn_model.specs.declared.answer.Answer.TheVariants as answers
 use Rattle.dn_model.specs.declared.change.Change.{Change}
+use Rattle.dn_model.specs.declared.entry.Entry.{Entry}
 use Rattle.dn_model.specs.declared.ids.RouterId.{RouterId}
 use Rattle.dn_model.specs.declared.query.Ask.{Ask}
 use Rattle.dn_model.specs.declared.query.Ask.TheVariants.{Path, Reach, Uses, Loops, Blackholes, Waypoint, Delta}
@@ -19,3 +21,14 @@ IsShown t does changes (Uses n) answer = IsAnswerOf t does (Uses n) answer
 IsShown t does changes Loops answer = IsAnswerOf t does Loops answer
 IsShown t does changes (Blackholes n) answer = IsAnswerOf t does (Blackholes n) answer
 IsShown t does changes (Waypoint n m w) answer = IsAnswerOf t does (Waypoint n m w) answer
+
+-- the changes are those that the last entry of a history made, where they are asked for; of other queries nothing hangs on
+-- them
+abbrev pub AreToldIf : Topology → List Entry → List Change → Ask → Type 0
+AreToldIf t history changes Delta = IsDeltaOf t history changes
+AreToldIf t history changes (Path n a) = Unit {0}
+AreToldIf t history changes (Reach n m) = Unit {0}
+AreToldIf t history changes (Uses n) = Unit {0}
+AreToldIf t history changes Loops = Unit {0}
+AreToldIf t history changes (Blackholes n) = Unit {0}
+AreToldIf t history changes (Waypoint n m w) = Unit {0}

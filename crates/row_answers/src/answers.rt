@@ -2,10 +2,10 @@
 
 ghost use Rattle.std.specs.Prelude.{◌≡◌, IfOk, List, None, length};
 ghost use Rattle.dn_model.specs.Answer.{IsAnswer};
-ghost use Rattle.dn_model.specs.Delta.{IsDeltaOf};
 ghost use Rattle.dn_model.specs.Forwarding.{StandsFor};
 ghost use Rattle.dn_model.specs.Query.{unknown_of};
 ghost use Rattle.dn_model.specs.declared.entry.Entry.{Entry};
+ghost use Rattle.row_answers.specs.Shown.{AreToldIf};
 
 use crate::asked::shown;
 use crate::named::links_named;
@@ -14,11 +14,12 @@ use label_view::LabelView;
 use std::alloc::Global;
 use what_if::Without;
 
-/// The answer to a query whose names the topology has, by a view of what its routers do, and the changes that the last
-/// update made: over a view that stands for a history, and the changes of that history's last entry, it is the answer
-/// over that history. The links of `without` are taken as down; one that is named twice counts once.
+/// The answer to a query whose names the topology has, by a view of what its routers do, and, for `Ask::Delta`, the
+/// changes that the last update made: over a view that stands for a history it is the answer over that history. The
+/// links of `without` are taken as down; one that is named twice counts once.
 ///
-/// `path` looks at one row, each other query at each row once, and at most once at each router there; `delta` at none.
+/// `path` looks at one row, each other query at each row once, and there at most as often as there are routers; `delta`
+/// at none.
 pub fn answer<V: LabelView>(
     alloc: Global,
     topology: &Topology,
@@ -30,7 +31,7 @@ pub fn answer<V: LabelView>(
     requires wide { V.width view.now ≡ length topology.now.routers }
     ensures { IfOk result (λ answer. (history : List Entry) →
         StandsFor topology.now (V.rows view.now) history →
-        IsDeltaOf topology.now history changes.now →
+        AreToldIf topology.now history changes.now query.now.ask →
         IsAnswer topology.now history query.now answer) }
 {
     if query.without().is_empty() {

@@ -1,5 +1,5 @@
 -- An edit of one child of a fork is an edit of the fork.
-use Rattle.std.proofs.Common.{◌≡◌, ℕ, ◌+◌, ◌<◌, ◌≤◌, List, length, get_or, set, take, refl, ap, sym, subst, ◌∙◌, arith, IfOk, OnErr, is_ok, if◌then◌else◌}
+use Rattle.std.proofs.Common.{◌≡◌, ℕ, ◌+◌, ◌<◌, List, length, get_or, set, take, ap, sym, subst, ◌∙◌, IfOk, OnErr, is_ok, if◌then◌else◌}
 use Rattle.std.specs.declared.result.Result.{Result}
 use Rattle.std.specs.declared.result.Result.TheVariants.{Ok, Err}
 use Rattle.std.specs.Fn.{FnOnceReturnsAtMut}

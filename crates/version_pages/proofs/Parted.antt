@@ -1,10 +1,10 @@
 -- A child parted in two.
-use Rattle.std.proofs.Common.{◌≡◌, ℕ, zero, suc, ◌+◌, ◌-◌, ◌<◌, ◌≤◌, List, [], ◌∷◌, ◌++◌, length, get_or, set, take, drop, refl, ap, sym, subst, ◌∙◌, arith, append_assoc, length-append, length-take, length-drop, add-one}
+use Rattle.std.proofs.Common.{◌≡◌, ℕ, zero, suc, ◌+◌, ◌-◌, ◌<◌, ◌≤◌, List, [], ◌∷◌, ◌++◌, length, get_or, set, take, drop, refl, ap, sym, subst, ◌∙◌, arith, append_assoc, length-append, length-drop, add-one}
 use Rattle.std.specs.List.{All, insert}
 use Rattle.std.proofs.lemmas.List.{append-nil, get_or_at, take_at, length-take-le}
 use Rattle.std.proofs.lemmas.List.Elements.{All-append, All-cons, All-drop, All-get_or, All-take}
 use Rattle.std.proofs.lemmas.List.Concat.{flat_map-append}
-use Rattle.version_pages.specs.Shape.{Shape, items_of, joined, AreHalves, AreKids, IsAt, IsParted, IsUnder}
+use Rattle.version_pages.specs.Shape.{Shape, items_of, joined, AreHalves, IsAt, IsParted, IsUnder}
 use Rattle.version_pages.proofs.Joined.{joined-at}
 
 -- two elements in the place of one

@@ -1,5 +1,5 @@
 -- Whether one of a walk's routers is a router.
-use Rattle.std.proofs.Common.{◌≡◌, ℕ, zero, suc, ◌<◌, ◌-◌, ◌==◌, ◌∙◌, ◌||◌, Bool, true, false, List, [], ◌∷◌, refl, ap, arith}
+use Rattle.std.proofs.Common.{◌≡◌, ℕ, zero, suc, ◌<◌, ◌-◌, ◌==◌, ◌∙◌, ◌||◌, Bool, true, false, refl, ap, arith}
 use Rattle.std.specs.List.{list_any}
 use Rattle.std.proofs.lemmas.Bool.{eq-eqb, ne_eqb, or_left}
 use Rattle.dn_model.specs.Reach.{is_router}

@@ -1,7 +1,7 @@
 -- Whether a walk comes to a router before it meets a waypoint.
 use Rattle.std.proofs.Common.{◌≡◌, ℕ, zero, suc, ◌<◌, ◌≤◌, ◌-◌, ◌==◌, ◌∙◌, Bool, true, false, cond, List, [], ◌∷◌, refl, ap, arith}
 use Rattle.std.proofs.lemmas.Bool.{cond-false, cond-true, eq-eqb, ne_eqb}
-use Rattle.dn_model.specs.Reach.{comes_before, is_router}
+use Rattle.dn_model.specs.Reach.{comes_before}
 use Rattle.dn_model.specs.Walk.{walk}
 use Rattle.dn_model.specs.declared.ids.LinkId.{LinkId}
 use Rattle.dn_model.specs.declared.ids.RouterId.{RouterId}

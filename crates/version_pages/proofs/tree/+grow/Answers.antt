@@ -1,5 +1,4 @@
 use Rattle.std.proofs.Common.{◌≡◌, ◌+◌, ◌-◌, ◌<◌, ◌≤◌, ◌^◌, ◌∙◌, ap, sym, subst, length, arith, rules}
-use Rattle.std.proofs.lemmas.Grind.{common_steps}
 use Rattle.version_pages.specs.Growth.{CanGrow}
 use Rattle.version_pages.specs.Nodes.{shape_of, IsKept}
 use Rattle.version_pages.specs.Shape.{Shape, fork_shape, items_of, joined, AreKids, IsAt}

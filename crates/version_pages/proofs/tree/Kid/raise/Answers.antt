@@ -1,4 +1,4 @@
-use Rattle.std.proofs.Common.{◌≡◌, ◌^◌, ◌≤◌, ◌∙◌, ap, length, arith}
+use Rattle.std.proofs.Common.{◌≡◌, ◌^◌, ◌≤◌, ap, length, arith}
 use Rattle.version_pages.specs.Shape.{items_of}
 use Rattle.version_pages.proofs.Deep.{below-power}
 use Rattle.version_pages.proofs.tree.Kid.raise.Goals as goal

@@ -1,4 +1,4 @@
-use Rattle.std.proofs.Common.{◌≡◌, ◌+◌, ◌∙◌, ap, sym, subst, set, insert, arith}
+use Rattle.std.proofs.Common.{◌≡◌, ◌+◌, sym, subst, set, insert, arith}
 use Rattle.std.proofs.lemmas.Grind.{common_steps}
 use Rattle.version_pages.specs.Shape.{IsParted}
 use Rattle.version_pages.proofs.Parted.{parted}

@@ -1,4 +1,4 @@
-use Rattle.std.proofs.Common.{◌≡◌, ℕ, ◌+◌, ◌-◌, ◌/◌, ◌∙◌, ap, get_or, arith}
+use Rattle.std.proofs.Common.{ℕ, ◌+◌, ◌-◌, ◌/◌, ◌∙◌, ap, get_or, arith}
 use Rattle.version_pages.specs.Shape.{items_of}
 use Rattle.version_pages.proofs.Ending.{kids-down, kids-end, kids-up}
 use Rattle.version_pages.proofs.tree.search.search_kids.Goals as goal

@@ -1,5 +1,8 @@
-pub mod AtomLemmas
+pub mod BitLemmas
+pub mod BitsLemmas
+pub mod CountLemmas
+pub mod EdgeOrder
+pub mod MemberLemmas
 pub mod GraphLemmas
-pub mod KeyLemmas
 pub mod RowLemmas
-pub mod Undone
+pub mod SetLemmas

@@ -1,214 +1,120 @@
--- The labels of one router after an atom has joined one and left another.
-use Rattle.std.proofs.Common.{◌≡◌, ℕ, ◌∙◌, ◌&&◌, ◌||◌, ◌↔◌, not, Bool, true, false, cond, List, [], Option, Some, None, Result, Ok, Err, refl, ap, sym, eqb}
-use Rattle.std.specs.BTreeMap.{is_at}
-use Rattle.std.specs.Map.{lookup}
-use Rattle.std.specs.Option.{is_some, unwrap_or}
-use Rattle.std.specs.Ordering.{nat_cmp}
-use Rattle.std.specs.Result.{OnErr}
-use Rattle.std.proofs.lemmas.Bool.{both_ways, eqb-true, false≢true}
-use Rattle.dn_model.specs.declared.target.Target.{Target}
-use Rattle.dn_model.proofs.KeyOrder.{nat-at}
-use Rattle.edge_labels.specs.Atoms.{AreAtoms, has_atom}
-use Rattle.edge_labels.specs.Keys.{key_of, key_cmp, same_key, label_in, is_target, AreLabelsOf, Changes, Joins, Leaves, Retargets}
-use Rattle.edge_labels.specs.Labels.{target_if}
-use Rattle.edge_labels.specs.declared.target_key.TargetKey.{TargetKey}
-use Rattle.edge_labels.proofs.KeyLemmas.{apart-both, key-once, same-true, target-is, target-there}
+-- Rows of codes in one list.
+use Rattle.std.proofs.Common.{◌≡◌, ◌≢◌, ℕ, zero, suc, ◌+◌, ◌-◌, ◌*◌, ◌/◌, ◌%◌, ◌<◌, ◌≤◌, ◌||◌, ◌&&◌, not, eqb, ltb, Bool, true, false, List, [], ◌∷◌, ◌++◌, length, map, take, drop, get_or, set, refl, ap, sym, ◌∙◌, arith, length-append, append_assoc}
+use Rattle.std.specs.List.{list_any, range_with_len}
+use Rattle.std.proofs.lemmas.Bool.Decides.{nat_tests}
+use Rattle.std.proofs.lemmas.List.{drop-append-le, drop-set-add, drop-set-lt, drop_at, get_or-append-add, get_or-drop, get_or-map, get_or-set_other, get_or-set_same, get_or-take, get_or_append_left, length-drop, length-take-le, take-append-le, take-set-le, take_all, take_more}
+use Rattle.std.proofs.lemmas.List.Folds.{list_any-append}
+use Rattle.std.proofs.lemmas.Nat.{div-mul-add, mod-mul-add, mul-le}
+use Rattle.std.proofs.Math.Seq.{take-set-lt}
+use Rattle.edge_labels.specs.Atoms.{has_atom}
+use Rattle.edge_labels.specs.Rows.{AreJoined, AreRowJoined, code_at, codes_of}
 
-abbrev Sets : Type 0
-Sets = List (TargetKey × List ℕ)
+pub row-fits : (a atoms n : ℕ) → a < atoms → a * n + n ≤ atoms * n
+row-fits a atoms n l = let m : (a + 1) * n ≤ atoms * n = mul-le (a + 1) n atoms n (omega arith) (omega arith) in omega arith
 
-pub on-err : {T E P : Type 0} (r : Result T E) → P → OnErr r P
-on-err (Ok x) p = tt
-on-err (Err e) p = p
+pub place-fits : (a r n : ℕ) → a < 4294967296 → n < 4294967296 → r < n → a * n + r < 18446744073709551616
+place-fits a r n la ln lr = let m : a * n ≤ 4294967295 * 4294967295 = mul-le a n 4294967295 4294967295 (omega arith) (omega arith) in omega arith
 
-pub none-from : {X : Type 0} (o : Option X) → is_some o ≡ false → o ≡ None
-none-from None h = refl
-none-from (Some x) h = absurd (false≢true (sym h))
+pub length-row : (n atoms a : ℕ) (codes : List ℕ) → length codes ≡ atoms * n → a < atoms → length (codes_of n codes a) ≡ n
+length-row n atoms a codes long l = length-take-le n (drop (a * n) codes) (omega (arith, length-drop (a * n) codes, row-fits a atoms n l))
 
-pub some-from : {X : Type 0} (o : Option X) (x : X) → o ≡ Some x → is_some o ≡ true
-some-from o x h = ap is_some h
+pub row-at : (n a r : ℕ) (codes : List ℕ) → r < n → get_or (codes_of n codes a) r 0 ≡ code_at n codes a r
+row-at n a r codes l = get_or-take n (drop (a * n) codes) r 0 l ∙ get_or-drop (a * n) codes r 0
 
--- ---- the label under one key
+-- a place has one atom and one router
+pub place-router : (a b q r n : ℕ) → q < n → r < n → b * n + q ≡ a * n + r → q ≡ r
+place-router a b q r n lq lr e = sym (mod-mul-add b n q lq) ∙ ap (λ x. x % n) e ∙ mod-mul-add a n r lr
 
--- one label was written
-abbrev Writes : Sets → Sets → TargetKey → List ℕ → Type 0
-Writes m n j w = (q : TargetKey) → lookup (is_at (key_cmp q)) n ≡ cond (is_at (key_cmp j) q) (Some w) (lookup (is_at (key_cmp q)) m)
+pub place-atom : (a b q r n : ℕ) → q < n → r < n → b * n + q ≡ a * n + r → b ≡ a
+place-atom a b q r n lq lr e = sym (div-mul-add b n q lq) ∙ ap (λ x. x / n) e ∙ div-mul-add a n r lr
 
--- the label of each key after that of one was written
-written : (m n : Sets) (j k : TargetKey) (w : List ℕ) (b : Bool) → same_key j k ≡ b → Writes m n j w → label_in n k ≡ cond b w (label_in m k)
-written m n j k w true h u = ap (λ o. unwrap_or o []) (u k ∙ ap (λ c. cond c (Some w) (lookup (is_at (key_cmp k)) m)) h)
-written m n j k w false h u = ap (λ o. unwrap_or o []) (u k ∙ ap (λ c. cond c (Some w) (lookup (is_at (key_cmp k)) m)) h)
+pub map-agree : {X : Type 0} (f g : ℕ → X) (xs : List ℕ) → ((i : ℕ) → i < length xs → f (get_or xs i 0) ≡ g (get_or xs i 0)) → map f xs ≡ map g xs
+map-agree f g [] same = refl
+map-agree f g (x ∷ xs) same = ap (λ y. y ∷ map f xs) (same 0 (omega arith)) ∙ ap (λ ys. g x ∷ ys) (map-agree f g xs (λ i l. same (suc i) (omega arith)))
 
-under : (m : Sets) (j k : TargetKey) (old : List ℕ) → same_key j k ≡ true → lookup (is_at (key_cmp j)) m ≡ Some old → label_in m k ≡ old
-under m j k old h at = ap (λ x. label_in m x) (sym (same-true j k h)) ∙ ap (λ o. unwrap_or o []) at
+pub map-along : {X : Type 0} (f g : ℕ → X) (a n : ℕ) → ((k : ℕ) → a ≤ k → k < a + n → f k ≡ g k) → map f (range_with_len a n) ≡ map g (range_with_len a n)
+map-along f g a zero same = refl
+map-along f g a (suc n) same = ap (λ y. y ∷ map f (range_with_len (a + 1) n)) (same a (omega arith) (omega arith)) ∙ ap (λ ys. g a ∷ ys) (map-along f g (a + 1) n (λ k l m. same k (omega arith) (omega arith)))
 
-pub joined-at-key : (m n : Sets) (j : TargetKey) (b : ℕ) (old w : List ℕ) → lookup (is_at (key_cmp j)) m ≡ Some old → Writes m n j w → AreAtoms w (λ a. eqb a b || has_atom old a) → Joins m n j b
-joined-at-key m n j b old w at u grown k a = by (same_key j k) refl
+-- ---- one code is written
+
+pub row-written : (n a r c : ℕ) (codes : List ℕ) → r < n → codes_of n (set codes (a * n + r) c) a ≡ set (codes_of n codes a) r c
+row-written n a r c codes l = ap (take n) (drop-set-add (a * n) codes r c) ∙ take-set-lt n (drop (a * n) codes) r c l
+
+pub row-other : (n a b r c : ℕ) (codes : List ℕ) → r < n → (b ≡ a → ⊥) → codes_of n (set codes (a * n + r) c) b ≡ codes_of n codes b
+row-other n a b r c codes l ne = by (ltb b a) refl
   where
-    by : (s : Bool) → same_key j k ≡ s → has_atom (label_in n k) a ≡ ((same_key j k && eqb a b) || has_atom (label_in m k) a)
-    by true h =
-        ap (λ xs. has_atom xs a) (written m n j k w true h u)
-        ∙ grown.exact a
-        ∙ ap (λ xs. eqb a b || has_atom xs a) (sym (under m j k old h at))
-        ∙ ap (λ s. (s && eqb a b) || has_atom (label_in m k) a) (sym h)
-    by false h =
-        ap (λ xs. has_atom xs a) (written m n j k w false h u)
-        ∙ ap (λ s. (s && eqb a b) || has_atom (label_in m k) a) (sym h)
+    by : (t : Bool) → ltb b a ≡ t → codes_of n (set codes (a * n + r) c) b ≡ codes_of n codes b
+    by true e =
+        let lt : b < a = grind (arith, nat_tests) in
+        let fits : b * n + n ≤ a * n = row-fits b a n lt in
+        let split : a * n + r ≡ b * n + (a * n + r - b * n) = omega arith in
+        ap (λ i. take n (drop (b * n) (set codes i c))) split
+        ∙ ap (take n) (drop-set-add (b * n) codes (a * n + r - b * n) c)
+        ∙ take-set-le n (drop (b * n) codes) (a * n + r - b * n) c (omega arith)
+    by false e =
+        let le : a ≤ b = grind (arith, nat_tests) in
+        let lt : a < b = grind (arith, nat_tests) in
+        ap (take n) (drop-set-lt (b * n) codes (a * n + r) c (omega (arith, row-fits a b n lt)))
 
-pub left-at-key : (m n : Sets) (j : TargetKey) (b : ℕ) (old w : List ℕ) → lookup (is_at (key_cmp j)) m ≡ Some old → Writes m n j w → AreAtoms w (λ a. not (eqb a b) && has_atom old a) → Leaves m n j b
-left-at-key m n j b old w at u left k a = by (same_key j k) refl
-  where
-    by : (s : Bool) → same_key j k ≡ s → has_atom (label_in n k) a ≡ (not (same_key j k && eqb a b) && has_atom (label_in m k) a)
-    by true h =
-        ap (λ xs. has_atom xs a) (written m n j k w true h u)
-        ∙ left.exact a
-        ∙ ap (λ xs. not (eqb a b) && has_atom xs a) (sym (under m j k old h at))
-        ∙ ap (λ s. not (s && eqb a b) && has_atom (label_in m k) a) (sym h)
-    by false h =
-        ap (λ xs. has_atom xs a) (written m n j k w false h u)
-        ∙ ap (λ s. not (s && eqb a b) && has_atom (label_in m k) a) (sym h)
+-- ---- a row is added
 
-pub same-at-key : (m n : Sets) (j : TargetKey) (old w : List ℕ) → lookup (is_at (key_cmp j)) m ≡ Some old → Writes m n j w → w ≡ old → (k : TargetKey) → label_in n k ≡ label_in m k
-same-at-key m n j old w at u same k = by (same_key j k) refl
-  where
-    by : (s : Bool) → same_key j k ≡ s → label_in n k ≡ label_in m k
-    by true h = written m n j k w true h u ∙ same ∙ sym (under m j k old h at)
-    by false h = written m n j k w false h u
+pub row-kept : (n atoms b : ℕ) (codes row : List ℕ) → length codes ≡ atoms * n → b < atoms → codes_of n (codes ++ row) b ≡ codes_of n codes b
+row-kept n atoms b codes row long l =
+    let fits : b * n + n ≤ atoms * n = row-fits b atoms n l in
+    ap (take n) (drop-append-le (b * n) codes row (omega arith))
+    ∙ take-append-le n (drop (b * n) codes) row (omega (arith, length-drop (b * n) codes))
 
--- an empty label under a key that had none
-pub same-with-none : (m n : Sets) (j : TargetKey) (w : List ℕ) → lookup (is_at (key_cmp j)) m ≡ None → Writes m n j w → w ≡ [] → (k : TargetKey) → label_in n k ≡ label_in m k
-same-with-none m n j w at u none k = by (same_key j k) refl
-  where
-    by : (s : Bool) → same_key j k ≡ s → label_in n k ≡ label_in m k
-    by true h = written m n j k w true h u ∙ none ∙ sym (ap (λ x. label_in m x) (sym (same-true j k h)) ∙ ap (λ o. unwrap_or o []) at)
-    by false h = written m n j k w false h u
+pub row-added : (n atoms : ℕ) (codes row : List ℕ) → length codes ≡ atoms * n → length row ≡ n → codes_of n (codes ++ row) atoms ≡ row
+row-added n atoms codes row long len = ap (take n) (drop_at codes row (atoms * n) long) ∙ take_all n row (omega arith)
 
-and-false : (b : Bool) → (b && false) ≡ false
-and-false true = refl
-and-false false = refl
+pub code-kept : (n atoms b q : ℕ) (codes row : List ℕ) → length codes ≡ atoms * n → b < atoms → q < n → code_at n (codes ++ row) b q ≡ code_at n codes b q
+code-kept n atoms b q codes row long l m = get_or_append_left codes row 0 (b * n + q) (omega (arith, row-fits b atoms n l))
 
--- nothing leaves a label that isn't there
-pub left-none : (m n : Sets) (j : TargetKey) (b : ℕ) → n ≡ m → lookup (is_at (key_cmp j)) m ≡ None → Leaves m n j b
-left-none m n j b same at k a = ap (λ ls. has_atom (label_in ls k) a) same ∙ by (same_key j k) refl
-  where
-    by : (s : Bool) → same_key j k ≡ s → has_atom (label_in m k) a ≡ (not (same_key j k && eqb a b) && has_atom (label_in m k) a)
-    by true h =
-        let none : label_in m k ≡ [] = ap (λ x. label_in m x) (sym (same-true j k h)) ∙ ap (λ o. unwrap_or o []) at in
-        ap (λ xs. has_atom xs a) none ∙ sym (ap (λ xs. not (same_key j k && eqb a b) && has_atom xs a) none ∙ and-false (not (same_key j k && eqb a b)))
-    by false h = ap (λ s. not (s && eqb a b) && has_atom (label_in m k) a) (sym h)
+pub code-added : (n atoms q : ℕ) (codes row : List ℕ) → length codes ≡ atoms * n → code_at n (codes ++ row) atoms q ≡ get_or row q 0
+code-added n atoms q codes row long = let at : atoms * n + q ≡ length codes + q = omega arith in ap (λ i. get_or (codes ++ row) i 0) at ∙ get_or-append-add codes row q 0
 
--- ---- steps one after another
+pub row-next : (codes : List ℕ) (from r code : ℕ) → from + r < length codes → code ≡ get_or codes (from + r) 0 → take r (drop from codes) ++ code ∷ [] ≡ take (r + 1) (drop from codes)
+row-next codes from r code lt at =
+    ap (λ x. take r (drop from codes) ++ x ∷ []) (at ∙ sym (get_or-drop from codes r 0))
+    ∙ sym (take_more (drop from codes) r 0 (omega (arith, length-drop from codes)))
 
-pub joins-after : (m mid n : Sets) (j : TargetKey) (b : ℕ) → ((k : TargetKey) → label_in mid k ≡ label_in m k) → Joins mid n j b → Joins m n j b
-joins-after m mid n j b same joins k a = joins k a ∙ ap (λ xs. (same_key j k && eqb a b) || has_atom xs a) (same k)
+pub copied-more : (codes now new : List ℕ) (from r code : ℕ) → from + r < length codes → now ≡ codes ++ take r (drop from codes) → code ≡ get_or now (from + r) 0 → new ≡ now ++ code ∷ [] → new ≡ codes ++ take (r + 1) (drop from codes)
+copied-more codes now new from r code lt inv read push =
+    let at : code ≡ get_or codes (from + r) 0 = read ∙ ap (λ xs. get_or xs (from + r) 0) inv ∙ get_or_append_left codes (take r (drop from codes)) 0 (from + r) lt in
+    push
+    ∙ ap (λ xs. xs ++ code ∷ []) inv
+    ∙ append_assoc codes (take r (drop from codes)) (code ∷ [])
+    ∙ ap (λ xs. codes ++ xs) (row-next codes from r code lt at)
 
-pub changes-by : (m mid n : Sets) (from to : TargetKey) (b : ℕ) → Joins m mid to b → Leaves mid n from b → Changes m n from to b
-changes-by m mid n from to b joins leaves k a = leaves k a ∙ ap (λ h. not (same_key from k && eqb a b) && h) (joins k a)
+-- ---- the codes of a row are joined
 
--- ---- the atoms of each target
+pub joined-none : (sets : List (List ℕ)) (atom : ℕ) → AreRowJoined sets sets [] atom
+joined-none sets atom = record { long = refl; exact = λ c a. refl }
 
-at-atom : (p q old new : Bool) → (p && q) ≡ false → old ≡ p → new ≡ q → (not (p && true) && ((q && true) || old)) ≡ new
-at-atom true true old new apart was is = absurd (both_ways true apart refl)
-at-atom true false old new apart was is = sym is
-at-atom false true old new apart was is = sym is
-at-atom false false old new apart was is = was ∙ sym is
+or-in : (p q t h : Bool) → ((p && t) || ((q && t) || h)) ≡ (((q || (p || false)) && t) || h)
+or-in true true true h = refl
+or-in true true false h = refl
+or-in true false true h = refl
+or-in true false false h = refl
+or-in false true true h = refl
+or-in false true false h = refl
+or-in false false true h = refl
+or-in false false false h = refl
 
-elsewhere : (p q old new : Bool) → new ≡ old → (not (p && false) && ((q && false) || old)) ≡ new
-elsewhere true true old new same = sym same
-elsewhere true false old new same = sym same
-elsewhere false true old new same = sym same
-elsewhere false false old new same = sym same
+flip : (a b : ℕ) → eqb a b ≡ eqb b a
+flip a b = grind (arith, nat_tests)
 
--- what a test of an atom's target gives after the change
-tested : (es fs : List (ℕ × Target)) (atom a : ℕ) (t : Target) (k : TargetKey) (e : Bool) → Retargets es fs atom t → eqb a atom ≡ e → is_target (target_if fs a) k ≡ is_target (cond e (Some t) (target_if es a)) k
-tested es fs atom a t k e moved h = ap (λ o. is_target o k) (moved a ∙ ap (λ c. cond c (Some t) (target_if es a)) (nat-at atom a ∙ h))
+pub joined-more : (old now new : List (List ℕ)) (row : List ℕ) (code atom : ℕ) → AreRowJoined old now row atom → AreJoined now new code atom → AreRowJoined old new (row ++ code ∷ []) atom
+joined-more old now new row code atom before more = record {
+  long = more.long ∙ before.long;
+  exact = λ c a.
+      more.exact c a
+      ∙ ap (λ b. (eqb c code && eqb a atom) || b) (before.exact c a)
+      ∙ ap (λ p. (p && eqb a atom) || ((list_any (λ k. eqb k c) row && eqb a atom) || has_atom (get_or old c []) a)) (flip c code)
+      ∙ or-in (eqb code c) (list_any (λ k. eqb k c) row) (eqb a atom) (has_atom (get_or old c []) a)
+      ∙ ap (λ p. (p && eqb a atom) || has_atom (get_or old c []) a) (sym (list_any-append (λ k. eqb k c) row (code ∷ [])));
+}
 
-pub moved-labels : (es fs : List (ℕ × Target)) (old new : Sets) (from to : TargetKey) (atom : ℕ) (before after : Target) → from ≡ key_of before → to ≡ key_of after → (before ≡ after → ⊥) → target_if es atom ≡ Some before → Retargets es fs atom after → Changes old new from to atom → AreLabelsOf es old → AreLabelsOf fs new
-moved-labels es fs old new from to atom before after of_before of_after differ at moved changes sound k a =
-    changes k a
-    ∙ ap (λ j. not (same_key j k && eqb a atom) && ((same_key to k && eqb a atom) || was)) of_before
-    ∙ ap (λ j. not (p && eqb a atom) && ((same_key j k && eqb a atom) || was)) of_after
-    ∙ by (eqb a atom) refl
-  where
-    p : Bool
-    p = same_key (key_of before) k
-
-    q : Bool
-    q = same_key (key_of after) k
-
-    was : Bool
-    was = has_atom (label_in old k) a
-
-    by : (e : Bool) → eqb a atom ≡ e → (not (p && eqb a atom) && ((q && eqb a atom) || was)) ≡ is_target (target_if fs a) k
-    by true h =
-        ap (λ e. not (p && e) && ((q && e) || was)) h
-        ∙ at-atom p q was (is_target (target_if fs a) k) (apart-both (key_of before) (key_of after) k (λ s. differ (key-once before after s)))
-        (sound k a ∙ ap (λ x. is_target (target_if es x) k) (eqb-true a atom h) ∙ ap (λ o. is_target o k) at)
-        (tested es fs atom a after k true moved h)
-    by false h =
-        ap (λ e. not (p && e) && ((q && e) || was)) h
-        ∙ elsewhere p q was (is_target (target_if fs a) k) (tested es fs atom a after k false moved h ∙ sym (sound k a))
-
-joined-at : (q old : Bool) → old ≡ false → ((q && true) || old) ≡ q
-joined-at true old h = refl
-joined-at false old h = h
-
-joined-elsewhere : (q old : Bool) → ((q && false) || old) ≡ old
-joined-elsewhere true old = refl
-joined-elsewhere false old = refl
-
-pub joined-labels : (es fs : List (ℕ × Target)) (old new : Sets) (j : TargetKey) (atom : ℕ) (t : Target) → j ≡ key_of t → target_if es atom ≡ None → Retargets es fs atom t → Joins old new j atom → AreLabelsOf es old → AreLabelsOf fs new
-joined-labels es fs old new j atom t of_target fresh added joins sound k a =
-    joins k a ∙ ap (λ i. (same_key i k && eqb a atom) || was) of_target ∙ by (eqb a atom) refl
-  where
-    q : Bool
-    q = same_key (key_of t) k
-
-    was : Bool
-    was = has_atom (label_in old k) a
-
-    by : (e : Bool) → eqb a atom ≡ e → ((q && eqb a atom) || was) ≡ is_target (target_if fs a) k
-    by true h =
-        ap (λ e. (q && e) || was) h
-        ∙ joined-at q was (sound k a ∙ ap (λ x. is_target (target_if es x) k) (eqb-true a atom h) ∙ ap (λ o. is_target o k) fresh)
-        ∙ sym (tested es fs atom a t k true added h)
-    by false h =
-        ap (λ e. (q && e) || was) h
-        ∙ joined-elsewhere q was
-        ∙ sound k a
-        ∙ sym (tested es fs atom a t k false added h)
-
-pub same-labels : (es : List (ℕ × Target)) (old new : Sets) → ((k : TargetKey) → label_in new k ≡ label_in old k) → AreLabelsOf es old → AreLabelsOf es new
-same-labels es old new same sound k a = ap (λ xs. has_atom xs a) (same k) ∙ sound k a
-
-pub none-labels : (es : List (ℕ × Target)) (old : Sets) → es ≡ [] → old ≡ [] → AreLabelsOf es old
-none-labels es old no_atom no_label k a =
-    ap (λ ls. has_atom (label_in ls k) a) no_label ∙ sym (ap (λ xs. is_target (target_if xs a) k) no_atom)
-
-pub copied-labels : (es fs : List (ℕ × Target)) (old new : Sets) → fs ≡ es → new ≡ old → AreLabelsOf es old → AreLabelsOf fs new
-copied-labels es fs old new targets labels sound k a =
-    ap (λ ls. has_atom (label_in ls k) a) labels ∙ sound k a ∙ sym (ap (λ xs. is_target (target_if xs a) k) targets)
-
--- an atom that stays where it is
-pub stays : (es : List (ℕ × Target)) (atom : ℕ) (before after : Target) → target_if es atom ≡ Some before → before ≡ after → Retargets es es atom after
-stays es atom before after at same b = by (eqb b atom) refl
-  where
-    by : (e : Bool) → eqb b atom ≡ e → target_if es b ≡ cond (is_at (nat_cmp atom) b) (Some after) (target_if es b)
-    by true h =
-        ap (λ x. target_if es x) (eqb-true b atom h) ∙ at ∙ ap (λ (t : Target). Some t) same
-        ∙ sym (ap (λ c. cond c (Some after) (target_if es b)) (nat-at atom b ∙ h))
-    by false h = sym (ap (λ c. cond c (Some after) (target_if es b)) (nat-at atom b ∙ h))
-
--- ---- the label of a target
-
-pub label-there : (es : List (ℕ × Target)) (labels : Sets) (j : TargetKey) (t : Target) (set : List ℕ) → j ≡ key_of t → lookup (is_at (key_cmp j)) labels ≡ Some set → AreLabelsOf es labels → (a : ℕ) → (has_atom set a ≡ true) ↔ (target_if es a ≡ Some t)
-label-there es labels j t set of_target at sound a =
-    let is : has_atom set a ≡ is_target (target_if es a) (key_of t) =
-    sym (ap (λ o. has_atom (unwrap_or o []) a) at) ∙ sound j a ∙ ap (λ k. is_target (target_if es a) k) of_target in (
-      λ h. target-there (target_if es a) t (sym is ∙ h),
-      λ h. is ∙ target-is (target_if es a) t h,
-    )
-
-pub label-not : (es : List (ℕ × Target)) (labels : Sets) (j : TargetKey) (t : Target) → j ≡ key_of t → lookup (is_at (key_cmp j)) labels ≡ None → AreLabelsOf es labels → (a : ℕ) → target_if es a ≡ Some t → ⊥
-label-not es labels j t of_target at sound a h =
-    false≢true (sym (ap (λ o. has_atom (unwrap_or o []) a) at) ∙ sound j a ∙ ap (λ k. is_target (target_if es a) k) of_target ∙ target-is (target_if es a) t h)
+pub from-fits : (a n : ℕ) → a < 4294967296 → n < 4294967296 → a * n + n < 18446744073709551616
+from-fits a n la ln = let m : a * n ≤ 4294967295 * 4294967295 = mul-le a n 4294967295 4294967295 (omega arith) (omega arith) in omega arith

@@ -1,4 +1,5 @@
 pub mod Atoms
-pub mod Keys
+pub mod Bits
+pub mod Codes
 pub mod Labels
 pub mod Rows

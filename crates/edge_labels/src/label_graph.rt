@@ -1,189 +1,240 @@
 //! The labels of all routers.
 
-ghost use Rattle.std.specs.Prelude.{◌≡◌, ◌<◌, ◌==◌, ◌||◌, ◌∷◌, [], All, None, map, replicate, IsTrue, IsFalse, IfOk, OnOk, OnErr};
-ghost use Rattle.dn_model.specs.declared.target.Target.TheVariants.{NoRoute};
-ghost use Rattle.edge_labels.specs.Atoms.{has_atom, AreAtoms};
-ghost use Rattle.edge_labels.specs.Labels.{IsFirst, IsInherited, IsLabel, IsMoved, routers, target_at, target_if};
-ghost use Rattle.edge_labels.specs.Rows.{Inherit, without_atom};
+ghost use Rattle.std.specs.Prelude.{◌≡◌, ◌+◌, ◌*◌, ◌^◌, ◌<◌, [], length, IfOk, IsTrue};
+ghost use Rattle.edge_labels.specs.Labels.{first_labels, inherited, IsLabel, moved, target_at};
+ghost use Rattle.edge_labels.specs.Rows.{AreFirst};
 
 use crate::atom_set::AtomSet;
-use crate::router_labels::RouterLabels;
+use crate::code_book::CodeBook;
+use crate::codes::Edge;
+use crate::sets::{copy_row, join, join_row, leave, reach, read, set_of};
 use dn_model::{AtomId, OutOfMemory, RouterId, Target};
 use std::alloc::Global;
 use std::marker::Model;
+use version_pages::Pages;
 
 /// What each router does with each atom, and for each router and target the set of the atoms that have it. A contract
-/// sees the atoms that are there, and for each router the list of the atoms with their targets.
+/// sees the number of routers and, for the number of each atom, the targets by router. Each router with a target has a
+/// code; for each atom stands a row of codes, and for each code the set of its atoms. A copy is a few counts.
 #[derive(Drop)]
 pub struct LabelGraph {
-    atoms: AtomSet,
+    routers: u32,
+    atoms: u64,
+    codes: Pages<u32>,
+    book: CodeBook,
+    sets: Pages<AtomSet>,
     none: AtomSet,
-    rows: Vec<RouterLabels>,
 }
 
 impl Model for LabelGraph {
     ghost use Rattle.edge_labels.specs.Labels.{Labels};
-    ghost use Rattle.edge_labels.specs.Rows.{AreRows};
+    ghost use Rattle.edge_labels.specs.Rows.{AreKept, labels_of};
 
     ghost Value = { Labels };
 
-    ghost view = { λ g. record { atoms = g.atoms; targets = g.rows.items } };
+    ghost view = { λ g. labels_of g.routers g.atoms g.codes g.book };
 
-    ghost invariant = { λ g. AreRows g.atoms g.none g.rows.items };
+    ghost invariant = { λ g. AreKept g.routers g.atoms g.codes g.book g.sets g.none };
+}
+
+/// What routers do first: for each a code, and the set of the code.
+#[derive(Drop)]
+struct First {
+    codes: Pages<u32>,
+    book: CodeBook,
+    sets: Pages<AtomSet>,
 }
 
 impl LabelGraph {
     /// The labels of this number of routers, which have no route for the one atom 0.
     pub fn new(alloc: Global, routers: u32) -> Result<LabelGraph, OutOfMemory>
-        ensures { IfOk result (IsFirst routers) }
+        ensures { IfOk result (λ graph. graph ≡ first_labels routers) }
     {
-        let atoms = AtomSet::of(alloc, &[AtomId(0)])?;
-        let rows = first_rows(alloc, routers)?;
+        let First { codes, book, sets } = first_codes(alloc, routers)?;
         Ok(LabelGraph {
-            atoms,
-            none: AtomSet::new(alloc),
-            rows,
+            routers,
+            atoms: 1,
+            codes,
+            book,
+            sets,
+            none: AtomSet::empty(),
         })
     }
 
-    /// What a router does with an atom.
+    /// What a router does with an atom. It takes no memory.
     pub fn target(&self, r: RouterId, atom: AtomId) -> Target
-        requires router { r.0 < routers self.now }
-        requires atom { IsTrue (has_atom self.now.atoms atom.0) }
+        requires router { r.0 < self.now.routers }
+        requires atom { atom.0 < length self.now.rows }
         ensures { result ≡ target_at self.now r.0 atom.0 }
     {
-        self.rows[r.0 as usize].target(atom.0)
+        let code = read(&self.codes, place_of(self.routers, r, atom));
+        self.book.edge(code).target
     }
 
-    /// A router does something else with an atom. After `OutOfMemory`, for which alone it fails, all is as before.
+    /// A router does something else with an atom. At `OutOfMemory`, for which alone it fails, all is dropped: the sets of
+    /// two codes change, and undoing the first change might want memory too.
     pub fn move_atom(
-        &mut self,
+        self,
         alloc: Global,
         r: RouterId,
         atom: AtomId,
         before: Target,
         after: Target,
-    ) -> Result<(), OutOfMemory>
-        requires router { r.0 < routers self.old }
-        requires atom { IsTrue (has_atom self.old.atoms atom.0) }
-        requires before { target_at self.old r.0 atom.0 ≡ before }
-        ensures ok { OnOk result (IsMoved self.old self.new r.0 atom.0 after) }
-        ensures err { OnErr result (self.new ≡ self.old) }
+    ) -> Result<LabelGraph, OutOfMemory>
+        requires router { r.0 < self.routers }
+        requires atom { atom.0 < length self.rows }
+        requires before { target_at self r.0 atom.0 ≡ before }
+        ensures { IfOk result (λ graph. graph ≡ moved self r.0 atom.0 after) }
     {
-        let row = &mut self.rows[r.0 as usize];
-        row.move_atom(alloc, atom.0, before, after)
+        if is_same(&before, &after) {
+            return Ok(self);
+        }
+        self.change(alloc, r, atom, after)
     }
 
-    /// Adds an atom, with which each router does what it does with an old one. After `OutOfMemory`, for which alone it
-    /// fails, all is as before.
+    /// A router does something else with an atom.
+    fn change(
+        self,
+        alloc: Global,
+        r: RouterId,
+        atom: AtomId,
+        after: Target,
+    ) -> Result<LabelGraph, OutOfMemory>
+        requires router { r.0 < self.routers }
+        requires atom { atom.0 < length self.rows }
+        ensures { IfOk result (λ graph. graph ≡ moved self r.0 atom.0 after) }
+    {
+        let LabelGraph {
+            routers,
+            atoms,
+            mut codes,
+            book,
+            mut sets,
+            none,
+        } = self;
+        let place = place_of(routers, r, atom);
+        let old = read(&codes, place);
+        let edge = Edge {
+            router: r.0 as u32,
+            target: after,
+        };
+        let (book, new) = book.code_of(alloc, edge)?;
+        reach(alloc, &mut sets, book.len())?;
+        leave(alloc, &mut sets, old, atom)?;
+        join(alloc, &mut sets, new, atom)?;
+        codes.put(alloc, place, new)?;
+        Ok(LabelGraph {
+            routers,
+            atoms,
+            codes,
+            book,
+            sets,
+            none,
+        })
+    }
+
+    /// Adds an atom, with which each router does what it does with an old one. At `OutOfMemory`, for which alone it
+    /// fails, all is dropped.
     pub fn inherit(
-        &mut self,
+        self,
         alloc: Global,
         old_atom: AtomId,
         new_atom: AtomId,
-    ) -> Result<(), OutOfMemory>
-        requires there { IsTrue (has_atom self.old.atoms old_atom.0) }
-        requires fresh { IsFalse (has_atom self.old.atoms new_atom.0) }
-        ensures ok { OnOk result (IsInherited self.old self.new old_atom.0 new_atom.0) }
-        ensures err { OnErr result (self.new ≡ self.old) }
+    ) -> Result<LabelGraph, OutOfMemory>
+        requires there { old_atom.0 < length self.rows }
+        requires next { new_atom.0 ≡ length self.rows }
+        ensures { IfOk result (λ graph. graph ≡ inherited self old_atom.0) }
     {
-        let (old, new) = (old_atom.0, new_atom.0);
-        match grow(alloc, &mut self.atoms, &mut self.rows, old, new) {
-            Ok(()) => Ok(()),
-            Err(error) => {
-                forget_in(&mut self.rows, new);
-                Err(error)
-            }
-        }
+        let LabelGraph {
+            routers,
+            atoms,
+            mut codes,
+            book,
+            mut sets,
+            none,
+        } = self;
+        let from = row_of(routers, old_atom);
+        join_row(alloc, &mut sets, &codes, from, routers, new_atom)?;
+        copy_row(alloc, &mut codes, from, routers)?;
+        Ok(LabelGraph {
+            routers,
+            atoms: atoms + 1,
+            codes,
+            book,
+            sets,
+            none,
+        })
     }
 
-    /// The label of a target at a router: the set of the atoms that have it.
+    /// The label of a target at a router: the set of the atoms that have it. It takes no memory.
     pub fn label(&self, r: RouterId, target: Target) -> &AtomSet
-        requires router { r.0 < routers self.now }
+        requires { r.0 < self.now.routers }
         ensures { IsLabel self.now r.0 target result.now }
     {
-        match self.rows[r.0 as usize].label(target) {
-            Some(set) => set,
+        let edge = Edge {
+            router: r.0 as u32,
+            target,
+        };
+        match self.book.find(edge) {
             None => self.none.ordered(),
+            Some(code) => set_of(&self.sets, code).ordered(),
         }
     }
 
-    /// The same labels again.
-    pub fn copy(&self, alloc: Global) -> Result<LabelGraph, OutOfMemory>
+    /// The same labels again, which share all that they keep with these.
+    pub fn copy(&self) -> Result<LabelGraph, OutOfMemory>
         ensures { IfOk result (λ graph. graph ≡ self.now) }
     {
-        let atoms = self.atoms.copy()?;
-        let none = self.none.copy()?;
-        let rows = copy_rows(alloc, &self.rows)?;
-        Ok(LabelGraph { atoms, none, rows })
+        Ok(LabelGraph {
+            routers: self.routers,
+            atoms: self.atoms,
+            codes: self.codes.copy()?,
+            book: self.book.copy()?,
+            sets: self.sets.copy()?,
+            none: self.none.copy()?,
+        })
     }
 }
 
-/// The lists of this number of routers, which have no route for the one atom 0.
-fn first_rows(alloc: Global, routers: u32) -> Result<Vec<RouterLabels>, OutOfMemory>
-    ensures { IfOk result (λ rows. rows.items ≡ replicate routers ((0, NoRoute) ∷ [])) }
+/// Whether two targets are the same.
+fn is_same(first: &Target, second: &Target) -> bool
+    ensures { IsTrue result → first.now ≡ second.now }
 {
-    let mut rows = Vec::new(alloc);
-    for _router in 0..routers {
-        rows.push(RouterLabels::new(alloc)?)?;
-    }
-    Ok(rows)
+    *first == *second
 }
 
-/// Adds an atom to each router's list, with which the router does what it does with an old one. After `OutOfMemory` some
-/// of the lists may have it. Without the new atom they are as before in any case.
-fn inherit_in(
-    alloc: Global,
-    rows: &mut [RouterLabels],
-    old_atom: u32,
-    new_atom: u32,
-) -> Result<(), OutOfMemory>
-    requires { All (λ row. target_if row new_atom ≡ None) rows.old }
-    ensures ok { OnOk result (Inherit old_atom new_atom rows.old rows.new) }
-    ensures back { map (without_atom new_atom) rows.new ≡ rows.old }
+/// Where the row of an atom begins.
+fn row_of(routers: u32, atom: AtomId) -> u64
+    ensures at { result ≡ atom.0 * routers }
+    ensures fits { result + routers < 2 ^ 64 }
 {
-    for row in rows.iter_mut() {
-        row.inherit(alloc, old_atom, new_atom)?;
-    }
-    Ok(())
+    atom.0 as u64 * routers as u64
 }
 
-/// Adds an atom to each router's list and to the set. After `OutOfMemory` the set is as before, and some of the lists
-/// may have the atom.
-fn grow(
-    alloc: Global,
-    atoms: &mut AtomSet,
-    rows: &mut [RouterLabels],
-    old_atom: u32,
-    new_atom: u32,
-) -> Result<(), OutOfMemory>
-    requires { All (λ row. target_if row new_atom ≡ None) rows.old }
-    ensures rows { OnOk result (Inherit old_atom new_atom rows.old rows.new) }
-    ensures atoms { OnOk result (AreAtoms atoms.new (λ b. (b == new_atom) || has_atom atoms.old b)) }
-    ensures same { OnErr result (atoms.new ≡ atoms.old) }
-    ensures back { map (without_atom new_atom) rows.new ≡ rows.old }
+/// Where the code of a router stands at an atom.
+fn place_of(routers: u32, r: RouterId, atom: AtomId) -> u64
+    requires { r.0 < routers }
+    ensures { result ≡ atom.0 * routers + r.0 }
 {
-    inherit_in(alloc, rows, old_atom, new_atom)?;
-    atoms.insert(new_atom)?;
-    Ok(())
+    atom.0 as u64 * routers as u64 + r.0 as u64
 }
 
-/// Takes an atom out of each router's list that has it.
-fn forget_in(rows: &mut [RouterLabels], atom: u32)
-    ensures { rows.new ≡ map (without_atom atom) rows.old }
+/// A code for no route for each router, and its set, which has the one atom 0.
+fn first_codes(alloc: Global, routers: u32) -> Result<First, OutOfMemory>
+    ensures { IfOk result (λ first. AreFirst routers first.codes first.book first.sets) }
 {
-    for row in rows.iter_mut() {
-        row.forget(atom);
+    let mut codes = Pages::new();
+    let mut book = CodeBook::new(alloc)?;
+    let mut sets = Pages::new();
+    for r in 0..routers {
+        let edge = Edge {
+            router: r,
+            target: Target::NoRoute,
+        };
+        let (next, code) = book.code_of(alloc, edge)?;
+        book = next;
+        codes.push(alloc, code)?;
+        sets.push(alloc, AtomSet::of(alloc, &[AtomId(0)])?)?;
     }
-}
-
-/// The same lists again.
-fn copy_rows(alloc: Global, rows: &[RouterLabels]) -> Result<Vec<RouterLabels>, OutOfMemory>
-    ensures { IfOk result (λ copy. copy.items ≡ rows.now) }
-{
-    let mut copy = Vec::new(alloc);
-    for row in rows {
-        copy.push(row.copy()?)?;
-    }
-    Ok(copy)
+    Ok(First { codes, book, sets })
 }

@@ -3,10 +3,12 @@
 #![tactic(auto)]
 
 mod atom_set;
-mod by_target;
+mod bits;
+mod chunk;
+mod code_book;
+mod codes;
 mod label_graph;
-mod router_labels;
-mod target_key;
+mod sets;
 #[cfg(test)]
 mod tests;
 

@@ -12,10 +12,11 @@ use Rattle.dn_model.specs.declared.ids.AtomId.{AtomId}
 use Rattle.dn_model.specs.declared.rule.Rule.{Rule}
 use Rattle.dn_model.proofs.Covers.{holder-first, holder-rest, within-below, within-above}
 use Rattle.dn_model.proofs.Cuts.{boundary-parts, cut-first, cut-rest, length-after-cut}
-use Rattle.edge_labels.specs.Labels.{IsInherited, Labels, target_at}
+use Rattle.dn_model.specs.declared.target.Target.{Target}
+use Rattle.edge_labels.specs.Labels.{Labels, inherited, targets_of}
 use Rattle.net_engine.specs.Net.{Net, between, cut_atoms}
-use Rattle.net_engine.specs.Numbered.{AreNumbered, net_of, numbered, targets_of}
-use Rattle.net_engine.proofs.Standing.{AllRules, is-net, same-parts, same-targets}
+use Rattle.net_engine.specs.Numbered.{AreNumbered, net_of, numbered}
+use Rattle.net_engine.proofs.Standing.{AllRules, is-net, same-parts}
 
 -- ---- what a cut makes of atoms, the first of which is given
 
@@ -88,23 +89,18 @@ uncut-numbered labels owners rows at h b = uncut-begun 0 (map (numbered labels o
 
 -- `to` is a new number that has what `from` has
 pub record Grows (x y : Labels) (os ps : AllRules) (from to : ℕ) : Type 0 where
-  pub labels : IsInherited x y from to
+  pub labels : y ≡ inherited x from
+  pub long : length x.rows ≡ to
   pub owners : ps ≡ os ++ get_or os from [] ∷ []
   pub next : length os ≡ to
 
-same-cond : {X : Type 0} (b : Bool) (x y : X) → b ≡ true → cond b x y ≡ x
-same-cond b x y e = ap (λ c. cond c x y) e
-
-other-cond : {X : Type 0} (b : Bool) (x y : X) → b ≡ false → cond b x y ≡ y
-other-cond b x y e = ap (λ c. cond c x y) e
-
 old-targets : (x y : Labels) (os ps : AllRules) (from to k : ℕ) → Grows x y os ps from to → k < to → targets_of y k ≡ targets_of x k
 old-targets x y os ps from to k g l =
-    same-targets x y k k g.labels.routers (λ q. g.labels.targets q k ∙ other-cond (eqb k to) (target_at x q from) (target_at x q k) (ne_eqb k to (λ (e : k ≡ to). omega arith)))
+    let n : length x.rows ≡ to = g.long in
+    ap (λ (z : Labels). targets_of z k) g.labels ∙ get_or_append_left x.rows (targets_of x from ∷ []) [] k (omega arith)
 
 new-targets : (x y : Labels) (os ps : AllRules) (from to : ℕ) → Grows x y os ps from to → targets_of y to ≡ targets_of x from
-new-targets x y os ps from to g =
-    same-targets x y from to g.labels.routers (λ q. g.labels.targets q to ∙ same-cond (eqb to to) (target_at x q from) (target_at x q to) (eq-eqb to to refl))
+new-targets x y os ps from to g = ap (λ (z : Labels). targets_of z to) g.labels ∙ get_or_push x.rows (targets_of x from) [] to g.long
 
 old-owners : (x y : Labels) (os ps : AllRules) (from to k : ℕ) → Grows x y os ps from to → k < to → get_or ps k [] ≡ get_or os k []
 old-owners x y os ps from to k g l =
@@ -165,19 +161,16 @@ row-of-cut rows at atom e r p =
     let k : r.atom ≡ atom = cc in
     ap (λ (a : AtomId). a.0) k
 
-grown-there : (k n : ℕ) → (eqb k n || ltb k n) ≡ ltb k (suc n)
-grown-there k n = grind (arith, nat_tests)
-
 -- what a cut and what follows it made of the parts of a network
 pub record Cuts (rows new : List AtomRow) (x y : Labels) (os ps : AllRules) (at : ℕ) (from to : AtomId) : Type 0 where
   pub cut : IsCut rows new at (Some (from, to))
   pub within : at < 2 ^ 32
   pub form : AreAtoms new
-  pub labels : IsInherited x y from.0 to.0
+  pub labels : y ≡ inherited x from.0
   pub owners : ps ≡ os ++ get_or os from.0 [] ∷ []
 
 grows : (routers : ℕ) (rows new : List AtomRow) (x y : Labels) (os ps : AllRules) (at : ℕ) (from to : AtomId) → AreNumbered routers rows x os → Cuts rows new x y os ps at from to → Grows x y os ps from.0 to.0
-grows routers rows new x y os ps at from to h c = record { labels = c.labels; owners = c.owners; next = h.each ∙ sym c.cut.1 }
+grows routers rows new x y os ps at from to h c = record { labels = c.labels; long = h.there ∙ sym c.cut.1; owners = c.owners; next = h.each ∙ sym c.cut.1 }
 
 pub numbered-after-cut : (routers : ℕ) (rows new : List AtomRow) (x y : Labels) (os ps : AllRules) (at : ℕ) (from to : AtomId) → AreNumbered routers rows x os → Cuts rows new x y os ps at from to → AreNumbered routers new y ps
 numbered-after-cut routers rows new x y os ps at from to h c =
@@ -188,13 +181,17 @@ numbered-after-cut routers rows new x y os ps at from to h c =
     let old : from.0 < length rows = number-of-cut (length rows) rows at from h.atoms.below c.cut.3 in
     record {
       atoms = c.form;
-      there = λ k.
-          c.labels.atoms.exact k
-          ∙ ap (λ b. eqb k to.0 || b) (h.there k)
-          ∙ ap (λ m. eqb k m || ltb k (length rows)) n
-          ∙ grown-there k (length rows)
-          ∙ ap (λ m. ltb k m) (sym long);
-      wide = c.labels.routers ∙ h.wide;
+      same_routers = ap (λ (z : Labels). z.routers) c.labels ∙ h.same_routers;
+      there = ap (λ (z : Labels). length z.rows) c.labels ∙ length_push x.rows (targets_of x from.0) ∙ (let known : length x.rows ≡ length rows = h.there in let s : length x.rows + 1 ≡ suc (length rows) = omega arith in s) ∙ sym long;
+      wide = λ k l.
+          ⊎_elim
+          (λ (o : k < length rows). ap (λ (zs : List Target). length zs) (old-targets x y os ps from.0 to.0 k g (omega arith)) ∙ h.wide k o)
+          (λ (o : length rows ≤ k).
+          let e : k ≡ to.0 = omega arith in
+          ap (λ m. length (targets_of y m)) e
+          ∙ ap (λ (zs : List Target). length zs) (new-targets x y os ps from.0 to.0 g)
+          ∙ h.wide from.0 old)
+          (cases_lt k (length rows));
       each = ap (λ (zs : AllRules). length zs) c.owners ∙ length_push os (get_or os from.0 []) ∙ (let s : length os + 1 ≡ suc (length rows) = omega arith in s) ∙ sym long;
       full = λ k l.
           ⊎_elim
@@ -219,7 +216,7 @@ is-cut-at rows new at o p e h = subst (λ (q : Option (AtomId × AtomId)). IsCut
 pub old-below : (routers : ℕ) (rows new : List AtomRow) (x : Labels) (os : AllRules) (at : ℕ) (from to : AtomId) → AreNumbered routers rows x os → IsCut rows new at (Some (from, to)) → from.0 < length rows
 old-below routers rows new x os at from to h c = number-of-cut (length rows) rows at from h.atoms.below c.3
 
-pub made-cuts : (routers : ℕ) (rows new : List AtomRow) (x y : Labels) (os ps : AllRules) (at : ℕ) (from to : AtomId) (copy found : List (List Rule)) → AreNumbered routers rows x os → IsCut rows new at (Some (from, to)) → at < 2 ^ 32 → AreAtoms new → IsInherited x y from.0 to.0 → ps ≡ os ++ copy ∷ [] → copy ≡ found → found ≡ get_or os from.0 found → Cuts rows new x y os ps at from to
+pub made-cuts : (routers : ℕ) (rows new : List AtomRow) (x y : Labels) (os ps : AllRules) (at : ℕ) (from to : AtomId) (copy found : List (List Rule)) → AreNumbered routers rows x os → IsCut rows new at (Some (from, to)) → at < 2 ^ 32 → AreAtoms new → y ≡ inherited x from.0 → ps ≡ os ++ copy ∷ [] → copy ≡ found → found ≡ get_or os from.0 found → Cuts rows new x y os ps at from to
 made-cuts routers rows new x y os ps at from to copy found h c within form labels push copied is =
     let same : length os ≡ length rows = h.each in
     let below : from.0 < length rows = old-below routers rows new x os at from to h c in

@@ -15,11 +15,10 @@ use Rattle.dn_model.specs.declared.rule.Rule.{Rule}
 use Rattle.dn_model.specs.declared.target.Target.{Target}
 use Rattle.dn_model.specs.declared.target.Target.TheVariants.{NoRoute}
 use Rattle.dn_model.proofs.Covers.{holder-at, holder-first, holder-rest}
-use Rattle.edge_labels.specs.Atoms.{has_atom}
-use Rattle.edge_labels.specs.Labels.{IsMoved, Labels, target_at}
+use Rattle.edge_labels.specs.Labels.{Labels, moved, target_at, targets_of}
 use Rattle.net_engine.specs.Net.{IsTouched, Net, with_atom, with_rules}
-use Rattle.net_engine.specs.Numbered.{AreNumbered, IsChanged, IsInForce, net_of, numbered, targets_of}
-use Rattle.net_engine.proofs.Standing.{AllRules, length-targets, number-below, read-target, same-parts, same-targets}
+use Rattle.net_engine.specs.Numbered.{AreNumbered, IsChanged, IsInForce, net_of, numbered}
+use Rattle.net_engine.proofs.Standing.{AllRules, number-below, read-target, same-parts}
 
 -- ---- one atom in the place of another
 
@@ -63,51 +62,20 @@ same-number x y e = ap (λ n. let a : AtomId = record { 0 = n } in a) e
 
 -- the router's rules and target at a number are others, and nothing else changes
 pub record Moves (x y : Labels) (os ps : AllRules) (r number : ℕ) (rules : List Rule) (after : Target) : Type 0 where
-  pub labels : IsMoved x y r number after
+  pub labels : y ≡ moved x r number after
+  pub there : number < length x.rows
   pub owners : ps ≡ set os number (set (get_or os number []) r rules)
   pub inside : number < length os
-  pub router : r < length x.targets
-
-and-none : {X : Type 0} (b c : Bool) (x y : X) → c ≡ false → cond (b && c) x y ≡ y
-and-none b c x y e = ap (λ d. cond (b && d) x y) e ∙ by b
-  where
-    by : (d : Bool) → cond (d && false) x y ≡ y
-    by true = refl
-    by false = refl
-
-and-left : {X : Type 0} (b c : Bool) (x y : X) → b ≡ false → cond (b && c) x y ≡ y
-and-left b c x y e = ap (λ d. cond (d && c) x y) e
-
-and-both : {X : Type 0} (b c : Bool) (x y : X) → b ≡ true → c ≡ true → cond (b && c) x y ≡ x
-and-both b c x y e f = ap (λ d. cond (d && c) x y) e ∙ ap (λ d. cond d x y) f
 
 other-number : (x y : Labels) (os ps : AllRules) (r number : ℕ) (rules : List Rule) (after : Target) (row : AtomRow) → Moves x y os ps r number rules after → (row.atom.0 ≡ number → ⊥) → numbered y ps row ≡ numbered x os row
 other-number x y os ps r number rules after row m apart =
     same-parts row.low row.past (targets_of y row.atom.0) (targets_of x row.atom.0) (get_or ps row.atom.0 []) (get_or os row.atom.0 [])
-    (same-targets x y row.atom.0 row.atom.0 m.labels.routers (λ q. m.labels.targets q row.atom.0 ∙ and-none (eqb q r) (eqb row.atom.0 number) after (target_at x q row.atom.0) (ne_eqb row.atom.0 number apart)))
+    (ap (λ (z : Labels). targets_of z row.atom.0) m.labels ∙ get_or-set_other x.rows number row.atom.0 (set (targets_of x number) r after) [] apart)
     (ap (λ (zs : AllRules). get_or zs row.atom.0 []) m.owners ∙ get_or-set_other os number row.atom.0 (set (get_or os number []) r rules) [] apart)
 
 moved-targets : (x y : Labels) (os ps : AllRules) (r number : ℕ) (rules : List Rule) (after : Target) → Moves x y os ps r number rules after → targets_of y number ≡ set (targets_of x number) r after
 moved-targets x y os ps r number rules after m =
-    ext_get_or NoRoute (targets_of y number) (set (targets_of x number) r after)
-    (length-targets y number ∙ m.labels.routers ∙ sym (length-targets x number) ∙ sym (length-set (targets_of x number) r after))
-    (λ q l. read-target y number q ∙ m.labels.targets q number ∙ at q)
-  where
-    long : r < length (targets_of x number)
-    long = subst (λ n. r < n) (sym (length-targets x number)) m.router
-
-    at : (q : ℕ) → cond (eqb q r && eqb number number) after (target_at x q number) ≡ get_or (set (targets_of x number) r after) q NoRoute
-    at q =
-        ⊎_elim
-        (λ (e : eqb q r ≡ true).
-        and-both (eqb q r) (eqb number number) after (target_at x q number) e (eq-eqb number number refl)
-        ∙ sym (get_or-set_same (targets_of x number) r after NoRoute long)
-        ∙ ap (λ i. get_or (set (targets_of x number) r after) i NoRoute) (sym (eqb-true q r e)))
-        (λ (n : eqb q r ≡ false).
-        and-left (eqb q r) (eqb number number) after (target_at x q number) n
-        ∙ sym (read-target x number q)
-        ∙ sym (get_or-set_other (targets_of x number) r q after NoRoute (eqb-false q r n)))
-        (cases_Bool (eqb q r))
+    ap (λ (z : Labels). targets_of z number) m.labels ∙ get_or-set_same x.rows number (set (targets_of x number) r after) [] m.there
 
 moved-number : (x y : Labels) (os ps : AllRules) (r : ℕ) (rules : List Rule) (after : Target) (row : AtomRow) → Moves x y os ps r row.atom.0 rules after → numbered y ps row ≡ with_rules (numbered x os row) r rules after
 moved-number x y os ps r rules after row m =
@@ -148,13 +116,13 @@ pub record Touches (rows : List AtomRow) (x y : Labels) (os ps : AllRules) (plac
   pub row_is : row ≡ get_or rows place row
   pub from : atom_low (get_or rows place row) ≤ at
   pub to : at < atom_past (get_or rows place row)
-  pub router : r < length x.targets
+  pub router : r < x.routers
   pub before_is : before ≡ target_at x r row.atom.0
   pub found_is : found ≡ get_or os row.atom.0 found
   pub change : IsChanged found changed r op
   pub after_is : IsInForce (get_or changed r []) after
   pub owners : ps ≡ set os row.atom.0 changed
-  pub labels : IsMoved x y r row.atom.0 after
+  pub labels : y ≡ moved x r row.atom.0 after
 
 -- the rules of all routers that are found at a number
 pub found-at : (routers : ℕ) (rows : List AtomRow) (x : Labels) (os : AllRules) (number : ℕ) (found : List (List Rule)) → AreNumbered routers rows x os → number < length rows → found ≡ get_or os number found → found ≡ get_or os number []
@@ -178,9 +146,9 @@ moves routers rows x y os ps place at row r op found changed before after h t =
     let same : length os ≡ length rows = h.each in
     record {
       labels = t.labels;
+      there = subst (λ n. row.atom.0 < n) (sym h.there) below;
       owners = t.owners ∙ ap (λ (z : List (List Rule)). set os row.atom.0 z) (t.change.new_is ∙ ap (λ (z : List (List Rule)). set z r t.change.rules) (found-at routers rows x os row.atom.0 found h below t.found_is));
       inside = omega arith;
-      router = t.router;
     }
 
 pub numbered-after-touch : (routers : ℕ) (rows : List AtomRow) (x y : Labels) (os ps : AllRules) (place at : ℕ) (row : AtomRow) (r : ℕ) (op : Op) (found changed : List (List Rule)) (before after : Target) → AreNumbered routers rows x os → Touches rows x y os ps place at row r op found changed before after → AreNumbered routers rows y ps
@@ -189,8 +157,20 @@ numbered-after-touch routers rows x y os ps place at row r op found changed befo
     let same : length os ≡ length rows = h.each in
     record {
       atoms = h.atoms;
-      there = λ n. ap (λ set'. has_atom set' n) t.labels.atoms ∙ h.there n;
-      wide = t.labels.routers ∙ h.wide;
+      same_routers = ap (λ (z : Labels). z.routers) t.labels ∙ h.same_routers;
+      there = ap (λ (z : Labels). length z.rows) t.labels ∙ length-set x.rows row.atom.0 (set (targets_of x row.atom.0) r after) ∙ h.there;
+      wide = λ n l.
+          ap (λ (z : Labels). length (targets_of z n)) t.labels
+          ∙ ⊎_elim
+          (λ (e : eqb n row.atom.0 ≡ true).
+          ap (λ i. length (get_or (set x.rows row.atom.0 (set (targets_of x row.atom.0) r after)) i [])) (eqb-true n row.atom.0 e)
+          ∙ ap (λ (z : List Target). length z) (get_or-set_same x.rows row.atom.0 (set (targets_of x row.atom.0) r after) [] (subst (λ m. row.atom.0 < m) (sym h.there) below))
+          ∙ length-set (targets_of x row.atom.0) r after
+          ∙ h.wide row.atom.0 below)
+          (λ (e : eqb n row.atom.0 ≡ false).
+          ap (λ (z : List Target). length z) (get_or-set_other x.rows row.atom.0 n (set (targets_of x row.atom.0) r after) [] (eqb-false n row.atom.0 e))
+          ∙ h.wide n l)
+          (cases_Bool (eqb n row.atom.0));
       each = ap (λ (zs : AllRules). length zs) t.owners ∙ length-set os row.atom.0 changed ∙ h.each;
       full = λ n l.
           ap (λ (zs : AllRules). length (get_or zs n [])) t.owners
@@ -229,7 +209,7 @@ touched-now net routers rows x y os ps place at row r op found changed before af
     below = number-below rows place row h.atoms t.inside t.row_is
 
     inside : r.0 < length found
-    inside = subst (λ n. r.0 < n) (h.wide ∙ sym (found-long routers rows x os row.atom.0 found h below t.found_is)) t.router
+    inside = subst (λ n. r.0 < n) (h.same_routers ∙ sym (found-long routers rows x os row.atom.0 found h below t.found_is)) t.router
 
     rules-now : get_or changed r.0 [] ≡ t.change.rules
     rules-now = ap (λ (zs : List (List Rule)). get_or zs r.0 []) t.change.new_is ∙ get_or-set_same found r.0 t.change.rules [] inside

@@ -1,9 +1,6 @@
 -- What follows of a network from how its atoms stand by their numbers: its form, and what is read of it.
-use Rattle.std.proofs.Common.{◌≡◌, ℕ, ◌<◌, ◌≤◌, ◌^◌, ◌∙◌, ◌∷◌, ◌++◌, ◌||◌, zero, suc, true, false, List, [], length, get_or, map, replicate, ap, sym, subst, arith, eqb, ltb}
-use Rattle.std.proofs.lemmas.Bool.{lt-ltb}
-use Rattle.std.proofs.lemmas.Bool.Decides.{nat_tests}
-use Rattle.std.proofs.lemmas.List.{ext_get_or, get_or-replicate, length-map, length-replicate, get_or-map as get_or-map_below}
-use Rattle.std.proofs.Math.ListN.{get_or-map}
+use Rattle.std.proofs.Common.{◌≡◌, ℕ, ◌<◌, ◌≤◌, ◌^◌, ◌∙◌, ◌∷◌, ◌++◌, zero, suc, List, [], length, get_or, map, replicate, refl, ap, sym, subst, arith}
+use Rattle.std.proofs.lemmas.List.{length-map, length-replicate, get_or-map as get_or-map_below}
 use Rattle.dn_model.specs.Atoms.{AreAtoms, AreBelow, atom_low, atom_past}
 use Rattle.dn_model.specs.Forwarding.{target_of as target_of_row}
 use Rattle.dn_model.specs.Rows.{CoverFrom}
@@ -15,10 +12,9 @@ use Rattle.dn_model.specs.declared.target.Target.{Target}
 use Rattle.dn_model.specs.declared.target.Target.TheVariants.{NoRoute}
 use Rattle.atom_map.specs.Index.{one_atom}
 use Rattle.atom_map.proofs.Begun.{below-at, one-indexed}
-use Rattle.edge_labels.specs.Atoms.{has_atom}
-use Rattle.edge_labels.specs.Labels.{IsFirst, Labels, target_at, target_of}
+use Rattle.edge_labels.specs.Labels.{Labels, first_labels, target_at, targets_of}
 use Rattle.net_engine.specs.Net.{AreWide, IsNet, Net, first_atom}
-use Rattle.net_engine.specs.Numbered.{AreNumbered, net_of, numbered, targets_of}
+use Rattle.net_engine.specs.Numbered.{AreNumbered, net_of, numbered}
 
 abbrev pub AllRules : Type 0
 AllRules = List (List (List Rule))
@@ -33,17 +29,7 @@ same-parts lo hi ts us xs ys t o = ap (λ zs. atom_of_parts lo hi zs xs) t ∙ a
 -- ---- targets
 
 pub read-target : (labels : Labels) (number r : ℕ) → get_or (targets_of labels number) r NoRoute ≡ target_at labels r number
-read-target labels number r = get_or-map (λ t. target_of t number) labels.targets r []
-
-pub length-targets : (labels : Labels) (number : ℕ) → length (targets_of labels number) ≡ length labels.targets
-length-targets labels number = length-map labels.targets (λ t. target_of t number)
-
--- two numbers with which each router does the same
-pub same-targets : (x y : Labels) (a b : ℕ) → length y.targets ≡ length x.targets → ((q : ℕ) → target_at y q b ≡ target_at x q a) → targets_of y b ≡ targets_of x a
-same-targets x y a b n h =
-    ext_get_or NoRoute (targets_of y b) (targets_of x a)
-    (length-targets y b ∙ n ∙ sym (length-targets x a))
-    (λ i l. read-target y b i ∙ h i ∙ sym (read-target x a i))
+read-target labels number r = refl
 
 -- ---- the form
 
@@ -51,10 +37,10 @@ cover-numbered : (labels : Labels) (owners : AllRules) (start : ℕ) (rows : Lis
 cover-numbered labels owners start [] h = h
 cover-numbered labels owners start (r ∷ rs) h = (h.0, h.1, cover-numbered labels owners r.past rs h.2)
 
-wide-numbered : (routers n : ℕ) (labels : Labels) (owners : AllRules) (rows : List AtomRow) → length labels.targets ≡ routers → ((k : ℕ) → k < n → length (get_or owners k []) ≡ routers) → AreBelow n rows → AreWide routers (map (numbered labels owners) rows)
+wide-numbered : (routers n : ℕ) (labels : Labels) (owners : AllRules) (rows : List AtomRow) → ((k : ℕ) → k < n → length (targets_of labels k) ≡ routers) → ((k : ℕ) → k < n → length (get_or owners k []) ≡ routers) → AreBelow n rows → AreWide routers (map (numbered labels owners) rows)
 wide-numbered routers n labels owners [] wide full below = tt
 wide-numbered routers n labels owners (r ∷ rs) wide full below = (
-  record { targets = length-targets labels r.atom.0 ∙ wide; owners = full r.atom.0 below.0 },
+  record { targets = wide r.atom.0 below.0; owners = full r.atom.0 below.0 },
   wide-numbered routers n labels owners rs wide full below.1,
 )
 
@@ -76,8 +62,8 @@ is-net-again routers rows new x y os ps h r l o =
 -- ---- numbers
 
 -- the number of an atom has targets
-pub there-below : (routers : ℕ) (rows : List AtomRow) (labels : Labels) (owners : AllRules) (number : ℕ) → AreNumbered routers rows labels owners → number < length rows → has_atom labels.atoms number ≡ true
-there-below routers rows labels owners number h l = h.there number ∙ lt-ltb number (length rows) l
+pub there-below : (routers : ℕ) (rows : List AtomRow) (labels : Labels) (owners : AllRules) (number : ℕ) → AreNumbered routers rows labels owners → number < length rows → number < length labels.rows
+there-below routers rows labels owners number h l = subst (λ n. number < n) (sym h.there) l
 
 pub number-below : (rows : List AtomRow) (i : ℕ) (row : AtomRow) → AreAtoms rows → i < length rows → row ≡ get_or rows i row → row.atom.0 < length rows
 number-below rows i row h l is = subst (λ (r : AtomRow). r.atom.0 < length rows) (sym is) (below-at (length rows) rows i row h.below l)
@@ -119,9 +105,6 @@ high-at-place net routers rows labels owners i a d e l to =
 
 -- ---- the first atom
 
-first-there : (n : ℕ) → (eqb 0 n || false) ≡ ltb n 1
-first-there n = grind (arith, nat_tests)
-
 abbrev pub no-rules : ℕ → List (List Rule)
 no-rules routers = replicate routers []
 
@@ -129,31 +112,34 @@ first-full : (routers n : ℕ) → n < 1 → length (get_or (no-rules routers �
 first-full routers zero l = length-replicate routers []
 first-full routers (suc n) l = absurd (omega arith)
 
+first-wide : (routers n : ℕ) → n < 1 → length (targets_of (first_labels routers) n) ≡ routers
+first-wide routers zero l = length-replicate routers NoRoute
+first-wide routers (suc n) l = absurd (omega arith)
+
 pub one-pushed : (routers : ℕ) (os ps : AllRules) (x : List (List Rule)) → os ≡ [] → ps ≡ os ++ x ∷ [] → x ≡ no-rules routers → ps ≡ no-rules routers ∷ []
 one-pushed routers os ps x none push is =
     push
     ∙ ap (λ (zs : AllRules). zs ++ x ∷ []) none
     ∙ ap (λ (z : List (List Rule)). z ∷ []) is
 
-pub first-numbered : (routers : ℕ) (rows : List AtomRow) (labels : Labels) (owners : AllRules) → rows ≡ one_atom → IsFirst routers labels → owners ≡ replicate routers [] ∷ [] → AreNumbered routers rows labels owners
+pub first-numbered : (routers : ℕ) (rows : List AtomRow) (labels : Labels) (owners : AllRules) → rows ≡ one_atom → labels ≡ first_labels routers → owners ≡ replicate routers [] ∷ [] → AreNumbered routers rows labels owners
 first-numbered routers rows labels owners one first none = record {
   atoms = subst (λ (rs : List AtomRow). AreAtoms rs) (sym one) one-indexed.atoms;
-  there = λ n. first.atoms.exact n ∙ first-there n ∙ ap (λ (rs : List AtomRow). ltb n (length rs)) (sym one);
-  wide = first.routers;
+  same_routers = ap (λ (l : Labels). l.routers) first;
+  there = ap (λ (l : Labels). length l.rows) first ∙ ap (λ (rs : List AtomRow). length rs) (sym one);
+  wide = λ n l.
+      ap (λ (x : Labels). length (targets_of x n)) first
+      ∙ first-wide routers n (subst (λ (rs : List AtomRow). n < length rs) one l);
   each = ap length none ∙ ap length (sym one);
   full = λ n l.
       ap (λ (os : AllRules). length (get_or os n [])) none
       ∙ first-full routers n (subst (λ (rs : List AtomRow). n < length rs) one l);
 }
 
-pub first-atoms : (routers : ℕ) (rows : List AtomRow) (labels : Labels) (owners : AllRules) → rows ≡ one_atom → IsFirst routers labels → owners ≡ replicate routers [] ∷ [] → map (numbered labels owners) rows ≡ first_atom routers ∷ []
+pub first-atoms : (routers : ℕ) (rows : List AtomRow) (labels : Labels) (owners : AllRules) → rows ≡ one_atom → labels ≡ first_labels routers → owners ≡ replicate routers [] ∷ [] → map (numbered labels owners) rows ≡ first_atom routers ∷ []
 first-atoms routers rows labels owners one first none =
     ap (λ (rs : List AtomRow). map (numbered labels owners) rs) one
     ∙ ap (λ (x : Atom). x ∷ []) (same-parts 0 (2 ^ 32) (targets_of labels 0) (replicate routers NoRoute) (get_or owners 0 []) (replicate routers []) targets (ap (λ (os : AllRules). get_or os 0 []) none))
   where
     targets : targets_of labels 0 ≡ replicate routers NoRoute
-    targets = ext_get_or NoRoute (targets_of labels 0) (replicate routers NoRoute)
-        (length-targets labels 0 ∙ first.routers ∙ sym (length-replicate routers NoRoute))
-        (λ i l.
-        let k : i < routers = subst (λ n. i < n) (length-targets labels 0 ∙ first.routers) l in
-        read-target labels 0 i ∙ first.targets i 0 ∙ sym (get_or-replicate routers i NoRoute NoRoute k))
+    targets = ap (λ (l : Labels). targets_of l 0) first

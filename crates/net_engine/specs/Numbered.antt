@@ -1,5 +1,5 @@
 -- How a network's atoms stand by their numbers: the labels and the rules of an atom are those of its number.
-use Rattle.std.specs.Prelude.{ℕ, List, [], Option, length, map, nat_lt, slice_index_or, slice_set, IsPermutation, ◌≡◌, ◌<◌}
+use Rattle.std.specs.Prelude.{ℕ, List, [], Option, length, map, slice_index_or, slice_set, IsPermutation, ◌≡◌, ◌<◌}
 use Rattle.dn_model.specs.Atoms.{AreAtoms}
 use Rattle.dn_model.specs.Rules.{after_rule_op, target_of as target_of_rule, IsTop}
 use Rattle.dn_model.specs.Version.{Atom}
@@ -7,13 +7,8 @@ use Rattle.dn_model.specs.declared.atom_row.AtomRow.{AtomRow}
 use Rattle.dn_model.specs.declared.entry.Op.{Op}
 use Rattle.dn_model.specs.declared.rule.Rule.{Rule}
 use Rattle.dn_model.specs.declared.target.Target.{Target}
-use Rattle.edge_labels.specs.Atoms.{has_atom}
-use Rattle.edge_labels.specs.Labels.{Labels, target_of}
+use Rattle.edge_labels.specs.Labels.{Labels, targets_of}
 use Rattle.net_engine.specs.Net.{Net}
-
--- what each router does with the atom of a number
-abbrev pub targets_of : Labels → ℕ → List Target
-targets_of labels number = map (λ t. target_of t number) labels.targets
 
 -- the atom of a row, with the targets and the rules of its number
 abbrev pub numbered : Labels → List (List (List Rule)) → AtomRow → Atom
@@ -25,11 +20,12 @@ numbered labels owners row = record {
 abbrev pub net_of : ℕ → List AtomRow → Labels → List (List (List Rule)) → Net
 net_of routers rows labels owners = record { routers = routers; atoms = map (numbered labels owners) rows }
 
--- the numbers below the count of the atoms have targets and rules of so many routers, and the labels have no others
+-- the numbers below the count of the atoms, and no others, have targets and rules of so many routers
 pub record AreNumbered (routers : ℕ) (rows : List AtomRow) (labels : Labels) (owners : List (List (List Rule))) : Type 0 where
   pub atoms : AreAtoms rows
-  pub there : (number : ℕ) → has_atom labels.atoms number ≡ nat_lt number (length rows)
-  pub wide : length labels.targets ≡ routers
+  pub same_routers : labels.routers ≡ routers
+  pub there : length labels.rows ≡ length rows
+  pub wide : (number : ℕ) → number < length rows → length (targets_of labels number) ≡ routers
   pub each : length owners ≡ length rows
   pub full : (number : ℕ) → number < length rows → length (slice_index_or owners number []) ≡ routers
 

@@ -71,7 +71,7 @@ impl Net {
         let Net {
             routers,
             mut atoms,
-            mut labels,
+            labels,
             mut owners,
         } = self;
         let Some((old, new)) = atoms.cut(alloc, at)? else {
@@ -82,7 +82,7 @@ impl Net {
                 owners,
             });
         };
-        labels.inherit(alloc, old, new)?;
+        let labels = labels.inherit(alloc, old, new)?;
         let copy = owners[old.0 as usize].copy(alloc)?;
         owners.push(copy)?;
         Ok(Net {
@@ -110,7 +110,7 @@ impl Net {
         let Net {
             routers,
             atoms,
-            mut labels,
+            labels,
             mut owners,
         } = self;
         let row = atoms.at(atoms.place_of(at));
@@ -118,7 +118,7 @@ impl Net {
         let rules = &mut owners[row.atom.0 as usize];
         rules.change(r, op)?;
         let after = rules.target(r);
-        labels.move_atom(alloc, r, row.atom, before, after)?;
+        let labels = labels.move_atom(alloc, r, row.atom, before, after)?;
         let net = Net {
             routers,
             atoms,
@@ -139,7 +139,7 @@ impl Net {
         ensures form { IfOk result (λ net. IsNet net) }
     {
         let atoms = self.atoms.copy()?;
-        let labels = self.labels.copy(alloc)?;
+        let labels = self.labels.copy()?;
         let owners = copies(alloc, &self.owners)?;
         Ok(Net {
             routers: self.routers,

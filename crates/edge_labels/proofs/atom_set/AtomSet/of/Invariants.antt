@@ -1,6 +1,6 @@
 use Rattle.std.proofs.Common.{drop}
 use Rattle.edge_labels.specs.Atoms.{has_atom, numbers}
-use Rattle.edge_labels.proofs.AtomLemmas.{Adds}
+use Rattle.edge_labels.proofs.SetLemmas.{Adds}
 use Rattle.edge_labels.proofs.atom_set.AtomSet.of.Given as goal
 
 abbrev pub invariant-loop-atom : goal.invariant-loop-atom

@@ -1,5 +1,6 @@
-use Rattle.edge_labels.proofs.AtomLemmas.{ascending-now}
+use Rattle.std.proofs.Common.{arith}
+use Rattle.edge_labels.proofs.SetLemmas.{ascending-now}
 use Rattle.edge_labels.proofs.atom_set.AtomSet.ordered.Goals as goal
 
 pub returns-clause-ascending : goal.returns-clause-ascending
-returns-clause-ascending c = ascending-now _ _ c.self.view_is c.self.invariant
+returns-clause-ascending c = ascending-now c.self.inside.chunks c.args.self.now c.self.view_is

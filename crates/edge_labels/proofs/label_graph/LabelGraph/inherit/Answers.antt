@@ -1,23 +1,38 @@
-use Rattle.std.proofs.Common.{◌≡◌, ◌∙◌, ℕ, List, length, ap, subst, sym}
-use Rattle.std.specs.Vec.{with_items}
-use Rattle.std.proofs.lemmas.List.{with_items_is}
-use Rattle.dn_model.specs.declared.target.Target.{Target}
-use Rattle.edge_labels.specs.Labels.{IsInherited}
-use Rattle.edge_labels.specs.Rows.{AreRows}
-use Rattle.edge_labels.proofs.GraphLemmas.{inherit-are-rows, inherit-length, is-inherited}
+use Rattle.std.proofs.Common.{◌≡◌, ◌+◌, ◌*◌, ◌<◌, ◌++◌, ℕ, length, take, drop, subst, ap, sym, ◌∙◌, arith}
+use Rattle.edge_labels.specs.Rows.{AreRowJoined, codes_of}
+use Rattle.edge_labels.proofs.RowLemmas.{row-fits}
+use Rattle.edge_labels.proofs.GraphLemmas.{atoms-of, codes-known, inherited-kept, inherited-labels}
 use Rattle.edge_labels.proofs.label_graph.LabelGraph.inherit.Goals as goal
-use Rattle.edge_labels.proofs.label_graph.LabelGraph.inherit.Goals.{In-Ok}
 
--- the lists that are kept
-kept : (c : In-Ok) → (with_items c.self.inside.rows c.grow.new.rows).items ≡ c.grow.new.rows
-kept c = with_items_is c.self.inside.rows c.grow.new.rows (inherit-length _ _ _ _ c.in-Ok.ensures.rows ∙ ap length c.deref_mut.ensures.value ∙ sym c.self.inside.rows.ok.0)
+pub join_row-requires-clause-inside : goal.join_row-requires-clause-inside
+join_row-requires-clause-inside c =
+    let s = c.self.inside in
+    let la : c.args.old_atom.0 < c.self.inside.atoms = omega (arith, atoms-of s.routers s.atoms s.codes s.book c.args.self c.self.view_is) in
+    omega (arith, row-fits c.args.old_atom.0 s.atoms s.routers la, c.self.invariant.long, c.row_of-from.ensures.at)
 
-pub invariant_of-self : goal.invariant_of-self
-invariant_of-self c =
-    let P : List (List (ℕ × Target)) → Type 0 = λ rows. AreRows c.grow.new.atoms c.self.inside.none rows in
-    subst P (sym (kept c)) (inherit-are-rows _ _ _ _ _ _ _ (rw c.deref_mut.ensures.value at c.in-Ok.ensures.rows) c.in-Ok.ensures.atoms c.self.invariant)
+pub join_row-requires-clause-known : goal.join_row-requires-clause-known
+join_row-requires-clause-known c = let s = c.self.inside in codes-known s.routers s.atoms s.codes s.book s.sets s.none c.self.invariant
 
-pub returns-in-Ok-clause-ok : goal.returns-in-Ok-clause-ok
-returns-in-Ok-clause-ok c =
-    let P : List (List (ℕ × Target)) → Type 0 = λ rows. IsInherited c.args.self.now (record { atoms = c.grow.new.atoms; targets = rows }) c.args.old_atom.0 c.args.new_atom.0 in
-    subst P (sym (kept c)) (is-inherited _ _ _ _ _ _ _ c.self.view_is (rw c.deref_mut.ensures.value at c.in-Ok.ensures.rows) c.in-Ok.ensures.atoms)
+pub copy_row-requires-clause-inside : goal.copy_row-requires-clause-inside
+copy_row-requires-clause-inside c =
+    let s = c.self.inside in
+    let la : c.args.old_atom.0 < c.self.inside.atoms = omega (arith, atoms-of s.routers s.atoms s.codes s.book c.args.self c.self.view_is) in
+    omega (arith, row-fits c.args.old_atom.0 s.atoms s.routers la, c.self.invariant.long, c.row_of-from.ensures.at)
+
+pub invariant_of-result : goal.invariant_of-result
+invariant_of-result c =
+    let s = c.self.inside in
+    let count : length c.args.self.rows ≡ c.self.inside.atoms = atoms-of s.routers s.atoms s.codes s.book c.args.self c.self.view_is in
+    let la : c.args.old_atom.0 < c.self.inside.atoms = omega arith in
+    let next : c.args.new_atom.0 ≡ c.self.inside.atoms = c.requires.next ∙ count in
+    inherited-kept s.routers s.atoms c.args.old_atom.0 s.codes c.copy_row.new.codes s.book s.sets c.join_row.new.sets s.none c.self.invariant la (omega arith)
+    (c.in_ok-copy_row.ensures ∙ ap (λ from. s.codes ++ take s.routers (drop from s.codes)) c.row_of-from.ensures.at)
+    (subst (AreRowJoined s.sets c.join_row.new.sets (codes_of s.routers s.codes c.args.old_atom.0)) next
+    (subst (λ (from : ℕ). AreRowJoined s.sets c.join_row.new.sets (take s.routers (drop from s.codes)) c.args.new_atom.0) c.row_of-from.ensures.at c.in_ok-join_row.ensures))
+
+pub returns : goal.returns
+returns c =
+    let s = c.self.inside in
+    let la : c.args.old_atom.0 < c.self.inside.atoms = omega (arith, atoms-of s.routers s.atoms s.codes s.book c.args.self c.self.view_is) in
+    inherited-labels s.routers s.atoms c.args.old_atom.0 s.codes c.copy_row.new.codes s.book c.args.self c.self.view_is c.self.invariant.long la
+    (c.in_ok-copy_row.ensures ∙ ap (λ from. s.codes ++ take s.routers (drop from s.codes)) c.row_of-from.ensures.at)

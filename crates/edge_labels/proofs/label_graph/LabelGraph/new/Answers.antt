@@ -1,12 +1,9 @@
-use Rattle.edge_labels.proofs.GraphLemmas.{first-are-rows, first-length, first-targets}
+use Rattle.std.proofs.Common.{ap, ◌∙◌}
+use Rattle.edge_labels.proofs.GraphLemmas.{first-kept, first-seen}
 use Rattle.edge_labels.proofs.label_graph.LabelGraph.new.Goals as goal
 
 pub invariant_of-result : goal.invariant_of-result
-invariant_of-result c = first-are-rows _ _ _ _ c.in_ok-rows.ensures c.new.ensures c.in_ok-atoms.ensures
+invariant_of-result c = first-kept c.args.routers c.in_ok-codes.field-0.codes c.in_ok-codes.field-0.book c.in_ok-codes.field-0.sets c.empty.result c.in_ok-codes.ensures c.empty.ensures
 
 pub returns : goal.returns
-returns c = record {
-  atoms = c.in_ok-atoms.ensures;
-  routers = first-length _ _ c.in_ok-rows.ensures;
-  targets = first-targets _ _ c.in_ok-rows.ensures;
-}
+returns c = first-seen c.args.routers c.in_ok-codes.field-0.codes c.in_ok-codes.field-0.book c.in_ok-codes.field-0.sets c.in_ok-codes.ensures

@@ -1,4 +1,4 @@
-use Rattle.std.proofs.Common.{◌≡◌, ◌<◌, length, None, Some, refl, arith}
+use Rattle.std.proofs.Common.{◌≡◌, ◌<◌, length, None, Some, refl, sym, ◌∙◌, arith}
 use Rattle.net_engine.proofs.Standing.{is-net, is-net-again, there-below}
 use Rattle.net_engine.proofs.Cutting.{cut-atoms-now, is-cut-at, made-cuts, numbered-after-cut, old-below, uncut-atoms-now}
 use Rattle.net_engine.proofs.net.Net.cut.Goals as goal
@@ -8,6 +8,10 @@ inherit-requires-clause-there c =
     there-below c.self.inside.routers c.self.inside.atoms c.self.inside.labels c.self.inside.owners.items c.in-Some.old.0 c.self.invariant
     (old-below c.self.inside.routers c.self.inside.atoms c.cut.new.self c.self.inside.labels c.self.inside.owners.items c.args.at c.in-Some.old c.in-Some.new c.self.invariant (is-cut-at c.self.inside.atoms c.cut.new.self c.args.at c.in_ok-old.field-0 (Some (c.in-Some.old, c.in-Some.new)) c.in-Some.is c.in_ok-old.ensures.ok))
 
+pub inherit-requires-clause-next : goal.inherit-requires-clause-next
+inherit-requires-clause-next c =
+    (is-cut-at c.self.inside.atoms c.cut.new.self c.args.at c.in_ok-old.field-0 (Some (c.in-Some.old, c.in-Some.new)) c.in-Some.is c.in_ok-old.ensures.ok).1 ∙ sym c.self.invariant.there
+
 pub index-requires : goal.index-requires
 index-requires c =
     let same : length c.self.inside.owners.items ≡ length c.self.inside.atoms = c.self.invariant.each in
@@ -15,13 +19,13 @@ index-requires c =
     omega arith
 
 pub invariant_of-result-2 : goal.invariant_of-result-2
-invariant_of-result-2 c = numbered-after-cut c.self.inside.routers c.self.inside.atoms c.cut.new.self c.self.inside.labels c.inherit.new.self c.self.inside.owners.items c.push.new.self.items c.args.at c.in-Some.old c.in-Some.new c.self.invariant (made-cuts c.self.inside.routers c.self.inside.atoms c.cut.new.self c.self.inside.labels c.inherit.new.self c.self.inside.owners.items c.push.new.self.items c.args.at c.in-Some.old c.in-Some.new c.in_ok-copy.copy c.index.result.now c.self.invariant (is-cut-at c.self.inside.atoms c.cut.new.self c.args.at c.in_ok-old.field-0 (Some (c.in-Some.old, c.in-Some.new)) c.in-Some.is c.in_ok-old.ensures.ok) (omega arith) c.in_ok-old.ensures.form c.in_ok-inherit.ensures.ok c.in_ok-push.ensures.items c.in_ok-copy.ensures c.index.ensures)
+invariant_of-result-2 c = numbered-after-cut c.self.inside.routers c.self.inside.atoms c.cut.new.self c.self.inside.labels c.in_ok-labels.labels c.self.inside.owners.items c.push.new.self.items c.args.at c.in-Some.old c.in-Some.new c.self.invariant (made-cuts c.self.inside.routers c.self.inside.atoms c.cut.new.self c.self.inside.labels c.in_ok-labels.labels c.self.inside.owners.items c.push.new.self.items c.args.at c.in-Some.old c.in-Some.new c.in_ok-copy.copy c.index.result.now c.self.invariant (is-cut-at c.self.inside.atoms c.cut.new.self c.args.at c.in_ok-old.field-0 (Some (c.in-Some.old, c.in-Some.new)) c.in-Some.is c.in_ok-old.ensures.ok) (omega arith) c.in_ok-old.ensures.form c.in_ok-labels.ensures c.in_ok-push.ensures.items c.in_ok-copy.ensures c.index.ensures)
 
 pub returns-clause-atoms : goal.returns-clause-atoms
-returns-clause-atoms c = cut-atoms-now c.args.self c.self.inside.routers c.self.inside.atoms c.cut.new.self c.self.inside.labels c.inherit.new.self c.self.inside.owners.items c.push.new.self.items c.args.at c.in-Some.old c.in-Some.new c.self.view_is c.self.invariant (made-cuts c.self.inside.routers c.self.inside.atoms c.cut.new.self c.self.inside.labels c.inherit.new.self c.self.inside.owners.items c.push.new.self.items c.args.at c.in-Some.old c.in-Some.new c.in_ok-copy.copy c.index.result.now c.self.invariant (is-cut-at c.self.inside.atoms c.cut.new.self c.args.at c.in_ok-old.field-0 (Some (c.in-Some.old, c.in-Some.new)) c.in-Some.is c.in_ok-old.ensures.ok) (omega arith) c.in_ok-old.ensures.form c.in_ok-inherit.ensures.ok c.in_ok-push.ensures.items c.in_ok-copy.ensures c.index.ensures)
+returns-clause-atoms c = cut-atoms-now c.args.self c.self.inside.routers c.self.inside.atoms c.cut.new.self c.self.inside.labels c.in_ok-labels.labels c.self.inside.owners.items c.push.new.self.items c.args.at c.in-Some.old c.in-Some.new c.self.view_is c.self.invariant (made-cuts c.self.inside.routers c.self.inside.atoms c.cut.new.self c.self.inside.labels c.in_ok-labels.labels c.self.inside.owners.items c.push.new.self.items c.args.at c.in-Some.old c.in-Some.new c.in_ok-copy.copy c.index.result.now c.self.invariant (is-cut-at c.self.inside.atoms c.cut.new.self c.args.at c.in_ok-old.field-0 (Some (c.in-Some.old, c.in-Some.new)) c.in-Some.is c.in_ok-old.ensures.ok) (omega arith) c.in_ok-old.ensures.form c.in_ok-labels.ensures c.in_ok-push.ensures.items c.in_ok-copy.ensures c.index.ensures)
 
 pub returns-clause-form : goal.returns-clause-form
-returns-clause-form c = is-net c.self.inside.routers c.cut.new.self c.inherit.new.self c.push.new.self.items (numbered-after-cut c.self.inside.routers c.self.inside.atoms c.cut.new.self c.self.inside.labels c.inherit.new.self c.self.inside.owners.items c.push.new.self.items c.args.at c.in-Some.old c.in-Some.new c.self.invariant (made-cuts c.self.inside.routers c.self.inside.atoms c.cut.new.self c.self.inside.labels c.inherit.new.self c.self.inside.owners.items c.push.new.self.items c.args.at c.in-Some.old c.in-Some.new c.in_ok-copy.copy c.index.result.now c.self.invariant (is-cut-at c.self.inside.atoms c.cut.new.self c.args.at c.in_ok-old.field-0 (Some (c.in-Some.old, c.in-Some.new)) c.in-Some.is c.in_ok-old.ensures.ok) (omega arith) c.in_ok-old.ensures.form c.in_ok-inherit.ensures.ok c.in_ok-push.ensures.items c.in_ok-copy.ensures c.index.ensures))
+returns-clause-form c = is-net c.self.inside.routers c.cut.new.self c.in_ok-labels.labels c.push.new.self.items (numbered-after-cut c.self.inside.routers c.self.inside.atoms c.cut.new.self c.self.inside.labels c.in_ok-labels.labels c.self.inside.owners.items c.push.new.self.items c.args.at c.in-Some.old c.in-Some.new c.self.invariant (made-cuts c.self.inside.routers c.self.inside.atoms c.cut.new.self c.self.inside.labels c.in_ok-labels.labels c.self.inside.owners.items c.push.new.self.items c.args.at c.in-Some.old c.in-Some.new c.in_ok-copy.copy c.index.result.now c.self.invariant (is-cut-at c.self.inside.atoms c.cut.new.self c.args.at c.in_ok-old.field-0 (Some (c.in-Some.old, c.in-Some.new)) c.in-Some.is c.in_ok-old.ensures.ok) (omega arith) c.in_ok-old.ensures.form c.in_ok-labels.ensures c.in_ok-push.ensures.items c.in_ok-copy.ensures c.index.ensures))
 
 pub returns-in_default-clause-atoms : goal.returns-in_default-clause-atoms
 returns-in_default-clause-atoms c = uncut-atoms-now c.args.self c.self.inside.routers c.self.inside.atoms c.cut.new.self c.self.inside.labels c.self.inside.owners.items c.args.at c.self.view_is c.self.invariant (is-cut-at c.self.inside.atoms c.cut.new.self c.args.at c.in_ok-old.field-0 None c.in_default.is c.in_ok-old.ensures.ok)

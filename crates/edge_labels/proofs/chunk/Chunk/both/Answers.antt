@@ -1,0 +1,8 @@
+use Rattle.std.proofs.Common.{arith}
+use Rattle.edge_labels.specs.Bits.{chunk_bit}
+use Rattle.edge_labels.proofs.BitLemmas.{bit-and}
+use Rattle.edge_labels.proofs.chunk.Chunk.both.Goals as goal
+
+pub returns : goal.returns
+unfolding chunk_bit
+returns c = λ k. bit-and c.args.self.now.words c.args.other.now.words k (omega arith) (omega arith)

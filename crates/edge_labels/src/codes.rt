@@ -1,0 +1,11 @@
+//! Codes of what routers do.
+
+use dn_model::Target;
+
+/// A router, by its place in the topology's list, and something that it does: an edge of the network, or a way to drop
+/// packets.
+#[derive(Clone, Copy, Debug, PartialEq, Eq, PartialOrd, Ord)]
+pub struct Edge {
+    pub router: u32,
+    pub target: Target,
+}

@@ -1,3 +1,4 @@
+pub mod Crossing
 pub mod BitLemmas
 pub mod BitsLemmas
 pub mod CountLemmas

@@ -3,15 +3,9 @@ use denote.Param.Send.{IsSend, IsSync, sendable}
 use Rattle.std.proofs.Crossing.{crosses}
 use Rattle.std.proofs.MapsCrossing as maps
 use Rattle.atom_map.proofs.Crossing.{AtomMap-send, AtomMap-sync}
-use Rattle.edge_labels.specs.contracts.label_graph.LabelGraph as LabelGraph
+use Rattle.edge_labels.proofs.Crossing.{LabelGraph-send, LabelGraph-sync}
 use Rattle.net_engine.specs.contracts.atom_owners.AtomOwners as AtomOwners
 use Rattle.net_engine.specs.contracts.version.Version as Version
-
-LabelGraph-send : IsSend LabelGraph.the_row
-LabelGraph-send = search (sendable, crosses, maps.crosses) depth 40
-
-LabelGraph-sync : IsSync LabelGraph.the_row
-LabelGraph-sync = search (sendable, crosses, maps.crosses) depth 40
 
 AtomOwners-send : IsSend AtomOwners.the_row
 AtomOwners-send = search (sendable, crosses, maps.crosses) depth 40

@@ -1,5 +1,5 @@
 -- What each frame of a feed comes to, and what is told of a feed.
-use Rattle.std.specs.Prelude.{ℕ, List, [], ◌∷◌, length, map, sum, Some}
+use Rattle.std.specs.Prelude.{ℕ, List, [], ◌∷◌, map, sum, take, Some}
 use Rattle.std.specs.List.{flat_map}
 use Rattle.dn_model.specs.declared.ids.RouterId.{RouterId}
 use Rattle.dn_model.specs.declared.entry.Op.{Op}
@@ -34,19 +34,26 @@ updates steps = flat_map ops_of steps
 abbrev pub refusals : List FrameStep → List RefusedFrame
 refusals steps = flat_map refused_of steps
 
--- a feed of a run, with what was read of it: its number from 1, its router, what each frame came to, and its end
+-- A feed of a run, with what was read of it: its number from 1, its router, what each frame came to, how many of its
+-- updates the history took, which are the first so many, and its end.
 pub record FeedRead : Type 0 where
   pub feed_no : ℕ
   pub router : RouterId
   pub steps : List FrameStep
+  pub kept : ℕ
   pub end : FeedEnd
 
--- what is told of a feed
+-- the updates of a feed's first frames that the history took: no more than it took of the feed
+abbrev pub kept_of : FeedRead → List FrameStep → List Op
+kept_of f steps = take f.kept (updates steps)
+
+-- What is told of a feed: how many of its updates the history took, and what was passed over and refused in all of its
+-- frames. So where the history was full, the frame that has the refused update is the last that counts.
 abbrev pub told_of : FeedRead → FeedTold
 told_of f = record {
   feed_no = f.feed_no;
   router = f.router;
-  updates = length (updates f.steps);
+  updates = f.kept;
   skipped = sum (map skipped_of f.steps);
   refused = refusals f.steps;
   end = Some f.end;

@@ -1,6 +1,7 @@
 pub mod Digits
 pub mod FeedLemmas
 pub mod FramesLemmas
+pub mod LawfulLemmas
 pub mod RoomLemmas
 pub mod TopologyLinksSound
 pub mod TopologySound

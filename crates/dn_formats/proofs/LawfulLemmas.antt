@@ -4,7 +4,7 @@ use Rattle.std.proofs.lemmas.Grind.{flat_map-append}
 use Rattle.std.proofs.lemmas.List.{append-nil, take_all, take-append-drop}
 use Rattle.std.proofs.lemmas.List.Elements.{All-nil}
 use Rattle.dn_model.specs.Query.{Question}
-use Rattle.dn_formats.specs.Lawful.{IsKept, IsKeptAt, IsOutcome, Tells, TellsLines, front_of, taken, kept_by, is_from, pin_after}
+use Rattle.dn_formats.specs.Lawful.{IsWhole, IsKept, IsKeptAt, IsOutcome, Tells, TellsLines, front_of, taken, kept_by, is_from, pin_after}
 use Rattle.dn_formats.specs.Steps.{FrameStep, FeedRead, ops_of, updates, kept_of, entries_of}
 use Rattle.dn_model.specs.declared.entry.Entry.{Entry}
 use Rattle.dn_model.specs.declared.topology.Topology.{Topology}
@@ -17,10 +17,6 @@ use Rattle.dn_formats.specs.declared.told.Outcome.TheVariants.{Answered, Unknown
 use Rattle.dn_formats.specs.declared.told.Told.{Told}
 
 -- ---- what is kept
-
--- all updates of a feed are kept
-abbrev pub IsWhole : FeedRead → Type 0
-IsWhole f = f.kept ≡ length (updates f.steps)
 
 whole-at : (end : FeedEnd) (limit : ℕ) (h : List Entry) (f : FeedRead) → (end ≡ ends.Full → ⊥) → IsKeptAt end limit h f → IsWhole f
 whole-at ends.End limit h f other is = is

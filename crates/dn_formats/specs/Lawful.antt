@@ -27,6 +27,10 @@ is_from f e = is_of_feed f.feed_no e
 abbrev pub is_from_some : List FeedRead → Entry → Bool
 is_from_some feeds e = list_any (λ f. is_from f e) feeds
 
+-- the history took all updates of a feed
+abbrev pub IsWhole : FeedRead → Type 0
+IsWhole f = f.kept ≡ length (updates f.steps)
+
 -- A full history broke a feed off: it took the updates of the frames before the last, and not all of the last frame's;
 -- and it has as many entries as its limit.
 pub record IsBrokenOff (limit : ℕ) (history : List Entry) (f : FeedRead) : Type 0 where
@@ -39,12 +43,12 @@ pub record IsBrokenOff (limit : ℕ) (history : List Entry) (f : FeedRead) : Typ
 
 -- how many updates a history of this limit took of a feed with this end: all, save where it was full
 abbrev pub IsKeptAt : FeedEnd → ℕ → List Entry → FeedRead → Type 0
-IsKeptAt ends.End limit history f = f.kept ≡ length (updates f.steps)
-IsKeptAt (ends.CutShort o) limit history f = f.kept ≡ length (updates f.steps)
-IsKeptAt (ends.Lost o cause) limit history f = f.kept ≡ length (updates f.steps)
-IsKeptAt ends.TooLong limit history f = f.kept ≡ length (updates f.steps)
+IsKeptAt ends.End limit history f = IsWhole f
+IsKeptAt (ends.CutShort o) limit history f = IsWhole f
+IsKeptAt (ends.Lost o cause) limit history f = IsWhole f
+IsKeptAt ends.TooLong limit history f = IsWhole f
 IsKeptAt ends.Full limit history f = IsBrokenOff limit history f
-IsKeptAt ends.Faulted limit history f = f.kept ≡ length (updates f.steps)
+IsKeptAt ends.Faulted limit history f = IsWhole f
 
 -- the same by the feed's own end
 abbrev pub IsKept : ℕ → List Entry → FeedRead → Type 0

@@ -28,8 +28,8 @@ pub enum FeedEnd {
     Faulted,
 }
 
-/// What is told of a feed. Feeds count from 1. `updates` counts the updates of its accepted frames, `skipped` the
-/// messages that accepted frames passed over; `end` is None until it has ended.
+/// What is told of a feed. Feeds count from 1. `updates` counts the updates of its accepted frames, as far as the history
+/// took them, `skipped` the messages that accepted frames passed over; `end` is None until it has ended.
 #[derive(Drop)]
 pub struct FeedTold {
     pub feed_no: u32,

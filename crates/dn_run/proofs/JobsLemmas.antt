@@ -1,7 +1,7 @@
 -- The jobs of a run before the first call and after the last.
-use Rattle.std.proofs.Common.{◌≡◌, ℕ, suc, ◌+◌, ◌<◌, ◌≤◌, Bool, true, false, ◌==◌, not, IsTrue, List, [], ◌∷◌, ◌++◌, length, get_or, map, filter, take, cond, All, Option, None, Some, IsSome, refl, ap, sym, ◌∙◌, arith, subst, Bor}
+use Rattle.std.proofs.Common.{◌≡◌, ℕ, suc, ◌+◌, ◌<◌, ◌≤◌, Bool, true, false, ◌==◌, not, IsTrue, List, [], ◌∷◌, ◌++◌, length, get_or, map, filter, take, drop, cond, All, Option, None, Some, IsSome, refl, ap, sym, ◌∙◌, arith, subst, Bor}
 use Rattle.std.specs.List.{AllZip, list_any}
-use Rattle.std.proofs.Math.Seq.{take-length}
+use Rattle.std.proofs.Math.Seq.{take-length, take-nil}
 use Rattle.std.proofs.Math.Bool.{or-false}
 use Rattle.std.proofs.lemmas.Bool.{and_parts}
 use Rattle.std.proofs.lemmas.Bool.Decides.{nat_tests}
@@ -9,15 +9,18 @@ use Rattle.std.proofs.lemmas.List.{append-nil, length-map}
 use Rattle.std.proofs.lemmas.List.Elements.{All-nil, All-cons, All-head, All-tail, All-append, All-filter, All-map, filter_agree}
 use Rattle.dn_io.specs.Told.{with_front}
 use Rattle.dn_formats.specs.Frames.{IsFrame}
-use Rattle.dn_formats.specs.Lawful.{Job, TellsAll, KeepsOrder, jobs_of, takes_feed, is_from, is_from_some}
-use Rattle.dn_formats.specs.Steps.{FeedRead, updates, entries_of}
+use Rattle.dn_formats.proofs.LawfulLemmas.{kept, kept-all}
+use Rattle.dn_formats.specs.Lawful.{Job, IsKept, TellsAll, KeepsOrder, jobs_of, script_jobs, feed_jobs, untaken_feeds, takes_feed, left_by, is_from, is_from_some}
+use Rattle.dn_formats.specs.Steps.{FeedRead, kept_of, entries_of}
 use Rattle.dn_run.specs.Latest.{After, IsOf}
 use Rattle.dn_model.specs.Topology.{all_differ}
 use Rattle.dn_model.specs.declared.entry.Entry.{Entry}
+use Rattle.dn_model.specs.declared.entry.Op.{Op}
 use Rattle.dn_model.specs.declared.entry.Posted.{Posted}
 use Rattle.dn_formats.specs.declared.script.Line.{Line}
 use Rattle.dn_model.specs.declared.topology.Topology.{Topology}
 use Rattle.dn_formats.specs.declared.told.FeedEnd.{FeedEnd}
+use Rattle.dn_formats.specs.declared.told.FeedEnd.TheVariants as ends
 use Rattle.dn_formats.specs.declared.told.JobTold.{JobTold}
 use Rattle.route_feed.specs.FeedReader.{Reader, IsAt}
 use Rattle.std.specs.Option.{option_copied}
@@ -25,7 +28,8 @@ use Rattle.dn_formats.specs.declared.script.Script.{Script}
 use Rattle.dn_run.specs.Takes.{tag_of}
 use Rattle.dn_run.specs.Jobs.{scripts_of, IsFresh, AreNumbered, HaveRoutersApart, same_router, AreReadBy, HasRun}
 use Rattle.dn_run.specs.Network.{entries, StandsBy, CountsBy, CountsFaults, IsCount}
-use Rattle.dn_run.specs.Tracks.{tags_of, Ready, Strand, end_or, feed_of, GoesOn, Stands, AreApart, AllApart, Tracks, script_jobs, is_own, own_told, WhateverOwn, Owns}
+use Rattle.dn_run.specs.Run.{history_limit}
+use Rattle.dn_run.specs.Tracks.{tags_of, Ready, Strand, end_or, feed_of, GoesOn, Stands, AreApart, AllApart, Tracks, is_own, own_told, WhateverOwn, Owns}
 use Rattle.dn_run.specs.declared.take.Book.{Book}
 use Rattle.dn_run.proofs.StrandLemmas.{All-unmap, eqb-back, nows}
 use Rattle.dn_run.proofs.TakesLemmas.{later-nil}
@@ -124,7 +128,7 @@ ready-start {S = S} t faults readers book empty of after fresh few = record {
 
 goes-itself : {S : Type 0} (ss : List (Strand S)) → AllZip GoesOn ss (map feed_of ss)
 goes-itself [] = tt
-goes-itself (s ∷ ss) = (record { feed_no = refl; router = refl; later = []; steps = sym (append-nil s.steps); none_after_end = later-nil s.now.told.end }, goes-itself ss)
+goes-itself (s ∷ ss) = (record { feed_no = refl; router = refl; later = []; steps = sym (append-nil s.steps); whole = refl; none_after_end = later-nil s.now.told.end }, goes-itself ss)
 
 end-is : (end : Option FeedEnd) → IsSome end → end ≡ Some (end_or end)
 end-is None some = grind (arith, some)
@@ -139,29 +143,52 @@ read-itself {S = S} t left faults h (s ∷ ss) stands ended =
       record {
         feed_no = refl;
         router = refl;
+        kept = refl;
         end_is = is;
         stands = λ bytes held. subst (λ (e : Option FeedEnd). StandsBy e t s.now (left s.now.source) bytes s.steps) is (here.stands bytes held);
       },
       read-itself t left faults h ss (All-tail (Stands t left faults h) s ss stands) (All-tail (λ (s : Strand S). IsSome s.now.told.end) s ss ended),
     )
 
+-- no reader's end is that of a full history
+not-full : (end : Option FeedEnd) (n : ℕ) → CountsBy end n → end_or end ≡ ends.Full → ⊥
+not-full None n is full = cc
+not-full (Some ends.End) n is full = cc
+not-full (Some (ends.CutShort o)) n is full = cc
+not-full (Some (ends.Lost o cause)) n is full = cc
+not-full (Some ends.TooLong) n is full = cc
+not-full (Some ends.Full) n is full = is
+not-full (Some ends.Faulted) n is full = cc
+
 -- a feed that is a job alone keeps its order, since the history has its updates in order
-abbrev own_job : FeedRead → Job
-own_job f = record { lines = []; feeds = f ∷ [] }
+own-keeps : (h : List Entry) (n : ℕ) (f : FeedRead) → filter (is_from f) h ≡ entries_of f (kept_of f f.steps) → KeepsOrder h (record { number = n; lines = []; feeds = f ∷ [] })
+own-keeps h n f is =
+    let left : left_by [] f ≡ entries_of f (kept_of f f.steps) = ap (λ (ops : List Op). entries_of f (drop (length ops) (kept_of f f.steps))) (take-nil f.kept) in
+    filter_agree (is_from_some (f ∷ [])) (is_from f) (λ e. or-false (is_from f e)) h ∙ is ∙ sym (append-nil (left_by [] f) ∙ left)
 
-own-keeps : (h : List Entry) (f : FeedRead) → filter (is_from f) h ≡ entries_of f (updates f.steps) → KeepsOrder h (own_job f)
-own-keeps h f is =
-    filter_agree (is_from_some (f ∷ [])) (is_from f) (λ e. or-false (is_from f e)) h ∙ is ∙ sym (append-nil (entries_of f (updates f.steps)))
+owns-keep : (h : List Entry) (n : ℕ) (fs : List FeedRead) → All (λ f. filter (is_from f) h ≡ entries_of f (kept_of f f.steps)) fs → All (KeepsOrder h) (feed_jobs n fs)
+owns-keep h n [] each = All-nil (KeepsOrder h)
+owns-keep h n (f ∷ fs) each =
+    All-cons (KeepsOrder h) (record { number = n; lines = []; feeds = f ∷ [] }) (feed_jobs (suc n) fs)
+    (own-keeps h n f (All-head (λ f. filter (is_from f) h ≡ entries_of f (kept_of f f.steps)) f fs each))
+    (owns-keep h (suc n) fs (All-tail (λ f. filter (is_from f) h ≡ entries_of f (kept_of f f.steps)) f fs each))
 
-tells-own : (t : Topology) (h : List Entry) (n : ℕ) (fs : List FeedRead) → TellsAll t h n (map own_job fs) (own_told n (length fs))
+tells-own : (t : Topology) (h : List Entry) (n : ℕ) (fs : List FeedRead) → TellsAll t h (feed_jobs n fs) (own_told n (length fs))
 tells-own t h n [] = tt
-tells-own t h n (f ∷ fs) = (refl, tt, tells-own t h (suc n) fs)
+tells-own t h n (f ∷ fs) = ((refl, tt), tells-own t h (suc n) fs)
 
-tells-both : (t : Topology) (h : List Entry) (n m : ℕ) (js js' : List Job) (ts ts' : List JobTold) → TellsAll t h n js ts → m ≡ n + length ts → TellsAll t h m js' ts' → TellsAll t h n (js ++ js') (ts ++ ts')
-tells-both t h n m [] js' [] ts' a at b = subst (λ k. TellsAll t h k js' ts') (omega (arith, at)) b
-tells-both t h n m [] js' (x ∷ ts) ts' a at b = absurd a
-tells-both t h n m (j ∷ js) js' [] ts' a at b = absurd a
-tells-both t h n m (j ∷ js) js' (x ∷ ts) ts' a at b = (a.0, a.1, tells-both t h (suc n) m js js' ts ts' a.2 (omega (arith, at)) b)
+tells-both : (t : Topology) (h : List Entry) (js js' : List Job) (ts ts' : List JobTold) → TellsAll t h js ts → TellsAll t h js' ts' → TellsAll t h (js ++ js') (ts ++ ts')
+tells-both t h [] js' [] ts' a b = b
+tells-both t h [] js' (x ∷ ts) ts' a b = absurd a
+tells-both t h (j ∷ js) js' [] ts' a b = absurd a
+tells-both t h (j ∷ js) js' (x ∷ ts) ts' a b = (a.0, tells-both t h js js' ts ts' a.1 b)
+
+-- of each script's job something is told
+scripts-told : (t : Topology) (h : List Entry) (n : ℕ) (scripts : List (List Line)) (fs : List FeedRead) (ts : List JobTold) → TellsAll t h (script_jobs n scripts fs) ts → length scripts ≡ length ts
+scripts-told t h n [] fs [] a = refl
+scripts-told t h n [] fs (x ∷ ts) a = absurd a
+scripts-told t h n (lines ∷ scripts) fs [] a = absurd a
+scripts-told t h n (lines ∷ scripts) fs (x ∷ ts) a = ap suc (scripts-told t h (suc n) scripts fs ts a.1)
 
 count-by : {X Y : Type 0} (b : Bool) (x : X) (y : Y) (xs : List X) (ys : List Y) → length xs ≡ length ys → length (cond b (x ∷ xs) xs) ≡ length (cond b (y ∷ ys) ys)
 count-by true x y xs ys e = ap suc e
@@ -178,11 +205,14 @@ run-over {S = S} t left faults olds news history scripts tolds all count is owns
     let h : List Entry = entries history in
     let ss : List (Strand S) = owns.strands in
     let fs : List FeedRead = map feed_of ss in
-    let others : List FeedRead = filter (λ f. not (list_any (λ lines. takes_feed lines f) scripts)) fs in
+    let others : List FeedRead = untaken_feeds scripts fs in
     let whole : take count ss ≡ ss = ap (λ n. take n ss) (is ∙ sym (ap length owns.woven.nows) ∙ length-map ss (λ s. s.now)) ∙ take-length ss in
     let ended : All (λ (s : Strand S). IsSome s.now.told.end) ss = subst (λ (xs : List (Strand S)). All (λ s. IsSome s.now.told.end) xs) whole owns.ended in
     let v : WhateverOwn t h scripts tolds fs = owns.whatever fs (goes-itself ss) in
-    let each : All (λ f. filter (is_from f) h ≡ entries_of f (updates f.steps)) fs = All-map (λ f. filter (is_from f) h ≡ entries_of f (updates f.steps)) feed_of ss (λ k d i. (owns.woven.each k d i).posted) in
+    let each : All (λ f. filter (is_from f) h ≡ entries_of f (kept_of f f.steps)) fs =
+    All-map (λ f. filter (is_from f) h ≡ entries_of f (kept_of f f.steps)) feed_of ss
+    (λ k d i. (owns.woven.each k d i).posted ∙ ap (entries_of (feed_of (get_or ss k d))) (sym (kept-all (feed_of (get_or ss k d)) refl))) in
+    let told : TellsAll t h (script_jobs 1 scripts fs) tolds = subst (λ (es : List Entry). TellsAll t es (script_jobs 1 scripts fs) tolds) (append-nil h) (v.tells []) in
     let all-is : all ≡ tolds ++ own_told (suc (length tolds)) (length others) =
     owns.all_are ∙ ap (λ (xs : List (Strand S)). tolds ++ own_told (suc (length tolds)) (length (filter (λ s. is_own scripts s.now.told.router) xs))) whole
     ∙ ap (λ n. tolds ++ own_told (suc (length tolds)) n) (count-feeds scripts ss) in
@@ -190,13 +220,21 @@ run-over {S = S} t left faults olds news history scripts tolds all count is owns
       feeds = fs;
       read = subst (λ (rs : List (Reader S)). AreReadBy t left rs news fs) owns.woven.starts
           (subst (λ (rs : List (Reader S)). AreReadBy t left (map (λ s. s.start) ss) rs fs) owns.woven.nows (read-itself t left faults h ss owns.woven.each ended));
-      shuffle = record { each = each; only = owns.woven.only };
-      order = All-append (KeepsOrder h) (script_jobs scripts fs) (map own_job others) v.order
-          (All-map (KeepsOrder h) own_job others (All-filter (λ f. not (list_any (λ lines. takes_feed lines f) scripts)) (λ f. KeepsOrder h (own_job f)) fs (λ k d i. own-keeps h (get_or fs k d) (each k d i))));
-      tells = subst (λ (js : List JobTold). TellsAll t h 1 (jobs_of scripts fs) js) (sym all-is)
-          (tells-both t h 1 (suc (length tolds)) (script_jobs scripts fs) (map own_job others) tolds (own_told (suc (length tolds)) (length others))
-          (subst (λ (es : List Entry). TellsAll t es 1 (script_jobs scripts fs) tolds) (append-nil h) (v.tells []))
-          (omega arith) (tells-own t h (suc (length tolds)) others));
+      lawful = record {
+        shuffle = record {
+          kept = All-map (IsKept history_limit h) feed_of ss
+              (λ k d i. kept history_limit h (feed_of (get_or ss k d)) (not-full (get_or ss k d).now.told.end (faults (get_or ss k d).now.source) (owns.woven.each k d i).counts) refl);
+          each = each;
+          only = owns.woven.only;
+        };
+        order = All-append (KeepsOrder h) (script_jobs 1 scripts fs) (feed_jobs (suc (length scripts)) others) v.order
+            (owns-keep h (suc (length scripts)) others
+            (All-filter (λ f. not (list_any (λ lines. takes_feed lines f) scripts)) (λ f. filter (is_from f) h ≡ entries_of f (kept_of f f.steps)) fs each));
+        tells = subst (λ (js : List JobTold). TellsAll t h (jobs_of scripts fs) js) (sym all-is)
+            (tells-both t h (script_jobs 1 scripts fs) (feed_jobs (suc (length scripts)) others) tolds (own_told (suc (length tolds)) (length others)) told
+            (subst (λ (n : ℕ). TellsAll t h (feed_jobs (suc (length scripts)) others) (own_told (suc n) (length others))) (scripts-told t h 1 scripts fs tolds told)
+            (tells-own t h (suc (length scripts)) others)));
+      };
     }
 
 pub over-counts : {S : Type 0} (t : Topology) (left : S → Option (List ℕ)) (faults : S → ℕ) (olds news : List (Reader S)) (h : List Entry) (scripts : List (List Line)) (tolds all : List JobTold) (count : ℕ) →

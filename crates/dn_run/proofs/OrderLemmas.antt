@@ -5,8 +5,9 @@ use Rattle.std.proofs.lemmas.Grind.{flat_map-append}
 use Rattle.std.proofs.lemmas.List.{append-nil}
 use Rattle.std.proofs.Math.Seq.{drop-append_seam}
 use Rattle.std.proofs.lemmas.List.Elements.{All-head, All-tail}
-use Rattle.dn_formats.specs.Lawful.{asked, asked_by, both_counts, front_of, taken, takes, taken_by, taken_along}
-use Rattle.dn_formats.specs.Steps.{FrameStep, FeedRead, updates, entries_of}
+use Rattle.dn_formats.proofs.LawfulLemmas.{kept-taken}
+use Rattle.dn_formats.specs.Lawful.{IsWhole, asked, asked_by, both_counts, front_of, taken, takes, kept_by, taken_by, taken_along}
+use Rattle.dn_formats.specs.Steps.{FrameStep, FeedRead, ops_of, updates, kept_of, entries_of}
 use Rattle.dn_model.specs.declared.entry.Entry.{Entry}
 use Rattle.dn_model.specs.declared.ids.RouterId.{RouterId}
 use Rattle.dn_formats.specs.declared.script.Line.{Line}
@@ -38,7 +39,7 @@ pub taken_by-other : (before : List Line) (l : Line) (f : FeedRead) → takes f.
 taken_by-other before l f other =
     let same : taken (before ++ l ∷ []) f ≡ taken before f =
     ap (λ c. front_of c f.steps) (asked-push f.router before l ∙ ap (both_counts (asked f.router before)) (asked-other f.router l other) ∙ both-zero (asked f.router before)) in
-    ap (λ ss. entries_of f (updates (drop (length (taken before f)) ss))) same ∙ ap (λ ss. entries_of f (updates ss)) (drop-all (taken before f))
+    ap (λ ss. entries_of f (drop (length (kept_by before f)) (kept_of f ss))) same ∙ ap (entries_of f) (drop-all (kept_by before f))
 
 pub none-taken : (before : List Line) (l : Line) (fs : List FeedRead) → All (λ f. takes f.router l ≡ false) fs → flat_map (taken_by before l) fs ≡ []
 none-taken before l [] others = refl
@@ -52,9 +53,14 @@ pub one-alone : (g : FeedRead → List Entry) (front : List FeedRead) (f : FeedR
 one-alone g front f back es none is none-back =
     flat_map-append g front (f ∷ back) ∙ ap (λ x. x ++ flat_map g (f ∷ back)) none ∙ ap (λ x. x ++ flat_map g back) is ∙ ap (λ x. es ++ x) none-back ∙ append-nil es
 
--- what a line takes of a feed, by what was taken before and after it
-pub taken_by-own : (before : List Line) (l : Line) (f : FeedRead) (steps more : List FrameStep) → taken before f ≡ steps → taken (before ++ l ∷ []) f ≡ steps ++ more →
+-- the updates of some frames, past those of the first
+pub drop-updates : (steps more : List FrameStep) → drop (length (updates steps)) (updates (steps ++ more)) ≡ updates more
+drop-updates steps more = ap (drop (length (updates steps))) (flat_map-append ops_of steps more) ∙ drop-append_seam (updates steps) (updates more)
+
+-- what a line takes of a feed that is kept whole, by what was taken before and after it
+pub taken_by-own : (before : List Line) (l : Line) (f : FeedRead) (steps more : List FrameStep) → IsWhole f → taken before f ≡ steps → taken (before ++ l ∷ []) f ≡ steps ++ more →
     taken_by before l f ≡ entries_of f (updates more)
-taken_by-own before l f steps more is after =
-    ap (λ ss. entries_of f (updates (drop (length ss) (taken (before ++ l ∷ []) f)))) is
-    ∙ ap (λ ss. entries_of f (updates (drop (length steps) ss))) after ∙ ap (λ ss. entries_of f (updates ss)) (drop-append_seam steps more)
+taken_by-own before l f steps more all is after =
+    ap (λ ops. entries_of f (drop (length ops) (kept_by (before ++ l ∷ []) f))) (kept-taken f before all ∙ ap updates is)
+    ∙ ap (λ ops. entries_of f (drop (length (updates steps)) ops)) (kept-taken f (before ++ l ∷ []) all ∙ ap updates after)
+    ∙ ap (entries_of f) (drop-updates steps more)

@@ -6,7 +6,8 @@ use Rattle.std.proofs.lemmas.Bool.{or_parts}
 use Rattle.std.proofs.lemmas.List.{append-nil, length-append, length-map, map-append, set-get_or, set_split, length-take-le}
 use Rattle.std.proofs.lemmas.List.Folds.{list_any_none}
 use Rattle.std.proofs.lemmas.List.Elements.{All-nil, All-cons, All-head, All-tail, All-append, All-filter, filter-append}
-use Rattle.dn_formats.specs.Lawful.{Job, TellsAll, KeepsOrder, asked, takes, takes_feed, is_from, is_from_some}
+use Rattle.dn_formats.proofs.LawfulLemmas.{tells-among}
+use Rattle.dn_formats.specs.Lawful.{Job, TellsAll, KeepsOrder, script_jobs, asked, takes, takes_feed, is_from, is_from_some}
 use Rattle.dn_formats.specs.Steps.{FrameStep, FeedRead, updates, entries_by}
 use Rattle.dn_model.specs.declared.entry.Entry.{Entry}
 use Rattle.dn_model.specs.declared.entry.Op.{Op}
@@ -17,9 +18,8 @@ use Rattle.dn_formats.specs.declared.told.FeedEnd.{FeedEnd}
 use Rattle.dn_formats.specs.declared.told.JobTold.{JobTold}
 use Rattle.dn_formats.specs.declared.told.Told.{Told}
 use Rattle.route_feed.specs.FeedReader.{Reader}
-use Rattle.dn_run.specs.Tracks.{Strand, GoesOn, AreApart, Woven, Tracks, WhateverRest, Rests, IsRest, TakesFeed, TakesFrom, script_jobs, is_own, own_told, WhateverOwn, Owns}
+use Rattle.dn_run.specs.Tracks.{Strand, GoesOn, AreApart, Woven, Tracks, WhateverRest, Rests, IsRest, TakesFeed, TakesFrom, is_own, own_told, WhateverOwn, Owns}
 use Rattle.dn_run.proofs.StrandLemmas.{Parts, all-parts, all-joined, all-through, ZipParts, zip-parts, Split, split-at, nows, grown, Others, apart-others, woven-took, go-back, Grows, grows}
-use Rattle.dn_run.proofs.TellLemmas.{tells-fewer}
 use Rattle.dn_run.proofs.RestLemmas.{rest-ends}
 use Rattle.dn_run.proofs.ScriptJobLemmas.{filter-none, job-order}
 
@@ -119,11 +119,11 @@ none-from gs n r (op ∷ ops) others =
     All-cons (λ e. is_from_some gs e ≡ false) (record { router = r; feed_no = n; op = op }) (entries_by n r ops)
     (list_any_none (λ g. is_from g (record { router = r; feed_no = n; op = op })) gs others) (none-from gs n r ops others)
 
-keeps-other : (h : List Entry) (lines : List Line) (front : List FeedRead) (f : FeedRead) (back : List FeedRead) (n : ℕ) (r : RouterId) (ops : List Op) →
+keeps-other : (h : List Entry) (number : ℕ) (lines : List Line) (front : List FeedRead) (f : FeedRead) (back : List FeedRead) (n : ℕ) (r : RouterId) (ops : List Op) →
     All (λ g. (n == g.feed_no) ≡ false) front → All (λ g. (n == g.feed_no) ≡ false) back → takes_feed lines f ≡ false →
-    KeepsOrder h (record { lines = lines; feeds = filter (takes_feed lines) (front ++ f ∷ back) }) →
-    KeepsOrder (h ++ entries_by n r ops) (record { lines = lines; feeds = filter (takes_feed lines) (front ++ f ∷ back) })
-keeps-other h lines front f back n r ops in-front in-back other keeps =
+    KeepsOrder h (record { number = number; lines = lines; feeds = filter (takes_feed lines) (front ++ f ∷ back) }) →
+    KeepsOrder (h ++ entries_by n r ops) (record { number = number; lines = lines; feeds = filter (takes_feed lines) (front ++ f ∷ back) })
+keeps-other h number lines front f back n r ops in-front in-back other keeps =
     let gs : List FeedRead = filter (takes_feed lines) (front ++ f ∷ back) in
     let P : FeedRead → Type 0 = λ g. (n == g.feed_no) ≡ false in
     let without : filter (takes_feed lines) (f ∷ back) ≡ filter (takes_feed lines) back = rw other refl in
@@ -134,16 +134,17 @@ keeps-other h lines front f back n r ops in-front in-back other keeps =
     filter-append (is_from_some gs) h (entries_by n r ops) ∙ ap (λ es. filter (is_from_some gs) h ++ es) (filter-none (is_from_some gs) (entries_by n r ops) (none-from gs n r ops others))
     ∙ append-nil (filter (is_from_some gs) h) ∙ keeps
 
-all-keep : (h : List Entry) (scripts : List (List Line)) (front : List FeedRead) (f : FeedRead) (back : List FeedRead) (n : ℕ) (r : RouterId) (ops : List Op) →
+all-keep : (h : List Entry) (number : ℕ) (scripts : List (List Line)) (front : List FeedRead) (f : FeedRead) (back : List FeedRead) (n : ℕ) (r : RouterId) (ops : List Op) →
     All (λ g. (n == g.feed_no) ≡ false) front → All (λ g. (n == g.feed_no) ≡ false) back → list_any (λ lines. takes_feed lines f) scripts ≡ false →
-    All (KeepsOrder h) (script_jobs scripts (front ++ f ∷ back)) → All (KeepsOrder (h ++ entries_by n r ops)) (script_jobs scripts (front ++ f ∷ back))
-all-keep h [] front f back n r ops in-front in-back none keeps = All-nil (KeepsOrder (h ++ entries_by n r ops))
-all-keep h (lines ∷ scripts) front f back n r ops in-front in-back none keeps =
+    All (KeepsOrder h) (script_jobs number scripts (front ++ f ∷ back)) → All (KeepsOrder (h ++ entries_by n r ops)) (script_jobs number scripts (front ++ f ∷ back))
+all-keep h number [] front f back n r ops in-front in-back none keeps = All-nil (KeepsOrder (h ++ entries_by n r ops))
+all-keep h number (lines ∷ scripts) front f back n r ops in-front in-back none keeps =
     let parts : (takes_feed lines f ≡ false) × (list_any (λ lines. takes_feed lines f) scripts ≡ false) = or_parts (takes_feed lines f) (list_any (λ lines. takes_feed lines f) scripts) none in
-    let job : Job = record { lines = lines; feeds = filter (takes_feed lines) (front ++ f ∷ back) } in
-    All-cons (KeepsOrder (h ++ entries_by n r ops)) job (script_jobs scripts (front ++ f ∷ back))
-    (keeps-other h lines front f back n r ops in-front in-back parts.0 (All-head (KeepsOrder h) job (script_jobs scripts (front ++ f ∷ back)) keeps))
-    (all-keep h scripts front f back n r ops in-front in-back parts.1 (All-tail (KeepsOrder h) job (script_jobs scripts (front ++ f ∷ back)) keeps))
+    let job : Job = record { number = number; lines = lines; feeds = filter (takes_feed lines) (front ++ f ∷ back) } in
+    let others : List Job = script_jobs (suc number) scripts (front ++ f ∷ back) in
+    All-cons (KeepsOrder (h ++ entries_by n r ops)) job others
+    (keeps-other h number lines front f back n r ops in-front in-back parts.0 (All-head (KeepsOrder h) job others keeps))
+    (all-keep h (suc number) scripts front f back n r ops in-front in-back parts.1 (All-tail (KeepsOrder h) job others keeps))
 
 not-true : (b : Bool) → not b ≡ true → b ≡ false
 not-true true e = cc
@@ -182,15 +183,15 @@ owns-grown {S = S} t left faults olds news news' h h' scripts tolds all at m fro
           let none : list_any (λ lines. takes_feed lines z.y) scripts ≡ false =
           ap (λ r. list_any (λ lines. list_any (takes r) lines) scripts) z.mid_zip.router ∙ not-true (list_any (λ lines. list_any (takes mid.now.told.router) lines) scripts) own in
           record {
-            order = subst (λ (gs : List FeedRead). All (KeepsOrder h') (script_jobs scripts gs)) (sym z.whole)
-                (subst (λ (ys : List Entry). All (KeepsOrder ys) (script_jobs scripts (z.front_ys ++ z.y ∷ z.back_ys))) (sym x.took.adds.grows)
-                (all-keep h scripts z.front_ys z.y z.back_ys mid.now.told.feed_no mid.now.told.router (updates more)
+            order = subst (λ (gs : List FeedRead). All (KeepsOrder h') (script_jobs 1 scripts gs)) (sym z.whole)
+                (subst (λ (ys : List Entry). All (KeepsOrder ys) (script_jobs 1 scripts (z.front_ys ++ z.y ∷ z.back_ys))) (sym x.took.adds.grows)
+                (all-keep h 1 scripts z.front_ys z.y z.back_ys mid.now.told.feed_no mid.now.told.router (updates more)
                 (all-through GoesOn (AreApart mid) (λ g. (mid.now.told.feed_no == g.feed_no) ≡ false) front z.front_ys (λ s f g p. from-other mid s f p g) z.front_zip others.in_front)
                 (all-through GoesOn (AreApart mid) (λ g. (mid.now.told.feed_no == g.feed_no) ≡ false) back z.back_ys (λ s f g p. from-other mid s f p g) z.back_zip others.in_back)
                 none
-                (subst (λ (gs : List FeedRead). All (KeepsOrder h) (script_jobs scripts gs)) z.whole v.order)));
+                (subst (λ (gs : List FeedRead). All (KeepsOrder h) (script_jobs 1 scripts gs)) z.whole v.order)));
             tells = λ later.
-                subst (λ (y : List Entry). TellsAll t y 1 (script_jobs scripts fs) tolds) (sym (append_assoc h es later) ∙ ap (λ y. y ++ later) (sym x.took.adds.grows)) (v.tells (es ++ later));
+                subst (λ (y : List Entry). TellsAll t y (script_jobs 1 scripts fs) tolds) (sym (append_assoc h es later) ∙ ap (λ y. y ++ later) (sym x.took.adds.grows)) (v.tells (es ++ later));
           };
     }
 
@@ -225,10 +226,10 @@ owns-script {S = S} t left faults olds news h lines told jobs are rests = record
   whatever = λ fs zip.
       let w : WhateverRest t h lines lines told fs = rests.whatever fs zip in
       record {
-        order = All-cons (KeepsOrder h) (record { lines = lines; feeds = filter (takes_feed lines) fs }) [] (job-order h lines fs w.order) (All-nil (KeepsOrder h));
+        order = All-cons (KeepsOrder h) (record { number = 1; lines = lines; feeds = filter (takes_feed lines) fs }) [] (job-order h 1 lines fs w.order) (All-nil (KeepsOrder h));
         tells = λ later.
-            subst (λ (js : List JobTold). TellsAll t (h ++ later) 1 (script_jobs (lines ∷ []) fs) js) (sym are)
-            (refl, tells-fewer t (h ++ later) (takes_feed lines) fs [] 0 lines told (w.tells later), tt);
+            subst (λ (js : List JobTold). TellsAll t (h ++ later) (script_jobs 1 (lines ∷ []) fs) js) (sym are)
+            ((refl, tells-among t (h ++ later) (filter (takes_feed lines) fs) fs [] 0 lines told (λ P all. All-filter (takes_feed lines) P fs all) (w.tells later)), tt);
       };
 }
 
@@ -242,6 +243,6 @@ owns-none {S = S} t left faults olds news h jobs none tracks = record {
   all_are = sym (append-nil jobs);
   whatever = λ fs zip. record {
     order = All-nil (KeepsOrder h);
-    tells = λ later. subst (λ (js : List JobTold). TellsAll t (h ++ later) 1 (script_jobs [] fs) js) (sym none) tt;
+    tells = λ later. subst (λ (js : List JobTold). TellsAll t (h ++ later) (script_jobs 1 [] fs) js) (sym none) tt;
   };
 }

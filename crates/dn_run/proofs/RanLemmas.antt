@@ -6,6 +6,7 @@ use Rattle.dn_io.specs.Calls.{Back, back_with}
 use Rattle.dn_io.specs.Told.{with_front}
 use Rattle.dn_formats.specs.Feed.{IsReading, IsFaultedReading}
 use Rattle.dn_model.specs.Entry.{entries}
+use Rattle.dn_formats.specs.Lawful.{IsWhole}
 use Rattle.dn_formats.specs.Report.{report}
 use Rattle.dn_formats.specs.Steps.{FeedRead, told_of}
 use Rattle.dn_model.specs.declared.entry.Posted.{Posted}
@@ -70,16 +71,16 @@ module _ {S : Type 0} where
     pub told : reader.told ≡ told_of f
 
   ended : (t : Topology) (reader : Reader S) (bytes : List ℕ) (faults : ℕ) (left : Option (List ℕ)) (f : FeedRead) (end : FeedEnd) →
-      f.feed_no ≡ reader.told.feed_no → f.router ≡ reader.told.router → reader.limit ≡ feed_limit → f.end ≡ end →
+      f.feed_no ≡ reader.told.feed_no → f.router ≡ reader.told.router → IsWhole f → reader.limit ≡ feed_limit → f.end ≡ end →
       HasEnded t reader left bytes f.steps end → IsReadToEnd end left → faults ≡ 0 → ReadAs t reader bytes faults left f
-  ended t reader bytes faults left f end numbered router limit is has all none = record {
+  ended t reader bytes faults left f end numbered router whole limit is has all none = record {
     read = rw none (
       subst (λ e. IsReading t f.router bytes feed_limit f.steps e) (sym is) (subst (λ r. IsReading t r bytes feed_limit f.steps end) (sym router)
           (subst (λ l. IsReading t reader.told.router bytes l f.steps end) limit has.reading)),
       (has.read.0, subst (λ l. length has.read.0 ≤ l + 1) limit has.read.1, has.read.2),
       subst (λ e. IsReadToEnd e left) (sym is) all,
     );
-    told = has.counted ∙ rw (sym numbered, sym router, sym is) refl;
+    told = has.counted ∙ rw (sym numbered, sym router, sym whole, sym is) refl;
   }
 
   faulted-read : (t : Topology) (reader : Reader S) (bytes front : List ℕ) (left : Option (List ℕ)) (f : FeedRead) → f.router ≡ reader.told.router → f.end ≡ ends.Faulted →
@@ -89,29 +90,29 @@ module _ {S : Type 0} where
       (front, cc, within, subst (λ r. IsFaultedReading t r front f.steps) (sym router) reading, is)
 
   faulted : (t : Topology) (reader : Reader S) (bytes : List ℕ) (faults : ℕ) (left : Option (List ℕ)) (f : FeedRead) →
-      f.feed_no ≡ reader.told.feed_no → f.router ≡ reader.told.router → reader.limit ≡ feed_limit → f.end ≡ ends.Faulted →
+      f.feed_no ≡ reader.told.feed_no → f.router ≡ reader.told.router → IsWhole f → reader.limit ≡ feed_limit → f.end ≡ ends.Faulted →
       HasFaulted t reader left bytes f.steps → 0 < faults → ReadAs t reader bytes faults left f
-  faulted t reader bytes faults left f numbered router limit is has some = record {
+  faulted t reader bytes faults left f numbered router whole limit is has some = record {
     read = subst (λ b. IsReadOfBytes t bytes (Back b left) f) (some-rise faults some)
         (faulted-read t reader bytes has.front left f router is has.reading (subst (λ l. length has.front ≤ l) limit has.within) has.whole);
-    told = has.counted ∙ rw (sym numbered, sym router, sym is) refl;
+    told = has.counted ∙ rw (sym numbered, sym router, sym whole, sym is) refl;
   }
 
   by-end : (t : Topology) (reader : Reader S) (bytes : List ℕ) (faults : ℕ) (left : Option (List ℕ)) (f : FeedRead) (end : FeedEnd) →
-      f.feed_no ≡ reader.told.feed_no → f.router ≡ reader.told.router → reader.limit ≡ feed_limit → f.end ≡ end →
+      f.feed_no ≡ reader.told.feed_no → f.router ≡ reader.told.router → IsWhole f → reader.limit ≡ feed_limit → f.end ≡ end →
       StandsBy (Some end) t reader left bytes f.steps → CountsBy (Some end) faults → ReadAs t reader bytes faults left f
-  by-end t reader bytes faults left f ends.End numbered router limit is has counts = ended t reader bytes faults left f ends.End numbered router limit is has.0 has.1 counts
-  by-end t reader bytes faults left f (ends.CutShort o) numbered router limit is has counts = ended t reader bytes faults left f (ends.CutShort o) numbered router limit is has.0 has.1 counts
-  by-end t reader bytes faults left f (ends.Lost o cause) numbered router limit is has counts = ended t reader bytes faults left f (ends.Lost o cause) numbered router limit is has tt counts
-  by-end t reader bytes faults left f ends.TooLong numbered router limit is has counts = ended t reader bytes faults left f ends.TooLong numbered router limit is has tt counts
-  by-end t reader bytes faults left f ends.Full numbered router limit is has counts = absurd has
-  by-end t reader bytes faults left f ends.Faulted numbered router limit is has counts = faulted t reader bytes faults left f numbered router limit is has counts
+  by-end t reader bytes faults left f ends.End numbered router whole limit is has counts = ended t reader bytes faults left f ends.End numbered router whole limit is has.0 has.1 counts
+  by-end t reader bytes faults left f (ends.CutShort o) numbered router whole limit is has counts = ended t reader bytes faults left f (ends.CutShort o) numbered router whole limit is has.0 has.1 counts
+  by-end t reader bytes faults left f (ends.Lost o cause) numbered router whole limit is has counts = ended t reader bytes faults left f (ends.Lost o cause) numbered router whole limit is has tt counts
+  by-end t reader bytes faults left f ends.TooLong numbered router whole limit is has counts = ended t reader bytes faults left f ends.TooLong numbered router whole limit is has tt counts
+  by-end t reader bytes faults left f ends.Full numbered router whole limit is has counts = absurd has
+  by-end t reader bytes faults left f ends.Faulted numbered router whole limit is has counts = faulted t reader bytes faults left f numbered router whole limit is has counts
 
   one-read : (t : Topology) (faults : S → ℕ) (left : S → Option (List ℕ)) (old new : Reader S) (f : FeedRead) (bytes : List ℕ) →
       IsReadBy t left old new f → CountsFaults new (faults new.source) → new.limit ≡ feed_limit → left old.source ≡ Some bytes →
       ReadAs t new bytes (faults new.source) (left new.source) f
   one-read t faults left old new f bytes by counts limit is =
-      by-end t new bytes (faults new.source) (left new.source) f f.end by.feed_no by.router limit refl (by.stands bytes is)
+      by-end t new bytes (faults new.source) (left new.source) f f.end by.feed_no by.router by.kept limit refl (by.stands bytes is)
       (subst (λ e. CountsBy e (faults new.source)) by.end_is counts)
 
   -- the same where its bytes may not be told
@@ -172,9 +173,7 @@ module _ {S : Type 0} where
         reported = record {
           history = entries history;
           told = jobs;
-          shuffle = has.shuffle;
-          order = has.order;
-          tells = has.tells;
+          lawful = has.lawful;
           text_is = says ∙ ap (λ ts. report t ts (entries history) jobs) are;
         };
         verdict_is = is ∙ ap verdict_of are;

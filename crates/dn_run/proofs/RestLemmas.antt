@@ -2,14 +2,14 @@
 use Rattle.std.proofs.Common.{◌≡◌, ℕ, Bool, true, false, ◌==◌, ◌&&◌, ◌||◌, not, Result, Ok, Err, OnOk, List, [], ◌∷◌, ◌++◌, length, get_or, filter, drop, All, Option, None, Some, IsSome, refl, ap, sym, ◌∙◌, arith, subst, append_assoc}
 use Rattle.std.specs.List.{AllZip, list_any, flat_map, position}
 use Rattle.std.proofs.Math.Bool.{or-true, or-false}
-use Rattle.std.proofs.Math.Seq.{drop-append_seam}
 use Rattle.std.proofs.lemmas.Bool.{eqb-true}
 use Rattle.std.proofs.lemmas.Grind.{flat_map-append}
 use Rattle.std.proofs.lemmas.List.{append-nil}
 use Rattle.std.proofs.lemmas.List.Folds.{list_any-append}
 use Rattle.std.proofs.lemmas.List.Elements.{All-head, All-tail, All-same, filter-append}
+use Rattle.dn_formats.proofs.LawfulLemmas.{kept-all, kept-taken}
 use Rattle.dn_formats.specs.Lawful.{Tells, asked, taken, takes, takes_feed, taken_along, first_taken, left_by}
-use Rattle.dn_formats.specs.Steps.{FrameStep, FeedRead, updates, entries_by, entries_of}
+use Rattle.dn_formats.specs.Steps.{FrameStep, FeedRead, updates, kept_of, entries_by, entries_of}
 use Rattle.dn_model.specs.declared.entry.Entry.{Entry}
 use Rattle.dn_model.specs.declared.ids.RouterId.{RouterId}
 use Rattle.dn_formats.specs.declared.script.Line.{Line}
@@ -22,6 +22,7 @@ use Rattle.dn_run.specs.Network.{IsCount}
 use Rattle.dn_run.specs.Takes.{IsLater}
 use Rattle.dn_run.specs.Tracks.{Strand, GoesOn, AreApart, Woven, Tracks, Whatever, WhateverRest, Rests, IsRest, TakesFeed, TakesAt, TakesOf, reads}
 use Rattle.dn_run.proofs.StrandLemmas.{All-unmap, eqb-back, Parts, all-parts, all-joined, all-through, ZipParts, zip-parts, nows, grown, Others, apart-others, woven-took, goes-back, go-back, Grows, grows}
+use Rattle.dn_run.proofs.OrderLemmas.{drop-updates}
 use Rattle.dn_run.proofs.TellLemmas.{taken-is}
 use Rattle.dn_run.proofs.TracksLemmas.{found-reads, none-reads, other-takes}
 
@@ -111,8 +112,9 @@ left-own lines done mid new more f false named is n r late same ended g =
     let took : taken lines f ≡ mid.steps = taken-is mid f lines back is in
     let whole : f.steps ≡ mid.steps ++ more = g.steps ∙ ap (λ ss. (mid.steps ++ more) ++ ss) (ended-none new.told.end g.later ended g.none_after_end) ∙ append-nil (mid.steps ++ more) in
     ap (λ b. flat_map (left_by lines) (one_if (not b) f)) here ∙ append-nil (left_by lines f)
-    ∙ ap (λ ss. entries_of f (updates (drop (length ss) f.steps))) took ∙ ap (λ ss. entries_of f (updates (drop (length mid.steps) ss))) whole
-    ∙ ap (λ ss. entries_of f (updates ss)) (drop-append_seam mid.steps more)
+    ∙ ap (λ ops. entries_of f (drop (length ops) (kept_of f f.steps))) (kept-taken f lines g.whole ∙ ap updates took)
+    ∙ ap (λ ops. entries_of f (drop (length (updates mid.steps)) ops)) (kept-all f g.whole ∙ ap updates whole)
+    ∙ ap (entries_of f) (drop-updates mid.steps more)
     ∙ ap (λ m. entries_by m f.router (updates more)) back.feed_no ∙ ap (λ q. entries_by mid.now.told.feed_no q (updates more)) back.router
 
 -- ---- a line that names a feed

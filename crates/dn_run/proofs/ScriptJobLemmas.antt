@@ -1,12 +1,12 @@
 -- A script's job that was run over all feeds is one over those that it takes.
-use Rattle.std.proofs.Common.{◌≡◌, Bool, true, false, ◌&&◌, ◌||◌, not, IsTrue, cond, List, [], ◌∷◌, ◌++◌, length, get_or, filter, drop, All, refl, ap, sym, ◌∙◌, eq-eqb}
+use Rattle.std.proofs.Common.{◌≡◌, ℕ, Bool, true, false, ◌&&◌, ◌||◌, not, IsTrue, cond, List, [], ◌∷◌, ◌++◌, length, get_or, filter, drop, All, refl, ap, sym, ◌∙◌, eq-eqb}
 use Rattle.std.specs.List.{list_any, flat_map}
 use Rattle.std.proofs.Math.Bool.{or-true}
 use Rattle.std.proofs.lemmas.Bool.{or_parts}
 use Rattle.std.proofs.lemmas.List.{append-nil}
 use Rattle.std.proofs.lemmas.List.Elements.{All-nil, All-cons, All-head, All-tail, All-append, All-filter}
-use Rattle.dn_formats.specs.Lawful.{KeepsOrder, taken, takes, takes_feed, taken_by, taken_along, first_taken, left_by, is_from, is_from_some}
-use Rattle.dn_formats.specs.Steps.{FeedRead, updates, entries_of}
+use Rattle.dn_formats.specs.Lawful.{KeepsOrder, takes, takes_feed, kept_by, taken_by, taken_along, first_taken, left_by, is_from, is_from_some}
+use Rattle.dn_formats.specs.Steps.{FeedRead, kept_of, entries_of}
 use Rattle.dn_model.specs.declared.entry.Entry.{Entry}
 use Rattle.dn_model.specs.declared.entry.Op.{Op}
 use Rattle.dn_model.specs.declared.ids.RouterId.{RouterId}
@@ -116,7 +116,7 @@ all-taken : (fs : List FeedRead) (before lines : List Line) → All (λ e. IsTru
 all-taken fs before [] = All-nil (λ e. IsTrue (is_from_some fs e))
 all-taken fs before (l ∷ lines) =
     All-append (λ e. IsTrue (is_from_some fs e)) (flat_map (taken_by before l) fs) (taken_along fs (before ++ l ∷ []) lines)
-    (all-given fs (λ f. updates (drop (length (taken before f)) (taken (before ++ l ∷ []) f))) fs (all-in fs)) (all-taken fs (before ++ l ∷ []) lines)
+    (all-given fs (λ f. drop (length (kept_by before f)) (kept_by (before ++ l ∷ []) f)) fs (all-in fs)) (all-taken fs (before ++ l ∷ []) lines)
 
 first-in : (fs : List FeedRead) (before lines : List Line) → All (IsIn fs) (first_taken fs before lines)
 first-in fs before [] = All-nil (IsIn fs)
@@ -127,9 +127,9 @@ first-in fs before (l ∷ lines) =
 -- ---- the job
 
 -- a history that is what the lines took and then left is the job's own entries
-pub job-order : (h : List Entry) (lines : List Line) (fs : List FeedRead) → h ≡ taken_along fs [] lines ++ flat_map (left_by lines) (first_taken fs [] lines) →
-    KeepsOrder h (record { lines = lines; feeds = filter (takes_feed lines) fs })
-job-order h lines fs order =
+pub job-order : (h : List Entry) (number : ℕ) (lines : List Line) (fs : List FeedRead) → h ≡ taken_along fs [] lines ++ flat_map (left_by lines) (first_taken fs [] lines) →
+    KeepsOrder h (record { number = number; lines = lines; feeds = filter (takes_feed lines) fs })
+job-order h number lines fs order =
     let gs : List FeedRead = filter (takes_feed lines) fs in
     let firsts : List FeedRead = first_taken gs [] lines in
     let fewer : h ≡ taken_along gs [] lines ++ flat_map (left_by lines) firsts =
@@ -137,6 +137,6 @@ job-order h lines fs order =
     ∙ ap (λ xs. taken_along gs [] lines ++ flat_map (left_by lines) xs) (first-fewer lines fs [] lines (all-named lines)) in
     let own : All (λ e. IsTrue (is_from_some gs e)) (taken_along gs [] lines ++ flat_map (left_by lines) firsts) =
     All-append (λ e. IsTrue (is_from_some gs e)) (taken_along gs [] lines) (flat_map (left_by lines) firsts) (all-taken gs [] lines)
-    (all-given gs (λ f. updates (drop (length (taken lines f)) f.steps)) firsts (first-in gs [] lines)) in
+    (all-given gs (λ f. drop (length (kept_by lines f)) (kept_of f f.steps)) firsts (first-in gs [] lines)) in
     ap (filter (is_from_some gs)) fewer ∙ filter-all (is_from_some gs) (taken_along gs [] lines ++ flat_map (left_by lines) firsts) own
     ∙ ap (λ xs. taken_along gs [] lines ++ flat_map (left_by lines) xs) (sym (ap (λ ys. firsts ++ ys) (filter-not (takes_feed lines) fs) ∙ append-nil firsts))

@@ -241,6 +241,7 @@ goes-back s new more f n r none same g = record {
   router = g.router ∙ r;
   later = more ++ g.later;
   steps = g.steps ∙ append_assoc s.steps more g.later;
+  whole = g.whole;
   none_after_end = later-more s.now.told.end new.told.end more g.later none same g.none_after_end;
 }
 

@@ -4,9 +4,9 @@ use Rattle.std.specs.List.{AllZip}
 use Rattle.std.proofs.lemmas.List.{append-nil, take_all, map-append, length-append}
 use Rattle.std.proofs.Math.Seq.{take-append_seam}
 use Rattle.std.proofs.lemmas.List.Sums.{fold-append}
-use Rattle.std.proofs.lemmas.List.Elements.{All-filter}
 use Rattle.dn_model.specs.Answer.{IsAnswer}
-use Rattle.dn_formats.specs.Lawful.{Tells, IsOutcome, HoldsWhatWasTaken, asked, asked_by, both_counts, front_of, taken, pin_after, is_from}
+use Rattle.dn_formats.proofs.LawfulLemmas.{kept-taken}
+use Rattle.dn_formats.specs.Lawful.{Tells, IsOutcome, HoldsWhatWasTaken, asked, asked_by, both_counts, front_of, taken, kept_by, pin_after, is_from}
 use Rattle.dn_formats.specs.Steps.{FrameStep, FeedRead, updates, entries_of, entries_by}
 use Rattle.dn_model.specs.declared.entry.Entry.{Entry}
 use Rattle.dn_model.specs.declared.entry.Posted.{Posted}
@@ -54,22 +54,6 @@ Tells-ask t h feeds before last (line.Ask m p ∷ lines) (x ∷ xs) l q told is-
   Tells-ask t h feeds (before ++ line.Ask m p ∷ []) (pin_after last x.outcome) lines xs l q told is-line is-query
       (subst (λ b. IsOutcome t h feeds b (fold (λ p told. pin_after p told.outcome) (pin_after last x.outcome) xs) q told.outcome) (sym (append_assoc before (line.Ask m p ∷ []) lines)) good) rest.3,
 )
-
--- what is right of some feeds is right of fewer
-outcome-fewer : (t : Topology) (h : List Entry) (p : FeedRead → Bool) (feeds : List FeedRead) (before : List Line) (last : ℕ) (q : Question) (o : Outcome) →
-    IsOutcome t h feeds before last q o → IsOutcome t h (filter p feeds) before last q o
-outcome-fewer t h p feeds before last q (Unknown u) is = is
-outcome-fewer t h p feeds before last q (Answered n answer) is =
-    (is.0, is.1, is.2, All-filter p (λ f. filter (is_from f) (take n h) ≡ entries_of f (updates (taken before f))) feeds is.3, is.4)
-
-pub tells-fewer : (t : Topology) (h : List Entry) (p : FeedRead → Bool) (feeds : List FeedRead) (before : List Line) (last : ℕ) (lines : List Line) (tolds : List Told) →
-    Tells t h feeds before last lines tolds → Tells t h (filter p feeds) before last lines tolds
-tells-fewer t h p feeds before last [] [] tells = tt
-tells-fewer t h p feeds before last [] (x ∷ xs) tells = tells
-tells-fewer t h p feeds before last (line.Take l r c ∷ lines) tolds tells = tells-fewer t h p feeds (before ++ line.Take l r c ∷ []) last lines tolds tells
-tells-fewer t h p feeds before last (line.Ask l q ∷ lines) [] tells = tells
-tells-fewer t h p feeds before last (line.Ask l q ∷ lines) (x ∷ xs) tells =
-    (tells.0, tells.1, outcome-fewer t h p feeds before last q x.outcome tells.2, tells-fewer t h p feeds (before ++ line.Ask l q ∷ []) (pin_after last x.outcome) lines xs tells.3)
 
 -- ---- counts
 
@@ -130,11 +114,12 @@ holds-now : {S : Type 0} (t : Topology) (left : S → Option (List ℕ)) (faults
     AllZip GoesOn ss fs → All (Stands t left faults h) ss → All (λ s. IsCount (asked s.now.told.router before) (length s.steps) s.now.told.end) ss → HoldsWhatWasTaken fs before h
 holds-now {S = S} t left faults h before ss fs zip stands counted =
     all-through GoesOn (λ s. Stands t left faults h s × IsCount (asked s.now.told.router before) (length s.steps) s.now.told.end)
-    (λ f. filter (is_from f) h ≡ entries_of f (updates (taken before f))) ss fs
+    (λ f. filter (is_from f) h ≡ entries_of f (kept_by before f)) ss fs
     (λ s f g p.
     ap (λ (n : ℕ). filter (λ e. e.feed_no == n) h) g.feed_no ∙ p.0.posted
     ∙ ap (λ n. entries_by n s.now.told.router (updates s.steps)) (sym g.feed_no) ∙ ap (λ r. entries_by f.feed_no r (updates s.steps)) (sym g.router)
-    ∙ ap (λ ss. entries_by f.feed_no f.router (updates ss)) (sym (taken-is s f before g p.1)))
+    ∙ ap (λ ss. entries_by f.feed_no f.router (updates ss)) (sym (taken-is s f before g p.1))
+    ∙ ap (entries_by f.feed_no f.router) (sym (kept-taken f before g.whole)))
     zip (λ k d l. (stands k d l, counted k d l))
 
 pub outcome-whatever : {S : Type 0} (t : Topology) (left : S → Option (List ℕ)) (faults : S → ℕ) (history more : List Entry) (ss : List (Strand S)) (fs : List FeedRead) (before : List Line) (last : ℕ) (q : Question) (o : Outcome) →

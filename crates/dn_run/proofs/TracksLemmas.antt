@@ -70,7 +70,7 @@ took-order t left faults h h' before front mid back new l r count fs this x coun
     let z : ZipParts GoesOn front (grown mid new more) back fs = zip-parts GoesOn front (grown mid new more) back fs zip in
     let g : GoesOn mid z.y = goes-back mid new more z.y x.feed_no x.router x.took.adds.later x.ended z.mid_zip in
     let own : taken_by before a z.y ≡ es =
-    taken_by-own before a z.y mid.steps more (taken-is mid z.y before g counted)
+    taken_by-own before a z.y mid.steps more g.whole (taken-is mid z.y before g counted)
     (taken-is (grown mid new more) z.y (before ++ a ∷ []) z.mid_zip (counted-own t left faults h h' before mid new l r count this x counted))
     ∙ ap (λ n. entries_by n z.y.router (updates more)) g.feed_no ∙ ap (λ q. entries_by mid.now.told.feed_no q (updates more)) g.router in
     let alone : flat_map (taken_by before a) (z.front_ys ++ z.y ∷ z.back_ys) ≡ es =

@@ -1,27 +1,33 @@
 -- Words, files and the states of the calls fix what a run comes to.
-use Rattle.std.proofs.Common.{◌≡◌, ℕ, suc, Bool, true, false, Result, Ok, Err, IsSomeAnd, MatchResult, MatchOption, IsTrue, List, [], ◌∷◌, ◌++◌, Option, None, Some, refl, ap, sym, ◌∙◌, ◌⊎◌, inl, inr, subst, nat_lt, ◌+◌, length, if◌then◌else◌}
+use Rattle.std.proofs.Common.{◌≡◌, ℕ, suc, Bool, true, false, Result, Ok, Err, IsSomeAnd, MatchResult, MatchOption, IsTrue, List, [], ◌∷◌, ◌++◌, All, Option, None, Some, refl, ap, sym, ◌∙◌, ◌⊎◌, inl, inr, subst, nat_lt, ◌+◌, length, if◌then◌else◌}
 use Rattle.std.specs.Bool.{MatchBool}
 use Rattle.std.proofs.Math.Bool.{So-prop}
 use Rattle.std.proofs.lemmas.List.{append_cancel_right}
+use Rattle.std.proofs.lemmas.List.Elements.{All-head, All-tail}
 use Rattle.dn_io.specs.Calls.{Call, CallState, Out, Refused, Back}
 use Rattle.dn_io.specs.Files.{Files, bytes_of}
-use Rattle.dn_formats.specs.Feed.{IsReading, IsFaultedReading}
+use Rattle.dn_formats.specs.Feed.{IsReading, IsFaultedReading, ending}
+use Rattle.dn_formats.specs.Frames.{FrameRest, NoRest, CutFrame, BadVersion, BadFrameLength, frames_text, rest_kind}
+use Rattle.dn_formats.specs.Lawful.{IsWhole, IsKept}
 use Rattle.dn_formats.specs.ScriptText.{script_of}
-use Rattle.dn_formats.specs.Steps.{FeedRead, told_of}
+use Rattle.dn_formats.specs.Steps.{FeedRead, updates, told_of}
 use Rattle.dn_formats.specs.TopologyText.{Parts, topology_of, parts}
 use Rattle.dn_formats.specs.Words.{FeedWords, PartsSaid, parts_of}
 use Rattle.dn_formats.proofs.FeedLemmas.{reading_once, faulted_once}
+use Rattle.dn_formats.proofs.LawfulLemmas.{whole}
 use Rattle.dn_model.specs.Topology.{is_sound_topology}
+use Rattle.dn_model.specs.declared.entry.Entry.{Entry}
 use Rattle.dn_model.specs.declared.ids.RouterId.{RouterId}
 use Rattle.dn_model.specs.declared.topology.Topology.{Topology}
 use Rattle.dn_formats.specs.declared.error_line.ErrorLine.{ErrorLine}
 use Rattle.dn_formats.specs.declared.error_line.ErrorLine.TheVariants as errors
 use Rattle.dn_formats.specs.declared.script.Line.{Line}
+use Rattle.dn_formats.specs.declared.told.FeedEnd.TheVariants as ends
 use Rattle.dn_formats.specs.declared.told.FeedTold.{FeedTold}
 use Rattle.dn_run.specs.Alike.{AreAlike, AreRunsOfOne}
 use Rattle.dn_run.specs.CommandLine.{RunWords, command_of}
 use Rattle.dn_run.specs.Ending.{Ruled}
-use Rattle.dn_run.specs.Run.{AreReadOf, FromFeeds, FromJobs, FromParts, FromRouters, FromScripts, FromTopology, FromWords, IsErrorLine, IsReadOf, IsReadOfBytes, IsRunOf, IsToldOf, OnFile, OnFeed, OpenedFeed, all_well, feed_limit, most_jobs, routers_of, some_faulted, taken_by_scripts, untaken, verdict_of}
+use Rattle.dn_run.specs.Run.{AreReadOf, FromFeeds, FromJobs, FromParts, FromRouters, FromScripts, FromTopology, FromWords, IsErrorLine, IsReadOf, IsReadOfBytes, IsRunOf, IsToldOf, OnFile, OnFeed, OpenedFeed, all_well, feed_limit, history_limit, most_jobs, routers_of, some_faulted, taken_by_scripts, untaken, verdict_of}
 use Rattle.dn_run.specs.Stage.{may_end_early, is_fault}
 use Rattle.dn_run.specs.declared.status.Verdict.{Verdict}
 use Rattle.dn_run.specs.declared.status.Verdict.TheVariants.{Done, Refusals, BadWords, BadTopology, BadScript, ReadFault}
@@ -45,23 +51,45 @@ same-topology t u e = same-made (parts t) (parts u) t.sound u.sound e
 
 -- ---- a feed has one reading
 
-same-read : (f g : FeedRead) → f.feed_no ≡ g.feed_no → f.router ≡ g.router → f.steps ≡ g.steps → f.end ≡ g.end → told_of f ≡ told_of g
-same-read f g a b c d = rw (a, b, c, d) refl
+same-read : (f g : FeedRead) → f.feed_no ≡ g.feed_no → f.router ≡ g.router → IsWhole f → IsWhole g → f.steps ≡ g.steps → f.end ≡ g.end → told_of f ≡ told_of g
+same-read f g a b all every c d =
+    let kept : f.kept ≡ g.kept = all ∙ ap (λ ss. length (updates ss)) c ∙ sym every in
+    rw (a, b, kept, c, d) refl
 
-same-feed : (t : Topology) (r : RouterId) (bytes : List ℕ) (state : CallState) (f g : FeedRead) → f.feed_no ≡ g.feed_no → f.router ≡ r → g.router ≡ r →
+-- no feed that a run read ends at a full history
+ending-not-full : (k : FrameRest) (o : ℕ) (longer : Bool) → ending k o longer ≡ ends.Full → ⊥
+ending-not-full NoRest o true full = cc
+ending-not-full NoRest o false full = cc
+ending-not-full CutFrame o true full = cc
+ending-not-full CutFrame o false full = cc
+ending-not-full BadVersion o longer full = cc
+ending-not-full BadFrameLength o longer full = cc
+
+bytes-not-full : (t : Topology) (bytes : List ℕ) (state : CallState) (f : FeedRead) → IsReadOfBytes t bytes state f → f.end ≡ ends.Full → ⊥
+bytes-not-full t bytes Out f p full = p
+bytes-not-full t bytes Refused f p full = p
+bytes-not-full t bytes (Back false left) f p full = ending-not-full (rest_kind p.0.rest) (length (frames_text p.0.frames)) (nat_lt feed_limit (length bytes)) (sym p.0.ends ∙ full)
+bytes-not-full t bytes (Back true None) f p full = p
+bytes-not-full t bytes (Back true (Some left)) f p full = let other : ends.Faulted ≡ ends.Full = sym p.4 ∙ full in cc
+
+not-full : (t : Topology) (file : Option (List ℕ)) (state : CallState) (f : FeedRead) → IsReadOf t file state f → f.end ≡ ends.Full → ⊥
+not-full t None state f p full = p.1 full
+not-full t (Some bytes) state f p full = bytes-not-full t bytes state f p full
+
+same-feed : (t : Topology) (r : RouterId) (bytes : List ℕ) (state : CallState) (f g : FeedRead) → f.feed_no ≡ g.feed_no → f.router ≡ r → g.router ≡ r → IsWhole f → IsWhole g →
     IsReadOfBytes t bytes state f → IsReadOfBytes t bytes state g → told_of f ≡ told_of g
-same-feed t r bytes Out f g number rf rg p q = absurd p
-same-feed t r bytes Refused f g number rf rg p q = absurd p
-same-feed t r bytes (Back false left) f g number rf rg p q =
+same-feed t r bytes Out f g number rf rg all every p q = absurd p
+same-feed t r bytes Refused f g number rf rg all every p q = absurd p
+same-feed t r bytes (Back false left) f g number rf rg all every p q =
     let once = reading_once t r bytes feed_limit f.steps g.steps f.end g.end
     (subst (λ x. IsReading t x bytes feed_limit f.steps f.end) rf p.0) (subst (λ x. IsReading t x bytes feed_limit g.steps g.end) rg q.0) in
-    same-read f g number (rf ∙ sym rg) once.0 once.1
-same-feed t r bytes (Back true None) f g number rf rg p q = absurd p
-same-feed t r bytes (Back true (Some left)) f g number rf rg p q =
+    same-read f g number (rf ∙ sym rg) all every once.0 once.1
+same-feed t r bytes (Back true None) f g number rf rg all every p q = absurd p
+same-feed t r bytes (Back true (Some left)) f g number rf rg all every p q =
     let front : p.0 ≡ q.0 = append_cancel_right p.0 q.0 left (sym p.1 ∙ q.1) in
     let steps = faulted_once t r q.0 f.steps g.steps
     (subst (λ xs. IsFaultedReading t r xs f.steps) front (subst (λ x. IsFaultedReading t x p.0 f.steps) rf p.3)) (subst (λ x. IsFaultedReading t x q.0 g.steps) rg q.3) in
-    same-read f g number (rf ∙ sym rg) steps (p.4 ∙ sym q.4)
+    same-read f g number (rf ∙ sym rg) all every steps (p.4 ∙ sym q.4)
 
 -- feeds whose bytes are told
 abbrev AllTold : List OpenedFeed → Type 0
@@ -72,7 +100,7 @@ told-push : (os : List OpenedFeed) (bytes : List ℕ) (state : CallState) → Al
 told-push [] bytes state told = ((bytes, refl), tt)
 told-push (o ∷ os) bytes state told = (told.0, told-push os bytes state told.1)
 
-record First (t : Topology) (n : ℕ) (r : RouterId) (rs : List RouterId) (o : OpenedFeed) (os : List OpenedFeed) (tolds : List FeedTold) : Type 0 where
+record First (t : Topology) (h : List Entry) (n : ℕ) (r : RouterId) (rs : List RouterId) (o : OpenedFeed) (os : List OpenedFeed) (tolds : List FeedTold) : Type 0 where
   pub f : FeedRead
   pub fs : List FeedRead
   pub told : FeedTold
@@ -81,15 +109,30 @@ record First (t : Topology) (n : ℕ) (r : RouterId) (rs : List RouterId) (o : O
   pub number : f.feed_no ≡ n
   pub router : f.router ≡ r
   pub read : IsReadOf t o.bytes o.state f
+  pub whole_is : IsWhole f
+  pub all_kept : All (IsKept history_limit h) fs
   pub told_is : IsToldOf o.bytes f told
   pub later : AreReadOf t (suc n) rs os fs rest
 
-first-of : (t : Topology) (n : ℕ) (r : RouterId) (rs : List RouterId) (o : OpenedFeed) (os : List OpenedFeed) (fs : List FeedRead) (tolds : List FeedTold) →
-    AreReadOf t n (r ∷ rs) (o ∷ os) fs tolds → First t n r rs o os tolds
-first-of t n r rs o os [] [] are = absurd are
-first-of t n r rs o os [] (u ∷ us) are = absurd are
-first-of t n r rs o os (f ∷ fs) [] are = absurd are
-first-of t n r rs o os (f ∷ fs) (u ∷ us) are = record { f = f; fs = fs; told = u; rest = us; are = refl; number = are.0; router = are.1; read = are.2; told_is = are.3; later = are.4 }
+first-of : (t : Topology) (h : List Entry) (n : ℕ) (r : RouterId) (rs : List RouterId) (o : OpenedFeed) (os : List OpenedFeed) (fs : List FeedRead) (tolds : List FeedTold) →
+    AreReadOf t n (r ∷ rs) (o ∷ os) fs tolds → All (IsKept history_limit h) fs → First t h n r rs o os tolds
+first-of t h n r rs o os [] [] are kept = absurd are
+first-of t h n r rs o os [] (u ∷ us) are kept = absurd are
+first-of t h n r rs o os (f ∷ fs) [] are kept = absurd are
+first-of t h n r rs o os (f ∷ fs) (u ∷ us) are kept = record {
+  f = f;
+  fs = fs;
+  told = u;
+  rest = us;
+  are = refl;
+  number = are.0;
+  router = are.1;
+  read = are.2;
+  whole_is = whole history_limit h f (not-full t o.bytes o.state f are.2) (All-head (IsKept history_limit h) f fs kept);
+  all_kept = All-tail (IsKept history_limit h) f fs kept;
+  told_is = are.3;
+  later = are.4;
+}
 
 none-of : (t : Topology) (n : ℕ) (fs : List FeedRead) (tolds : List FeedTold) → AreReadOf t n [] [] fs tolds → tolds ≡ []
 none-of t n [] [] are = refl
@@ -97,21 +140,21 @@ none-of t n [] (u ∷ us) are = absurd are
 none-of t n (f ∷ fs) [] are = absurd are
 none-of t n (f ∷ fs) (u ∷ us) are = absurd are
 
-same-told : (t : Topology) (r : RouterId) (file : Option (List ℕ)) (bytes : List ℕ) (state : CallState) (f g : FeedRead) (u v : FeedTold) → file ≡ Some bytes → f.feed_no ≡ g.feed_no → f.router ≡ r → g.router ≡ r →
+same-told : (t : Topology) (r : RouterId) (file : Option (List ℕ)) (bytes : List ℕ) (state : CallState) (f g : FeedRead) (u v : FeedTold) → file ≡ Some bytes → f.feed_no ≡ g.feed_no → f.router ≡ r → g.router ≡ r → IsWhole f → IsWhole g →
     IsReadOf t file state f → IsToldOf file f u → IsReadOf t file state g → IsToldOf file g v → u ≡ v
-same-told t r None bytes state f g u v is number rf rg p pu q qv = absurd (cc)
-same-told t r (Some file) bytes state f g u v is number rf rg p pu q qv = pu ∙ same-feed t r file state f g number rf rg p q ∙ sym qv
+same-told t r None bytes state f g u v is number rf rg all every p pu q qv = absurd (cc)
+same-told t r (Some file) bytes state f g u v is number rf rg all every p pu q qv = pu ∙ same-feed t r file state f g number rf rg all every p q ∙ sym qv
 
-same-tolds : (t : Topology) (n : ℕ) (rs : List RouterId) (os : List OpenedFeed) (fs gs : List FeedRead) (us vs : List FeedTold) → AllTold os →
-    AreReadOf t n rs os fs us → AreReadOf t n rs os gs vs → us ≡ vs
-same-tolds t n [] [] fs gs us vs told p q = none-of t n fs us p ∙ sym (none-of t n gs vs q)
-same-tolds t n [] (o ∷ os) fs gs us vs told p q = absurd p
-same-tolds t n (r ∷ rs) [] fs gs us vs told p q = absurd p
-same-tolds t n (r ∷ rs) (o ∷ os) fs gs us vs told p q =
-    let a = first-of t n r rs o os fs us p in
-    let b = first-of t n r rs o os gs vs q in
-    let head : a.told ≡ b.told = same-told t r o.bytes told.0.0 o.state a.f b.f a.told b.told told.0.1 (a.number ∙ sym b.number) a.router b.router a.read a.told_is b.read b.told_is in
-    let tail : a.rest ≡ b.rest = same-tolds t (suc n) rs os a.fs b.fs a.rest b.rest told.1 a.later b.later in
+same-tolds : (t : Topology) (h j : List Entry) (n : ℕ) (rs : List RouterId) (os : List OpenedFeed) (fs gs : List FeedRead) (us vs : List FeedTold) → AllTold os →
+    AreReadOf t n rs os fs us → All (IsKept history_limit h) fs → AreReadOf t n rs os gs vs → All (IsKept history_limit j) gs → us ≡ vs
+same-tolds t h j n [] [] fs gs us vs told p kept q also = none-of t n fs us p ∙ sym (none-of t n gs vs q)
+same-tolds t h j n [] (o ∷ os) fs gs us vs told p kept q also = absurd p
+same-tolds t h j n (r ∷ rs) [] fs gs us vs told p kept q also = absurd p
+same-tolds t h j n (r ∷ rs) (o ∷ os) fs gs us vs told p kept q also =
+    let a = first-of t h n r rs o os fs us p kept in
+    let b = first-of t j n r rs o os gs vs q also in
+    let head : a.told ≡ b.told = same-told t r o.bytes told.0.0 o.state a.f b.f a.told b.told told.0.1 (a.number ∙ sym b.number) a.router b.router a.whole_is b.whole_is a.read a.told_is b.read b.told_is in
+    let tail : a.rest ≡ b.rest = same-tolds t h j (suc n) rs os a.fs b.fs a.rest b.rest told.1 a.later a.all_kept b.later b.all_kept in
     a.are ∙ ap (λ x. x ∷ a.rest) head ∙ ap (λ xs. b.told ∷ xs) tail ∙ sym b.are
 
 -- ---- two runs step by step
@@ -142,7 +185,7 @@ both-files fs name (Back false left) F G P Q f g p q = both-some (bytes_of fs na
 both-runs : (t : Topology) (routers : List RouterId) (scripts : List (List Line)) (opened : List OpenedFeed) (v w : Verdict) (x y : List ℕ) → AllTold opened →
     IsRunOf t routers scripts opened v x → IsRunOf t routers scripts opened w y → AreAlike v x w y
 both-runs t routers scripts opened v w x y told p q =
-    (p.verdict_is ∙ ap verdict_of (same-tolds t 1 routers opened p.feeds q.feeds p.tolds q.tolds told p.read q.read) ∙ sym q.verdict_is, inr (t, routers, scripts, opened, p, q))
+    (p.verdict_is ∙ ap verdict_of (same-tolds t p.reported.history q.reported.history 1 routers opened p.feeds q.feeds p.tolds q.tolds told p.read p.reported.lawful.shuffle.kept q.read q.reported.lawful.shuffle.kept) ∙ sym q.verdict_is, inr (t, routers, scripts, opened, p, q))
 
 both-opened : (fs : Files) (part : ℕ) (name : List ℕ) (opened : List OpenedFeed) (state : CallState) (more : List Call) (v w : Verdict) (x y : List ℕ) (P Q : List OpenedFeed → Type 0) →
     ((later : List OpenedFeed) → AllTold later → P later → Q later → AreAlike v x w y) → AllTold opened →

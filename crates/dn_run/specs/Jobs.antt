@@ -1,6 +1,6 @@
 -- What the jobs of a run came to.
 use Rattle.std.specs.Prelude.{◌≡◌, ℕ, suc, ◌<◌, ◌≤◌, ◌^◌, ◌==◌, Bool, IsTrue, map, List, [], ◌∷◌, All, length, Option, None, Some}
-use Rattle.dn_formats.specs.Lawful.{IsShuffle, KeepsOrder, TellsAll, jobs_of}
+use Rattle.dn_formats.specs.Lawful.{IsWhole, IsLawful, jobs_of}
 use Rattle.dn_formats.specs.Steps.{FeedRead}
 use Rattle.dn_model.specs.declared.entry.Posted.{Posted}
 use Rattle.dn_model.specs.Topology.{all_differ}
@@ -11,6 +11,7 @@ use Rattle.dn_model.specs.declared.topology.Topology.{Topology}
 use Rattle.dn_formats.specs.declared.told.JobTold.{JobTold}
 use Rattle.route_feed.specs.FeedReader.{Reader, told_so_far}
 use Rattle.dn_run.specs.Network.{entries, StandsBy}
+use Rattle.dn_run.specs.Run.{history_limit}
 
 -- the scripts of a run that has one, or none
 abbrev pub scripts_of : Option Script → List (List Line)
@@ -38,10 +39,12 @@ same_router q r = q.0 == r.0
 abbrev pub HaveRoutersApart : {S : Type 0} → List (Reader S) → Type 0
 HaveRoutersApart readers = IsTrue (all_differ same_router (map (λ r. r.told.router) readers))
 
--- a feed was read to this end: where the source told its bytes, these steps are what they come to
+-- A feed was read to this end, and the history took all its updates: where the source told its bytes, these steps are what
+-- they come to.
 pub record IsReadBy {S : Type 0} (t : Topology) (left : S → Option (List ℕ)) (old new : Reader S) (f : FeedRead) : Type 0 where
   pub feed_no : f.feed_no ≡ new.told.feed_no
   pub router : f.router ≡ new.told.router
+  pub kept : IsWhole f
   pub end_is : new.told.end ≡ Some f.end
   pub stands : (bytes : List ℕ) → left old.source ≡ Some bytes → StandsBy (Some f.end) t new (left new.source) bytes f.steps
 
@@ -51,11 +54,9 @@ AreReadBy t left [] [] [] = Unit {0}
 AreReadBy t left (old ∷ olds) (new ∷ news) (f ∷ fs) = IsReadBy t left old new f × AreReadBy t left olds news fs
 AreReadBy t left olds news fs = ⊥
 
--- The jobs were run, and the feeds read to their ends: the history is a shuffle of what these gave, in which each job
--- keeps its order, and what is told of each job is right over it.
+-- The jobs were run, and the feeds read to their ends: the history is a lawful one of what these gave, and so is what is
+-- told of each job.
 pub record HasRun {S : Type 0} (t : Topology) (left : S → Option (List ℕ)) (olds news : List (Reader S)) (history : List Posted) (scripts : List (List Line)) (told : List JobTold) : Type 0 where
   pub feeds : List FeedRead
   pub read : AreReadBy t left olds news feeds
-  pub shuffle : IsShuffle feeds (entries history)
-  pub order : All (KeepsOrder (entries history)) (jobs_of scripts feeds)
-  pub tells : TellsAll t (entries history) 1 (jobs_of scripts feeds) told
+  pub lawful : IsLawful t history_limit feeds (jobs_of scripts feeds) (entries history) told

@@ -12,7 +12,7 @@ use Rattle.dn_model.specs.Lookup.{router_of}
 use Rattle.dn_formats.specs.ScriptText.{script_of}
 use Rattle.dn_formats.specs.Feed.{IsReading, IsFaultedReading}
 use Rattle.dn_formats.specs.Steps.{FeedRead, told_of}
-use Rattle.dn_formats.specs.Lawful.{IsShuffle, KeepsOrder, takes, jobs_of, TellsAll}
+use Rattle.dn_formats.specs.Lawful.{IsLawful, takes, jobs_of}
 use Rattle.dn_formats.specs.Report.{report, error_text}
 use Rattle.dn_model.specs.declared.ids.RouterId.{RouterId}
 use Rattle.dn_model.specs.declared.topology.Topology.{Topology}
@@ -36,6 +36,10 @@ use Rattle.dn_run.specs.declared.status.Status.TheVariants as statuses
 -- at most so many bytes of a feed are looked at
 abbrev pub feed_limit : ℕ
 feed_limit = 1073741824
+
+-- a history has at most so many entries: a position in it has 32 bits
+abbrev pub history_limit : ℕ
+history_limit = 4294967295
 
 -- a run has at most so many jobs
 abbrev pub most_jobs : ℕ
@@ -85,14 +89,12 @@ verdict_of tolds = if some_faulted tolds then ReadFault else (if all_well tolds 
 
 -- ---- the report
 
--- The report of a run, which tells this of the feeds: one history that is a shuffle of what the feeds gave, in which each
+-- The report of a run, which tells this of the feeds: one lawful history, a shuffle of what the feeds gave, in which each
 -- job's own entries stand in the order in which it takes them; and each query's answer over its pin.
 pub record IsReported (t : Topology) (scripts : List (List Line)) (feeds : List FeedRead) (tolds : List FeedTold) (text : List ℕ) : Type 0 where
   pub history : List Entry
   pub told : List JobTold
-  pub shuffle : IsShuffle feeds history
-  pub order : All (KeepsOrder history) (jobs_of scripts feeds)
-  pub tells : TellsAll t history 1 (jobs_of scripts feeds) told
+  pub lawful : IsLawful t history_limit feeds (jobs_of scripts feeds) history told
   pub text_is : text ≡ report t tolds history told
 
 -- of a feed that ended of itself, or inside a frame, nothing is left

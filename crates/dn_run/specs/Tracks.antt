@@ -3,7 +3,7 @@ use Rattle.std.specs.Prelude.{◌≡◌, ℕ, ◌*◌, ◌<◌, ◌≤◌, ◌^�
 use Rattle.std.specs.List.{AllZip, list_any, flat_map, position}
 use Rattle.dn_model.specs.Answer.{IsAnswer}
 use Rattle.dn_model.specs.Query.{Question, unknown_of}
-use Rattle.dn_formats.specs.Lawful.{Job, Tells, TellsAll, KeepsOrder, asked, takes, takes_feed, pin_after, is_from, is_from_some, taken_along, first_taken, left_by}
+use Rattle.dn_formats.specs.Lawful.{IsWhole, Tells, TellsAll, KeepsOrder, script_jobs, asked, takes, pin_after, is_from, is_from_some, taken_along, first_taken, left_by}
 use Rattle.dn_formats.specs.Steps.{FrameStep, FeedRead, updates, entries_by}
 use Rattle.dn_run.specs.Latest.{After, IsOf, Latest}
 use Rattle.dn_model.specs.declared.entry.Entry.{Entry}
@@ -81,16 +81,23 @@ abbrev pub end_or : Option FeedEnd → FeedEnd
 end_or None = ends.End
 end_or (Some end) = end
 
--- the feed so far
+-- the feed so far, of which all updates are kept
 abbrev pub feed_of : {S : Type 0} → Strand S → FeedRead
-feed_of s = record { feed_no = s.now.told.feed_no; router = s.now.told.router; steps = s.steps; end = end_or s.now.told.end }
+feed_of s = record {
+  feed_no = s.now.told.feed_no;
+  router = s.now.told.router;
+  steps = s.steps;
+  kept = length (updates s.steps);
+  end = end_or s.now.told.end;
+}
 
--- a feed that has what a strand has, and further steps where that hasn't ended
+-- a feed that has what a strand has, and further steps where that hasn't ended; all its updates are kept
 pub record GoesOn {S : Type 0} (s : Strand S) (f : FeedRead) : Type 0 where
   pub feed_no : f.feed_no ≡ s.now.told.feed_no
   pub router : f.router ≡ s.now.told.router
   pub later : List FrameStep
   pub steps : f.steps ≡ s.steps ++ later
+  pub whole : IsWhole f
   pub none_after_end : IsLater s.now.told.end later
 
 -- What holds of a feed at any time: its reader stands by the steps that were handed out, and the history holds exactly
@@ -169,10 +176,6 @@ pub record Adds (old new : List Told) (l : ℕ) (q : Question) (IsGood : Outcome
 
 -- ---- the jobs of feeds that no script takes
 
--- the jobs of scripts
-abbrev pub script_jobs : List (List Line) → List FeedRead → List Job
-script_jobs scripts feeds = map (λ lines. record { lines = lines; feeds = filter (takes_feed lines) feeds }) scripts
-
 -- whether no script takes this router's feed
 abbrev pub is_own : List (List Line) → RouterId → Bool
 is_own scripts router = not (list_any (λ lines. list_any (takes router) lines) scripts)
@@ -184,8 +187,8 @@ own_told number (suc count) = record { number = number; told = [] } ∷ own_told
 
 -- what the scripts' jobs took and told holds of whatever the feeds come to
 pub record WhateverOwn (t : Topology) (history : List Entry) (scripts : List (List Line)) (tolds : List JobTold) (feeds : List FeedRead) : Type 0 where
-  pub order : All (KeepsOrder history) (script_jobs scripts feeds)
-  pub tells : (more : List Entry) → TellsAll t (history ++ more) 1 (script_jobs scripts feeds) tolds
+  pub order : All (KeepsOrder history) (script_jobs 1 scripts feeds)
+  pub tells : (more : List Entry) → TellsAll t (history ++ more) (script_jobs 1 scripts feeds) tolds
 
 -- After the scripts' jobs, of which this was told, and those of the first so many feeds that no script takes: these feeds
 -- have ended, and each that a script takes.

@@ -37,7 +37,8 @@ told_so_far feed_no router steps = record {
 
 -- what is told after these steps and this end
 abbrev pub told_at_end : ℕ → RouterId → List FrameStep → FeedEnd → FeedTold
-told_at_end feed_no router steps end = told_of (record { feed_no = feed_no; router = router; steps = steps; end = end })
+told_at_end feed_no router steps end =
+    told_of (record { feed_no = feed_no; router = router; steps = steps; kept = length (updates steps); end = end })
 
 -- A reader in the midst of a feed of these bytes: it handed out these steps, those of the frames at the front. What it
 -- holds comes next, and then what its source has left. It read no byte past its limit.

@@ -1,5 +1,5 @@
 -- How the feeds of a run are opened one after another, and given back.
-use Rattle.std.proofs.Common.{◌≡◌, ℕ, suc, ◌+◌, ◌<◌, Bool, true, false, ◌==◌, ◌||◌, not, Result, Ok, Err, IfOk, IfSome, IsSome, IsSomeAnd, IsTrue, List, [], ◌∷◌, ◌++◌, length, map, All, Option, None, Some, refl, ap, sym, ◌∙◌, inl, arith, subst, append_assoc}
+use Rattle.std.proofs.Common.{◌≡◌, ℕ, suc, ◌+◌, ◌<◌, Bool, true, false, ◌==◌, ◌||◌, not, Result, Ok, Err, IfOk, IfSome, IsSome, IsSomeAnd, IsTrue, List, [], ◌∷◌, ◌++◌, length, All, Option, None, Some, refl, ap, sym, ◌∙◌, inl, arith, subst, append_assoc}
 use Rattle.std.specs.List.{list_any}
 use Rattle.std.proofs.lemmas.Grind.{common_steps}
 use Rattle.std.proofs.lemmas.List.{append-nil, map-append, length-append}

@@ -1,5 +1,5 @@
 -- The jobs of a run before the first call and after the last.
-use Rattle.std.proofs.Common.{◌≡◌, ℕ, suc, ◌+◌, ◌<◌, ◌≤◌, Bool, true, false, ◌==◌, not, IsTrue, List, [], ◌∷◌, ◌++◌, length, get_or, map, filter, take, drop, cond, All, Option, None, Some, IsSome, refl, ap, sym, ◌∙◌, arith, subst, Bor}
+use Rattle.std.proofs.Common.{◌≡◌, ℕ, suc, ◌<◌, ◌≤◌, Bool, true, false, ◌==◌, not, IsTrue, List, [], ◌∷◌, ◌++◌, length, get_or, map, filter, take, drop, cond, All, Option, None, Some, IsSome, refl, ap, sym, ◌∙◌, arith, subst, Bor}
 use Rattle.std.specs.List.{AllZip, list_any}
 use Rattle.std.proofs.Math.Seq.{take-length, take-nil}
 use Rattle.std.proofs.Math.Bool.{or-false}

@@ -1,9 +1,8 @@
 -- What each step of a run is due by, once its file was read, refused or failed.
-use Rattle.std.proofs.Common.{◌≡◌, ℕ, ◌+◌, Bool, true, false, nat_lt, Result, Ok, Err, MatchResult, List, [], ◌∷◌, ◌++◌, length, Option, refl, ap, sym, ◌∙◌, subst}
+use Rattle.std.proofs.Common.{◌≡◌, ℕ, ◌+◌, Bool, true, false, nat_lt, Result, Err, MatchResult, List, [], ◌∷◌, ◌++◌, length, Option, refl, ap, sym, ◌∙◌, subst}
 use Rattle.std.specs.Bool.{MatchBool}
 use Rattle.dn_io.specs.Calls.{Call, CallState, Back, call_of, state_failed}
 use Rattle.dn_io.specs.Files.{Files}
-use Rattle.dn_formats.specs.Report.{error_text}
 use Rattle.dn_formats.specs.ScriptText.{ScriptFault, script_of}
 use Rattle.dn_formats.specs.TopologyText.{Parts, topology_of, parts}
 use Rattle.dn_formats.specs.Words.{FeedWords, PartsSaid}
@@ -14,7 +13,7 @@ use Rattle.dn_model.specs.declared.topology.Topology.{Topology}
 use Rattle.dn_formats.specs.declared.topology_fault.TopoFault.{TopoFault}
 use Rattle.dn_formats.specs.declared.error_line.ErrorLine.{ErrorLine}
 use Rattle.dn_formats.specs.declared.error_line.ErrorLine.TheVariants as errors
-use Rattle.dn_run.specs.Ending.{Ending, Ruled, Stopped, OrStops}
+use Rattle.dn_run.specs.Ending.{Ending, OrStops}
 use Rattle.dn_run.specs.Feeds.{Opens}
 use Rattle.dn_run.specs.Loaded.{SaysTopology, SaysScript}
 use Rattle.dn_run.specs.Opened.{text_limit, FailsWhereTold, OnBytes}

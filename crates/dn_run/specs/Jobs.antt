@@ -1,5 +1,5 @@
 -- What the jobs of a run came to.
-use Rattle.std.specs.Prelude.{◌≡◌, ℕ, suc, ◌<◌, ◌≤◌, ◌^◌, ◌==◌, Bool, IsTrue, map, List, [], ◌∷◌, All, length, Option, None, Some}
+use Rattle.std.specs.Prelude.{◌≡◌, ℕ, suc, ◌<◌, ◌≤◌, ◌^◌, ◌==◌, Bool, IsTrue, map, List, [], ◌∷◌, length, Option, None, Some}
 use Rattle.dn_formats.specs.Lawful.{IsWhole, IsLawful, jobs_of}
 use Rattle.dn_formats.specs.Steps.{FeedRead}
 use Rattle.dn_model.specs.declared.entry.Posted.{Posted}

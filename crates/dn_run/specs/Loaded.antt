@@ -1,5 +1,5 @@
 -- What became of a topology or a script that was to be read from a file.
-use Rattle.std.specs.Prelude.{◌≡◌, ◌+◌, ℕ, List, [], ◌∷◌, ◌++◌, Option, Ok, Err, All, false}
+use Rattle.std.specs.Prelude.{◌≡◌, ℕ, List, [], ◌∷◌, ◌++◌, Option, Ok, Err, false}
 use Rattle.dn_io.specs.Calls.{Call, Back, call_of}
 use Rattle.dn_io.specs.Files.{Files}
 use Rattle.dn_formats.specs.TopologyText.{topology_of, parts}

@@ -5,7 +5,7 @@ use Rattle.dn_model.specs.Answer.{IsAnswer}
 use Rattle.dn_model.specs.Query.{Question, unknown_of}
 use Rattle.dn_formats.specs.Lawful.{IsWhole, Tells, TellsAll, KeepsOrder, script_jobs, asked, takes, pin_after, is_from, is_from_some, taken_along, first_taken, left_by}
 use Rattle.dn_formats.specs.Steps.{FrameStep, FeedRead, updates, entries_by}
-use Rattle.dn_run.specs.Latest.{After, IsOf, Latest}
+use Rattle.dn_run.specs.Latest.{After, IsOf}
 use Rattle.dn_model.specs.declared.entry.Entry.{Entry}
 use Rattle.dn_model.specs.declared.ids.RouterId.{RouterId}
 use Rattle.dn_formats.specs.declared.script.Line.{Line}

@@ -1,5 +1,5 @@
 use Rattle.std.specs.Arc.{arc_value}
-use Rattle.std.proofs.Common.{◌∷◌, [], false, map, refl, inl, inr}
+use Rattle.std.proofs.Common.{◌∷◌, [], false, map, refl, inl}
 use Rattle.std.specs.String.{string_bytes}
 use Rattle.dn_io.specs.Calls.{Back}
 use Rattle.dn_formats.specs.declared.error_line.ErrorLine.TheVariants as errors

@@ -6,10 +6,6 @@ mod asking;
 mod play;
 mod snapshot;
 mod store;
-#[cfg(test)]
-mod test_network;
-#[cfg(test)]
-mod tests;
 mod versions;
 
 pub use asking::AskRefused;

@@ -1,0 +1,58 @@
+-- What a store and a snapshot mean, and what they keep of a history.
+use Rattle.std.specs.Prelude.{ℕ, List, [], ◌∷◌, ◌++◌, Option, IfSome, length, ◌≡◌, ◌<◌, ◌≤◌, ◌^◌}
+use Rattle.std.specs.List.{All}
+use Rattle.dn_model.specs.Delta.{IsDeltaOf}
+use Rattle.dn_model.specs.Entry.{IsEntryOf, entries}
+use Rattle.dn_model.specs.Version.{Kept, KeptStandsFor}
+use Rattle.dn_model.specs.declared.change.Change.{Change}
+use Rattle.dn_model.specs.declared.entry.Entry.{Entry}
+use Rattle.dn_model.specs.declared.entry.Posted.{Posted}
+use Rattle.dn_model.specs.declared.topology.Topology.{Topology}
+use Rattle.version_lock.specs.declared.book.Basis.{Basis}
+
+-- a store: its network and limit, which stay, and the entries that were posted in it
+pub record Ledger : Type 0 where
+  pub basis : Basis
+  pub history : List Posted
+
+-- a snapshot: the network, and the history as it was
+pub record Past : Type 0 where
+  pub topology : Topology
+  pub history : List Posted
+
+-- a store with these entries more
+abbrev pub more : Ledger → List Posted → Ledger
+more s posted = record { basis = s.basis; history = s.history ++ posted }
+
+-- what a snapshot of a store shows
+abbrev pub past_of : Ledger → Past
+past_of s = record { topology = s.basis.topology; history = s.history }
+
+-- the entries of a history, and one more
+abbrev pub entries_with : List Posted → Entry → List Entry
+entries_with history e = entries history ++ e ∷ []
+
+-- each entry of the history is the network's
+abbrev pub AreOf : Topology → List Posted → Type 0
+AreOf t history = All (λ posted. IsEntryOf t posted.entry) history
+
+-- a version of this network that stands for these entries
+pub record IsVersionOf (t : Topology) (history : List Entry) (version : Kept) : Type 0 where
+  pub topology : version.topology ≡ t
+  pub stands : KeptStandsFor version history
+
+-- What a store keeps of a history that is as long as the limit at most: the version after it, if there is one, and the
+-- changes that its last entry made.
+pub record IsKeptOf (t : Topology) (limit : ℕ) (history : List Posted) (version : Option Kept) (changes : List Change) :
+    Type 0 where
+  pub few : length history ≤ limit
+  pub own : AreOf t history
+  pub stands : IfSome version (IsVersionOf t (entries history))
+  pub delta : IsDeltaOf t (entries history) changes
+
+-- what a snapshot keeps of a history of fewer than 2^32 entries: the version after it, and the changes that its last
+-- entry made
+pub record IsPastOf (t : Topology) (history : List Posted) (version : Kept) (changes : List Change) : Type 0 where
+  pub few : length history < 2 ^ 32
+  pub stands : IsVersionOf t (entries history) version
+  pub delta : IsDeltaOf t (entries history) changes

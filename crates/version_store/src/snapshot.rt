@@ -1,0 +1,90 @@
+//! A snapshot of a history.
+
+ghost use Rattle.std.specs.Prelude.{◌≡◌, ◌<◌, ◌^◌, IfOk, IfErr, None, OnOk, length};
+ghost use Rattle.std.specs.Arc.{arc_value};
+ghost use Rattle.dn_model.specs.Answer.{IsAnswer};
+ghost use Rattle.dn_model.specs.Delta.{IsDeltaOf};
+ghost use Rattle.dn_model.specs.Entry.{entries};
+ghost use Rattle.dn_model.specs.Query.{unknown_of};
+ghost use Rattle.version_store.specs.Asked.{IsAskRefusal};
+ghost use Rattle.version_store.specs.Kept.{IsVersionOf};
+
+use crate::asking::{AskRefused, refusal_of};
+use delta_graph::Delta;
+use dn_model::{Answer, OutOfMemory, Posted, Query, Topology};
+use net_engine::Version;
+use std::alloc::Global;
+use std::marker::Model;
+use std::sync::Arc;
+use version_pages::Pages;
+
+/// A snapshot of a network's history: it answers queries over the history as it was, whatever came later. A contract
+/// sees the network and that history.
+///
+/// It keeps the history, the version after it and the changes that its last entry made. It shares them with the store
+/// that it was taken of, as far as nothing was posted there since, and with other snapshots.
+#[derive(Drop)]
+pub struct Snapshot {
+    topology: Arc<Topology, Global>,
+    history: Pages<Posted>,
+    version: Version,
+    changes: Arc<Delta, Global>,
+}
+
+impl Model for Snapshot {
+    ghost use Rattle.std.specs.Arc.{arc_value};
+    ghost use Rattle.version_store.specs.Kept.{IsPastOf, Past};
+
+    ghost Value = { Past };
+
+    ghost view = { λ s. record { topology = arc_value s.topology; history = s.history } };
+
+    ghost invariant = { λ s. IsPastOf (arc_value s.topology) s.history s.version (arc_value s.changes) };
+}
+
+impl Snapshot {
+    /// The snapshot of a history, by the version after it and the changes that its last entry made.
+    pub(crate) fn of(
+        topology: Arc<Topology, Global>,
+        history: Pages<Posted>,
+        version: Version,
+        changes: Arc<Delta, Global>,
+    ) -> Snapshot
+        requires few { length history < 2 ^ 32 }
+        requires version { IsVersionOf (arc_value topology) (entries history) version }
+        requires changes { IsDeltaOf (arc_value topology) (entries history) (arc_value changes) }
+        ensures topology { result.topology ≡ arc_value topology }
+        ensures history { result.history ≡ history }
+    {
+        Snapshot {
+            topology,
+            history,
+            version,
+            changes,
+        }
+    }
+
+    /// How many entries the history had.
+    pub fn number(&self) -> u32
+        ensures { result ≡ length self.now.history }
+    {
+        self.history.len() as u32
+    }
+
+    /// The answer to a query over the history. It waits for nobody. A name that the topology doesn't have is told
+    /// exactly where there is one, and then the first, left to right; no memory is taken for that.
+    pub fn answer(&self, alloc: Global, query: &Query) -> Result<Answer, AskRefused>
+        ensures answer { IfOk result (IsAnswer self.now.topology (entries self.now.history) query.now) }
+        ensures known { OnOk result (unknown_of self.now.topology query.now ≡ None) }
+        ensures refused { IfErr result (IsAskRefusal (unknown_of self.now.topology query.now)) }
+    {
+        if let Some(unknown) = query.unknown(&self.topology) {
+            return Err(refusal_of(unknown));
+        }
+        let changes = self.changes.changes();
+        match row_answers::answer(alloc, &self.topology, &self.version, changes, query) {
+            Ok(answer) => Ok(answer),
+            Err(OutOfMemory) => Err(AskRefused::OutOfMemory),
+        }
+    }
+}

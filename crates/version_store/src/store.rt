@@ -1,0 +1,174 @@
+//! The book of a version lock: a history, and the version after it.
+
+ghost use Rattle.std.specs.Prelude.{◌≡◌, ◌<◌, ◌≤◌, ◌++◌, ◌∷◌, [], All, IfOk, IfErr, OnOk, OnErr, length};
+ghost use Rattle.std.specs.Arc.{arc_value};
+ghost use Rattle.dn_model.specs.Entry.{IsEntryOf};
+ghost use Rattle.version_store.specs.Events.{IsEventOf, IsRefusedPlay, pins, posts};
+ghost use Rattle.version_store.specs.Kept.{AreOf};
+
+use crate::play::{Event, play_one};
+use crate::snapshot::Snapshot;
+use crate::versions::{next_version, own_version};
+use delta_graph::Delta;
+use dn_model::{Entry, List, OutOfMemory, Posted, Topology};
+use net_engine::Version;
+use std::alloc::Global;
+use std::marker::Model;
+use std::sync::Arc;
+use version_lock::{Book, PostRefused};
+use version_pages::Pages;
+
+/// A history of a network's entries, with the version after it and the changes that its last entry made. A contract
+/// sees the basis, that is the network and how many entries it takes at most, and the history.
+///
+/// A post changes the version in its own place. Where it finds no memory half way, the history is as before and the
+/// version is gone: it is made again, update by update, at the next post, and by each snapshot for itself until then.
+#[derive(Drop)]
+pub struct Store {
+    alloc: Global,
+    topology: Arc<Topology, Global>,
+    limit: u32,
+    history: Pages<Posted>,
+    version: Option<Version>,
+    changes: Arc<Delta, Global>,
+}
+
+impl Model for Store {
+    ghost use Rattle.std.specs.Arc.{arc_value};
+    ghost use Rattle.version_store.specs.Kept.{IsKeptOf, Ledger};
+
+    ghost Value = { Ledger };
+
+    ghost view = { λ s. record {
+      basis = record { topology = arc_value s.topology; limit = s.limit };
+      history = s.history;
+    } };
+
+    ghost invariant = { λ s. IsKeptOf (arc_value s.topology) s.limit s.history s.version (arc_value s.changes) };
+}
+
+impl Store {
+    /// The store of a network before any update, which takes at most `limit` entries. It fails for want of memory
+    /// alone.
+    pub fn new(
+        alloc: Global,
+        topology: Arc<Topology, Global>,
+        limit: u32,
+    ) -> Result<Store, OutOfMemory>
+        ensures basis { IfOk result (λ store. store.basis ≡ record { topology = arc_value topology; limit = limit }) }
+        ensures empty { IfOk result (λ store. store.history ≡ []) }
+    {
+        let version = Version::empty(alloc, Arc::try_clone(&topology)?)?;
+        let changes = Arc::new(alloc, Delta::new(alloc))?;
+        Ok(Store {
+            alloc,
+            topology,
+            limit,
+            history: Pages::new(),
+            version: Some(version),
+            changes,
+        })
+    }
+
+    /// The entries of the history, in order, each with the seat that posted it. It fails for want of memory alone.
+    pub fn history(&self, alloc: Global) -> Result<List<Posted>, OutOfMemory>
+        ensures entries { IfOk result (λ history. history ≡ self.now.history) }
+        ensures few { length self.now.history ≤ self.now.basis.limit }
+        ensures own { AreOf self.now.basis.topology self.now.history }
+    {
+        let mut history = List::new(alloc);
+        for i in 0..self.history.len() {
+            let Some(posted) = self.history.get(i) else {
+                unreachable!()
+            };
+            history.push(*posted)?;
+        }
+        Ok(history)
+    }
+
+    /// Plays events, of which each entry is one of the network's, under a seat's number: a snapshot for each Pin, in
+    /// order, of the history after the events before it. The first event that is refused ends it, and the history is
+    /// then that after the events before that one; `Full` comes exactly where an entry comes to a history that is as
+    /// long as the limit.
+    pub fn play(
+        &mut self,
+        alloc: Global,
+        seat: u32,
+        events: &[Event],
+    ) -> Result<Vec<Snapshot>, PostRefused>
+        requires { All (IsEventOf self.old.basis.topology) events.now }
+        ensures basis { self.new.basis ≡ self.old.basis }
+        ensures history { OnOk result (self.new.history ≡ self.old.history ++ posts seat events.now) }
+        ensures pins { IfOk result (λ snapshots. snapshots.items ≡ pins self.old seat events.now) }
+        ensures few { length self.new.history ≤ self.new.basis.limit }
+        ensures refused { IfErr result (IsRefusedPlay self.old self.new seat events.now) }
+    {
+        let _ = &self.history;
+        let mut snapshots = Vec::new(alloc);
+        for event in events {
+            play_one(self, seat, event, &mut snapshots)?;
+        }
+        Ok(snapshots)
+    }
+
+    /// Adds an entry, and answers how many entries there are then. After `OutOfMemory`, for which alone it fails, the
+    /// history is as before.
+    fn add(&mut self, seat: u32, entry: &Entry) -> Result<u32, OutOfMemory>
+        requires entry { IsEntryOf self.old.basis.topology entry.now }
+        requires room { length self.old.history < self.old.basis.limit }
+        ensures basis { self.new.basis ≡ self.old.basis }
+        ensures ok { OnOk result (self.new.history
+            ≡ self.old.history ++ record { seat = seat; entry = entry.now } ∷ []) }
+        ensures number { IfOk result (λ n. n ≡ length self.new.history) }
+        ensures err { OnErr result (self.new.history ≡ self.old.history) }
+    {
+        let taken = self.version.take();
+        let (version, changes) = next_version(
+            self.alloc,
+            &self.topology,
+            &self.history,
+            taken,
+            entry,
+        )?;
+        let posted = Posted {
+            seat,
+            entry: *entry,
+        };
+        self.history.push(self.alloc, posted)?;
+        self.version = Some(version);
+        self.changes = changes;
+        Ok(self.history.len() as u32)
+    }
+}
+
+impl Book for Store {
+    type Snap = Snapshot;
+
+    ghost history = { λ s. s.history };
+
+    ghost basis = { λ s. s.basis };
+
+    ghost shown = { λ s. s.history };
+
+    ghost shown_topology = { λ s. s.topology };
+
+    fn post(&mut self, seat: u32, entry: &Entry) -> Result<u32, PostRefused> {
+        let limit = self.limit;
+        if self.history.len() >= u64::from(limit) {
+            return Err(PostRefused::Full { length: limit });
+        }
+        match self.add(seat, entry) {
+            Ok(number) => Ok(number),
+            Err(OutOfMemory) => Err(PostRefused::OutOfMemory),
+        }
+    }
+
+    fn snap(&self) -> Result<Snapshot, OutOfMemory> {
+        let version = own_version(self.alloc, &self.topology, &self.history, &self.version)?;
+        let topology = Arc::try_clone(&self.topology)?;
+        let history = self.history.copy()?;
+        let changes = Arc::try_clone(&self.changes)?;
+        prove!(self.history.len() <= self.limit as u64);
+        Ok(Snapshot::of(topology, history, version, changes))
+    }
+}

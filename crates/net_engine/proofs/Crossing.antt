@@ -1,20 +1,29 @@
--- A version may cross to another thread, and be shared between threads.
+-- A version may cross to another thread, and be shared between threads. (A function that asks this of its argument in a test
+-- would say the same, and its goal computes too long.)
 use denote.Param.Send.{IsSend, IsSync, sendable}
 use Rattle.std.proofs.Crossing.{crosses}
 use Rattle.std.proofs.MapsCrossing as maps
 use Rattle.atom_map.proofs.Crossing.{AtomMap-send, AtomMap-sync}
 use Rattle.edge_labels.proofs.Crossing.{LabelGraph-send, LabelGraph-sync}
-use Rattle.net_engine.specs.contracts.atom_owners.AtomOwners as AtomOwners
+use Rattle.version_pages.proofs.tree.Kid.TheLaws.TheKnot as knot
+use Rattle.net_engine.specs.contracts.router_owners.RouterOwners as RouterOwners
+use Rattle.net_engine.specs.contracts.segment.Segment as Segment
 use Rattle.net_engine.specs.contracts.version.Version as Version
 
-AtomOwners-send : IsSend AtomOwners.the_row
-AtomOwners-send = search (sendable, crosses, maps.crosses) depth 40
+Segment-send : IsSend Segment.the_row
+Segment-send = search (sendable, crosses, maps.crosses) depth 40
 
-AtomOwners-sync : IsSync AtomOwners.the_row
-AtomOwners-sync = search (sendable, crosses, maps.crosses) depth 40
+Segment-sync : IsSync Segment.the_row
+Segment-sync = search (sendable, crosses, maps.crosses) depth 40
+
+RouterOwners-send : IsSend RouterOwners.the_row
+RouterOwners-send = search (Segment-send, Segment-sync, sendable, crosses, knot.crosses) depth 40
+
+RouterOwners-sync : IsSync RouterOwners.the_row
+RouterOwners-sync = search (Segment-send, Segment-sync, sendable, crosses, knot.crosses) depth 40
 
 pub Version-send : IsSend Version.the_row
-Version-send = search (AtomMap-send, LabelGraph-send, AtomOwners-send, sendable, crosses, maps.crosses) depth 40
+Version-send = search (AtomMap-send, LabelGraph-send, RouterOwners-send, sendable, crosses, maps.crosses) depth 40
 
 pub Version-sync : IsSync Version.the_row
-Version-sync = search (AtomMap-sync, LabelGraph-sync, AtomOwners-sync, sendable, crosses, maps.crosses) depth 40
+Version-sync = search (AtomMap-sync, LabelGraph-sync, RouterOwners-sync, sendable, crosses, maps.crosses) depth 40

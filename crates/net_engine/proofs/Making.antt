@@ -26,7 +26,7 @@ use Rattle.net_engine.proofs.Begun.{first_kept, first-stands, first-whole}
 use Rattle.net_engine.proofs.Held.{within-high, within-low}
 use Rattle.net_engine.proofs.Owned.{no-route-of-prefix}
 use Rattle.net_engine.proofs.Parting.{parted-ends}
-use Rattle.net_engine.proofs.Walking.{part-other}
+use Rattle.net_engine.proofs.Rerunning.{part-other}
 
 abbrev pub kept_of : Topology → List Atom → List (List Route) → Kept
 kept_of t atoms routes = record { topology = t; atoms = atoms; routes = routes }

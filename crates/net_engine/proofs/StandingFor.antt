@@ -26,7 +26,7 @@ use Rattle.net_engine.specs.Net.{AreWide}
 use Rattle.net_engine.specs.Whole.{Agrees, IsWhole}
 use Rattle.net_engine.proofs.Held.{Holds, holds}
 use Rattle.net_engine.proofs.Owned.{owners-same}
-use Rattle.net_engine.proofs.Touched.{wide-at}
+use Rattle.net_engine.proofs.Standing.{wide-at}
 -- a router's own update makes its routes those after it, and another router's leaves them
 pub use Rattle.dn_model.proofs.SameRoutes.{same-own as own-table, same-other as other-table}
 

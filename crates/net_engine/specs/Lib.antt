@@ -1,4 +1,6 @@
 pub mod Net
-pub mod Walked
+pub mod Segments
 pub mod Numbered
+pub mod Reruled
+pub mod Walked
 pub mod Whole

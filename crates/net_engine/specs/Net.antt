@@ -49,30 +49,3 @@ cut_atoms (x ∷ xs) at =
     if is_within (first_of x) (past_of x) at && not (first_of x == at)
     then between (first_of x) at x ∷ between at (past_of x) x ∷ xs
     else x ∷ cut_atoms xs at
-
--- the atoms with another one in the place of the one that has an address
-abbrev pub with_atom : List Atom → ℕ → Atom → List Atom
-with_atom [] at y = []
-with_atom (x ∷ xs) at y = if is_within (first_of x) (past_of x) at then y ∷ xs else x ∷ with_atom xs at y
-
--- an atom where one router has other rules and does something else
-abbrev pub with_rules : Atom → ℕ → List Rule → Target → Atom
-with_rules x r rules target = record {
-  row = record { low = x.row.low; past = x.row.past; targets = slice_set x.row.targets r target };
-  owners = slice_set x.owners r rules;
-}
-
--- An update changed one router's rules in the atom that has an address: they are what the update makes of those that
--- were there, in some order, and the router does what the first of them says. `past` is where the atom ends, `before`
--- and `after` what the router did there and does now.
-pub record IsTouched (old new : List Atom) (r : RouterId) (at : ℕ) (op : Op) (past : ℕ) (before after : Target) : Type 0 where
-  pub atom : Atom
-  pub has : atom_at old at ≡ Some atom
-  pub past_is : past ≡ past_of atom
-  pub before_is : before ≡ target_of atom.row r
-  pub rules : List Rule
-  pub rules_are : IsPermutation rules (after_rule_op (slice_index_or atom.owners r.0 []) op)
-  pub top : Option Rule
-  pub is_top : IsTop rules top
-  pub after_is : after ≡ target_of_rule top
-  pub new_is : new ≡ with_atom old at (with_rules atom r.0 rules after)

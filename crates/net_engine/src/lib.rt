@@ -1,12 +1,16 @@
 //! What all routers do with all addresses, kept up update by update (Delta-net, NSDI 2017): atoms between the ends of
-//! prefixes, each router's rules at each atom, and the labels of edges. An update touches the atoms of its prefix alone.
+//! prefixes, each router's rules between the ends of its own prefixes, and the labels of edges. An update touches the atoms of
+//! its prefix alone.
 #![tactic(auto)]
 
-mod atom_owners;
 mod ends;
 mod net;
 #[cfg(test)]
 mod net_tests;
+mod relabel;
+mod router_owners;
+mod segment;
+mod span;
 mod tables;
 mod version;
 #[cfg(test)]

@@ -1,25 +1,30 @@
 //! Atoms with what each router does there and the rules that it has there.
 
-ghost use Rattle.std.specs.Prelude.{◌≡◌, ◌<◌, ◌≤◌, ◌∷◌, [], IfOk, length, slice_index_or};
+ghost use Rattle.std.specs.Prelude.{◌≡◌, ◌<◌, ◌≤◌, ◌^◌, ◌∷◌, [], true, IfOk, length, slice_index_or, replicate};
 ghost use Rattle.dn_model.specs.Forwarding.{target_of};
-ghost use Rattle.dn_model.specs.Version.{Atom, first_of, past_of};
-ghost use Rattle.net_engine.specs.Net.{cut_atoms, first_atom, IsNet, IsTouched};
+ghost use Rattle.dn_model.specs.Version.{Atom, begins_at, first_of, past_of};
+ghost use Rattle.net_engine.specs.Net.{cut_atoms, first_atom, IsNet};
+ghost use Rattle.net_engine.specs.Walked.{IsWalked};
 
-use crate::atom_owners::AtomOwners;
+use crate::router_owners::RouterOwners;
+use crate::span::Span;
+use crate::walk::{cut_both, walk_segments};
 use atom_map::AtomMap;
+use delta_graph::Delta;
 use dn_model::{Op, OutOfMemory, RouterId, Target};
 use edge_labels::LabelGraph;
 use std::alloc::Global;
 use std::marker::Model;
 
-/// The atoms of a network, with what each router does there and its rules there, which stand by the number of the atom
-/// and then by the router. A contract sees the number of routers and the atoms in order.
+/// The atoms of a network, with what each router does there, which stands by the number of the atom, and its rules there,
+/// which stand by router, between the ends of the prefixes that the router itself has set. A contract sees the number of
+/// routers and the atoms in order.
 #[derive(Drop)]
 pub struct Net {
     routers: u32,
     atoms: AtomMap,
     labels: LabelGraph,
-    owners: Vec<AtomOwners>,
+    owners: Vec<RouterOwners>,
 }
 
 impl Model for Net {
@@ -33,15 +38,6 @@ impl Model for Net {
     ghost invariant = { λ n. AreNumbered n.routers n.atoms n.labels n.owners.items };
 }
 
-/// What an update came to in one atom: where the atom ends (half closed, at most 2^32), and what the router did there
-/// before and does now.
-#[derive(Clone, Copy, Debug, PartialEq, Eq)]
-pub struct Touched {
-    pub past: u64,
-    pub before: Target,
-    pub after: Target,
-}
-
 impl Net {
     /// One atom of all addresses, for which none of so many routers has a rule.
     pub fn new(alloc: Global, routers: u32) -> Result<Net, OutOfMemory>
@@ -51,8 +47,7 @@ impl Net {
     {
         let atoms = AtomMap::new(alloc)?;
         let labels = LabelGraph::new(alloc, routers)?;
-        let mut owners = Vec::new(alloc);
-        owners.push(AtomOwners::none(alloc, routers)?)?;
+        let owners = no_owners(alloc, routers)?;
         Ok(Net {
             routers,
             atoms,
@@ -62,7 +57,7 @@ impl Net {
     }
 
     /// Cuts the atom that has an address in two there, if it doesn't begin there: both parts have what the whole has.
-    /// It copies each router's rules in that atom. At `OutOfMemory`, for which alone it fails, all is dropped.
+    /// No router's rules are copied. At `OutOfMemory`, for which alone it fails, all is dropped.
     pub fn cut(self, alloc: Global, at: u32) -> Result<Net, OutOfMemory>
         ensures routers { IfOk result (λ net. net.routers ≡ self.routers) }
         ensures atoms { IfOk result (λ net. net.atoms ≡ cut_atoms self.atoms at) }
@@ -72,7 +67,7 @@ impl Net {
             routers,
             mut atoms,
             labels,
-            mut owners,
+            owners,
         } = self;
         let Some((old, new)) = atoms.cut(alloc, at)? else {
             return Ok(Net {
@@ -83,8 +78,6 @@ impl Net {
             });
         };
         let labels = labels.inherit(alloc, old, new)?;
-        let copy = owners[old.0 as usize].copy(alloc)?;
-        owners.push(copy)?;
         Ok(Net {
             routers,
             atoms,
@@ -93,19 +86,23 @@ impl Net {
         })
     }
 
-    /// Makes an update to the rules that a router has in the atom that has an address, which the update's prefix covers.
-    /// At `OutOfMemory`, for which alone it fails, all is dropped.
-    pub fn touch(
+    /// Makes an update of a router at the addresses of a span, at whose ends atoms begin, and tells where the router does
+    /// something else than before. At `OutOfMemory`, for which alone it fails, all is dropped.
+    pub fn update(
         self,
         alloc: Global,
         r: RouterId,
-        at: u32,
         op: &Op,
-    ) -> Result<(Net, Touched), OutOfMemory>
-        requires { r.0 < self.routers }
+        span: Span,
+    ) -> Result<(Net, Delta), OutOfMemory>
+        requires router { r.0 < self.routers }
+        requires order { span.lo < span.past }
+        requires end { span.past ≤ 2 ^ 32 }
+        requires first { begins_at self.atoms span.lo ≡ true }
+        requires last { span.past < 2 ^ 32 → begins_at self.atoms span.past ≡ true }
         ensures routers { IfOk result (λ made. made.0.routers ≡ self.routers) }
-        ensures touched { IfOk result (λ made. IsTouched self.atoms made.0.atoms r at op.now made.1.past made.1.before made.1.after) }
-        ensures form { IfOk result (λ made. IsNet made.0) }
+        ensures net { IfOk result (λ made. IsNet made.0) }
+        ensures walked { IfOk result (λ made. IsWalked self.atoms made.0.atoms [] made.1 r op.now span.lo span.past) }
     {
         let Net {
             routers,
@@ -113,24 +110,18 @@ impl Net {
             labels,
             mut owners,
         } = self;
-        let row = atoms.at(atoms.place_of(at));
-        let before = labels.target(r, row.atom);
-        let rules = &mut owners[row.atom.0 as usize];
-        rules.change(r, op)?;
-        let after = rules.target(r);
-        let labels = labels.move_atom(alloc, r, row.atom, before, after)?;
-        let net = Net {
-            routers,
-            atoms,
-            labels,
-            owners,
-        };
-        let touched = Touched {
-            past: row.past,
-            before,
-            after,
-        };
-        Ok((net, touched))
+        let own = &mut owners[usize::from(r.0)];
+        cut_both(alloc, own, span)?;
+        let (labels, delta) = walk_segments(alloc, &atoms, labels, own, r, op, span)?;
+        Ok((
+            Net {
+                routers,
+                atoms,
+                labels,
+                owners,
+            },
+            delta,
+        ))
     }
 
     /// The same atoms again.
@@ -198,13 +189,24 @@ impl Net {
     }
 }
 
-/// The rules of each atom again.
-fn copies(alloc: Global, owners: &[AtomOwners]) -> Result<Vec<AtomOwners>, OutOfMemory>
+/// No rule of any of so many routers.
+fn no_owners(alloc: Global, routers: u32) -> Result<Vec<RouterOwners>, OutOfMemory>
+    ensures { IfOk result (λ owners. owners.items ≡ replicate routers []) }
+{
+    let mut owners = Vec::new(alloc);
+    for _router in 0..routers {
+        owners.push(RouterOwners::new())?;
+    }
+    Ok(owners)
+}
+
+/// The rules of each router again.
+fn copies(alloc: Global, owners: &[RouterOwners]) -> Result<Vec<RouterOwners>, OutOfMemory>
     ensures { IfOk result (λ copies. copies.items ≡ owners.now) }
 {
     let mut copies = Vec::new(alloc);
-    for atom in owners {
-        copies.push(atom.copy(alloc)?)?;
+    for router in owners {
+        copies.push(router.copy()?)?;
     }
     Ok(copies)
 }

@@ -10,8 +10,8 @@ ghost use Rattle.net_engine.specs.Walked.{BeginsAtEnds, IsClear, IsCutAt, IsSet,
 
 use crate::ends::{cut_ends, past_of};
 use crate::net::Net;
+use crate::span::Span;
 use crate::tables::{copies, empty_tables, has_route_of, update_at};
-use crate::walk::walk_atoms;
 use delta_graph::Delta;
 use dn_model::{Entry, Op, OutOfMemory, Prefix, RouterId, Target, Topology};
 use label_view::LabelView;
@@ -89,9 +89,12 @@ impl Version {
             mut tables,
         } = self;
         let prefix = op.prefix();
-        let past = past_of(prefix);
+        let span = Span {
+            lo: prefix.base(),
+            past: past_of(prefix),
+        };
         update_at(&mut tables, usize::from(r.0), op)?;
-        let (net, delta) = walk_atoms(alloc, net, r, op, prefix.base(), past)?;
+        let (net, delta) = net.update(alloc, r, op, span)?;
         Ok((
             Version {
                 topology,

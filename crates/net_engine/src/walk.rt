@@ -1,99 +1,145 @@
-//! An update over the atoms of its prefix, one after another.
+//! An update over one router's segments within a span, one after another.
 
 ghost use Rattle.std.specs.Prelude.{◌≡◌, ℕ, ◌<◌, ◌≤◌, ◌^◌, [], true, None, IfOk, OnOk};
 ghost use Rattle.dn_model.specs.Delta.{AreChanges, change_at};
-ghost use Rattle.dn_model.specs.Version.{begins_at};
-ghost use Rattle.net_engine.specs.Net.{IsNet};
-ghost use Rattle.net_engine.specs.Walked.{IsTold, IsWalked};
+ghost use Rattle.net_engine.specs.Numbered.{AreLabelled, GoAlong};
+ghost use Rattle.net_engine.specs.Reruled.{AreCutAt, IsReruledOver};
+ghost use Rattle.net_engine.specs.Segments.{BeginsAt, begins_in};
+ghost use Rattle.net_engine.specs.Walked.{IsTold};
 
-use crate::net::{Net, Touched};
+use crate::relabel::relabel;
+use crate::router_owners::RouterOwners;
+use crate::segment::Targets;
+use crate::span::Span;
+use atom_map::AtomMap;
 use delta_graph::Delta;
 use dn_model::{Change, Op, OutOfMemory, RouterId, Run};
+use edge_labels::LabelGraph;
 use std::alloc::Global;
 
-/// Where a walk over atoms stands: at this address, with the atoms and the changes so far.
+/// The address after the last.
+const END: u64 = 0x1_0000_0000;
+
+/// Cuts a router's segments at both ends of a span. It fails for want of memory alone.
+pub fn cut_both(alloc: Global, owners: &mut RouterOwners, span: Span) -> Result<(), OutOfMemory>
+    requires { span.past ≤ 2 ^ 32 }
+    ensures { OnOk result (AreCutAt owners.old owners.new span.lo span.past) }
+{
+    owners.cut(alloc, span.lo)?;
+    if span.past == END {
+        return Ok(());
+    }
+    owners.cut(alloc, span.past as u32)
+}
+
+/// Where a walk over segments stands: at this place and address, with the labels and the changes so far.
 #[derive(Drop)]
 struct Walk {
-    net: Net,
+    labels: LabelGraph,
     delta: Delta,
+    place: u64,
     at: u64,
 }
 
-/// Tells what a router does with the addresses from `lo` on of one atom, if that is something else than before.
-fn tell(delta: &mut Delta, r: RouterId, lo: u64, touched: &Touched) -> Result<(), OutOfMemory>
-    requires some { lo < touched.now.past }
-    requires end { touched.now.past ≤ 2 ^ 32 }
+/// Tells what a router does with the addresses of a span, if that is something else than before.
+fn tell(delta: &mut Delta, r: RouterId, span: Span, targets: Targets) -> Result<(), OutOfMemory>
+    requires some { span.lo < span.past }
+    requires end { span.past ≤ 2 ^ 32 }
     requires form { AreChanges delta.old }
-    requires free { (a : ℕ) → lo ≤ a → change_at delta.old r a ≡ None }
-    ensures { OnOk result (IsTold delta.old delta.new r lo touched.now.past touched.now.before touched.now.after) }
+    requires free { (a : ℕ) → span.lo ≤ a → change_at delta.old r a ≡ None }
+    ensures { OnOk result (IsTold delta.old delta.new r span.lo span.past targets.before targets.after) }
 {
-    if touched.before == touched.after {
+    if targets.before == targets.after {
         return Ok(());
     }
     delta.push(Change {
         router: r,
         run: Run {
-            lo: lo as u32,
-            hi: (touched.past - 1) as u32,
+            lo: span.lo,
+            hi: (span.past - 1) as u32,
         },
-        before: touched.before,
-        after: touched.after,
+        before: targets.before,
+        after: targets.after,
     })
 }
 
-/// Makes an update in the atom where a walk stands.
-fn step(alloc: Global, walk: Walk, r: RouterId, op: &Op) -> Result<Walk, OutOfMemory>
-    requires router { r.0 < walk.net.routers }
-    requires below { walk.at < 2 ^ 32 }
-    requires net { IsNet walk.net }
-    requires begins { begins_at walk.net.atoms walk.at ≡ true }
-    requires form { AreChanges walk.delta }
-    requires free { (a : ℕ) → walk.at ≤ a → change_at walk.delta r a ≡ None }
-    ensures routers { IfOk result (λ next. next.net.routers ≡ walk.net.routers) }
-    ensures net { IfOk result (λ next. IsNet next.net) }
-    ensures moves { IfOk result (λ next. walk.at < next.at) }
-    ensures stays { IfOk result (λ next. (hi : ℕ) → walk.at < hi → hi ≤ 2 ^ 32 → (hi < 2 ^ 32 → begins_at walk.net.atoms hi ≡ true) → next.at ≤ hi) }
-    ensures begins { IfOk result (λ next. next.at < 2 ^ 32 → begins_at next.net.atoms next.at ≡ true) }
-    ensures walked { IfOk result (λ next. IsWalked walk.net.atoms next.net.atoms walk.delta next.delta r op.now walk.at next.at) }
-{
-    let Walk { net, mut delta, at } = walk;
-    let (net, touched) = net.touch(alloc, r, at as u32, op)?;
-    tell(&mut delta, r, at, &touched)?;
-    Ok(Walk {
-        net,
-        delta,
-        at: touched.past,
-    })
-}
-
-/// Makes an update of a router in each atom from the address `lo` up to, and without, `hi`, and tells where the router
-/// does something else than before. Atoms begin at both. It looks at these atoms alone.
-pub fn walk_atoms(
+/// Makes an update in the segment where a walk stands.
+fn step(
     alloc: Global,
-    net: Net,
+    atoms: &AtomMap,
+    owners: &mut RouterOwners,
+    walk: Walk,
     r: RouterId,
     op: &Op,
-    lo: u32,
-    hi: u64,
-) -> Result<(Net, Delta), OutOfMemory>
-    requires router { r.0 < net.routers }
-    requires net { IsNet net }
-    requires order { lo < hi }
-    requires end { hi ≤ 2 ^ 32 }
-    requires first { begins_at net.atoms lo ≡ true }
-    requires last { hi < 2 ^ 32 → begins_at net.atoms hi ≡ true }
-    ensures routers { IfOk result (λ made. made.0.routers ≡ net.routers) }
-    ensures net { IfOk result (λ made. IsNet made.0) }
-    ensures walked { IfOk result (λ made. IsWalked net.atoms made.0.atoms [] made.1 r op.now lo hi) }
+) -> Result<Walk, OutOfMemory>
+    requires router { r.0 < walk.labels.routers }
+    requires below { walk.at < 2 ^ 32 }
+    requires labelled { AreLabelled atoms.now walk.labels }
+    requires along { GoAlong atoms.now walk.labels r.0 owners.old }
+    requires begins { BeginsAt owners.old walk.place walk.at }
+    requires form { AreChanges walk.delta }
+    requires free { (a : ℕ) → walk.at ≤ a → change_at walk.delta r a ≡ None }
+    ensures moves { IfOk result (λ next. walk.at < next.at) }
+    ensures stays { IfOk result (λ next. (hi : ℕ) → walk.at < hi → hi ≤ 2 ^ 32 → (hi < 2 ^ 32 → begins_in owners.old hi ≡ true) → next.at ≤ hi) }
+    ensures begins { IfOk result (λ next. next.at < 2 ^ 32 → BeginsAt owners.new next.place next.at) }
+    ensures made { IfOk result (λ next. IsReruledOver atoms.now walk.labels next.labels owners.old owners.new walk.delta next.delta r op.now walk.at next.at) }
+{
+    let Walk {
+        labels,
+        mut delta,
+        place,
+        at,
+    } = walk;
+    let past = owners.past(place);
+    let span = Span {
+        lo: at as u32,
+        past,
+    };
+    let targets = owners.change(alloc, place, op)?;
+    let labels = relabel(alloc, atoms, labels, r, span, targets)?;
+    tell(&mut delta, r, span, targets)?;
+    Ok(Walk {
+        labels,
+        delta,
+        place: place + 1,
+        at: past,
+    })
+}
+
+/// Makes an update of a router in each of its segments within a span, at whose ends it has cut them, and tells where the
+/// router does something else than before. It looks at these segments alone, and at their atoms where something changes.
+pub fn walk_segments(
+    alloc: Global,
+    atoms: &AtomMap,
+    labels: LabelGraph,
+    owners: &mut RouterOwners,
+    r: RouterId,
+    op: &Op,
+    span: Span,
+) -> Result<(LabelGraph, Delta), OutOfMemory>
+    requires router { r.0 < labels.routers }
+    requires labelled { AreLabelled atoms.now labels }
+    requires along { GoAlong atoms.now labels r.0 owners.old }
+    requires order { span.lo < span.past }
+    requires end { span.past ≤ 2 ^ 32 }
+    requires first { begins_in owners.old span.lo ≡ true }
+    requires last { span.past < 2 ^ 32 → begins_in owners.old span.past ≡ true }
+    ensures { IfOk result (λ made. IsReruledOver atoms.now labels made.0 owners.old owners.new [] made.1 r op.now span.lo span.past) }
 {
     let mut walk = Walk {
-        net,
+        labels,
         delta: Delta::new(alloc),
-        at: u64::from(lo),
+        place: owners.place_of(span.lo),
+        at: u64::from(span.lo),
     };
-    'atoms: while walk.at < hi {
-        walk = step(alloc, walk, r, op)?;
+    'segments: while walk.at < span.past {
+        walk = step(alloc, atoms, owners, walk, r, op)?;
     }
-    let Walk { net, delta, at: _ } = walk;
-    Ok((net, delta))
+    let Walk {
+        labels,
+        delta,
+        place: _,
+        at: _,
+    } = walk;
+    Ok((labels, delta))
 }

@@ -5,7 +5,7 @@ use Rattle.net_engine.proofs.net.Net.target.Goals as goal
 pub target-requires-clause-atom : goal.target-requires-clause-atom
 target-requires-clause-atom c =
     there-below c.self.inside.routers c.self.inside.atoms c.self.inside.labels c.self.inside.owners.items c.at-row.result.atom.0 c.self.invariant
-    (number-below c.self.inside.atoms c.args.i c.at-row.result c.self.invariant.atoms (place-below c.args.self.now c.self.inside.routers c.self.inside.atoms c.self.inside.labels c.self.inside.owners.items c.args.i c.self.view_is c.requires.place) (c.at-row.ensures c.at-row.result))
+    (number-below c.self.inside.atoms c.args.i c.at-row.result c.self.invariant.labelled.atoms (place-below c.args.self.now c.self.inside.routers c.self.inside.atoms c.self.inside.labels c.self.inside.owners.items c.args.i c.self.view_is c.requires.place) (c.at-row.ensures c.at-row.result))
 
 pub returns-clause-value : goal.returns-clause-value
 returns-clause-value c = λ d.

@@ -5,10 +5,10 @@ use Rattle.net_engine.proofs.version.Version.update.Goals as goal
 
 pub invariant_of-result : goal.invariant_of-result
 invariant_of-result c = (
-  (update-made c.args.self _ _ _ _ _ c.args.r c.args.op.now c.in_ok-net.delta c.prefix-prefix.result _ _ _ c.self.view_is c.self.invariant.0 c.in_ok-net.ensures.net.cover (wide-for _ _ _ (c.in_ok-net.ensures.routers ∙ c.self.invariant.1) c.in_ok-net.ensures.net.wide) c.requires.router c.requires.op c.prefix-prefix.ensures c.past_of-past.ensures.sound c.requires.ends c.from.ensures c.in_ok-update_at.ensures.ok c.base.ensures.value c.past_of-past.ensures.value c.in_ok-net.ensures.walked).whole,
+  (update-made c.args.self _ _ _ _ _ c.args.r c.args.op.now c.in_ok-net.delta c.prefix-prefix.result _ _ _ c.self.view_is c.self.invariant.0 c.in_ok-net.ensures.net.cover (wide-for _ _ _ (c.in_ok-net.ensures.routers ∙ c.self.invariant.1) c.in_ok-net.ensures.net.wide) c.requires.router c.requires.op c.prefix-prefix.ensures c.past_of.ensures.sound c.requires.ends c.from.ensures c.in_ok-update_at.ensures.ok c.base.ensures.value c.past_of.ensures.value c.in_ok-net.ensures.walked).whole,
   c.in_ok-net.ensures.routers ∙ c.self.invariant.1,
 )
 
 pub returns : goal.returns
 returns c =
-    update-made c.args.self _ _ _ _ _ c.args.r c.args.op.now c.in_ok-net.delta c.prefix-prefix.result _ _ _ c.self.view_is c.self.invariant.0 c.in_ok-net.ensures.net.cover (wide-for _ _ _ (c.in_ok-net.ensures.routers ∙ c.self.invariant.1) c.in_ok-net.ensures.net.wide) c.requires.router c.requires.op c.prefix-prefix.ensures c.past_of-past.ensures.sound c.requires.ends c.from.ensures c.in_ok-update_at.ensures.ok c.base.ensures.value c.past_of-past.ensures.value c.in_ok-net.ensures.walked
+    update-made c.args.self _ _ _ _ _ c.args.r c.args.op.now c.in_ok-net.delta c.prefix-prefix.result _ _ _ c.self.view_is c.self.invariant.0 c.in_ok-net.ensures.net.cover (wide-for _ _ _ (c.in_ok-net.ensures.routers ∙ c.self.invariant.1) c.in_ok-net.ensures.net.wide) c.requires.router c.requires.op c.prefix-prefix.ensures c.past_of.ensures.sound c.requires.ends c.from.ensures c.in_ok-update_at.ensures.ok c.base.ensures.value c.past_of.ensures.value c.in_ok-net.ensures.walked

@@ -1,0 +1,47 @@
+//! What a router does with the atoms of a span.
+
+ghost use Rattle.std.specs.Prelude.{◌≡◌, ℕ, ◌<◌, ◌≤◌, ◌^◌, true, IfOk};
+ghost use Rattle.dn_model.specs.Atoms.{is_boundary};
+ghost use Rattle.net_engine.specs.Numbered.{AreLabelled, does_at};
+ghost use Rattle.net_engine.specs.Reruled.{IsRelabelled};
+
+use crate::segment::Targets;
+use crate::span::Span;
+use atom_map::AtomMap;
+use dn_model::{OutOfMemory, RouterId};
+use edge_labels::LabelGraph;
+use std::alloc::Global;
+
+/// A router does something else with each atom of a span, at whose ends atoms begin. It looks at these atoms alone, and at
+/// none where nothing changes. At `OutOfMemory`, for which alone it fails, all is dropped.
+pub fn relabel(
+    alloc: Global,
+    atoms: &AtomMap,
+    labels: LabelGraph,
+    r: RouterId,
+    span: Span,
+    targets: Targets,
+) -> Result<LabelGraph, OutOfMemory>
+    requires router { r.0 < labels.routers }
+    requires labelled { AreLabelled atoms.now labels }
+    requires order { span.lo < span.past }
+    requires end { span.past ≤ 2 ^ 32 }
+    requires first { is_boundary atoms.now span.lo ≡ true }
+    requires last { span.past < 2 ^ 32 → is_boundary atoms.now span.past ≡ true }
+    requires before { (a : ℕ) → span.lo ≤ a → a < span.past → does_at atoms.now labels r.0 a ≡ targets.before }
+    ensures { IfOk result (λ made. IsRelabelled atoms.now labels made r.0 span.lo span.past targets.after) }
+{
+    if targets.before == targets.after {
+        return Ok(labels);
+    }
+    let mut labels = labels;
+    let mut place = atoms.place_of(span.lo);
+    let mut at = u64::from(span.lo);
+    'atoms: while at < span.past {
+        let row = atoms.at(place);
+        labels = labels.move_atom(alloc, r, row.atom, targets.before, targets.after)?;
+        at = row.past;
+        place += 1;
+    }
+    Ok(labels)
+}

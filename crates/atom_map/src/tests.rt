@@ -4,13 +4,9 @@ use super::AtomMap;
 use dn_model::{AtomId, AtomRow};
 use std::test::Fail;
 
-/// Atoms cross to another thread.
-fn crosses<T: Send + Sync>(_value: &T) {}
-
 #[test]
 fn a_cut_parts_the_atom_of_all_addresses(rt: HostRuntime) -> Result<(), Fail> {
     let mut atoms = AtomMap::new(rt.alloc())?;
-    crosses(&atoms);
     assert_eq!(rt; atoms.cut(rt.alloc(), 0)?, None);
     assert_eq!(rt;
         atoms.cut(rt.alloc(), 167_772_160)?,

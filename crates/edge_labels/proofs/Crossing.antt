@@ -8,10 +8,10 @@ use Rattle.edge_labels.specs.contracts.codes.Edge as Edge
 use Rattle.edge_labels.specs.contracts.code_book.CodeBook as CodeBook
 use Rattle.edge_labels.specs.contracts.label_graph.LabelGraph as LabelGraph
 
-AtomSet-send : IsSend AtomSet.the_row
+pub AtomSet-send : IsSend AtomSet.the_row
 AtomSet-send = search (sendable, crosses, knot.crosses) depth 40
 
-AtomSet-sync : IsSync AtomSet.the_row
+pub AtomSet-sync : IsSync AtomSet.the_row
 AtomSet-sync = search (sendable, crosses, knot.crosses) depth 40
 
 Edge-send : IsSend Edge.the_row

@@ -9,9 +9,6 @@ use dn_model::{AtomId, OutOfMemory, RouterId, Target};
 use std::alloc::Global;
 use std::test::Fail;
 
-/// A value crosses to another thread.
-fn crosses<T: Send + Sync>(_value: &T) {}
-
 fn three_atoms(alloc: Global) -> Result<AtomSet, OutOfMemory> {
     AtomSet::of(alloc, &[AtomId(64), AtomId(0), AtomId(5), AtomId(0)])
 }
@@ -25,7 +22,6 @@ fn three_others(alloc: Global) -> Result<AtomSet, OutOfMemory> {
 fn sets_of_both_and_of_either(rt: HostRuntime) -> Result<(), Fail> {
     let three = three_atoms(rt.alloc())?;
     let others = three_others(rt.alloc())?;
-    crosses(&three);
     assert_eq!(rt; three.count(), 3);
     let both = three
         .intersection(rt.alloc(), &others)?
@@ -82,7 +78,6 @@ fn inherited(alloc: Global) -> Result<LabelGraph, OutOfMemory>
 #[test]
 fn a_new_atom_has_the_label_of_the_old_one(rt: HostRuntime) -> Result<(), Fail> {
     let graph = inherited(rt.alloc())?;
-    crosses(&graph);
     assert_eq!(rt; graph.target(RouterId(0), AtomId(1)), Target::Exit(1));
     let label = graph
         .label(RouterId(0), Target::Exit(1))

@@ -10,6 +10,7 @@ mod net_tests;
 mod relabel;
 mod router_owners;
 mod segment;
+mod shared_table;
 mod span;
 mod tables;
 mod version;

@@ -10,12 +10,12 @@ ghost use Rattle.net_engine.specs.Walked.{BeginsAtEnds, IsClear, IsCutAt, IsSet,
 
 use crate::ends::{cut_ends, past_of};
 use crate::net::Net;
+use crate::shared_table::SharedTable;
 use crate::span::Span;
 use crate::tables::{copies, empty_tables, has_route_of, update_at};
 use delta_graph::Delta;
 use dn_model::{Entry, Op, OutOfMemory, Prefix, RouterId, Target, Topology};
 use label_view::LabelView;
-use route_table::RouteTable;
 use std::alloc::Global;
 use std::marker::Model;
 use std::sync::Arc;
@@ -27,7 +27,7 @@ use std::sync::Arc;
 pub struct Version {
     topology: Arc<Topology, Global>,
     net: Net,
-    tables: Vec<RouteTable>,
+    tables: Vec<SharedTable>,
 }
 
 impl Model for Version {
@@ -93,7 +93,7 @@ impl Version {
             lo: prefix.base(),
             past: past_of(prefix),
         };
-        update_at(&mut tables, usize::from(r.0), op)?;
+        update_at(alloc, &mut tables, usize::from(r.0), op)?;
         let (net, delta) = net.update(alloc, r, op, span)?;
         Ok((
             Version {
@@ -153,7 +153,7 @@ impl Version {
     }
 
     /// The version after an update of one of its routers, and where that changes what the router does. This version
-    /// stands as it is; memory is taken for a whole version.
+    /// stands as it is. The two share what the update doesn't change.
     pub fn apply(&self, alloc: Global, entry: &Entry) -> Result<(Version, Delta), OutOfMemory>
         requires { IsEntryOf self.now.topology entry.now }
         ensures topology { IfOk result (λ made. made.0.topology ≡ self.now.topology) }

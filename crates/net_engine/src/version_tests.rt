@@ -173,7 +173,11 @@ fn compare(rt: &impl Abort, version: &Version, routes: &[Route])
     requires { length version.now.topology.routers ≡ 3 }
 {
     for a in ADDRESSES {
-        assert_eq!(rt; by_rows(version, FIRST, a), plain_target(routes, &[], a), "at {a}");
+        assert_eq!(rt;
+            by_rows(version, FIRST, a),
+            plain_target(routes, &[], a),
+            "at {a}"
+        );
         assert_eq!(rt; by_rows(version, RouterId(1), a), Target::NoRoute);
     }
 }

@@ -8,11 +8,11 @@ use label_view::{LabelView, ListView};
 use std::alloc::Global;
 use std::test::Fail;
 
-const R1: RouterId = RouterId(0);
+const FIRST: RouterId = RouterId(0);
 
-const R2: RouterId = RouterId(1);
+const SECOND: RouterId = RouterId(1);
 
-const R3: RouterId = RouterId(2);
+const THIRD: RouterId = RouterId(2);
 
 const LAST: u32 = 4_294_967_295;
 
@@ -41,7 +41,7 @@ fn row(
 fn line(alloc: Global) -> Result<ListView, OutOfMemory>
     ensures { IfOk result (λ view. view.routers ≡ 3) }
 {
-    let on = Target::To(R2, LinkId(0));
+    let on = Target::To(SECOND, LinkId(0));
     let refused = Target::Dropped(DropKind::Unreachable);
     let mut rows = List::new(alloc);
     rows.push(row(alloc, 0, 10, on, refused, Target::Local)?)?;
@@ -51,7 +51,7 @@ fn line(alloc: Global) -> Result<ListView, OutOfMemory>
         20,
         30,
         on,
-        Target::To(R1, LinkId(0)),
+        Target::To(FIRST, LinkId(0)),
         Target::NoRoute,
     )?)?;
     rows.push(row(
@@ -59,7 +59,7 @@ fn line(alloc: Global) -> Result<ListView, OutOfMemory>
         30,
         40,
         on,
-        Target::To(R3, LinkId(1)),
+        Target::To(THIRD, LinkId(1)),
         Target::LinkDown(LinkId(2)),
     )?)?;
     rows.push(row(
@@ -112,7 +112,7 @@ fn is_hole(
 #[test]
 fn holes_come_by_router_then_cause(rt: HostRuntime) -> Result<(), Fail> {
     let view = line(rt.alloc())?;
-    let holes = holes_by(rt.alloc(), &view, R1)?;
+    let holes = holes_by(rt.alloc(), &view, FIRST)?;
     let silent = Target::Dropped(DropKind::Blackhole);
     let refused = Target::Dropped(DropKind::Unreachable);
     let down = Target::LinkDown(LinkId(2));
@@ -121,35 +121,35 @@ fn holes_come_by_router_then_cause(rt: HostRuntime) -> Result<(), Fail> {
         is_hole(
             &holes,
             0,
-            R1,
+            FIRST,
             Target::NoRoute,
             &[Run { lo: 60, hi: LAST }][..]
         )
     );
-    assert!(rt; is_hole(&holes, 1, R2, silent, &[Run { lo: 40, hi: 49 }][..]));
+    assert!(rt; is_hole(&holes, 1, SECOND, silent, &[Run { lo: 40, hi: 49 }][..]));
     assert!(rt;
         is_hole(
             &holes,
             2,
-            R2,
+            SECOND,
             refused,
             &[Run { lo: 0, hi: 19 }, Run { lo: 50, hi: 59 }][..]
         )
     );
-    assert!(rt; is_hole(&holes, 3, R3, down, &[Run { lo: 30, hi: 39 }][..]));
+    assert!(rt; is_hole(&holes, 3, THIRD, down, &[Run { lo: 30, hi: 39 }][..]));
     Ok(())
 }
 
 #[test]
 fn walks_from_the_last_router_have_holes_of_their_own(rt: HostRuntime) -> Result<(), Fail> {
     let view = line(rt.alloc())?;
-    let holes = blackholes(rt.alloc(), &view, R3)?;
+    let holes = blackholes(rt.alloc(), &view, THIRD)?;
     assert_eq!(rt; holes.len(), 2);
     assert!(rt;
         is_hole(
             &holes,
             0,
-            R3,
+            THIRD,
             Target::NoRoute,
             &[Run { lo: 20, hi: 29 }][..]
         )
@@ -158,7 +158,7 @@ fn walks_from_the_last_router_have_holes_of_their_own(rt: HostRuntime) -> Result
         is_hole(
             &holes,
             1,
-            R3,
+            THIRD,
             Target::LinkDown(LinkId(2)),
             &[Run { lo: 30, hi: 39 }][..]
         )

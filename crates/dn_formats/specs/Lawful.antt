@@ -55,8 +55,9 @@ abbrev pub IsKept : ℕ → List Entry → FeedRead → Type 0
 IsKept limit history f = IsKeptAt f.end limit history f
 
 -- A history of this limit is a shuffle of the feeds' updates: those of each that it took are there, in order, and no
--- other entries.
+-- other entries, and there are no more of them than the limit says.
 pub record IsShuffle (limit : ℕ) (feeds : List FeedRead) (history : List Entry) : Type 0 where
+  pub within : length history ≤ limit
   pub kept : All (IsKept limit history) feeds
   pub each : All (λ f. filter (is_from f) history ≡ entries_of f (kept_of f f.steps)) feeds
   pub only : All (λ e. IsTrue (is_from_some feeds e)) history

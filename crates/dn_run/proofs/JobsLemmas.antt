@@ -200,8 +200,9 @@ count-feeds scripts [] = refl
 count-feeds scripts (s ∷ ss) = count-by (is_own scripts s.now.told.router) s (feed_of s) (filter (λ s. is_own scripts s.now.told.router) ss) (filter (λ f. not (list_any (λ lines. takes_feed lines f) scripts)) (map feed_of ss)) (count-feeds scripts ss)
 
 pub run-over : {S : Type 0} (t : Topology) (left : S → Option (List ℕ)) (faults : S → ℕ) (olds news : List (Reader S)) (history : List Posted) (scripts : List (List Line)) (tolds all : List JobTold) (count : ℕ) →
-    count ≡ length news → Owns t left faults olds news (entries history) scripts tolds all count → HasRun t left olds news history scripts all
-run-over {S = S} t left faults olds news history scripts tolds all count is owns =
+    length (entries history) ≤ history_limit → count ≡ length news → Owns t left faults olds news (entries history) scripts tolds all count →
+    HasRun t left olds news history scripts all
+run-over {S = S} t left faults olds news history scripts tolds all count within is owns =
     let h : List Entry = entries history in
     let ss : List (Strand S) = owns.strands in
     let fs : List FeedRead = map feed_of ss in
@@ -222,6 +223,7 @@ run-over {S = S} t left faults olds news history scripts tolds all count is owns
           (subst (λ (rs : List (Reader S)). AreReadBy t left (map (λ s. s.start) ss) rs fs) owns.woven.nows (read-itself t left faults h ss owns.woven.each ended));
       lawful = record {
         shuffle = record {
+          within = within;
           kept = All-map (IsKept history_limit h) feed_of ss
               (λ k d i. kept history_limit h (feed_of (get_or ss k d)) (not-full (get_or ss k d).now.told.end (faults (get_or ss k d).now.source) (owns.woven.each k d i).counts) refl);
           each = each;

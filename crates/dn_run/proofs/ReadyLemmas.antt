@@ -7,6 +7,8 @@ use Rattle.std.proofs.lemmas.List.Elements.{All-set, All-head, All-tail}
 use Rattle.std.proofs.lemmas.List.Sums.{sum-map, sum_by-set, sum_by-cons}
 use Rattle.dn_model.specs.declared.topology.Topology.{Topology}
 use Rattle.route_feed.specs.FeedReader.{Reader}
+use Rattle.dn_run.proofs.TellLemmas.{length-entries}
+use Rattle.dn_run.specs.Run.{history_limit}
 use Rattle.dn_run.specs.Network.{entries}
 use Rattle.dn_run.specs.Takes.{Moves, TakesSome, tag_of}
 use Rattle.dn_run.specs.Tracks.{Ready, TakesFrom, tags_of}
@@ -29,6 +31,13 @@ few_entries t readers book ready =
     let few : length readers ≤ 64 = ready.few in
     let counted : 28 * length book.history ≤ sum (map (λ r. r.passed) readers) = ready.counted in
     omega arith
+
+-- and the history is no longer than a history may be
+pub within_limit : {S : Type 0} (t : Topology) (readers : List (Reader S)) (book : Book) → Ready t readers book → length (entries book.history) ≤ history_limit
+within_limit t readers book ready =
+    let few : length book.history < 2 ^ 32 = few_entries t readers book ready in
+    let same : length (entries book.history) ≡ length book.history = length-entries book.history in
+    omega (arith, few, same)
 
 pub same_tags : {S : Type 0} (place : S → ℕ) (readers : List (Reader S)) (at : ℕ) (v new : Reader S) → v ≡ get_or readers at v → tag_of place new ≡ tag_of place v →
     tags_of place (set readers at new) ≡ tags_of place readers

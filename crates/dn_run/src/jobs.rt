@@ -117,6 +117,7 @@ fn run_owns<S: Source, G: Gate>(
 ) -> Result<(), OutOfMemory>
     requires ready { Ready topology.now readers.old.items book.old }
     requires few { length jobs.old.items ≤ 1 }
+    ensures ready { OnOk result (Ready topology.now readers.new.items book.new) }
     ensures owns { OnOk result ((olds : List (Reader S)) (tolds : List JobTold) →
         Owns topology.now S.left S.faults olds readers.old.items (entries book.old.history) (scripts_of (option_copied script.entry)) tolds jobs.old.items 0 →
         Owns topology.now S.left S.faults olds readers.new.items (entries book.new.history) (scripts_of (option_copied script.entry)) tolds jobs.new.items (length readers.old.items)) }

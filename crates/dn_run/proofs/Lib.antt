@@ -16,6 +16,7 @@ pub mod RestLemmas
 pub mod RoutersLemmas
 pub mod ScriptJobLemmas
 pub mod StepLemmas
+pub mod StopLemmas
 pub mod StrandLemmas
 pub mod TakesLemmas
 pub mod TellLemmas

@@ -19,6 +19,7 @@ use Rattle.dn_run.specs.Loaded.{SaysTopology, SaysScript}
 use Rattle.dn_run.specs.Opened.{text_limit, FailsWhereTold, OnBytes}
 use Rattle.dn_run.specs.Run.{IsErrorLine, IsLine, FromFeeds, FromJobs, FromScripts, FromRouters, FromTopology, OnFile, feed_files, untaken, most_jobs, taken_by_scripts, routers_of}
 use Rattle.dn_run.specs.Stage.{Stage}
+use Rattle.dn_run.specs.Stops.{from_feeds}
 use Rattle.dn_run.specs.Tracks.{tags_of}
 use Rattle.dn_run.specs.declared.load.Loaded.TheVariants as loaded
 use Rattle.dn_run.specs.declared.status.Verdict.{Verdict}
@@ -51,26 +52,24 @@ no-readers place (r ∷ rs) same = absurd (cc)
 
 module _ {S : Type 0} where
   opens-first : (ending : Ending) (t : Topology) (faults : S → ℕ) (left : S → Option (List ℕ)) (files : Option Files) (routers : List RouterId) (scripts : List (List Line))
-      (feeds : List (ℕ × FeedWords)) (old new : List Call) → nat_lt most_jobs (length scripts + length (untaken scripts routers)) ≡ false →
-      Opens t faults left files routers scripts [] [] feeds old new ending → Stage old new (feed_files feeds) ending (λ calls. FromJobs files t routers scripts feeds calls ending)
-  opens-first ending t faults left files routers scripts feeds old new few opens = record {
+      (feeds : List (ℕ × FeedWords)) (old new : List Call) → Opens t faults left files routers scripts [] [] feeds old new ending →
+      Stage old new (feed_files feeds) ending (from_feeds files t routers scripts feeds ending)
+  opens-first ending t faults left files routers scripts feeds old new opens = record {
     more = opens.more;
     appended = opens.appended;
     asked = opens.asked;
     given_back = opens.given_back;
     failed = opens.failed;
-    due_is = or-map ending opens.more (FromFeeds files t routers scripts [] feeds opens.more ending) (FromJobs files t routers scripts feeds opens.more ending)
-        (λ due. match-false (nat_lt most_jobs (length scripts + length (untaken scripts routers))) _ _ few due) (opens.due_is [] tt);
+    due_is = opens.due_is [] tt;
   }
 
   pub stage-opens : (ending : Ending) (t : Topology) (place faults : S → ℕ) (left : S → Option (List ℕ)) (files : Option Files)
       (routers : List RouterId) (scripts : List (List Line)) (olds news : List (Reader S)) (feeds : List (ℕ × FeedWords)) (old new : List Call) →
-      nat_lt most_jobs (length scripts + length (untaken scripts routers)) ≡ false → olds ≡ [] → tags_of place news ≡ tags_of place olds →
-      Opens t faults left files routers scripts olds news feeds old new ending →
-      Stage old new (feed_files feeds) ending (λ calls. FromJobs files t routers scripts feeds calls ending)
-  stage-opens ending t place faults left files routers scripts olds news feeds old new few none same opens =
+      olds ≡ [] → tags_of place news ≡ tags_of place olds → Opens t faults left files routers scripts olds news feeds old new ending →
+      Stage old new (feed_files feeds) ending (from_feeds files t routers scripts feeds ending)
+  stage-opens ending t place faults left files routers scripts olds news feeds old new none same opens =
       let gone : news ≡ [] = no-readers place news (same ∙ ap (tags_of place) none) in
-      opens-first ending t faults left files routers scripts feeds old new few
+      opens-first ending t faults left files routers scripts feeds old new
       (subst (λ (ns : List (Reader S)). Opens t faults left files routers scripts [] ns feeds old new ending) gone
       (subst (λ (os : List (Reader S)). Opens t faults left files routers scripts os news feeds old new ending) none opens))
 

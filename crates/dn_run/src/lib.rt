@@ -5,6 +5,7 @@ mod answerer;
 mod ask;
 mod feeds;
 mod files;
+mod input;
 mod job;
 mod jobs;
 #[cfg(test)]
@@ -21,6 +22,8 @@ mod ruling;
 #[cfg(test)]
 mod run_tests;
 mod status;
+mod stop;
+mod sure;
 mod take;
 mod untaken;
 mod words;
@@ -28,3 +31,4 @@ mod words;
 pub use laws::runs_have_one_verdict;
 pub use program::run;
 pub use status::Status;
+pub use sure::run_surely;

@@ -1,6 +1,0 @@
-use Rattle.std.proofs.Common.{[]}
-use Rattle.dn_run.proofs.ProgramLemmas.{stage-stops}
-use Rattle.dn_run.proofs.program.from_words.Goals as goal
-
-pub returns-in-Err-OutOfMemory : goal.returns-in-Err-OutOfMemory
-returns-in-Err-OutOfMemory g c = rw c.requires.fresh (stage-stops _ [] _)

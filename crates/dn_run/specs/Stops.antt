@@ -1,0 +1,98 @@
+-- What ends a run before its jobs, and how far its steps came.
+use Rattle.std.specs.Prelude.{◌≡◌, ◌<◌, ◌≤◌, ℕ, List, [], length, map, All, IsTrue, Option}
+use Rattle.std.specs.Arc.{arc_value}
+use Rattle.dn_io.specs.Calls.{Call}
+use Rattle.dn_io.specs.Files.{Files}
+use Rattle.dn_formats.specs.Words.{FeedWords}
+use Rattle.dn_formats.specs.declared.error_line.ErrorLine.{ErrorLine}
+use Rattle.dn_formats.specs.declared.error_line.ErrorLine.TheVariants as errors
+use Rattle.dn_formats.specs.declared.script.Line.{Line as script_line}
+use Rattle.dn_model.specs.Topology.{all_differ}
+use Rattle.dn_model.specs.declared.ids.RouterId.{RouterId}
+use Rattle.dn_model.specs.declared.topology.Topology.{Topology}
+use Rattle.dn_run.specs.Ending.{Ending, Stopped}
+use Rattle.dn_run.specs.Jobs.{scripts_of, same_router}
+use Rattle.dn_run.specs.PartsRead.{feed_texts}
+use Rattle.dn_run.specs.Run.{FromFeeds, FromJobs, FromScripts, FromWords, IsLine, names_of_words, feed_files}
+use Rattle.dn_run.specs.Stage.{Stage}
+use Rattle.dn_run.specs.declared.input.Input.{Input}
+use Rattle.dn_run.specs.declared.load.Loaded.{Loaded}
+use Rattle.dn_run.specs.declared.load.Loaded.TheVariants.{Read, Refused, Failed}
+use Rattle.dn_run.specs.declared.parts.PartsRefused.{PartsRefused}
+use Rattle.dn_run.specs.declared.parts.PartsRefused.TheVariants as parts_refused
+use Rattle.dn_run.specs.declared.routers.RoutersRefused.{RoutersRefused}
+use Rattle.dn_run.specs.declared.routers.RoutersRefused.TheVariants as routers_refused
+use Rattle.dn_run.specs.declared.status.Verdict.{Verdict}
+use Rattle.dn_run.specs.declared.status.Verdict.TheVariants.{BadWords, ReadFault}
+use Rattle.dn_run.specs.declared.stop.Stop.{Stop}
+use Rattle.dn_run.specs.declared.stop.Stop.TheVariants.{Line, OutOfMemory}
+use Rattle.dn_run.specs.declared.words.WordsRefused.{WordsRefused}
+use Rattle.dn_run.specs.declared.words.WordsRefused.TheVariants as words_refused
+
+-- what the refusal of words, of parts or of routers ends a run with
+abbrev pub stop_of_words : WordsRefused → Stop
+stop_of_words words_refused.BadWords = Line BadWords errors.Words
+stop_of_words words_refused.OutOfMemory = OutOfMemory
+
+abbrev pub stop_of_parts : PartsRefused → Stop
+stop_of_parts (parts_refused.Line line) = Line BadWords line
+stop_of_parts parts_refused.OutOfMemory = OutOfMemory
+
+abbrev pub stop_of_routers : RoutersRefused → Stop
+stop_of_routers (routers_refused.Line line) = Line BadWords line
+stop_of_routers routers_refused.OutOfMemory = OutOfMemory
+
+-- what may still be due of a run after some calls, by how it ends
+abbrev pub Due : Type 1
+Due = Ending → List Call → Type 0
+
+-- A step made these calls: whatever comes of what is due after it, over further names, comes of what was due before it.
+abbrev pub GoesOn : List Call → List (List ℕ) → Due → List Call → List (List ℕ) → Due → Type 0
+GoesOn old names due new rest after =
+    (ending : Ending) (last : List Call) → Stage new last rest ending (after ending) → Stage old last names ending (due ending)
+
+-- a step made these calls, and the run ends there
+abbrev pub EndsWith : List Call → List (List ℕ) → Due → List Call → Stop → Type 0
+EndsWith old names due new (Line verdict error) = (ending : Ending) → IsLine ending verdict error → Stage old new names ending (due ending)
+EndsWith old names due new OutOfMemory = Stage old new names Stopped (due Stopped)
+
+-- what is due of a run of these words
+abbrev pub from_words : List (List ℕ) → Option Files → Due
+from_words words files ending calls = FromWords words files calls ending
+
+-- a run of these words came as far as these calls, and this is due then
+abbrev pub Reaches : List (List ℕ) → Option Files → List Call → List (List ℕ) → Due → Type 0
+Reaches words files calls rest after = GoesOn [] (names_of_words words) (from_words words files) calls rest after
+
+-- a run of these words ends before its jobs
+abbrev pub Stops : List (List ℕ) → Option Files → List Call → Stop → Type 0
+Stops words files calls stop = EndsWith [] (names_of_words words) (from_words words files) calls stop
+
+-- what is due once the topology, the routers of the feeds and the scripts were read, and there are no more jobs than may be
+abbrev pub from_feeds : Option Files → Topology → List RouterId → List (List script_line) → List (ℕ × FeedWords) → Due
+from_feeds files t routers scripts feeds ending calls = FromFeeds files t routers scripts [] feeds calls ending
+
+-- what is due before the scripts are read
+abbrev pub from_scripts : Option Files → Topology → List RouterId → List (ℕ × List ℕ) → List (ℕ × FeedWords) → Due
+from_scripts files t routers scripts feeds ending calls = FromScripts files t routers [] scripts feeds calls ending
+
+-- what is due once they were
+abbrev pub from_jobs : Option Files → Topology → List RouterId → List (List script_line) → List (ℕ × FeedWords) → Due
+from_jobs files t routers scripts feeds ending calls = FromJobs files t routers scripts feeds calls ending
+
+-- The input of a run that came as far as these calls: its feeds, no more than may be, with their routers, which the topology
+-- has and which differ.
+pub record Starts (words : List (List ℕ)) (files : Option Files) (calls : List Call) (input : Input) : Type 0 where
+  pub reaches : Reaches words files calls (feed_files (map feed_texts input.feeds.items))
+      (from_feeds files (arc_value input.topology) input.routers.items (scripts_of input.script) (map feed_texts input.feeds.items))
+  pub as_many : length input.routers.items ≡ length input.feeds.items
+  pub few : length input.feeds.items ≤ 64
+  pub known : All (λ r. r.0 < length (arc_value input.topology).routers) input.routers.items
+  pub apart : IsTrue (all_differ same_router input.routers.items)
+  pub room : length calls ≤ 2
+
+-- what became of a file ends a run with this verdict, where its text is refused, or with this line, where it failed
+abbrev pub StopsAs : {T : Type 0} → Verdict → ErrorLine → Loaded T → Stop → Type 0
+StopsAs bad fault (Read x) stop = ⊥
+StopsAs bad fault (Refused line) stop = stop ≡ Line bad line
+StopsAs bad fault Failed stop = stop ≡ Line ReadFault fault

@@ -1,0 +1,33 @@
+//! Runs that meet no fault of a file or of the sink.
+
+ghost use Rattle.std.specs.Prelude.{◌≡◌, [], map};
+ghost use Rattle.std.specs.String.{string_bytes};
+ghost use Rattle.dn_io.specs.Calls.{names_of};
+ghost use Rattle.dn_run.specs.Run.{names_of_words};
+ghost use Rattle.dn_run.specs.Stage.{AsksFor};
+
+use crate::program::run;
+use crate::status::Status;
+use dn_io::{Gate, SureSink, SureWorld};
+use std::alloc::Global;
+
+/// Runs the program over files in memory and a sink, neither of which ever fails, and tells its status. No such run ends
+/// with a fault of reading or of writing; all else is as `run` promises.
+///
+/// The world was asked for no name yet.
+pub fn run_surely<G: Gate>(
+    alloc: Global,
+    words: &[String],
+    world: &mut SureWorld,
+    gate: &G,
+) -> Status
+    requires { world.old.calls ≡ [] }
+    ensures no_read_fault { result ≡ Status.ReadFault → ⊥ }
+    ensures no_write_fault { result ≡ Status.WriteFault → ⊥ }
+    ensures names { AsksFor result (names_of world.new.calls) (names_of_words (map string_bytes words.now)) }
+{
+    let mut sink = SureSink;
+    let status = run(alloc, words, world, &mut sink, gate);
+    let _calls = world.calls();
+    status
+}

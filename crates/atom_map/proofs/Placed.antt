@@ -2,7 +2,7 @@
 use Rattle.std.proofs.Common.{◌≡◌, ℕ, ◌+◌, ◌<◌, ◌≤◌, ◌^◌, ◌∙◌, ◌-◌, ⊎_elim, sym, suc, List, [], ◌∷◌, ◌++◌, length, get_or, set, take, drop, min, ap, subst, append_assoc, arith, lit<}
 use Rattle.std.specs.List.{insert}
 use Rattle.std.proofs.lemmas.Bool.{cases_lt}
-use Rattle.std.proofs.lemmas.List.{get_or-drop, get_or-take, get_or_default, get_or_read, length-drop, length-take, take_more, set_at, length-take-le}
+use Rattle.std.proofs.lemmas.List.{get_or-drop, get_or-take, get_or_default, length-drop, length-take, take_more, set_at, length-take-le}
 use Rattle.dn_model.specs.Atoms.{AreAtoms, atom_low, atom_past, row_of}
 use Rattle.dn_model.specs.declared.atom_row.AtomRow.{AtomRow}
 use Rattle.dn_model.proofs.Covers.{few-rows, some-row, first-low, halved}

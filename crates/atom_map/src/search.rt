@@ -31,6 +31,14 @@ pub fn place_of(rows: &Pages<AtomRow>, a: u32) -> u64
     past - 1
 }
 
+/// Whether all of these atoms end at an address or below it, of which it looks at the last alone.
+fn ends_below(run: &[AtomRow], a: u32) -> bool {
+    match run.last() {
+        Some(last) => last.past <= a as u64,
+        None => true,
+    }
+}
+
 /// How many of these atoms end at an address or below it, up to the first that doesn't.
 fn count_below(run: &[AtomRow], a: u32) -> usize
     ensures inside { result ≤ length run.now }
@@ -55,6 +63,9 @@ fn place_near(rows: &Pages<AtomRow>, near: u64, a: u32) -> Option<u64>
     ensures to { IfSome result (λ place. (d : AtomRow) → a < (slice_index_or rows.now place d).past) }
 {
     let run = rows.run_from(near);
+    if ends_below(run, a) {
+        return None;
+    }
     let below = count_below(run, a);
     if below == run.len() {
         return None;

@@ -1,7 +1,7 @@
 -- What one router's segments hold at an address, and how it changes.
 use Rattle.std.proofs.Common.{◌≡◌, ℕ, ◌+◌, ◌-◌, ◌<◌, ◌≤◌, ◌^◌, ◌∙◌, ◌||◌, ⊎_elim, ◌⊎◌, zero, suc, Bool, true, false, cond, None, List, [], ◌∷◌, length, get_or, set, take, drop, min, Result, Ok, Err, IfOk, OnOk, OnErr, IsTrue, is_ok, refl, ap, sym, subst, arith, eqb, leb, inl, inr}
 use Rattle.std.specs.List.{insert}
-use Rattle.std.proofs.lemmas.Bool.{cases_Bool, cases_lt, le-leb, lt-leb, eq-eqb, eqb-true, ne_eqb, or_cases, or_left, or_right, both_ways}
+use Rattle.std.proofs.lemmas.Bool.{cases_Bool, cases_lt, le-leb, lt-leb, eq-eqb, eqb-true, or_cases, or_left, or_right, both_ways}
 use Rattle.std.proofs.lemmas.List.{get_or-drop, get_or-set_other, get_or-set_same, get_or-take, get_or_default, length-drop, length-set, length-take, set-get_or}
 use Rattle.net_engine.specs.declared.segment.Segment.{Segment}
 use Rattle.net_engine.specs.declared.segment.Targets.{Targets}

@@ -66,6 +66,9 @@ impl RouterOwners {
     {
         let near = self.near;
         let run = self.segments.run_from(near);
+        if ends_below(run, at) {
+            return None;
+        }
         let below = count_below(run, at);
         if below == run.len() {
             return None;
@@ -181,6 +184,14 @@ impl RouterOwners {
             segments,
             near: self.near,
         })
+    }
+}
+
+/// Whether all of these segments begin below an address, of which it looks at the last alone.
+fn ends_below(run: &[Segment], at: u32) -> bool {
+    match run.last() {
+        Some(last) => last.low < at,
+        None => true,
     }
 }
 

@@ -1,4 +1,4 @@
-use Rattle.std.proofs.Common.{◌≡◌, true, false, ◌^◌, ◌<◌, refl, arith}
+use Rattle.std.proofs.Common.{◌≡◌, true, false, refl, arith}
 use Rattle.net_engine.specs.Segments.{BeginsAt}
 use Rattle.net_engine.proofs.Segments.{Finds, begun, cut-form, cut-made, form-now, uncut}
 use Rattle.net_engine.proofs.router_owners.RouterOwners.cut_at.Goals.{After-insert_at}

@@ -1,6 +1,5 @@
 use Rattle.std.proofs.Common.{subst, rules}
-use Rattle.net_engine.specs.declared.segment.Segment.{Segment}
-use Rattle.net_engine.specs.Segments.{IsPlace, AreSegments}
+use Rattle.net_engine.specs.Segments.{IsPlace}
 use Rattle.net_engine.proofs.Segments.{is-place}
 use Rattle.net_engine.proofs.router_owners.RouterOwners.search.Goals as goal
 

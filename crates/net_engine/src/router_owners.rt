@@ -4,6 +4,7 @@ ghost use Rattle.std.specs.Prelude.{◌≡◌, ◌+◌, ℕ, ◌<◌, ◌≤◌,
 ghost use Rattle.net_engine.specs.Segments.{AreSegments, BeginsAt, IsBefore, IsRerulesAt, IsCutAt, IsPast, IsPlace};
 ghost use Rattle.net_engine.specs.declared.segment.Segment.{Segment as SegmentIs};
 
+use crate::guide::Guide;
 use crate::segment::{Segment, Targets, rerule};
 use dn_model::{Op, OutOfMemory, Target};
 use owner_tree::Owners;
@@ -25,6 +26,8 @@ pub struct RouterOwners {
     /// The place before that of the last cut that was not near the one before it. An update cuts at both ends of its prefix
     /// and then begins at the first: it looks here before it searches. It is a hint, of which nothing is promised.
     near: u64,
+    /// Where to look for an address that isn't near.
+    guide: Guide,
 }
 
 impl Model for RouterOwners {
@@ -48,6 +51,7 @@ impl RouterOwners {
         RouterOwners {
             segments: Pages::new(),
             near: 0,
+            guide: Guide::new(),
         }
     }
 
@@ -59,12 +63,11 @@ impl RouterOwners {
             .partition_point(|segment: &Segment| segment.low < at)
     }
 
-    /// The place of the first segment that doesn't begin below an address, where it stands in one page with the last cut
-    /// and after it.
-    fn place_near(&self, at: u32) -> Option<u64>
+    /// The place of the first segment that doesn't begin below an address, where it stands in one page with a place and
+    /// after it, or at the very beginning.
+    fn place_near(&self, near: u64, at: u32) -> Option<u64>
         ensures { IfSome result (IsPlace self.now at) }
     {
-        let near = self.near;
         let run = self.segments.run_from(near);
         if ends_below(run, at) {
             return None;
@@ -80,11 +83,35 @@ impl RouterOwners {
         Some(place)
     }
 
-    /// The place of the first segment that doesn't begin below an address: how many begin below it.
+    /// The place of the first segment that doesn't begin below an address: how many begin below it. It looks near the last
+    /// cut first, and then where the guide says.
     pub fn place_of(&self, at: u32) -> u64
         ensures { IsPlace self.now at result }
     {
-        match self.place_near(at) {
+        match self.place_near(self.near, at) {
+            Some(place) => place,
+            None => self.place_by_guide(at),
+        }
+    }
+
+    /// The place of the first segment that doesn't begin below an address. It looks first where the guide says.
+    fn place_by_guide(&self, at: u32) -> u64
+        ensures { IsPlace self.now at result }
+    {
+        let place = self.guide.place(at);
+        match self.place_near(place, at) {
+            Some(place) => place,
+            None => self.place_behind(place, at),
+        }
+    }
+
+    /// The place of the first segment that doesn't begin below an address. It looks first in the page that follows that of a
+    /// place.
+    fn place_behind(&self, place: u64, at: u32) -> u64
+        ensures { IsPlace self.now at result }
+    {
+        let rest = self.segments.run_from(place).len() as u64;
+        match self.place_near(place.wrapping_add(rest), at) {
             Some(place) => place,
             None => self.search(at),
         }
@@ -145,7 +172,22 @@ impl RouterOwners {
     {
         let place = self.place_of(at);
         self.come_to(place);
-        return self.cut_at(alloc, place, at);
+        let before = self.segments.len();
+        self.cut_at(alloc, place, at)?;
+        self.tell_guide(alloc, before, at);
+        Ok(())
+    }
+
+    /// Tells the guide of a segment that begins at an address, where there are more segments than before.
+    fn tell_guide(&mut self, alloc: Global, before: u64, at: u32)
+        ensures { self.new ≡ self.old }
+    {
+        if before == 0 {
+            self.guide.begin(alloc);
+        }
+        if before < self.segments.len() {
+            self.guide.count(at);
+        }
     }
 
     /// Cuts there, where so many segments begin below the address.
@@ -183,6 +225,7 @@ impl RouterOwners {
         Ok(RouterOwners {
             segments,
             near: self.near,
+            guide: Guide::new(),
         })
     }
 }

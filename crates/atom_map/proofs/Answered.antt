@@ -29,6 +29,15 @@ found-in self rows place a row e h inside is from to =
     let F : List AtomRow → Type 0 = λ xs. Found xs place a row in
     subst F e (record { atoms = h; inside = inside; is = is row; from = from row; to = to row })
 
+pub found-now : (self rows : List AtomRow) (place a : ℕ) (row : AtomRow) → rows ≡ self → AreAtoms rows → place < length self → ((d : AtomRow) → row ≡ get_or rows place d) → ((d : AtomRow) → (get_or self place d).low ≤ a) → ((d : AtomRow) → a < (get_or self place d).past) → Found self place a row
+found-now self rows place a row e h inside is from to = record {
+  atoms = subst (λ (xs : List AtomRow). AreAtoms xs) e h;
+  inside = inside;
+  is = is row ∙ ap (λ (xs : List AtomRow). get_or xs place row) e;
+  from = from row;
+  to = to row;
+}
+
 pub atom-found : (self : List AtomRow) (place a : ℕ) (row : AtomRow) → Found self place a row → option_map atom_of (row_at self a) ≡ Some row.atom
 atom-found self place a row f = atom-at self place a row f.atoms f.inside f.is f.from f.to
 

@@ -1,5 +1,5 @@
 -- Where the atoms begin, by number: at first, after a cut, and where one is asked for.
-use Rattle.std.proofs.Common.{◌≡◌, ℕ, ◌+◌, ◌<◌, ◌≤◌, ◌^◌, ◌∙◌, ⊎_elim, zero, suc, true, false, Some, option_map, Contains, List, [], ◌∷◌, ◌++◌, length, get_or, refl, ap, sym, subst, arith, leb, ltb, lit<}
+use Rattle.std.proofs.Common.{◌≡◌, ℕ, ◌+◌, ◌<◌, ◌≤◌, ◌^◌, ◌∙◌, ⊎_elim, zero, suc, true, false, Some, option_map, Contains, List, [], ◌∷◌, length, get_or, refl, ap, sym, subst, arith, leb, ltb, lit<}
 use Rattle.std.proofs.lemmas.Bool.{cases_Bool, cases_lt, and_parts, leb-true, ne_eqb}
 use Rattle.std.proofs.lemmas.Option.{none-some}
 use Rattle.dn_model.specs.Rows.{is_within, CoverFrom}

@@ -1,11 +1,11 @@
 -- A search by halving, and two parts in the place of one.
-use Rattle.std.proofs.Common.{◌≡◌, ℕ, ◌+◌, ◌<◌, ◌≤◌, ◌^◌, ◌∙◌, ◌-◌, ⊎_elim, sym, suc, List, [], ◌∷◌, ◌++◌, length, get_or, set, take, drop, ap, subst, append_assoc, arith, lit<}
+use Rattle.std.proofs.Common.{◌≡◌, ℕ, ◌+◌, ◌<◌, ◌≤◌, ◌^◌, ◌∙◌, ◌-◌, ⊎_elim, sym, suc, List, [], ◌∷◌, ◌++◌, length, get_or, set, take, drop, min, ap, subst, append_assoc, arith, lit<}
 use Rattle.std.specs.List.{insert}
 use Rattle.std.proofs.lemmas.Bool.{cases_lt}
-use Rattle.std.proofs.lemmas.List.{get_or_read, take_more, set_at, length-take-le}
+use Rattle.std.proofs.lemmas.List.{get_or-drop, get_or-take, get_or_default, length-drop, length-take, take_more, set_at, length-take-le}
 use Rattle.dn_model.specs.Atoms.{AreAtoms, atom_low, atom_past, row_of}
 use Rattle.dn_model.specs.declared.atom_row.AtomRow.{AtomRow}
-use Rattle.dn_model.proofs.Covers.{some-row, first-low, halved}
+use Rattle.dn_model.proofs.Covers.{few-rows, some-row, first-low, halved}
 use Rattle.atom_map.specs.Index.{IsLeft}
 
 pub some-atom : (rows : List AtomRow) → AreAtoms rows → 0 < length rows
@@ -49,3 +49,23 @@ two-for-one {X} xs i d lower upper l =
     ap (λ (ys : List X). set (ys ++ upper ∷ drop (i + 1) xs) i lower) (take_more xs i d l)
     ∙ ap (λ (ys : List X). set ys i lower) (append_assoc (take i xs) (get_or xs i d ∷ []) (upper ∷ drop (i + 1) xs))
     ∙ set_at (take i xs) (get_or xs i d) (upper ∷ drop (i + 1) xs) lower i (length-take-le i xs (omega arith))
+
+-- what stands in a part of the atoms stands among all
+pub run-read : (rows run : List AtomRow) (near below : ℕ) (d e : AtomRow) → take (length run) (drop near rows) ≡ run → below < length run → get_or rows (near + below) d ≡ get_or run below e
+run-read rows run near below d e is l =
+    sym (get_or-take (length run) (drop near rows) below d l ∙ get_or-drop near rows below d)
+    ∙ ap (λ (xs : List AtomRow). get_or xs below d) is
+    ∙ get_or_default run below d e l
+
+pub run-inside : (rows run : List AtomRow) (near below : ℕ) → take (length run) (drop near rows) ≡ run → below < length run → near + below < length rows
+run-inside rows run near below is l =
+    let e : length (take (length run) (drop near rows)) ≡ length run = ap (λ (xs : List AtomRow). length xs) is in
+    let m : length (take (length run) (drop near rows)) ≡ min (length run) (length (drop near rows)) = length-take (length run) (drop near rows) in
+    let n : length (drop near rows) ≡ length rows - near = length-drop near rows in
+    omega arith
+
+pub run-few : (rows run : List AtomRow) (near below : ℕ) → AreAtoms rows → take (length run) (drop near rows) ≡ run → below < length run → near + below < 2 ^ 32
+run-few rows run near below h is l =
+    let inside : near + below < length rows = run-inside rows run near below is l in
+    let few : 0 + length rows ≤ 2 ^ 32 = few-rows atom_low atom_past 0 rows h.cover in
+    omega arith

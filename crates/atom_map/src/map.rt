@@ -5,7 +5,7 @@ ghost use Rattle.dn_model.specs.Atoms.{AreAtoms, IsCut, atom_of, atoms_in, bound
 ghost use Rattle.dn_model.specs.declared.atom_row.AtomRow.{AtomRow};
 ghost use Rattle.atom_map.specs.Index.{one_atom};
 
-use crate::search::{atoms_below, part, place_of, read};
+use crate::search::{atoms_below, part, place_from, place_of, read};
 use dn_model::{AtomId, AtomRow, List, OutOfMemory};
 use std::alloc::Global;
 use std::marker::Model;
@@ -14,12 +14,18 @@ use version_pages::Pages;
 /// The address after the last.
 const END: u64 = 0x1_0000_0000;
 
+/// How many places after a cut another one counts as near.
+const NEAR: u64 = 16;
+
 /// The addresses, cut into atoms. A contract sees it as the list of the atoms with their bounds, in order: they cover
 /// the addresses from 0 to 2^32 once, and their numbers are those below their count.
 #[derive(Drop)]
 pub struct AtomMap {
     rows: Pages<AtomRow>,
     lows: Pages<u32>,
+    /// The place of the last cut that was not near the one before it. An update cuts at both ends of its prefix, and then
+    /// looks at the first: a search looks here first. It is a hint, of which nothing is promised.
+    near: u64,
 }
 
 impl Model for AtomMap {
@@ -48,7 +54,11 @@ impl AtomMap {
         rows.push(alloc, row)?;
         let mut lows = Pages::new();
         lows.push(alloc, 0)?;
-        Ok(AtomMap { rows, lows })
+        Ok(AtomMap {
+            rows,
+            lows,
+            near: 0,
+        })
     }
 
     /// Cuts the atom of an address in two there: the atom ends at the address now, and a new one, whose number is the
@@ -60,7 +70,35 @@ impl AtomMap {
         ensures form { AreAtoms self.new }
         ensures there { IfOk result (λ cut. IfSome cut (λ p. (p.0.0 < length self.new) × (p.1.0 < length self.new))) }
     {
-        let place = place_of(&self.rows, at);
+        let place = self.place_of(at);
+        self.come_to(place);
+        return self.cut_at(alloc, place, at);
+    }
+
+    /// Remembers the place of a cut, unless it is near the one that is remembered.
+    fn come_to(&mut self, place: u64)
+        ensures { self.new ≡ self.old }
+    {
+        if place < self.near || place - self.near > NEAR {
+            self.near = place;
+        }
+    }
+
+    /// Cuts the atom at a place, which has the address.
+    fn cut_at(
+        &mut self,
+        alloc: Global,
+        place: u64,
+        at: u32,
+    ) -> Result<Option<(AtomId, AtomId)>, OutOfMemory>
+        requires inside { place < length self.old }
+        requires from { (d : AtomRow) → (slice_index_or self.old place d).low ≤ at }
+        requires to { (d : AtomRow) → at < (slice_index_or self.old place d).past }
+        ensures ok { IfOk result (IsCut self.old self.new at) }
+        ensures err { OnErr result (self.new ≡ self.old) }
+        ensures form { AreAtoms self.new }
+        ensures there { IfOk result (λ cut. IfSome cut (λ p. (p.0.0 < length self.new) × (p.1.0 < length self.new))) }
+    {
         let row = read(&self.rows, place);
         if row.low == at as u64 {
             return Ok(None);
@@ -92,7 +130,7 @@ impl AtomMap {
         ensures from { (d : AtomRow) → (slice_index_or self.now result d).low ≤ a }
         ensures to { (d : AtomRow) → a < (slice_index_or self.now result d).past }
     {
-        place_of(&self.rows, a)
+        place_from(&self.rows, self.near, a)
     }
 
     /// The atom at a place, with its bounds.
@@ -149,6 +187,10 @@ impl AtomMap {
     {
         let rows = self.rows.copy()?;
         let lows = self.lows.copy()?;
-        Ok(AtomMap { rows, lows })
+        Ok(AtomMap {
+            rows,
+            lows,
+            near: self.near,
+        })
     }
 }

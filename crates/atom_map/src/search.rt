@@ -1,6 +1,6 @@
 //! Atoms in order: the one of an address, the first ones, and two in the place of one.
 
-ghost use Rattle.std.specs.Prelude.{◌≡◌, ◌<◌, ◌≤◌, ◌^◌, IfOk, OnOk, OnErr, length, map, drop, slice_index_or};
+ghost use Rattle.std.specs.Prelude.{◌≡◌, ◌<◌, ◌≤◌, ◌^◌, IfOk, IfSome, OnOk, OnErr, length, map, drop, slice_index_or};
 ghost use Rattle.dn_model.specs.Atoms.{AreAtoms, atom_of};
 ghost use Rattle.dn_model.specs.declared.atom_row.AtomRow.{AtomRow};
 ghost use Rattle.atom_map.specs.Index.{first_below, AgreeBelow, IsNoted, IsPartedAt};
@@ -29,6 +29,66 @@ pub fn place_of(rows: &Pages<AtomRow>, a: u32) -> u64
 {
     let past = rows.partition_point(|row: &AtomRow| row.low <= a as u64);
     past - 1
+}
+
+/// Whether all of these atoms end at an address or below it, of which it looks at the last alone.
+fn ends_below(run: &[AtomRow], a: u32) -> bool {
+    match run.last() {
+        Some(last) => last.past <= a as u64,
+        None => true,
+    }
+}
+
+/// How many of these atoms end at an address or below it, up to the first that doesn't.
+fn count_below(run: &[AtomRow], a: u32) -> usize
+    ensures inside { result ≤ length run.now }
+    ensures after { (d : AtomRow) → result < length run.now → a < (slice_index_or run.now result d).past }
+{
+    let mut below = 0;
+    'rows: while below < run.len() {
+        let past = run[below].past;
+        if past > a as u64 {
+            return below;
+        }
+        below += 1;
+    }
+    below
+}
+
+/// The place of the atom that has an address, where it stands in one page with the atom at a place and not before it.
+fn place_near(rows: &Pages<AtomRow>, near: u64, a: u32) -> Option<u64>
+    requires { AreAtoms rows.now }
+    ensures inside { IfSome result (λ place. place < length rows.now) }
+    ensures from { IfSome result (λ place. (d : AtomRow) → (slice_index_or rows.now place d).low ≤ a) }
+    ensures to { IfSome result (λ place. (d : AtomRow) → a < (slice_index_or rows.now place d).past) }
+{
+    let run = rows.run_from(near);
+    if ends_below(run, a) {
+        return None;
+    }
+    let below = count_below(run, a);
+    if below == run.len() {
+        return None;
+    }
+    let low = run[below].low;
+    if low > a as u64 {
+        return None;
+    }
+    let place = near + below as u64;
+    Some(place)
+}
+
+/// The place of the atom that has an address. It looks near a place first.
+pub fn place_from(rows: &Pages<AtomRow>, near: u64, a: u32) -> u64
+    requires { AreAtoms rows.now }
+    ensures inside { result < length rows.now }
+    ensures from { (d : AtomRow) → (slice_index_or rows.now result d).low ≤ a }
+    ensures to { (d : AtomRow) → a < (slice_index_or rows.now result d).past }
+{
+    match place_near(rows, near, a) {
+        Some(place) => place,
+        None => place_of(rows, a),
+    }
 }
 
 /// The first atoms from a place on, up to the first that begins at this address or above it.

@@ -1,5 +1,5 @@
 -- An atom that is cut in two: the new number has what the old one has.
-use Rattle.std.proofs.Common.{◌≡◌, ℕ, ◌+◌, ◌<◌, ◌≤◌, ◌^◌, ◌∙◌, ◌∷◌, ◌++◌, ◌||◌, ◌&&◌, not, ⊎_elim, suc, cond, true, false, Bool, Option, None, Some, List, [], length, get_or, map, option_map, refl, ap, sym, subst, arith, eqb, ltb}
+use Rattle.std.proofs.Common.{◌≡◌, ℕ, ◌+◌, ◌<◌, ◌≤◌, ◌^◌, ◌∙◌, ◌∷◌, ◌||◌, ◌&&◌, not, ⊎_elim, suc, cond, true, false, Bool, Option, None, Some, List, [], length, map, option_map, refl, ap, sym, subst, arith, eqb}
 use Rattle.std.proofs.lemmas.Bool.{cases_Bool, cases_lt, eqb-true, ne_eqb, or_left}
 use Rattle.std.proofs.lemmas.List.{get_or_append_left, get_or_push, length_push}
 use Rattle.std.proofs.lemmas.Option.{none-some}

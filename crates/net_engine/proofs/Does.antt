@@ -4,14 +4,13 @@ use Rattle.std.proofs.Common.{◌≡◌, ℕ, ◌<◌, ◌≤◌, ◌^◌, ◌�
 use Rattle.std.proofs.lemmas.Bool.{both_ways, cases_Bool}
 use Rattle.std.proofs.lemmas.List.{get_or-map, get_or-set_other}
 use Rattle.dn_model.specs.Atoms.{AreAtoms, atom_low, atom_past, has_address, is_boundary, row_at}
-use Rattle.dn_model.specs.Rows.{CoverFrom}
-use Rattle.dn_model.specs.Version.{Atom, atom_at, begins_at, first_of, past_of, rules_at, rules_in, target_at, target_in_atom}
+use Rattle.dn_model.specs.Version.{atom_at, begins_at, first_of, past_of, rules_at, rules_in, target_at, target_in_atom}
 use Rattle.dn_model.specs.declared.atom_row.AtomRow.{AtomRow}
 use Rattle.dn_model.specs.declared.ids.RouterId.{RouterId}
 use Rattle.dn_model.specs.declared.rule.Rule.{Rule}
 use Rattle.dn_model.proofs.Covers.{holder-first, holder-rest}
 use Rattle.edge_labels.specs.Labels.{Labels}
-use Rattle.net_engine.specs.Numbered.{AreNumbered, GoAlong, does_at, does_in, numbered, owners_at}
+use Rattle.net_engine.specs.Numbered.{AreNumbered, does_at, does_in, numbered, owners_at}
 use Rattle.net_engine.specs.Segments.{begins_in, held_at, nothing_held}
 use Rattle.net_engine.specs.declared.segment.Segment.{Segment}
 use Rattle.net_engine.proofs.Along.{none-begins_inside}

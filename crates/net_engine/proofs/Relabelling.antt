@@ -1,6 +1,6 @@
 -- A router does something else with the atoms of a span, one after another.
-use Rattle.std.proofs.Common.{◌≡◌, ℕ, ◌+◌, ◌<◌, ◌≤◌, ◌^◌, ◌∙◌, ⊎_elim, zero, suc, true, false, Option, None, Some, List, [], ◌∷◌, length, get_or, set, refl, ap, sym, subst, arith, eqb}
-use Rattle.std.proofs.lemmas.Bool.{both_ways, cases_Bool, cases_eq, cases_lt, eqb-true, eqb-false, ne_eqb}
+use Rattle.std.proofs.Common.{◌≡◌, ℕ, ◌+◌, ◌<◌, ◌≤◌, ◌^◌, ◌∙◌, ⊎_elim, suc, true, false, Option, None, Some, List, [], ◌∷◌, length, get_or, set, refl, ap, sym, subst, arith, eqb}
+use Rattle.std.proofs.lemmas.Bool.{both_ways, cases_Bool, cases_eq, cases_lt, eqb-true, ne_eqb}
 use Rattle.std.proofs.lemmas.List.{get_or-set_other, get_or-set_same, length-set}
 use Rattle.std.proofs.lemmas.Option.{none-some}
 use Rattle.dn_model.specs.Atoms.{AreAtoms, AreOnce, HasNone, atom_low, atom_past, has_address, is_boundary, row_at}
@@ -15,7 +15,6 @@ use Rattle.atom_map.proofs.Begun.{below-at}
 use Rattle.edge_labels.specs.Labels.{Labels, moved, target_at, targets_of}
 use Rattle.net_engine.specs.Numbered.{AreLabelled, does_at, does_in}
 use Rattle.net_engine.specs.Reruled.{AtomBegins, IsRelabelled}
-use Rattle.net_engine.proofs.Held.{within-high, within-low}
 
 -- ---- numbers
 

@@ -1,8 +1,8 @@
 -- What one router's segments hold at an address, and how it changes.
-use Rattle.std.proofs.Common.{◌≡◌, ℕ, ◌+◌, ◌-◌, ◌<◌, ◌≤◌, ◌^◌, ◌∙◌, ◌||◌, ⊎_elim, ◌⊎◌, zero, suc, Bool, true, false, cond, None, List, [], ◌∷◌, length, get_or, set, Result, Ok, Err, IfOk, OnOk, OnErr, IsTrue, is_ok, refl, ap, sym, subst, arith, eqb, leb, inl, inr}
+use Rattle.std.proofs.Common.{◌≡◌, ℕ, ◌+◌, ◌-◌, ◌<◌, ◌≤◌, ◌^◌, ◌∙◌, ◌||◌, ⊎_elim, ◌⊎◌, zero, suc, Bool, true, false, cond, None, List, [], ◌∷◌, length, get_or, set, take, drop, min, Result, Ok, Err, IfOk, OnOk, OnErr, IsTrue, is_ok, refl, ap, sym, subst, arith, eqb, leb, inl, inr}
 use Rattle.std.specs.List.{insert}
-use Rattle.std.proofs.lemmas.Bool.{cases_Bool, cases_lt, le-leb, lt-leb, eq-eqb, eqb-true, ne_eqb, or_cases, or_left, or_right, both_ways}
-use Rattle.std.proofs.lemmas.List.{get_or-set_other, get_or-set_same, length-set, set-get_or}
+use Rattle.std.proofs.lemmas.Bool.{cases_Bool, cases_lt, le-leb, lt-leb, eq-eqb, eqb-true, or_cases, or_left, or_right, both_ways}
+use Rattle.std.proofs.lemmas.List.{get_or-drop, get_or-set_other, get_or-set_same, get_or-take, get_or_default, length-drop, length-set, length-take, set-get_or}
 use Rattle.net_engine.specs.declared.segment.Segment.{Segment}
 use Rattle.net_engine.specs.declared.segment.Targets.{Targets}
 use Rattle.dn_model.specs.declared.entry.Op.{Op}
@@ -70,6 +70,57 @@ is-place segments at place h inside before after = record {
       subst (λ n. at ≤ low_at segments n d) (sym e) (after d (omega arith)))
       (cases_lt place k);
 }
+
+-- one more of them begins below an address
+pub below-more : (run : List Segment) (below at : ℕ) (s : Segment) → s ≡ get_or run below s → below < length run → s.low < at → ((k : ℕ) (d : Segment) → k < below → low_at run k d < at) → (k : ℕ) (d : Segment) → k < below + 1 → low_at run k d < at
+below-more run below at s is l b before k d m = ⊎_elim
+    (λ (n : k < below). before k d n)
+    (λ (n : below ≤ k).
+    let e : k ≡ below = omega arith in
+    let same : low_at run below d ≡ s.low = ap (λ (x : Segment). x.low) (get_or_default run below d s l ∙ sym is) in
+    subst (λ i. low_at run i d < at) (sym e) (omega arith))
+    (cases_lt k below)
+
+-- what stands in a part of them stands among all
+run-read : (segments run : List Segment) (near k : ℕ) (d : Segment) → take (length run) (drop near segments) ≡ run → k < length run → low_at run k d ≡ low_at segments (near + k) d
+run-read segments run near k d is l =
+    ap (λ (xs : List Segment). low_at xs k d) (sym is)
+    ∙ ap (λ (x : Segment). x.low) (get_or-take (length run) (drop near segments) k d l ∙ get_or-drop near segments k d)
+
+run-inside : (segments run : List Segment) (near : ℕ) → take (length run) (drop near segments) ≡ run → 0 < length run → near + length run ≤ length segments
+run-inside segments run near is l =
+    let e : length (take (length run) (drop near segments)) ≡ length run = ap (λ (xs : List Segment). length xs) is in
+    let m : length (take (length run) (drop near segments)) ≡ min (length run) (length (drop near segments)) = length-take (length run) (drop near segments) in
+    let n : length (drop near segments) ≡ length segments - near = length-drop near segments in
+    omega arith
+
+pub near-below : (segments run : List Segment) (near below : ℕ) → AreSegments 0 segments → take (length run) (drop near segments) ≡ run → below < length run → near + below < 2 ^ 32
+near-below segments run near below h is l =
+    let inside : near + length run ≤ length segments = run-inside segments run near is (omega arith) in
+    let few : 0 + length segments ≤ 2 ^ 32 = few-segments 0 segments h (omega arith) in
+    omega arith
+
+-- what a look at a part of them finds
+pub place-near : (segments now run : List Segment) (near below at : ℕ) → segments ≡ now → AreSegments 0 segments → take (length run) (drop near segments) ≡ run → below < length run → (below ≡ 0 → near ≡ 0) → ((k : ℕ) (d : Segment) → k < below → low_at run k d < at) → ((d : Segment) → at ≤ low_at run below d) → IsPlace now at (near + below)
+place-near segments now run near below at view h is l first before after =
+    let inside : near + length run ≤ length segments = run-inside segments run near is (omega arith) in
+    subst (λ zs. IsPlace zs at (near + below)) view
+    (is-place segments at (near + below) h (omega arith)
+    (λ d m.
+    ⊎_elim
+    (λ (n : 0 < below).
+    let b : low_at run (below - 1) d < at = before (below - 1) d (omega arith) in
+    let r : low_at run (below - 1) d ≡ low_at segments (near + (below - 1)) d = run-read segments run near (below - 1) d is (omega arith) in
+    let e : near + (below - 1) ≡ near + below - 1 = omega arith in
+    subst (λ i. low_at segments i d < at) e (omega arith))
+    (λ (n : below ≤ 0).
+    let z : near ≡ 0 = first (omega arith) in
+    absurd (omega arith))
+    (cases_lt 0 below))
+    (λ d m.
+    let a : at ≤ low_at run below d = after d in
+    let r : low_at run below d ≡ low_at segments (near + below) d = run-read segments run near below d is l in
+    omega arith))
 
 -- ---- where one begins
 

@@ -14,7 +14,6 @@ use Rattle.dn_model.specs.declared.entry.Entry.{Entry}
 use Rattle.dn_model.specs.declared.entry.Route.{Route}
 use Rattle.dn_model.specs.declared.ids.LinkId.{LinkId}
 use Rattle.dn_model.specs.declared.ids.RouterId.{RouterId}
-use Rattle.dn_model.specs.declared.forwarding_row.ForwardingRow.{ForwardingRow}
 use Rattle.dn_model.specs.declared.target.Target.TheVariants.{NoRoute, To}
 use Rattle.dn_model.proofs.Best.{best-is, contains-none}
 use Rattle.dn_model.proofs.Covers.{holder-first, holder-rest, starts-below, within-above, within-yes}
@@ -24,7 +23,6 @@ use Rattle.dn_model.proofs.SameRoutes.{SameRoutes, same-target}
 use Rattle.dn_model.proofs.Within.{within-best}
 use Rattle.net_engine.specs.Net.{AreWide}
 use Rattle.net_engine.specs.Whole.{Agrees, IsWhole}
-use Rattle.net_engine.proofs.Held.{Holds, holds}
 use Rattle.net_engine.proofs.Owned.{owners-same}
 use Rattle.net_engine.proofs.Standing.{wide-at}
 -- a router's own update makes its routes those after it, and another router's leaves them

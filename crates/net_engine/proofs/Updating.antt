@@ -1,5 +1,5 @@
 -- What an update of one router's segments comes to in the atoms.
-use Rattle.std.proofs.Common.{◌≡◌, ◌≢◌, ℕ, ◌<◌, ◌≤◌, ◌^◌, ◌∙◌, ⊎_elim, true, false, Option, None, Some, option_map, List, [], ◌∷◌, length, get_or, set, map, refl, ap, sym, subst, arith}
+use Rattle.std.proofs.Common.{◌≡◌, ◌≢◌, ℕ, ◌<◌, ◌≤◌, ◌^◌, ◌∙◌, ⊎_elim, true, false, None, option_map, List, [], ◌∷◌, length, get_or, set, map, refl, ap, sym, subst, arith}
 use Rattle.std.specs.List.Sorted.{IsPermutation}
 use Rattle.std.proofs.lemmas.Bool.{cases_eq, cases_lt}
 use Rattle.std.proofs.lemmas.List.{get_or-set_other, get_or-set_same, get_or_read, length-set}
@@ -7,7 +7,7 @@ use Rattle.dn_model.specs.Atoms.{atom_low, atom_past, is_boundary, row_at}
 use Rattle.dn_model.specs.Delta.{TellsChange, change_at}
 use Rattle.dn_model.specs.Rows.{CoverFrom, holder}
 use Rattle.dn_model.specs.Rules.{after_rule_op}
-use Rattle.dn_model.specs.Version.{Atom, begins_at, rules_at, rules_in, target_at}
+use Rattle.dn_model.specs.Version.{begins_at, rules_at, rules_in, target_at}
 use Rattle.dn_model.specs.declared.atom_row.AtomRow.{AtomRow}
 use Rattle.dn_model.specs.declared.change.Change.{Change}
 use Rattle.dn_model.specs.declared.entry.Op.{Op}
@@ -17,7 +17,7 @@ use Rattle.dn_model.specs.declared.target.Target.{Target}
 use Rattle.dn_model.proofs.Covers.{holder-rest, starts-below, within-above}
 use Rattle.edge_labels.specs.Labels.{Labels}
 use Rattle.net_engine.specs.Net.{IsNet, Net}
-use Rattle.net_engine.specs.Numbered.{AreNumbered, GoAlong, does_at, does_in, net_of, numbered}
+use Rattle.net_engine.specs.Numbered.{AreNumbered, GoAlong, does_in, net_of, numbered}
 use Rattle.net_engine.specs.Reruled.{AreCutAt, IsReruledOver}
 use Rattle.net_engine.specs.Segments.{Held, IsInForce, held_at, nothing_held}
 use Rattle.net_engine.specs.Walked.{Follows, IsWalked, is_part}

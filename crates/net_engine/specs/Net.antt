@@ -1,14 +1,8 @@
 -- Atoms with what each router does there and the rules that it has there, and how a step changes them. Nothing here
 -- says how atoms are numbered.
-use Rattle.std.specs.Prelude.{ℕ, List, [], ◌∷◌, Option, length, replicate, slice_set, slice_index_or, IsPermutation, Some, ◌≡◌, ◌^◌, ◌&&◌, ◌==◌, not, if◌then◌else◌}
+use Rattle.std.specs.Prelude.{ℕ, List, [], ◌∷◌, length, replicate, ◌≡◌, ◌^◌, ◌&&◌, ◌==◌, not, if◌then◌else◌}
 use Rattle.dn_model.specs.Rows.{is_within, CoverFrom}
-use Rattle.dn_model.specs.Rules.{after_rule_op, target_of as target_of_rule, IsTop}
-use Rattle.dn_model.specs.Forwarding.{target_of}
-use Rattle.dn_model.specs.Version.{Atom, atom_at, first_of, past_of}
-use Rattle.dn_model.specs.declared.entry.Op.{Op}
-use Rattle.dn_model.specs.declared.ids.RouterId.{RouterId}
-use Rattle.dn_model.specs.declared.rule.Rule.{Rule}
-use Rattle.dn_model.specs.declared.target.Target.{Target}
+use Rattle.dn_model.specs.Version.{Atom, first_of, past_of}
 use Rattle.dn_model.specs.declared.target.Target.TheVariants.{NoRoute}
 
 -- so many routers, and the atoms in order

@@ -1,5 +1,5 @@
 -- What the steps of an update make of one router's segments, and of the labels.
-use Rattle.std.specs.Prelude.{ℕ, true, false, List, IsPermutation, length, slice_index_or, ◌≡◌, ◌<◌, ◌≤◌, ◌^◌, ◌==◌, ◌||◌}
+use Rattle.std.specs.Prelude.{ℕ, false, List, IsPermutation, length, slice_index_or, ◌≡◌, ◌<◌, ◌≤◌, ◌^◌, ◌==◌, ◌||◌}
 use Rattle.dn_model.specs.Delta.{AreChanges, TellsChange, change_at}
 use Rattle.dn_model.specs.Rows.{is_within}
 use Rattle.dn_model.specs.Rules.{after_rule_op}

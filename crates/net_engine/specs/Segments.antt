@@ -1,5 +1,5 @@
 -- One router's rules at all addresses: segments in order of address, each up to where the next one begins.
-use Rattle.std.specs.Prelude.{ℕ, zero, suc, Bool, true, List, [], ◌∷◌, Option, length, set, slice_index_or, IsPermutation, nat_le, ◌≡◌, ◌+◌, ◌<◌, ◌≤◌, ◌^◌, ◌==◌, ◌||◌, if◌then◌else◌}
+use Rattle.std.specs.Prelude.{ℕ, zero, suc, Bool, List, [], ◌∷◌, Option, length, set, slice_index_or, IsPermutation, nat_le, ◌≡◌, ◌+◌, ◌<◌, ◌≤◌, ◌^◌, ◌==◌, ◌||◌, if◌then◌else◌}
 use Rattle.std.specs.List.{list_any}
 use Rattle.dn_model.specs.Rules.{after_rule_op, target_of as target_of_rule, IsTop}
 use Rattle.dn_model.specs.declared.entry.Op.{Op}

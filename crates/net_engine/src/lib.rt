@@ -4,6 +4,7 @@
 #![tactic(auto)]
 
 mod ends;
+mod guide;
 mod net;
 #[cfg(test)]
 mod net_tests;

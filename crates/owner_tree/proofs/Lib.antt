@@ -1,6 +1,4 @@
 pub mod Best
-pub mod Length
-pub mod Order
-pub mod Rules
+pub mod Once
 pub mod Top
 pub mod Updates

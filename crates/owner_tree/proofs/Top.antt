@@ -1,74 +1,54 @@
--- The rule in force: the first of the greatest length.
-use Rattle.std.proofs.Common.{◌≡◌, ◌≢◌, ◌<◌, ◌≤◌, ◌∙◌, ◌&&◌, false, List, [], ◌∷◌, Option, Some, None, length, refl, sym, subst, ⊎_elim, arith, eqb, ltb}
+-- The rule in force: the one that goes before all others.
+use Rattle.std.proofs.Common.{◌≡◌, ℕ, ◌∙◌, ◌&&◌, ◌||◌, Bool, true, false, cond, Option, Some, None, List, [], ◌∷◌, ◌++◌, fold, refl, ap, sym, subst, ⊎_elim, arith, append_assoc, eqb, ltb}
 use Rattle.std.specs.List.{Contains}
-use Rattle.std.specs.BTreeMap.{BTreeMap, IsOrdered, IsUpperBound, get}
-use Rattle.std.specs.BTreeMap.Range.{IsRangeOf}
-use Rattle.std.specs.Option.{IsSome}
-use Rattle.std.specs.Ordering.{is_gt}
-use Rattle.std.specs.declared.ops.Bound.TheVariants.{Included, Unbounded}
-use Rattle.std.proofs.lemmas.Bool.{and_left, and_right, cases_eq, le-ltb, ne_eqb, or_from}
-use Rattle.std.proofs.lemmas.Option.{none-some}
-use Rattle.dn_model.specs.declared.target.Target.{Target}
-use Rattle.dn_model.proofs.KeyOrder.{nat-from, nat-upto, then-from, then-not_before, then-rest, then-upto}
-use Rattle.dn_model.proofs.Keyed.{contains-map, entry-in, in-entry, map-contains}
-use Rattle.dn_model.specs.declared.rule.Rule.{Rule}
-use Rattle.owner_tree.specs.declared.rule.RuleKey.{RuleKey}
-use Rattle.owner_tree.specs.Entries.{entry_rule, rules_of, rule_cmp}
+use Rattle.std.proofs.lemmas.Bool.{cases_Bool}
+use Rattle.std.proofs.lemmas.Bool.Decides.{nat_tests}
+use Rattle.std.proofs.lemmas.List.{append-nil}
+use Rattle.std.proofs.lemmas.List.Elements.{Contains-append_left, Contains-append_right, Contains-push_cases}
 use Rattle.dn_model.specs.Rules.{IsTop, rule_before}
-use Rattle.owner_tree.proofs.Order.{rule-total, rule-exact}
+use Rattle.dn_model.specs.declared.rule.Rule.{Rule}
+use Rattle.dn_model.proofs.Best.{contains-here, contains-none}
+use Rattle.owner_tree.specs.First.{first_of}
 
--- no entry, no rule
-pub no-rules : (es : List (RuleKey × Target)) (now : List Rule) → rules_of es ≡ now → (0 < length es → ⊥) → now ≡ []
-no-rules [] now is h = sym is
-no-rules (e ∷ es) now is h = absurd (h (omega arith))
+abbrev before : ℕ → ℕ → ℕ → ℕ → Bool
+before l m k n = ltb k l || (eqb l k && ltb m n)
 
-pub some : (m : BTreeMap RuleKey Target) (k : RuleKey) (v : Target) → get rule_cmp m k ≡ Some v → IsSome (get rule_cmp m k)
-some m k v h = let P : Option Target → Type 0 = λ o. IsSome o in subst P (sym h) refl
+before-itself : (l m : ℕ) → before l m l m ≡ false
+before-itself l m = grind (arith, nat_tests)
 
-pub reached : (f q : RuleKey) → f.len ≡ q.len → f.metric ≡ 0 → is_gt (rule_cmp f q) ≡ false
-reached f q len metric = then-from f.len q.len _ len (nat-from f.metric q.metric (omega arith))
+-- what doesn't go before a rule doesn't go before one that goes before it
+before-chain : (l m k n i j : ℕ) → before l m k n ≡ false → before i j k n ≡ true → before l m i j ≡ false
+before-chain l m k n i j h g = grind (arith, nat_tests)
 
-module _ (m : BTreeMap RuleKey Target) (last first : RuleKey) (v : Target) (s : IsOrdered rule_cmp m) (there : get rule_cmp m last ≡ Some v) (len : first.len ≡ last.len) (metric : first.metric ≡ 0) where
-  -- the last key stands in the range that begins with the first of its length
-  pub not-empty : (xs : List (RuleKey × Target)) → IsRangeOf rule_cmp (Included first) Unbounded m xs → xs ≡ [] → ⊥
-  not-empty xs range empty =
-      let gone : get rule_cmp m last ≡ None = range.5 empty last (reached first last len metric, tt) in
-      none-some v (sym gone ∙ there)
+-- no rule of a list with one more goes before this one
+none-before : (rules : List Rule) (x y : Rule) → ((r : Rule) → Contains rules r → rule_before r x ≡ false) → rule_before y x ≡ false → (r : Rule) → Contains (rules ++ y ∷ []) r → rule_before r x ≡ false
+none-before rules x y old new r h = ⊎_elim
+    (λ (o : Contains rules r). old r o)
+    (λ (e : y ≡ r). subst (λ (z : Rule). rule_before z x ≡ false) e new)
+    (Contains-push_cases rules y r h)
 
-  module _ (greatest : IsUpperBound rule_cmp m last) (e : RuleKey × Target) (rest : List (RuleKey × Target)) (range : IsRangeOf rule_cmp (Included first) Unbounded m (e ∷ rest)) where
-    -- the first of the range has the greatest length
-    greatest-len : e.0.len ≡ last.len
-    greatest-len =
-        let low : first.len ≤ e.0.len = then-upto first.len e.0.len _ range.1.0.0 in
-        let high : e.0.len ≤ last.len = then-not_before last.len e.0.len _ (greatest e.0 (some m e.0 e.1 range.1.1)) in
-        omega arith
+top-more : (rules : List Rule) (o : Option Rule) (y : Rule) → IsTop rules o → IsTop (rules ++ y ∷ []) (first_of o y)
+top-more rules None y top = (
+  Contains-append_right rules (y ∷ []) y (contains-here y []),
+  none-before rules y y (λ r h. absurd (contains-none r (subst (λ (rs : List Rule). Contains rs r) top h))) (before-itself y.len y.metric),
+)
+top-more rules (Some x) y top = ⊎_elim
+    (λ (b : rule_before y x ≡ true).
+    subst (λ t. IsTop (rules ++ y ∷ []) (cond t (Some y) (Some x))) (sym b) (
+      Contains-append_right rules (y ∷ []) y (contains-here y []),
+      none-before rules y y (λ r h. before-chain r.len r.metric x.len x.metric y.len y.metric (top.1 r h) b) (before-itself y.len y.metric),
+    ))
+    (λ (b : rule_before y x ≡ false).
+    subst (λ t. IsTop (rules ++ y ∷ []) (cond t (Some y) (Some x))) (sym b) (
+      Contains-append_left rules (y ∷ []) x top.0,
+      none-before rules x y top.1 b,
+    ))
+    (cases_Bool (rule_before y x))
 
-    none-before : (q : RuleKey) (w : Target) → get rule_cmp m q ≡ Some w → rule_before (entry_rule (q, w)) (entry_rule e) ≡ false
-    none-before q w at =
-        let top : e.0.len ≡ last.len = greatest-len in
-        let high : q.len ≤ last.len = then-not_before last.len q.len _ (greatest q (some m q w at)) in
-        let upto : q.len ≤ e.0.len = omega arith in
-        or_from (ltb e.0.len q.len) (eqb q.len e.0.len && ltb q.metric e.0.metric) (le-ltb e.0.len q.len upto)
-        (⊎_elim
-        (λ (same : q.len ≡ e.0.len).
-        let from : is_gt (rule_cmp first q) ≡ false = reached first q (len ∙ sym top ∙ sym same) metric in
-        let least : is_gt (rule_cmp e.0 q) ≡ false = range.2 q (from, tt) (some m q w at) in
-        and_right (eqb q.len e.0.len) (ltb q.metric e.0.metric) (le-ltb q.metric e.0.metric (nat-upto e.0.metric q.metric (then-rest e.0.len q.len _ least (sym same)))))
-        (λ (other : q.len ≢ e.0.len). and_left (eqb q.len e.0.len) (ltb q.metric e.0.metric) (ne_eqb q.len e.0.len other))
-        (cases_eq q.len e.0.len))
+top-fold : (seen rest : List Rule) (o : Option Rule) → IsTop seen o → IsTop (seen ++ rest) (fold first_of o rest)
+top-fold seen [] o top = subst (λ (rs : List Rule). IsTop rs o) (sym (append-nil seen)) top
+top-fold seen (y ∷ ys) o top = subst (λ (rs : List Rule). IsTop rs (fold first_of (first_of o y) ys)) (append_assoc seen (y ∷ []) ys) (top-fold (seen ++ y ∷ []) ys (first_of o y) (top-more seen o y top))
 
-    is-top : IsTop (rules_of m.entries) (Some (entry_rule e))
-    is-top = (
-      map-contains entry_rule m.entries e (in-entry rule-total rule-exact m e range.1.1),
-      λ r h.
-          let w : (f : RuleKey × Target) × Contains m.entries f × (entry_rule f ≡ r) = contains-map entry_rule m.entries r h in
-          let P : Rule → Type 0 = λ x. rule_before x (entry_rule e) ≡ false in
-          subst P w.2 (none-before w.0.0 w.0.1 (entry-in rule-total m w.0 s w.1)),
-    )
-
-  pub top-at : (now : List Rule) (xs rest : List (RuleKey × Target)) (e : RuleKey × Target) (r : Rule) → rules_of m.entries ≡ now → IsUpperBound rule_cmp m last → IsRangeOf rule_cmp (Included first) Unbounded m xs → xs ≡ e ∷ rest → r ≡ entry_rule e → IsTop now (Some r)
-  top-at now xs rest e r is greatest range front same =
-      let P : List (RuleKey × Target) → Type 0 = λ ys. IsRangeOf rule_cmp (Included first) Unbounded m ys in
-      let Q : List Rule → Type 0 = λ rs. IsTop rs (Some (entry_rule e)) in
-      let R : Rule → Type 0 = λ x. IsTop now (Some x) in
-      subst R (sym same) (subst Q is (is-top greatest e rest (subst P front range)))
+-- the first of all is in force
+pub is-top : (rules now : List Rule) (o : Option Rule) → rules ≡ now → o ≡ fold first_of None rules → IsTop now o
+is-top rules now o view e = subst (λ (rs : List Rule). IsTop rs o) view (subst (λ (t : Option Rule). IsTop rules t) (sym e) (top-fold [] rules None refl))

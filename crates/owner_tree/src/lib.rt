@@ -3,7 +3,7 @@
 #![tactic(auto)]
 
 mod owners;
-mod rule;
+mod rules;
 #[cfg(test)]
 mod tests;
 

@@ -1,5 +1,4 @@
-use Rattle.std.proofs.Common.{ℕ, ◌≤◌, ◌<◌, ◌-◌, length, get_or, refl, arith, rules}
-use Rattle.dn_model.specs.declared.atom_row.AtomRow.{AtomRow}
+use Rattle.std.proofs.Common.{ℕ, ◌<◌, ◌-◌, refl, arith, rules}
 use Rattle.atom_map.specs.Index.{IsLeft}
 use Rattle.atom_map.proofs.Placed.{found-to, left-of, some-past}
 use Rattle.atom_map.proofs.search.place_of.Goals as goal

@@ -1,4 +1,4 @@
-use Rattle.std.proofs.Common.{◌≡◌, ℕ, ◌+◌, ◌<◌, ◌≤◌, ◌^◌, length, subst, sym, arith}
+use Rattle.std.proofs.Common.{◌≡◌, ◌+◌, ◌<◌, ◌≤◌, ◌^◌, length, subst, sym, arith}
 use Rattle.dn_model.specs.Atoms.{atom_low, atom_past}
 use Rattle.dn_model.proofs.Covers.{few-rows}
 use Rattle.net_engine.specs.Reruled.{AtomBegins, IsRelabelled}

@@ -1,4 +1,4 @@
-use Rattle.std.proofs.Common.{◌≡◌, ℕ, ◌<◌, ◌≤◌, ◌^◌, ◌∙◌, [], subst, sym, arith}
+use Rattle.std.proofs.Common.{◌≡◌, ◌<◌, ◌≤◌, ◌^◌, ◌∙◌, [], subst, sym, arith}
 use Rattle.net_engine.specs.Reruled.{IsReruledOver}
 use Rattle.net_engine.specs.Segments.{BeginsAt}
 use Rattle.net_engine.proofs.Rerunning.{reruled-more, reruled-none}

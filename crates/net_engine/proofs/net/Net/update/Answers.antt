@@ -1,5 +1,4 @@
-use Rattle.std.proofs.Common.{◌≡◌, ◌<◌, get_or, length, [], refl, set, subst, sym}
-use Rattle.net_engine.specs.declared.segment.Segment.{Segment}
+use Rattle.std.proofs.Common.{◌<◌, refl, set, subst, sym}
 use Rattle.net_engine.proofs.Updating.{Makes, boundary-now, net-now, numbered-now, own-along, own-found, router-now, walked-now}
 use Rattle.net_engine.proofs.net.Net.update.Goals as goal
 use Rattle.net_engine.proofs.net.Net.update.Goals.{In_ok-labels}

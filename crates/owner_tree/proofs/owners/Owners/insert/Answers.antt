@@ -1,5 +1,5 @@
-use Rattle.owner_tree.proofs.Rules.{inserted}
+use Rattle.owner_tree.proofs.Once.{once-put}
 use Rattle.owner_tree.proofs.owners.Owners.insert.Goals as goal
 
-pub returns-clause-ok : goal.returns-clause-ok
-returns-clause-ok c = inserted _ _ _ _ _ c.self.view_is c.self.invariant c.in_ok-_replaced.ensures.entries
+pub invariant_of-self : goal.invariant_of-self
+invariant_of-self c = once-put c.put.result c.self.inside.rules.items c.put.new.rules.items c.args.rule c.self.invariant c.put.ensures.ok c.put.ensures.err

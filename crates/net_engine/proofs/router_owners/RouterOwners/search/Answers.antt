@@ -1,8 +1,7 @@
 use Rattle.std.proofs.Common.{subst, rules}
-use Rattle.net_engine.specs.declared.segment.Segment.{Segment}
-use Rattle.net_engine.specs.Segments.{IsPlace, AreSegments}
+use Rattle.net_engine.specs.Segments.{IsPlace}
 use Rattle.net_engine.proofs.Segments.{is-place}
-use Rattle.net_engine.proofs.router_owners.RouterOwners.place_of.Goals as goal
+use Rattle.net_engine.proofs.router_owners.RouterOwners.search.Goals as goal
 
 pub returns : goal.returns
 returns c = subst (λ segments. IsPlace segments c.args.at c.partition_point.result) c.self.view_is

@@ -1,5 +1,5 @@
 -- Jobs before they begin.
-use Rattle.std.proofs.Common.{◌≡◌, List, [], ◌∷◌, map, None, refl, ap, sym, ◌∙◌}
+use Rattle.std.proofs.Common.{◌≡◌, List, [], ◌∷◌, map, refl, ap, sym, ◌∙◌}
 use Rattle.route_feed.specs.FeedReader.{Reader}
 use Rattle.feed_threads.specs.Feeds.{Feed}
 use Rattle.feed_threads.specs.Jobs.{unread}

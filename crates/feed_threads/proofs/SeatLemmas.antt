@@ -1,10 +1,10 @@
 -- What a seat saw more of the history, and what of it is its own.
-use Rattle.std.proofs.Common.{◌≡◌, ◌≢◌, ℕ, Bool, true, if◌then◌else◌, append_assoc, List, [], ◌∷◌, ◌++◌, length, Result, Ok, Err, IfOk, IfErr, OnErr, refl, ap, sym, ◌∙◌, subst, arith}
+use Rattle.std.proofs.Common.{◌≡◌, ℕ, Bool, true, if◌then◌else◌, append_assoc, List, [], ◌∷◌, ◌++◌, refl, ap, sym, ◌∙◌, subst}
 use Rattle.std.specs.Prelude.{Contains}
-use Rattle.std.proofs.lemmas.List.{append-nil, map-append}
+use Rattle.std.proofs.lemmas.List.{map-append}
 use mathlib.Core.List.{IsPrefix}
 use Rattle.version_lock.proofs.Histories.{prefix_self, prefix_trans}
-use Rattle.version_lock.specs.Callers.{Caller, IsSameSeat, KeepsOwn, Applied, posted_of, HasNumber, IsSeatOf, Lock}
+use Rattle.version_lock.specs.Callers.{Caller, IsSameSeat, KeepsOwn, Applied, posted_of, IsSeatOf, Lock}
 use Rattle.version_lock.specs.History.{posted_by}
 use Rattle.dn_model.specs.Entry.{entries}
 use Rattle.dn_model.specs.declared.entry.Entry.{Entry}

@@ -1,18 +1,16 @@
 -- What a reader's answer adds to what it has handed out.
-use Rattle.std.proofs.Common.{◌≡◌, ℕ, zero, suc, ◌+◌, ◌<◌, ◌≤◌, ◌⊎◌, ⊎_elim, List, [], ◌∷◌, ◌++◌, length, map, sum, Option, None, Some, Result, Ok, Err, IfOk, OnErr, refl, ap, sym, ◌∙◌, subst, arith, length-append, append_assoc, add-zero}
+use Rattle.std.proofs.Common.{◌≡◌, ℕ, ◌+◌, ◌<◌, ⊎_elim, List, [], ◌∷◌, ◌++◌, length, map, sum, Option, None, Some, Result, Ok, Err, IfOk, OnErr, refl, ap, sym, ◌∙◌, subst, arith, length-append, append_assoc, add-zero}
 use Rattle.std.proofs.lemmas.Grind.{flat_map-append}
 use Rattle.std.proofs.lemmas.List.{append-nil}
 use Rattle.std.proofs.lemmas.List.Sums.{sum-map, sum_by-append}
 use Rattle.std.specs.Prelude.{IsOkAnd}
 use Rattle.dn_io.specs.Faults.{Rose}
-use Rattle.dn_io.specs.Told.{NothingLeft}
 use Rattle.dn_formats.specs.Steps.{FrameStep, Accepted, Refused, updates, refusals, skipped_of, ops_of, refused_of}
 use Rattle.dn_model.specs.declared.entry.Op.{Op}
 use Rattle.dn_model.specs.declared.ids.RouterId.{RouterId}
 use Rattle.dn_model.specs.declared.memory.OutOfMemory.{OutOfMemory}
 use Rattle.dn_model.specs.declared.topology.Topology.{Topology}
 use Rattle.dn_formats.specs.declared.told.FeedEnd.{FeedEnd}
-use Rattle.dn_formats.specs.declared.told.FeedEnd.TheVariants as ends
 use Rattle.dn_formats.specs.declared.told.FeedTold.{FeedTold}
 use Rattle.dn_formats.specs.declared.told.RefusedFrame.{RefusedFrame}
 use Rattle.route_feed.specs.FeedReader.{Reader, IsAt, IsAnswered, IsOutcome, FaultsAtStep, FaultsAt, told_so_far, told_after, told_then, end_of}

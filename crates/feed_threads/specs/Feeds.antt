@@ -8,7 +8,6 @@ use Rattle.dn_model.specs.declared.topology.Topology.{Topology}
 use Rattle.dn_formats.specs.declared.told.FeedEnd.{FeedEnd}
 use Rattle.dn_formats.specs.declared.told.FeedEnd.TheVariants as ends
 use Rattle.dn_formats.specs.declared.told.FeedTold.{FeedTold}
-use Rattle.dn_formats.specs.declared.told.RefusedFrame.{RefusedFrame}
 use Rattle.dn_io.specs.Told.{NothingLeft}
 use Rattle.route_feed.specs.FeedReader.{Reader, IsAt, HasEnded, HasFaulted, told_so_far}
 use Rattle.route_feed.specs.declared.feed_step.FeedStep.{FeedStep}

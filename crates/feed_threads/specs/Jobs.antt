@@ -1,7 +1,7 @@
 -- Jobs: what each is to do, and what it came to.
-use Rattle.std.specs.Prelude.{ℕ, ◌≡◌, ◌<◌, ◌≤◌, ◌^◌, ◌==◌, Bool, IsTrue, true, false, List, [], ◌∷◌, ◌++◌, length, map, All, Option, None, Some}
+use Rattle.std.specs.Prelude.{ℕ, ◌≡◌, ◌<◌, ◌==◌, Bool, IsTrue, true, false, List, [], ◌∷◌, ◌++◌, length, map, Option, None, Some}
 use Rattle.std.specs.List.{AllZip}
-use Rattle.dn_formats.specs.Lawful.{Job, entries_of_job, TellsFront}
+use Rattle.dn_formats.specs.Lawful.{entries_of_job, TellsFront}
 use Rattle.dn_formats.specs.Steps.{FrameStep, FeedRead, updates, told_of}
 use Rattle.dn_model.specs.Entry.{entries}
 use Rattle.dn_model.specs.Topology.{all_differ}

@@ -1,4 +1,3 @@
-use Rattle.route_feed.specs.FeedReader.{Reader}
 use Rattle.feed_threads.proofs.StepLemmas.{Answers, handed-on, waits-on, end-on, counted-on, again-on}
 use Rattle.feed_threads.proofs.feed.next_step.Goals as goal
 

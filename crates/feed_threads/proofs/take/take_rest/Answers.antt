@@ -1,4 +1,4 @@
-use Rattle.std.proofs.Common.{◌≡◌, ◌∙◌, ℕ, Some, sym, subst, arith}
+use Rattle.std.proofs.Common.{◌∙◌, ℕ, Some, sym, subst}
 use Rattle.feed_threads.specs.Takes.{TakesSome}
 use Rattle.feed_threads.proofs.SeatLemmas.{saw-none, saw-more, saw-number}
 use Rattle.feed_threads.proofs.StepLemmas.{reads-none, reads-more}

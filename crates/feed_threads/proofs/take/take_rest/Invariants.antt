@@ -1,4 +1,4 @@
-use Rattle.std.proofs.Common.{◌≡◌, ◌+◌, ◌-◌, is_none, true, false, if◌then◌else◌}
+use Rattle.std.proofs.Common.{◌≡◌, ◌+◌, ◌-◌, is_none, false, if◌then◌else◌}
 use Rattle.feed_threads.specs.Feeds.{ReadsOn, end_of_feed}
 use Rattle.feed_threads.specs.Seats.{SawMore}
 use Rattle.feed_threads.specs.Takes.{TakesAny}

@@ -1,4 +1,4 @@
-use denote.Param.Send.{IsSend, sendable}
+use denote.Param.Send.{sendable}
 use Rattle.std.proofs.Crossing.{crosses}
 use Rattle.version_store.proofs.Crossing.{Store-send}
 use Rattle.feed_threads.proofs.desk.Desk.post.Goals as goal

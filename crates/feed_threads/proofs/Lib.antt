@@ -1,0 +1,4 @@
+pub mod JobLemmas
+pub mod SeatLemmas
+pub mod StepLemmas
+pub mod TakeLemmas

@@ -1,0 +1,65 @@
+-- What a seat saw more of the history, and what of it is its own.
+use Rattle.std.proofs.Common.{◌≡◌, ℕ, Bool, true, if◌then◌else◌, append_assoc, List, [], ◌∷◌, ◌++◌, refl, ap, sym, ◌∙◌, subst}
+use Rattle.std.specs.Prelude.{Contains}
+use Rattle.std.proofs.lemmas.List.{map-append}
+use mathlib.Core.List.{IsPrefix}
+use Rattle.version_lock.proofs.Histories.{prefix_self, prefix_trans}
+use Rattle.version_lock.specs.Callers.{Caller, IsSameSeat, KeepsOwn, Applied, posted_of, IsSeatOf, Lock}
+use Rattle.version_lock.specs.History.{posted_by}
+use Rattle.dn_model.specs.Entry.{entries}
+use Rattle.dn_model.specs.declared.entry.Entry.{Entry}
+use Rattle.dn_model.specs.declared.entry.Posted.{Posted}
+use Rattle.dn_formats.specs.Steps.{entries_by}
+use Rattle.dn_model.specs.declared.entry.Op.{Op}
+use Rattle.dn_model.specs.declared.ids.RouterId.{RouterId}
+use Rattle.feed_threads.specs.Seats.{own_of, SawMore}
+
+-- a seat that saw nothing more
+pub saw-none : (seat : Caller) → SawMore seat seat
+saw-none seat = record { same = refl; seen = prefix_self seat.seen; others = λ n is other. refl }
+
+-- a seat that saw more, and then more
+pub saw-more : (old mid new : Caller) → SawMore old mid → SawMore mid new → SawMore old new
+saw-more old mid new a b = record {
+  same = b.same ∙ ap (λ (s : Caller). record s { seen = new.seen }) a.same;
+  seen = prefix_trans old.seen mid.seen new.seen a.seen b.seen;
+  others = λ n is other.
+      b.others n (subst (λ (s : Caller). Contains s.used n) (sym a.same) is) (λ e. other (e ∙ ap (λ (s : Caller). s.number) a.same))
+      ∙ a.others n is other;
+}
+
+-- the number of a seat that saw more is the one that it had
+pub saw-number : (old new : Caller) → SawMore old new → new.number ≡ old.number
+saw-number old new saw = ap (λ (s : Caller). s.number) saw.same
+
+-- and it is still the lock's
+pub saw-seat : (lock : Lock) (old new : Caller) → SawMore old new → IsSeatOf lock old → IsSeatOf lock new
+saw-seat lock old new saw is = subst (λ (s : Caller). IsSeatOf lock s) (sym saw.same) is
+
+-- a seat each of whose used numbers has the entries that it had
+pub saw-kept : (old new : Caller) → IsSameSeat old new → IsPrefix old.seen new.seen → KeepsOwn old new → SawMore old new
+saw-kept old new same seen keeps = record { same = same; seen = seen; others = λ n is other. keeps n is }
+
+pub own-kept : (old new : Caller) → Contains old.used old.number → KeepsOwn old new → own_of old.number new.seen ≡ own_of old.number old.seen
+own-kept old new is keeps = ap entries (keeps old.number is)
+
+-- a seat that applied an entry
+pub saw-applied : (entry : Entry) (limit : ℕ) (old new : Caller) (position : ℕ) → IsSameSeat old new → IsPrefix old.seen new.seen → Applied entry limit old new position → SawMore old new
+saw-applied entry limit old new position same seen applied = record { same = same; seen = seen; others = applied.others }
+
+pub own-applied : (entry : Entry) (limit : ℕ) (old new : Caller) (position : ℕ) → Applied entry limit old new position →
+    own_of old.number new.seen ≡ own_of old.number old.seen ++ entry ∷ []
+own-applied entry limit old new position applied = ap entries applied.own ∙ map-append (λ (p : Posted). p.entry) (posted_by old.number old.seen) (posted_of old entry ∷ [])
+
+-- the own entries once one more update of a feed was applied
+pub own-more : (old mid new : Caller) (n : ℕ) (r : RouterId) (ops more : List Op) (op : Op) (took : Bool) → SawMore old mid → took ≡ true → more ≡ ops ++ op ∷ [] →
+    own_of old.number mid.seen ≡ own_of old.number old.seen ++ entries_by n r ops →
+    own_of mid.number new.seen ≡ own_of mid.number mid.seen ++ (if took then record { router = r; feed_no = n; op = op } ∷ [] else []) →
+    own_of old.number new.seen ≡ own_of old.number old.seen ++ entries_by n r more
+own-more old mid new n r ops more op took saw is parts before after =
+    let e : Entry = record { router = r; feed_no = n; op = op } in
+    let one : own_of mid.number new.seen ≡ own_of mid.number mid.seen ++ e ∷ [] = after ∙ ap (λ (b : Bool). own_of mid.number mid.seen ++ (if b then e ∷ [] else [])) is in
+    subst (λ (k : ℕ). own_of k new.seen ≡ own_of k mid.seen ++ e ∷ []) (saw-number old mid saw) one
+    ∙ ap (λ es. es ++ e ∷ []) before ∙ append_assoc (own_of old.number old.seen) (entries_by n r ops) (e ∷ [])
+    ∙ ap (λ es. own_of old.number old.seen ++ es) (sym (map-append (λ (o : Op). record { router = r; feed_no = n; op = o }) ops (op ∷ [])))
+    ∙ ap (λ os. own_of old.number old.seen ++ entries_by n r os) (sym parts)

@@ -1,0 +1,358 @@
+-- What taking frames of a feed adds to what it gave, and to the job's own entries.
+use Rattle.std.proofs.Common.{◌≡◌, ℕ, ◌+◌, ◌-◌, ◌<◌, ◌≤◌, Bool, true, false, is_none, is_some, List, [], ◌∷◌, ◌++◌, length, take, Option, None, Some, Result, Ok, Err, IfOk, OnOk, refl, ap, sym, ◌∙◌, subst, arith, length-append, append_assoc}
+use Rattle.std.proofs.lemmas.Grind.{flat_map-append}
+use Rattle.std.proofs.lemmas.List.{append-nil, map-append}
+use Rattle.std.proofs.Math.Seq.{take-append-add}
+use mathlib.Core.List.{IsPrefix}
+use Rattle.version_lock.proofs.Histories.{prefix_self}
+use Rattle.dn_formats.specs.Steps.{FrameStep, Accepted, updates, ops_of, entries_by}
+use Rattle.dn_formats.specs.Lawful.{both_counts}
+use Rattle.dn_model.specs.declared.entry.Op.{Op}
+use Rattle.dn_model.specs.declared.entry.Posted.{Posted}
+use Rattle.dn_model.specs.declared.ids.RouterId.{RouterId}
+use Rattle.dn_model.specs.declared.memory.OutOfMemory.{OutOfMemory}
+use Rattle.dn_model.specs.declared.topology.Topology.{Topology}
+use Rattle.dn_formats.specs.declared.told.FeedEnd.{FeedEnd}
+use Rattle.dn_formats.specs.declared.told.FeedTold.{FeedTold}
+use Rattle.route_feed.specs.FeedReader.{Reader, end_of}
+use Rattle.route_feed.specs.declared.feed_step.FeedStep.{FeedStep}
+use Rattle.route_feed.specs.declared.feed_step.FeedStep.TheVariants as answers
+use Rattle.feed_threads.specs.Feeds.{Feed, end_with, end_of_feed, handed_out, HandsOut, TookOf, Stands, ReadsOn}
+use Rattle.feed_threads.specs.Seats.{own_of}
+use Rattle.feed_threads.specs.Takes.{IsLater, IsCount, HasTaken, Gives, TakesSome, TakesAny}
+use Rattle.feed_threads.proofs.StepLemmas.{none-handed}
+
+-- ---- lists
+
+pub prefix-length : {A : Type 0} (xs ys : List A) → IsPrefix xs ys → length xs ≤ length ys
+prefix-length xs ys p = omega (arith, length-append xs p.0, ap length p.1)
+
+pub entries_by-append : (n : ℕ) (r : RouterId) (xs ys : List Op) → entries_by n r (xs ++ ys) ≡ entries_by n r xs ++ entries_by n r ys
+entries_by-append n r xs ys = map-append (λ (op : Op). record { router = r; feed_no = n; op = op }) xs ys
+
+pub updates-append : (xs ys : List FrameStep) → updates (xs ++ ys) ≡ updates xs ++ updates ys
+updates-append xs ys = flat_map-append ops_of xs ys
+
+-- ---- no frame after an end
+
+pub later-nil : (end : Option FeedEnd) → IsLater end []
+later-nil None = tt
+later-nil (Some e) = refl
+
+pub later-more : (end mid : Option FeedEnd) (xs ys : List FrameStep) → IsLater end xs → ((e : FeedEnd) → end ≡ Some e → mid ≡ Some e) → IsLater mid ys → IsLater end (xs ++ ys)
+later-more None mid xs ys a same b = tt
+later-more (Some e) mid xs ys a same b =
+    let none : ys ≡ [] = subst (λ (o : Option FeedEnd). IsLater o ys) (same e refl) b in
+    rw (a, none) refl
+
+later-handed : (end : Option FeedEnd) (step : FeedStep) → ((e : FeedEnd) → end ≡ Some e → end_of step ≡ Some e) → IsLater end (handed_out step)
+later-handed None step ended = tt
+later-handed (Some e) step ended = none-handed step e (ended e refl)
+
+-- where a history had taken all, as it was seen, it had taken all as it is seen later; and so where it was full
+pub took-later : (limit : ℕ) (seen later : List Posted) (kept : Option ℕ) (steps : List FrameStep) (ops : List Op) → IsPrefix seen later → TookOf limit seen kept steps ops → TookOf limit later kept steps ops
+took-later limit seen later None steps ops begins took = took
+took-later limit seen later (Some n) steps ops begins took =
+    let more : length seen ≤ length later = prefix-length seen later begins in
+    let full : limit ≤ length seen = took.1.full in
+    (took.0, record { before = took.1.before; last = took.1.last; steps_are = took.1.steps_are; at_least = took.1.at_least; fewer = took.1.fewer; full = omega arith })
+
+-- ---- counts
+
+count-ended : (c d : Option ℕ) (len : ℕ) (end : FeedEnd) → IsCount c len (Some end) → IsCount (both_counts c d) len (Some end)
+count-ended None d len end is = tt
+count-ended (Some n) None len end is = tt
+count-ended (Some n) (Some m) len end is = omega (arith, is)
+
+count-going : (c d : Option ℕ) (len more : ℕ) (end : Option FeedEnd) → IsCount c len None → IsCount d more end → IsCount (both_counts c d) (len + more) end
+count-going None d len more end is also = absurd is
+count-going (Some n) None len more None is also = also
+count-going (Some n) None len more (Some e) is also = tt
+count-going (Some n) (Some m) len more None is also = omega (arith, is, also)
+count-going (Some n) (Some m) len more (Some e) is also = omega (arith, is, also)
+
+-- where a feed had ended nothing more was taken
+pub count-more : (c d : Option ℕ) (xs ys : List FrameStep) (before after : Option FeedEnd) → IsCount c (length xs) before → IsCount d (length ys) after → IsLater before ys →
+    ((e : FeedEnd) → before ≡ Some e → after ≡ Some e) → IsCount (both_counts c d) (length (xs ++ ys)) after
+count-more c d xs ys None after is also late same =
+    subst (λ (n : ℕ). IsCount (both_counts c d) n after) (sym (length-append xs ys)) (count-going c d (length xs) (length ys) after is also)
+count-more c d xs ys (Some e) after is also late same =
+    let here : xs ++ ys ≡ xs = ap (λ zs. xs ++ zs) late ∙ append-nil xs in
+    subst (λ (o : Option FeedEnd). IsCount (both_counts c d) (length (xs ++ ys)) o) (sym (same e refl))
+    (subst (λ (zs : List FrameStep). IsCount (both_counts c d) (length zs) (Some e)) (sym here) (count-ended c d (length xs) e is))
+
+-- a feed that has ended has no more than that many
+count-fewer : (n m len : ℕ) (end : Option FeedEnd) → is_none end ≡ false → n ≤ m → IsCount (Some n) len end → IsCount (Some m) len end
+count-fewer n m len None ended less is = cc
+count-fewer n m len (Some e) ended less is = omega (arith, less, is)
+
+count-any : (len : ℕ) (end : Option FeedEnd) → is_none end ≡ false → IsCount None len end
+count-any len None ended = cc
+count-any len (Some e) ended = tt
+
+counted-step : (step : FeedStep) → IsCount (Some 1) (length (handed_out step)) (end_of step)
+counted-step (answers.Ops ops skipped) = refl
+counted-step (answers.Refused o m c) = refl
+counted-step answers.End = omega arith
+counted-step (answers.CutShort o) = omega arith
+counted-step (answers.Lost o c) = omega arith
+counted-step answers.TooLong = omega arith
+counted-step answers.Faulted = omega arith
+
+kept-end : (kept : Option ℕ) (end : Option FeedEnd) → kept ≡ None → end_with kept end ≡ end
+kept-end kept end none = ap (λ (k : Option ℕ). end_with k end) none
+
+module _ {S : Type 0} (t : Topology) (left : S → Option (List ℕ)) (faults place : S → ℕ) (limit : ℕ) where
+  pub stands-later : (seen later : List Posted) (start : Reader S) (feed : Feed S) (steps : List FrameStep) (ops : List Op) → IsPrefix seen later →
+      Stands t left faults place limit seen start feed steps ops → Stands t left faults place limit later start feed steps ops
+  stands-later seen later start feed steps ops begins st = record { reads = st.reads; took = took-later limit seen later feed.kept steps ops begins st.took }
+
+  -- nothing is given
+  pub gives-none : (number : ℕ) (feed : Feed S) (seen : List Posted) → Gives t left faults place limit number feed feed seen seen []
+  gives-none number feed seen = record {
+    ops = [];
+    stands = λ start steps ops-before st.
+        subst (λ (xs : List FrameStep). Stands t left faults place limit seen start feed xs (ops-before ++ [])) (sym (append-nil steps))
+        (subst (λ (xs : List Op). Stands t left faults place limit seen start feed steps xs) (sym (append-nil ops-before)) st);
+    grows = sym (append-nil (own_of number seen));
+    later = later-nil (end_of_feed feed);
+    ended = λ end is. (refl, refl);
+    feed_no = refl;
+    router = refl;
+  }
+
+  -- and then some more
+  pub gives-more : (number : ℕ) (old mid new : Feed S) (a b c : List Posted) (xs ys : List FrameStep) →
+      Gives t left faults place limit number old mid a b xs → Gives t left faults place limit number mid new b c ys → Gives t left faults place limit number old new a c (xs ++ ys)
+  gives-more number old mid new a b c xs ys x y = record {
+    ops = x.ops ++ y.ops;
+    stands = λ start steps ops-before st.
+        subst (λ (zs : List FrameStep). Stands t left faults place limit c start new zs (ops-before ++ (x.ops ++ y.ops))) (append_assoc steps xs ys)
+        (subst (λ (zs : List Op). Stands t left faults place limit c start new ((steps ++ xs) ++ ys) zs) (append_assoc ops-before x.ops y.ops)
+        (y.stands start (steps ++ xs) (ops-before ++ x.ops) (x.stands start steps ops-before st)));
+    grows = y.grows ∙ ap (λ n. own_of number b ++ entries_by n mid.reader.told.router y.ops) x.feed_no ∙ ap (λ r. own_of number b ++ entries_by old.reader.told.feed_no r y.ops) x.router
+        ∙ ap (λ z. z ++ entries_by old.reader.told.feed_no old.reader.told.router y.ops) x.grows
+        ∙ append_assoc (own_of number a) (entries_by old.reader.told.feed_no old.reader.told.router x.ops) (entries_by old.reader.told.feed_no old.reader.told.router y.ops)
+        ∙ ap (λ z. own_of number a ++ z) (sym (entries_by-append old.reader.told.feed_no old.reader.told.router x.ops y.ops));
+    later = later-more (end_of_feed old) (end_of_feed mid) xs ys x.later (λ e is. ap end_of_feed (x.ended e is).0 ∙ is) y.later;
+    ended = λ e is.
+        let first : (mid ≡ old) × (x.ops ≡ []) = x.ended e is in
+        let second : (new ≡ mid) × (y.ops ≡ []) = y.ended e (ap end_of_feed first.0 ∙ is) in
+        (second.0 ∙ first.0, ap (λ z. z ++ y.ops) first.1 ∙ second.1);
+    feed_no = y.feed_no ∙ x.feed_no;
+    router = y.router ∙ x.router;
+  }
+
+  -- ---- one frame
+
+  -- where the history took all that a reader's answer hands out
+  pub gives-whole : (number : ℕ) (old new : Feed S) (seen-before seen : List Posted) (step : FeedStep) → IsPrefix seen-before seen → old.kept ≡ None → new.kept ≡ None →
+      ((start : Reader S) (steps : List FrameStep) → HandsOut t left faults place start old.reader steps → HandsOut t left faults place start new.reader (steps ++ handed_out step)) →
+      ((end : FeedEnd) → old.reader.told.end ≡ Some end → (new.reader ≡ old.reader) × (end_of step ≡ Some end)) →
+      new.reader.told.feed_no ≡ old.reader.told.feed_no → new.reader.told.router ≡ old.reader.told.router →
+      own_of number seen ≡ own_of number seen-before ++ entries_by old.reader.told.feed_no old.reader.told.router (updates (handed_out step)) →
+      Gives t left faults place limit number old new seen-before seen (handed_out step)
+  gives-whole number old new seen-before seen step begins kept kept' handed again feed_no router grows =
+      let going : end_of_feed old ≡ old.reader.told.end = kept-end old.kept old.reader.told.end kept in
+      record {
+        ops = updates (handed_out step);
+        stands = λ start steps ops-before st. record {
+          reads = handed start steps st.reads;
+          took = subst (λ (k : Option ℕ). TookOf limit seen k (steps ++ handed_out step) (ops-before ++ updates (handed_out step))) (sym kept')
+              (ap (λ z. z ++ updates (handed_out step)) (subst (λ (k : Option ℕ). TookOf limit seen-before k steps ops-before) kept st.took) ∙ sym (updates-append steps (handed_out step)));
+        };
+        grows = grows;
+        later = later-handed (end_of_feed old) step (λ e is. (again e (sym going ∙ is)).1);
+        ended = λ e is. (
+          same-feed old new kept kept' (again e (sym going ∙ is)).0,
+          ap updates (none-handed step e (again e (sym going ∙ is)).1),
+        );
+        feed_no = feed_no;
+        router = router;
+      }
+    where
+      same-feed : (x y : Feed S) → x.kept ≡ None → y.kept ≡ None → y.reader ≡ x.reader → y ≡ x
+      same-feed x y k l r = ap (λ (o : Option ℕ). record { reader = y.reader; kept = o }) (l ∙ sym k) ∙ ap (λ (q : Reader S). record { reader = q; kept = x.kept }) r
+
+  -- where it was full after the first n of a frame's updates
+  pub gives-broken : (number : ℕ) (old new : Feed S) (seen-before seen : List Posted) (ops : List Op) (skipped n : ℕ) → old.kept ≡ None → old.reader.told.end ≡ None →
+      new.kept ≡ Some (old.reader.told.updates + n) → n < length ops → limit ≤ length seen →
+      ((start : Reader S) (steps : List FrameStep) → HandsOut t left faults place start old.reader steps → HandsOut t left faults place start new.reader (steps ++ Accepted ops skipped ∷ [])) →
+      new.reader.told.feed_no ≡ old.reader.told.feed_no → new.reader.told.router ≡ old.reader.told.router →
+      own_of number seen ≡ own_of number seen-before ++ entries_by old.reader.told.feed_no old.reader.told.router (take n ops) →
+      Gives t left faults place limit number old new seen-before seen (Accepted ops skipped ∷ [])
+  gives-broken number old new seen-before seen ops skipped n kept going kept' fewer full handed feed_no router grows =
+      let none : end_of_feed old ≡ None = kept-end old.kept old.reader.told.end kept ∙ going in
+      record {
+        ops = take n ops;
+        stands = λ start steps ops-before st.
+            let before : ops-before ≡ updates steps = subst (λ (k : Option ℕ). TookOf limit seen-before k steps ops-before) kept st.took in
+            let count : old.reader.told.updates ≡ length (updates steps) = ap (λ (x : FeedTold). x.updates) st.reads.told in
+            let all : updates (steps ++ Accepted ops skipped ∷ []) ≡ updates steps ++ ops = updates-append steps (Accepted ops skipped ∷ []) ∙ ap (λ z. updates steps ++ z) (append-nil ops) in
+            let both : length (updates (steps ++ Accepted ops skipped ∷ [])) ≡ length (updates steps) + length ops = ap length all ∙ length-append (updates steps) ops in
+            record {
+              reads = handed start steps st.reads;
+              took = subst (λ (k : Option ℕ). TookOf limit seen k (steps ++ Accepted ops skipped ∷ []) (ops-before ++ take n ops)) (sym kept') (
+                ap (λ z. z ++ take n ops) before ∙ sym (take-append-add (updates steps) ops n) ∙ ap (λ z. take (length (updates steps) + n) z) (sym all)
+                    ∙ ap (λ z. take (z + n) (updates (steps ++ Accepted ops skipped ∷ []))) (sym count),
+                record {
+                  before = steps;
+                  last = Accepted ops skipped;
+                  steps_are = refl;
+                  at_least = omega arith;
+                  fewer = omega arith;
+                  full = full;
+                },
+              );
+            };
+        grows = grows;
+        later = subst (λ (o : Option FeedEnd). IsLater o (Accepted ops skipped ∷ [])) (sym none) tt;
+        ended = λ e is. absurd (cc (sym none ∙ is));
+        feed_no = feed_no;
+        router = router;
+      }
+
+  -- ---- one frame, as its call says it
+
+  pub took-none : (number : ℕ) (feed : Feed S) (seen : List Posted) → is_none (end_of_feed feed) ≡ false → TakesSome t left faults place limit number (Some 1) feed feed seen seen
+  took-none number feed seen ended = record { more = []; adds = gives-none number feed seen; counted = count-fewer 0 1 0 (end_of_feed feed) ended (omega arith) (zero-count (end_of_feed feed)) }
+    where
+      zero-count : (end : Option FeedEnd) → IsCount (Some 0) 0 end
+      zero-count None = refl
+      zero-count (Some e) = omega arith
+
+  -- an answer of a reader of which the history took all
+  pub took-step : (number : ℕ) (old new : Feed S) (seen-before seen : List Posted) (step : FeedStep) → new.kept ≡ None → new.reader.told.end ≡ end_of step →
+      Gives t left faults place limit number old new seen-before seen (handed_out step) → TakesSome t left faults place limit number (Some 1) old new seen-before seen
+  took-step number old new seen-before seen step kept end gives = record {
+    more = handed_out step;
+    adds = gives;
+    counted = subst (λ (o : Option FeedEnd). IsCount (Some 1) (length (handed_out step)) o) (sym (kept-end new.kept new.reader.told.end kept ∙ end)) (counted-step step);
+  }
+
+  -- an accepted frame, of which the history took all or only some updates
+  pub took-ops : (number : ℕ) (old new : Feed S) (seen-before seen : List Posted) (ops : List Op) (skipped : ℕ) (mid : Reader S) (result : Result Bool OutOfMemory) →
+      IsPrefix seen-before seen → old.kept ≡ None → old.reader.told.end ≡ None → new.reader ≡ mid → mid.told.end ≡ None → mid.told.updates ≡ old.reader.told.updates + length (updates (Accepted ops skipped ∷ [])) →
+      ((start : Reader S) (steps : List FrameStep) → HandsOut t left faults place start old.reader steps → HandsOut t left faults place start mid (steps ++ Accepted ops skipped ∷ [])) →
+      mid.told.feed_no ≡ old.reader.told.feed_no → mid.told.router ≡ old.reader.told.router →
+      IfOk result (λ more. HasTaken limit number more new.kept mid.told seen-before seen ops) →
+      OnOk result (TakesSome t left faults place limit number (Some 1) old new seen-before seen)
+  took-ops number old new seen-before seen ops skipped mid (Err e) begins kept going reader end count handed feed_no router took = tt
+  took-ops number old new seen-before seen ops skipped mid (Ok true) begins kept going reader end count handed feed_no router took =
+      took-step number old new seen-before seen (answers.Ops ops skipped) took.0 (ap (λ (r : Reader S). r.told.end) reader ∙ end)
+      (gives-whole number old new seen-before seen (answers.Ops ops skipped) begins kept took.0
+      (λ start steps h. subst (λ (r : Reader S). HandsOut t left faults place start r (steps ++ Accepted ops skipped ∷ [])) (sym reader) (handed start steps h))
+      (λ e is. absurd (cc (sym going ∙ is)))
+      (ap (λ (r : Reader S). r.told.feed_no) reader ∙ feed_no) (ap (λ (r : Reader S). r.told.router) reader ∙ router)
+      (took.1 ∙ ap (λ z. own_of number seen-before ++ entries_by z mid.told.router ops) feed_no ∙ ap (λ z. own_of number seen-before ++ entries_by old.reader.told.feed_no z ops) router
+      ∙ ap (λ z. own_of number seen-before ++ entries_by old.reader.told.feed_no old.reader.told.router z) (sym (append-nil ops))))
+  took-ops number old new seen-before seen ops skipped mid (Ok false) begins kept going reader end count handed feed_no router took =
+      let n : ℕ = took.0 in
+      let fewer : n < length ops = took.1 in
+      let same : length (ops ++ []) ≡ length ops = ap length (append-nil ops) in
+      let sum : mid.told.updates - (length ops - n) ≡ old.reader.told.updates + n = omega (arith, count, fewer, same) in
+      let kept' : new.kept ≡ Some (old.reader.told.updates + n) = took.2 ∙ ap Some sum in
+      record {
+        more = Accepted ops skipped ∷ [];
+        adds = gives-broken number old new seen-before seen ops skipped n kept going kept' fewer took.3
+            (λ start steps h. subst (λ (r : Reader S). HandsOut t left faults place start r (steps ++ Accepted ops skipped ∷ [])) (sym reader) (handed start steps h))
+            (ap (λ (r : Reader S). r.told.feed_no) reader ∙ feed_no) (ap (λ (r : Reader S). r.told.router) reader ∙ router)
+            (took.4 ∙ ap (λ z. own_of number seen-before ++ entries_by z mid.told.router (take n ops)) feed_no ∙ ap (λ z. own_of number seen-before ++ entries_by old.reader.told.feed_no z (take n ops)) router);
+        counted = subst (λ (k : Option ℕ). IsCount (Some 1) 1 (end_with k new.reader.told.end)) (sym kept') (omega arith);
+      }
+
+  pub more-ops : (number : ℕ) (new : Feed S) (mid : FeedTold) (seen-before seen : List Posted) (ops : List Op) (result : Result Bool OutOfMemory) → new.reader.told.end ≡ None →
+      IfOk result (λ more. HasTaken limit number more new.kept mid seen-before seen ops) → IfOk result (λ more. more ≡ is_none (end_of_feed new))
+  more-ops number new mid seen-before seen ops (Err e) going took = tt
+  more-ops number new mid seen-before seen ops (Ok true) going took = sym (ap is_none (kept-end new.kept new.reader.told.end took.0 ∙ going))
+  more-ops number new mid seen-before seen ops (Ok false) going took = sym (ap (λ (k : Option ℕ). is_none (end_with k new.reader.told.end)) took.2)
+
+  -- ---- several frames
+
+  pub took-more : (number : ℕ) (n m : ℕ) (old mid new : Feed S) (a b c : List Posted) → TakesSome t left faults place limit number (Some n) old mid a b → TakesSome t left faults place limit number (Some m) mid new b c →
+      TakesSome t left faults place limit number (Some (n + m)) old new a c
+  took-more number n m old mid new a b c x y = record {
+    more = x.more ++ y.more;
+    adds = gives-more number old mid new a b c x.more y.more x.adds y.adds;
+    counted = count-more (Some n) (Some m) x.more y.more (end_of_feed mid) (end_of_feed new) x.counted y.counted y.adds.later (λ e is. ap end_of_feed (y.adds.ended e is).0 ∙ is);
+  }
+
+  -- a feed that has ended has given no more than that many
+  pub took-fewer : (number : ℕ) (n m : ℕ) (old new : Feed S) (a b : List Posted) → is_none (end_of_feed new) ≡ false → n ≤ m → TakesSome t left faults place limit number (Some n) old new a b →
+      TakesSome t left faults place limit number (Some m) old new a b
+  took-fewer number n m old new a b ended less x = record { more = x.more; adds = x.adds; counted = count-fewer n m (length x.more) (end_of_feed new) ended less x.counted }
+
+  pub took-start : (number : ℕ) (feed : Feed S) (seen : List Posted) → TakesSome t left faults place limit number (Some 0) feed feed seen seen
+  took-start number feed seen = record { more = []; adds = gives-none number feed seen; counted = zero-count (end_of_feed feed) }
+    where
+      zero-count : (end : Option FeedEnd) → IsCount (Some 0) 0 end
+      zero-count None = refl
+      zero-count (Some e) = omega arith
+
+  pub any-start : (number : ℕ) (feed : Feed S) (seen : List Posted) → TakesAny t left faults place limit number feed feed seen seen
+  any-start number feed seen = record { more = []; adds = gives-none number feed seen }
+
+  pub any-more : (number : ℕ) (count : Option ℕ) (old mid new : Feed S) (a b c : List Posted) → TakesAny t left faults place limit number old mid a b → TakesSome t left faults place limit number count mid new b c →
+      TakesAny t left faults place limit number old new a c
+  any-more number count old mid new a b c x y = record { more = x.more ++ y.more; adds = gives-more number old mid new a b c x.more y.more x.adds y.adds }
+
+  pub any-all : (number : ℕ) (old new : Feed S) (a b : List Posted) → is_none (end_of_feed new) ≡ false → TakesAny t left faults place limit number old new a b → TakesSome t left faults place limit number None old new a b
+  any-all number old new a b ended x = record { more = x.more; adds = x.adds; counted = count-any (length x.more) (end_of_feed new) ended }
+
+  -- ---- one frame, as the calls of its function say it
+
+  pub none-of : (kept : Option ℕ) → is_some kept ≡ false → kept ≡ None
+  none-of None e = refl
+  none-of (Some n) e = cc
+
+  full-end : (kept : Option ℕ) (end : Option FeedEnd) → is_some kept ≡ true → is_none (end_with kept end) ≡ false
+  full-end None end e = cc
+  full-end (Some n) end e = refl
+
+  going-of : (P : Type 0) (end : Option FeedEnd) (step : FeedStep) → end_of step ≡ None → ((e : FeedEnd) → end ≡ Some e → P × (end_of step ≡ Some e)) → end ≡ None
+  going-of P None step none again = refl
+  going-of P (Some e) step none again = absurd (cc (sym none ∙ (again e refl).1))
+
+  -- a feed that a full history broke off
+  pub took-full : (number : ℕ) (old : Feed S) (r : Reader S) (k : Option ℕ) (seen : List Posted) → record { reader = r; kept = k } ≡ old → is_some k ≡ true →
+      TakesSome t left faults place limit number (Some 1) old old seen seen
+  took-full number old r k seen is full =
+      took-none number old seen (subst (λ (f : Feed S). is_none (end_of_feed f) ≡ false) is (full-end k r.told.end full))
+
+  -- an answer without an update
+  pub took-arm : (number : ℕ) (old : Feed S) (r : Reader S) (k : Option ℕ) (r' : Reader S) (seen : List Posted) (step : FeedStep) → record { reader = r; kept = k } ≡ old → k ≡ None → updates (handed_out step) ≡ [] →
+      ((start : Reader S) (steps : List FrameStep) → HandsOut t left faults place start r steps → HandsOut t left faults place start r' (steps ++ handed_out step)) →
+      ((end : FeedEnd) → r.told.end ≡ Some end → (r' ≡ r) × (end_of step ≡ Some end)) → r'.told.end ≡ end_of step →
+      r'.told.feed_no ≡ r.told.feed_no → r'.told.router ≡ r.told.router →
+      TakesSome t left faults place limit number (Some 1) old (record { reader = r'; kept = k }) seen seen
+  took-arm number old r k r' seen step is none no-update handed again end feed_no router =
+      let f : Feed S = record { reader = r; kept = k } in
+      subst (λ (x : Feed S). TakesSome t left faults place limit number (Some 1) x (record { reader = r'; kept = k }) seen seen) is
+      (took-step number f (record { reader = r'; kept = k }) seen seen step none end
+      (gives-whole number f (record { reader = r'; kept = k }) seen seen step (prefix_self seen) none none handed again feed_no router
+      (sym (ap (λ (xs : List Op). own_of number seen ++ entries_by r.told.feed_no r.told.router xs) no-update ∙ append-nil (own_of number seen)))))
+
+  -- an accepted frame
+  pub took-accepted : (number : ℕ) (old : Feed S) (r : Reader S) (k : Option ℕ) (r' : Reader S) (new : Feed S) (seen-before seen : List Posted) (step : FeedStep) (ops : List Op) (skipped : ℕ) (result : Result Bool OutOfMemory) →
+      record { reader = r; kept = k } ≡ old → k ≡ None → step ≡ answers.Ops ops skipped → IsPrefix seen-before seen →
+      ((start : Reader S) (steps : List FrameStep) → HandsOut t left faults place start r steps → HandsOut t left faults place start r' (steps ++ handed_out step)) →
+      ((end : FeedEnd) → r.told.end ≡ Some end → (r' ≡ r) × (end_of step ≡ Some end)) → r'.told.end ≡ end_of step →
+      r'.told.updates ≡ r.told.updates + length (updates (handed_out step)) →
+      r'.told.feed_no ≡ r.told.feed_no → r'.told.router ≡ r.told.router → new.reader ≡ r' →
+      IfOk result (λ more. HasTaken limit number more new.kept r'.told seen-before seen ops) →
+      OnOk result (TakesSome t left faults place limit number (Some 1) old new seen-before seen)
+  took-accepted number old r k r' new seen-before seen step ops skipped result is none step-is begins handed again end count feed_no router reader took =
+      let f : Feed S = record { reader = r; kept = k } in
+      let no-end : end_of step ≡ None = ap end_of step-is in
+      subst (λ (x : Feed S). OnOk result (TakesSome t left faults place limit number (Some 1) x new seen-before seen)) is
+      (took-ops number f new seen-before seen ops skipped r' result begins none (going-of (r' ≡ r) r.told.end step no-end again) reader (end ∙ no-end)
+      (count ∙ ap (λ (s : FeedStep). r.told.updates + length (updates (handed_out s))) step-is)
+      (λ start steps h. subst (λ (s : FeedStep). HandsOut t left faults place start r' (steps ++ handed_out s)) step-is (handed start steps h))
+      feed_no router took)
+
+  pub reads-arm : (old : Feed S) (r : Reader S) (k : Option ℕ) (r' new : Reader S) (step : FeedStep) → record { reader = r; kept = k } ≡ old → new ≡ r' →
+      ((start : Reader S) (steps : List FrameStep) → HandsOut t left faults place start r steps → HandsOut t left faults place start r' (steps ++ handed_out step)) →
+      r'.told.router ≡ r.told.router → ReadsOn t left faults place old.reader new
+  reads-arm old r k r' new step is same handed router =
+      subst (λ (x : Feed S). ReadsOn t left faults place x.reader new) is
+      (subst (λ (x : Reader S). ReadsOn t left faults place r x) (sym same) (record { more = handed_out step; on = handed; router = router }))

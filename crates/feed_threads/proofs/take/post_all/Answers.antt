@@ -1,0 +1,16 @@
+use Rattle.std.proofs.Common.{◌≡◌, ◌+◌, ◌++◌, ◌∷◌, [], take, rules, arith}
+use Rattle.std.proofs.lemmas.Grind.{common_steps}
+use Rattle.feed_threads.proofs.SeatLemmas.{saw-more, own-more}
+use Rattle.feed_threads.proofs.take.post_all.Goals as goal
+
+pub returns-then-not-branch-clause-saw : goal.returns-then-not-branch-clause-saw
+returns-then-not-branch-clause-saw g c = saw-more _ _ _ c.loop-taken.invariant.saw c.post.ensures.saw
+
+pub loop-taken-preserved : goal.loop-taken-preserved
+loop-taken-preserved g c =
+    let more : take (c.loop-taken.taken + 1) c.args.ops.now ≡ take c.loop-taken.taken c.args.ops.now ++ c.index-ops-taken.result ∷ [] = first_of (search rules, grind (arith, common_steps)) in
+    record {
+      saw = saw-more _ _ _ c.loop-taken.invariant.saw c.post.ensures.saw;
+      own = own-more c.args.seat.now c.loop-taken.seat c.post.new.seat c.args.feed_no c.args.router _ _ c.index-ops-taken.result c.in_ok-post.field-0
+          c.loop-taken.invariant.saw c.if-not-branch.false more c.loop-taken.invariant.own c.in_ok-post.ensures.own;
+    }

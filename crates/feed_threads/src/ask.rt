@@ -1,0 +1,79 @@
+//! A query of a script is asked over a snapshot.
+
+ghost use Rattle.std.specs.Prelude.{◌≡◌, IfOk, OnOk, OnErr, None};
+ghost use Rattle.dn_model.specs.Answer.{IsAnswer};
+ghost use Rattle.dn_model.specs.Entry.{entries};
+ghost use Rattle.dn_model.specs.Query.{unknown_of};
+ghost use Rattle.version_lock.specs.Callers.{IsSeatOf};
+ghost use Rattle.feed_threads.specs.Seats.{own_of, SawMore};
+ghost use Rattle.feed_threads.specs.Tells.{Adds, IsOutcomeNow};
+
+use crate::desk::Desk;
+use dn_formats::{Outcome, Told};
+use dn_io::Gate;
+use dn_model::{Answer, List, OutOfMemory, Query};
+use std::alloc::Global;
+use std::sync::Wait;
+use version_lock::Seat;
+use version_store::{AskRefused, Snapshot};
+
+/// The answer of a snapshot to a query whose names the network has.
+fn answer_of(alloc: Global, snapshot: &Snapshot, query: &Query) -> Result<Answer, OutOfMemory>
+    requires known { unknown_of snapshot.now.topology query.now ≡ None }
+    ensures { IfOk result (IsAnswer snapshot.now.topology (entries snapshot.now.history) query.now) }
+{
+    match snapshot.answer(alloc, query) {
+        Ok(answer) => Ok(answer),
+        Err(AskRefused::OutOfMemory) => Err(OutOfMemory),
+        Err(AskRefused::UnknownRouter(_)) => unreachable!(),
+        Err(AskRefused::UnknownLink(_)) => unreachable!(),
+    }
+}
+
+/// The answer to a query over the history, whose length is its pin; or the query's first unknown name, without a pin.
+fn outcome<G: Gate, R: Wait>(
+    rt: &R,
+    desk: &Desk<'_, G>,
+    seat: &mut Seat,
+    query: &Query,
+) -> Result<Outcome, OutOfMemory>
+    requires lock { IsSeatOf desk.now seat.old }
+    ensures saw { SawMore seat.old seat.new }
+    ensures own { own_of seat.old.number seat.new.seen ≡ own_of seat.old.number seat.old.seen }
+    ensures good { IfOk result (IsOutcomeNow desk.now.setup.basis.topology seat.new.seen query.now) }
+{
+    if let Some(unknown) = query.unknown(desk.topology()) {
+        return Ok(Outcome::Unknown(unknown));
+    }
+    let snapshot = desk.pin(rt, seat)?;
+    let answer = answer_of(desk.alloc(), &snapshot, query)?;
+    desk.answered();
+    Ok(Outcome::Answered {
+        number: snapshot.number(),
+        answer,
+    })
+}
+
+/// Asks a query, and adds what is told of it.
+pub(crate) fn ask<G: Gate, R: Wait>(
+    rt: &R,
+    desk: &Desk<'_, G>,
+    seat: &mut Seat,
+    line: u32,
+    query: &Query,
+    told: &mut List<Told>,
+) -> Result<(), OutOfMemory>
+    requires lock { IsSeatOf desk.now seat.old }
+    ensures saw { SawMore seat.old seat.new }
+    ensures own { own_of seat.old.number seat.new.seen ≡ own_of seat.old.number seat.old.seen }
+    ensures told { OnOk result (Adds told.old told.new line query.now (IsOutcomeNow desk.now.setup.basis.topology seat.new.seen query.now)) }
+    ensures err { OnErr result (told.new ≡ told.old) }
+{
+    let outcome = outcome(rt, desk, seat, query)?;
+    let query = query.copy(desk.alloc())?;
+    told.push(Told {
+        line,
+        query,
+        outcome,
+    })
+}

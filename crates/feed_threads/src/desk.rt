@@ -1,0 +1,114 @@
+//! What a job works with, whatever its feeds are.
+
+ghost use Rattle.std.specs.Prelude.{◌≡◌, ◌≤◌, ◌++◌, ◌∷◌, [], length, true, false, if◌then◌else◌, IfOk, OnOk};
+ghost use Rattle.dn_model.specs.Entry.{IsEntryOf};
+ghost use Rattle.version_lock.specs.Callers.{IsSeatOf};
+ghost use Rattle.feed_threads.specs.Seats.{own_of, SawMore};
+
+use dn_io::{Gate, Point};
+use dn_model::{Entry, OutOfMemory, Topology};
+use std::alloc::Global;
+use std::marker::Model;
+use std::sync::Wait;
+use version_lock::{PostRefused, Seat, VersionLock};
+use version_store::{Snapshot, Store};
+
+/// What a job works with: the lock and the lock's network, the gate of tests, and the job's number. A contract sees the
+/// lock.
+#[derive(Drop)]
+pub(crate) struct Desk<'a, G: Gate> {
+    alloc: Global,
+    lock: &'a VersionLock<Store>,
+    topology: &'a Topology,
+    gate: &'a G,
+    job: u32,
+}
+
+impl<'a, G: Gate> Model for Desk<'a, G> {
+    ghost use Rattle.std.specs.Prelude.{◌≡◌};
+    ghost use Rattle.version_lock.specs.Callers.{Lock};
+
+    ghost Value = { Lock };
+
+    ghost view = { λ d. d.lock.now };
+
+    ghost invariant = { λ d. d.topology.now ≡ d.lock.now.setup.basis.topology };
+}
+
+impl<'a, G: Gate> Desk<'a, G> {
+    /// The desk of a job.
+    pub(crate) fn new(
+        alloc: Global,
+        lock: &'a VersionLock<Store>,
+        topology: &'a Topology,
+        gate: &'a G,
+        job: u32,
+    ) -> Desk<'a, G>
+        requires { topology.now ≡ lock.now.setup.basis.topology }
+        ensures { result ≡ lock.now }
+    {
+        Desk {
+            alloc,
+            lock,
+            topology,
+            gate,
+            job,
+        }
+    }
+
+    /// What memory comes from.
+    pub(crate) fn alloc(&self) -> Global {
+        self.alloc
+    }
+
+    /// The lock's network.
+    pub(crate) fn topology(&self) -> &Topology
+        ensures { result.now ≡ self.now.setup.basis.topology }
+    {
+        self.topology
+    }
+
+    /// Applies an entry, and answers whether the history took it: it did not where it was full.
+    pub(crate) fn post<R: Wait>(
+        &self,
+        rt: &R,
+        seat: &mut Seat,
+        entry: &Entry,
+    ) -> Result<bool, OutOfMemory>
+        requires lock { IsSeatOf self.now seat.old }
+        requires entry { IsEntryOf self.now.setup.basis.topology entry.now }
+        ensures saw { SawMore seat.old seat.new }
+        ensures own { IfOk result (λ taken. own_of seat.old.number seat.new.seen ≡ own_of seat.old.number seat.old.seen ++ (if taken then entry.now ∷ [] else [])) }
+        ensures full { IfOk result (λ taken. taken ≡ false → self.now.setup.basis.limit ≤ length seat.new.seen) }
+    {
+        let _number = seat.number();
+        self.gate.at(self.job, Point::BeforeApply);
+        match self.lock.apply(rt, seat, entry) {
+            Ok(_) => {
+                self.gate.at(self.job, Point::AfterApply);
+                Ok(true)
+            }
+            Err(PostRefused::Full { .. }) => Ok(false),
+            Err(PostRefused::OutOfMemory) => Err(OutOfMemory),
+        }
+    }
+
+    /// A snapshot of the history, all of which the seat has then seen.
+    pub(crate) fn pin<R: Wait>(&self, rt: &R, seat: &mut Seat) -> Result<Snapshot, OutOfMemory>
+        requires lock { IsSeatOf self.now seat.old }
+        ensures saw { SawMore seat.old seat.new }
+        ensures own { own_of seat.old.number seat.new.seen ≡ own_of seat.old.number seat.old.seen }
+        ensures shown { IfOk result (λ s. s.history ≡ seat.new.seen) }
+        ensures topology { IfOk result (λ s. s.topology ≡ self.now.setup.basis.topology) }
+    {
+        let _number = seat.number();
+        let pinned = self.lock.pin(rt, seat)?;
+        self.gate.at(self.job, Point::AfterPin);
+        Ok(pinned.snap)
+    }
+
+    /// A query was answered.
+    pub(crate) fn answered(&self) {
+        self.gate.at(self.job, Point::AfterAnswer);
+    }
+}

@@ -1,0 +1,172 @@
+//! Frames of one feed are taken through the lock.
+
+ghost use Rattle.std.specs.Prelude.{◌≡◌, ℕ, ◌<◌, ◌≤◌, ◌++◌, [], List, All, length, take, IfOk, OnOk, is_none, true, false, Some, None};
+ghost use Rattle.dn_formats.specs.Steps.{entries_by};
+ghost use Rattle.dn_model.specs.Entry.{IsOpOf};
+ghost use Rattle.version_lock.specs.Callers.{IsSeatOf};
+ghost use Rattle.feed_threads.specs.Feeds.{ReadsOn, end_of_feed};
+ghost use Rattle.feed_threads.specs.Seats.{own_of, SawMore};
+ghost use Rattle.feed_threads.specs.Takes.{HasTaken, TakesSome};
+
+use crate::desk::Desk;
+use crate::feed::{Feed, next_step};
+use dn_io::{Gate, Source};
+use dn_model::{Entry, Op, OutOfMemory, RouterId};
+use route_feed::FeedStep;
+use std::sync::Wait;
+use version_lock::Seat;
+
+/// Applies updates of one router's feed, in order, and answers how many of them the history took: all, or fewer where it
+/// was full.
+fn post_all<G: Gate, R: Wait>(
+    rt: &R,
+    desk: &Desk<'_, G>,
+    seat: &mut Seat,
+    feed_no: u32,
+    router: RouterId,
+    ops: &[Op],
+) -> Result<usize, OutOfMemory>
+    requires lock { IsSeatOf desk.now seat.old }
+    requires router { router.0 < length desk.now.setup.basis.topology.routers }
+    requires ops { All (IsOpOf desk.now.setup.basis.topology) ops.now }
+    ensures saw { SawMore seat.old seat.new }
+    ensures few { IfOk result (λ n. n ≤ length ops.now) }
+    ensures own { IfOk result (λ n. own_of seat.old.number seat.new.seen ≡ own_of seat.old.number seat.old.seen ++ entries_by feed_no router (take n ops.now)) }
+    ensures full { IfOk result (λ n. n < length ops.now → desk.now.setup.basis.limit ≤ length seat.new.seen) }
+{
+    for taken in 0..ops.len() {
+        let entry = Entry {
+            router,
+            feed_no,
+            op: ops[taken],
+        };
+        if !desk.post(rt, seat, &entry)? {
+            return Ok(taken);
+        }
+    }
+    Ok(ops.len())
+}
+
+/// Applies the updates of a frame that a feed's reader has just handed out, and answers whether the history took all of
+/// them. Where it did not the feed is at its end.
+fn take_ops<S: Source, G: Gate, R: Wait>(
+    rt: &R,
+    desk: &Desk<'_, G>,
+    seat: &mut Seat,
+    feed: &mut Feed<S>,
+    ops: &[Op],
+) -> Result<bool, OutOfMemory>
+    requires lock { IsSeatOf desk.now seat.old }
+    requires router { feed.old.reader.told.router.0 < length desk.now.setup.basis.topology.routers }
+    requires ops { All (IsOpOf desk.now.setup.basis.topology) ops.now }
+    requires counted { length ops.now ≤ feed.old.reader.told.updates }
+    requires going { feed.old.kept ≡ None }
+    ensures saw { SawMore seat.old seat.new }
+    ensures reader { feed.new.reader ≡ feed.old.reader }
+    ensures took { IfOk result (λ more. HasTaken desk.now.setup.basis.limit seat.old.number more feed.new.kept feed.old.reader.told seat.old.seen seat.new.seen ops.now) }
+{
+    let feed_no = feed.reader.told().feed_no;
+    let router = feed.reader.told().router;
+    let taken = post_all(rt, desk, seat, feed_no, router, ops)?;
+    if taken == ops.len() {
+        return Ok(true);
+    }
+    let missed = (ops.len() - taken) as u64;
+    feed.kept = Some(feed.reader.told().updates - missed);
+    Ok(false)
+}
+
+/// Takes the next frame of a feed: its updates are applied. Answers whether the feed goes on, and not whether the frame was
+/// accepted. A frame whose updates met a full history is the feed's last.
+fn take_frame<S: Source, G: Gate, R: Wait>(
+    rt: &R,
+    desk: &Desk<'_, G>,
+    seat: &mut Seat,
+    feed: &mut Feed<S>,
+) -> Result<bool, OutOfMemory>
+    requires lock { IsSeatOf desk.now seat.old }
+    requires router { feed.old.reader.told.router.0 < length desk.now.setup.basis.topology.routers }
+    ensures saw { SawMore seat.old seat.new }
+    ensures taken { OnOk result (TakesSome desk.now.setup.basis.topology S.left S.faults S.place desk.now.setup.basis.limit seat.old.number (Some 1) feed.old feed.new seat.old.seen seat.new.seen) }
+    ensures more { IfOk result (λ more. more ≡ is_none (end_of_feed feed.new)) }
+    ensures grows { IfOk result (λ more. more ≡ true → (feed.old.reader.passed < feed.new.reader.passed) × (feed.new.reader.passed ≤ feed.new.reader.limit)) }
+    ensures reads { ReadsOn desk.now.setup.basis.topology S.left S.faults S.place feed.old.reader feed.new.reader }
+    ensures limit { feed.new.reader.limit ≡ feed.old.reader.limit }
+{
+    if feed.kept.is_some() {
+        return Ok(false);
+    }
+    match next_step(desk.alloc(), desk.topology(), &mut feed.reader)? {
+        FeedStep::Ops(ops, _) => take_ops(rt, desk, seat, feed, ops.as_slice()),
+        FeedStep::Refused { .. } => Ok(true),
+        FeedStep::End => Ok(false),
+        FeedStep::CutShort { .. } => Ok(false),
+        FeedStep::Lost { .. } => Ok(false),
+        FeedStep::TooLong => Ok(false),
+        FeedStep::Faulted => Ok(false),
+    }
+}
+
+/// Takes this many frames of a feed, or what is left where they are fewer.
+fn take_some<S: Source, G: Gate, R: Wait>(
+    rt: &R,
+    desk: &Desk<'_, G>,
+    seat: &mut Seat,
+    feed: &mut Feed<S>,
+    count: u32,
+) -> Result<(), OutOfMemory>
+    requires lock { IsSeatOf desk.now seat.old }
+    requires router { feed.old.reader.told.router.0 < length desk.now.setup.basis.topology.routers }
+    ensures saw { SawMore seat.old seat.new }
+    ensures taken { OnOk result (TakesSome desk.now.setup.basis.topology S.left S.faults S.place desk.now.setup.basis.limit seat.old.number (Some count) feed.old feed.new seat.old.seen seat.new.seen) }
+    ensures reads { ReadsOn desk.now.setup.basis.topology S.left S.faults S.place feed.old.reader feed.new.reader }
+{
+    for taken in 0..count {
+        let _ = taken;
+        if !take_frame(rt, desk, seat, feed)? {
+            return Ok(());
+        }
+    }
+    Ok(())
+}
+
+/// Takes the rest of a feed.
+fn take_rest<S: Source, G: Gate, R: Wait>(
+    rt: &R,
+    desk: &Desk<'_, G>,
+    seat: &mut Seat,
+    feed: &mut Feed<S>,
+) -> Result<(), OutOfMemory>
+    requires lock { IsSeatOf desk.now seat.old }
+    requires router { feed.old.reader.told.router.0 < length desk.now.setup.basis.topology.routers }
+    ensures saw { SawMore seat.old seat.new }
+    ensures taken { OnOk result (TakesSome desk.now.setup.basis.topology S.left S.faults S.place desk.now.setup.basis.limit seat.old.number None feed.old feed.new seat.old.seen seat.new.seen) }
+    ensures reads { ReadsOn desk.now.setup.basis.topology S.left S.faults S.place feed.old.reader feed.new.reader }
+{
+    let mut more = true;
+    while more {
+        more = take_frame(rt, desk, seat, feed)?;
+    }
+    Ok(())
+}
+
+/// Takes this many frames of a feed, or without a count the rest of it. After `OutOfMemory` some of what the feed gave may
+/// be missing in the history.
+pub(crate) fn take_frames<S: Source, G: Gate, R: Wait>(
+    rt: &R,
+    desk: &Desk<'_, G>,
+    seat: &mut Seat,
+    feed: &mut Feed<S>,
+    count: Option<u32>,
+) -> Result<(), OutOfMemory>
+    requires lock { IsSeatOf desk.now seat.old }
+    requires router { feed.old.reader.told.router.0 < length desk.now.setup.basis.topology.routers }
+    ensures saw { SawMore seat.old seat.new }
+    ensures taken { OnOk result (TakesSome desk.now.setup.basis.topology S.left S.faults S.place desk.now.setup.basis.limit seat.old.number count feed.old feed.new seat.old.seen seat.new.seen) }
+    ensures reads { ReadsOn desk.now.setup.basis.topology S.left S.faults S.place feed.old.reader feed.new.reader }
+{
+    match count {
+        Some(count) => take_some(rt, desk, seat, feed, count),
+        None => take_rest(rt, desk, seat, feed),
+    }
+}

@@ -1,62 +1,80 @@
-//! Sets that were worked out by hand or are compared with a plain `Vec`, and a network of one router.
+//! Sets that were worked out by hand or are compared with a plain list, and a network of one router.
 
-ghost use Rattle.std.specs.Prelude.{◌≡◌, ◌∷◌, [], IfOk};
+ghost use Rattle.std.specs.Prelude.{◌≡◌, ◌<◌, ◌∷◌, [], IfOk};
 ghost use Rattle.dn_model.specs.declared.target.Target.TheVariants.{Exit};
 ghost use Rattle.edge_labels.specs.Labels.{Labels};
 
 use super::{AtomSet, LabelGraph};
 use dn_model::{AtomId, OutOfMemory, RouterId, Target};
 use std::alloc::Global;
-use std::test::Fail;
+use std::process::Abort;
 
-fn three_atoms(alloc: Global) -> Result<AtomSet, OutOfMemory> {
-    AtomSet::of(alloc, &[AtomId(64), AtomId(0), AtomId(5), AtomId(0)])
+fn set_of(rt: &impl Abort, alloc: Global, atoms: &[AtomId]) -> AtomSet {
+    AtomSet::of(alloc, atoms).expect(rt, "memory")
+}
+
+fn three_atoms(rt: &impl Abort, alloc: Global) -> AtomSet {
+    set_of(rt, alloc, &[AtomId(64), AtomId(0), AtomId(5), AtomId(0)])
 }
 
 /// Its last member stands in the third chunk.
-fn three_others(alloc: Global) -> Result<AtomSet, OutOfMemory> {
-    AtomSet::of(alloc, &[AtomId(1_024), AtomId(5), AtomId(70)])
+fn three_others(rt: &impl Abort, alloc: Global) -> AtomSet {
+    set_of(rt, alloc, &[AtomId(1_024), AtomId(5), AtomId(70)])
+}
+
+/// A set has these members, in order.
+fn compare(rt: &impl Abort, alloc: Global, set: &AtomSet, want: &[AtomId]) {
+    let members = set.members(alloc).expect(rt, "memory");
+    assert_eq!(rt; members.as_slice(), want);
+}
+
+/// The atoms that two sets both have are these.
+fn compare_both(rt: &impl Abort, alloc: Global, x: &AtomSet, y: &AtomSet, want: &[AtomId]) {
+    let both = x.intersection(alloc, y).expect(rt, "memory");
+    compare(rt, alloc, &both, want);
+}
+
+/// The atoms that one of two sets has are these.
+fn compare_either(rt: &impl Abort, alloc: Global, x: &AtomSet, y: &AtomSet, want: &[AtomId]) {
+    let either = x.union(alloc, y).expect(rt, "memory");
+    compare(rt, alloc, &either, want);
+}
+
+/// The atoms that the first set has and the second doesn't are these.
+fn compare_left(rt: &impl Abort, alloc: Global, x: &AtomSet, y: &AtomSet, want: &[AtomId]) {
+    let left = x.difference(alloc, y).expect(rt, "memory");
+    compare(rt, alloc, &left, want);
 }
 
 #[test]
-fn sets_of_both_and_of_either(rt: HostRuntime) -> Result<(), Fail> {
-    let three = three_atoms(rt.alloc())?;
-    let others = three_others(rt.alloc())?;
+fn sets_of_two_sets(rt: HostRuntime) {
+    let three = three_atoms(&rt, rt.alloc());
+    let others = three_others(&rt, rt.alloc());
     assert_eq!(rt; three.count(), 3);
-    let both = three
-        .intersection(rt.alloc(), &others)?
-        .members(rt.alloc())?;
-    assert_eq!(rt; both.as_slice(), [AtomId(5)].as_slice());
-    let either = three.union(rt.alloc(), &others)?.members(rt.alloc())?;
+    compare_both(&rt, rt.alloc(), &three, &others, &[AtomId(5)]);
     let all = [AtomId(0), AtomId(5), AtomId(64), AtomId(70), AtomId(1_024)];
-    assert_eq!(rt; either.as_slice(), all.as_slice());
-    Ok(())
+    compare_either(&rt, rt.alloc(), &three, &others, &all);
+    let left = [AtomId(0), AtomId(64)];
+    compare_left(&rt, rt.alloc(), &three, &others, &left);
+    let left = [AtomId(70), AtomId(1_024)];
+    compare_left(&rt, rt.alloc(), &others, &three, &left);
+}
+
+/// The atom 512 goes, and 0 comes.
+fn change(rt: &impl Abort, alloc: Global, set: &mut AtomSet) {
+    set.remove(alloc, AtomId(512)).expect(rt, "memory");
+    set.insert(alloc, AtomId(0)).expect(rt, "memory");
 }
 
 #[test]
-fn a_set_without_another(rt: HostRuntime) -> Result<(), Fail> {
-    let three = three_atoms(rt.alloc())?.copy()?;
-    let others = three_others(rt.alloc())?;
-    let left = three.difference(rt.alloc(), &others)?.members(rt.alloc())?;
-    assert_eq!(rt; left.as_slice(), [AtomId(0), AtomId(64)].as_slice());
-    let left = others.difference(rt.alloc(), &three)?.members(rt.alloc())?;
-    assert_eq!(rt; left.as_slice(), [AtomId(70), AtomId(1_024)].as_slice());
-    Ok(())
-}
-
-#[test]
-fn members_at_the_ends_of_chunks(rt: HostRuntime) -> Result<(), Fail> {
+fn members_at_the_ends_of_chunks(rt: HostRuntime) {
     let ends = [AtomId(511), AtomId(512), AtomId(1_023)];
-    let mut set = AtomSet::of(rt.alloc(), ends.as_slice())?;
-    let copy = set.copy()?;
-    set.remove(rt.alloc(), AtomId(512))?;
-    set.insert(rt.alloc(), AtomId(0))?;
-    let members = set.members(rt.alloc())?;
+    let mut set = set_of(&rt, rt.alloc(), &ends);
+    let copy = set.copy().expect(&rt, "memory");
+    change(&rt, rt.alloc(), &mut set);
     let now = [AtomId(0), AtomId(511), AtomId(1_023)];
-    assert_eq!(rt; members.as_slice(), now.as_slice());
-    let members = copy.members(rt.alloc())?;
-    assert_eq!(rt; members.as_slice(), ends.as_slice());
-    Ok(())
+    compare(&rt, rt.alloc(), &set, &now);
+    compare(&rt, rt.alloc(), &copy, &ends);
 }
 
 /// The labels of one router, which has atoms 0 and 1, both with exit 1.
@@ -75,33 +93,46 @@ fn inherited(alloc: Global) -> Result<LabelGraph, OutOfMemory>
     graph.inherit(alloc, AtomId(0), AtomId(1))
 }
 
-#[test]
-fn a_new_atom_has_the_label_of_the_old_one(rt: HostRuntime) -> Result<(), Fail> {
-    let graph = inherited(rt.alloc())?;
-    assert_eq!(rt; graph.target(RouterId(0), AtomId(1)), Target::Exit(1));
-    let label = graph
-        .label(RouterId(0), Target::Exit(1))
-        .members(rt.alloc())?;
-    assert_eq!(rt; label.as_slice(), [AtomId(0), AtomId(1)].as_slice());
-    assert_eq!(rt; graph.label(RouterId(0), Target::NoRoute).count(), 0);
-    assert_eq!(rt; graph.label(RouterId(0), Target::Local).count(), 0);
-    Ok(())
+/// How many atoms have a target at the first router.
+fn count(graph: &LabelGraph, target: Target) -> u64
+    requires { 0 < graph.now.routers }
+{
+    graph.label(RouterId(0), target).count()
 }
 
 #[test]
-fn a_copy_keeps_its_labels(rt: HostRuntime) -> Result<(), Fail> {
-    let graph = inherited(rt.alloc())?;
-    let copy = graph.copy()?;
-    let graph = graph.move_atom(
-        rt.alloc(),
-        RouterId(0),
-        AtomId(0),
-        Target::Exit(1),
-        Target::Local,
-    )?;
-    assert_eq!(rt; graph.label(RouterId(0), Target::Local).count(), 1);
-    assert_eq!(rt; graph.label(RouterId(0), Target::Exit(1)).count(), 1);
-    assert_eq!(rt; copy.label(RouterId(0), Target::Exit(1)).count(), 2);
+fn a_new_atom_has_the_label_of_the_old_one(rt: HostRuntime) {
+    let graph = inherited(rt.alloc()).expect(&rt, "memory");
+    assert_eq!(rt; graph.target(RouterId(0), AtomId(1)), Target::Exit(1));
+    let label = graph.label(RouterId(0), Target::Exit(1));
+    compare(&rt, rt.alloc(), label, &[AtomId(0), AtomId(1)]);
+    assert_eq!(rt; count(&graph, Target::NoRoute), 0);
+    assert_eq!(rt; count(&graph, Target::Local), 0);
+}
+
+/// The labels of which the atom 0 is the first router's own.
+fn with_own(rt: &impl Abort, alloc: Global, graph: LabelGraph) -> LabelGraph
+    requires { graph ≡ record { routers = 1; rows = (Exit 1 ∷ []) ∷ (Exit 1 ∷ []) ∷ [] } }
+    ensures { result.routers ≡ 1 }
+{
+    graph
+        .move_atom(
+            alloc,
+            RouterId(0),
+            AtomId(0),
+            Target::Exit(1),
+            Target::Local,
+        )
+        .expect(rt, "memory")
+}
+
+#[test]
+fn a_copy_keeps_its_labels(rt: HostRuntime) {
+    let graph = inherited(rt.alloc()).expect(&rt, "memory");
+    let copy = graph.copy().expect(&rt, "memory");
+    let graph = with_own(&rt, rt.alloc(), graph);
+    assert_eq!(rt; count(&graph, Target::Local), 1);
+    assert_eq!(rt; count(&graph, Target::Exit(1)), 1);
+    assert_eq!(rt; count(&copy, Target::Exit(1)), 2);
     assert_eq!(rt; copy.target(RouterId(0), AtomId(0)), Target::Exit(1));
-    Ok(())
 }

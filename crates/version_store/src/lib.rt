@@ -6,6 +6,8 @@ mod asking;
 mod play;
 mod snapshot;
 mod store;
+#[cfg(test)]
+mod tests;
 mod versions;
 
 pub use asking::AskRefused;

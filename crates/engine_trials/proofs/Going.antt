@@ -1,5 +1,5 @@
 -- A history goes on, and the version with it.
-use Rattle.std.proofs.Common.{◌≡◌, ℕ, ◌<◌, ◌∷◌, ◌++◌, [], List, length, sym, ◌∙◌, subst}
+use Rattle.std.proofs.Common.{◌≡◌, ◌<◌, ◌∷◌, ◌++◌, [], List, length, sym, ◌∙◌, subst}
 use Rattle.std.proofs.lemmas.List.Elements.{All-nil, All-push}
 use Rattle.dn_model.specs.Entry.{IsEntryOf}
 use Rattle.dn_model.specs.Version.{Kept, KeptStandsFor}

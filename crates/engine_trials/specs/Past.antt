@@ -1,5 +1,5 @@
 -- A network's history, and the version that goes with it.
-use Rattle.std.specs.Prelude.{ℕ, List, [], ◌∷◌, ◌++◌, length, ◌≡◌, ◌<◌}
+use Rattle.std.specs.Prelude.{List, [], ◌∷◌, ◌++◌, length, ◌≡◌, ◌<◌}
 use Rattle.std.specs.List.{All}
 use Rattle.dn_model.specs.Entry.{IsEntryOf}
 use Rattle.dn_model.specs.Version.{Kept, KeptStandsFor}

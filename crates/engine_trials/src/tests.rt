@@ -144,6 +144,5 @@ fn a_network_of_sixty_four_routers(rt: HostRuntime) -> Result<(), Fail> {
     assert!(rt; found.compared > 80, "{found:?}");
     assert!(rt; found.cycles > 0, "{found:?}");
     assert!(rt; found.clears > 0, "{found:?}");
-    println!(rt; "{found:?}")?;
     Ok(())
 }

@@ -1,7 +1,7 @@
 use Rattle.std.proofs.Common.{◌≡◌, ◌++◌, ◌∷◌, [], sym, subst}
 use Rattle.std.specs.Arc.{arc_value}
 use Rattle.dn_model.specs.Entry.{IsEntryOf}
-use Rattle.engine_trials.specs.Past.{IsCourse, Past}
+use Rattle.engine_trials.specs.Past.{Past}
 use Rattle.engine_trials.proofs.Going.{course-more}
 use Rattle.engine_trials.proofs.course.Course.advance.Goals as goal
 

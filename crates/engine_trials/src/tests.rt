@@ -1,6 +1,8 @@
 //! The trials, by tables of their sizes.
 
-use crate::{Found, Spot, Trial, agree};
+use crate::draw::Spot;
+use crate::found::Found;
+use crate::trial::{Trial, agree};
 use std::alloc::Global;
 use std::process::Abort;
 use std::test::Fail;

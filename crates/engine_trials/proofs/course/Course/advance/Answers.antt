@@ -1,0 +1,18 @@
+use Rattle.std.proofs.Common.{◌≡◌, ◌++◌, ◌∷◌, [], sym, subst}
+use Rattle.std.specs.Arc.{arc_value}
+use Rattle.dn_model.specs.Entry.{IsEntryOf}
+use Rattle.engine_trials.specs.Past.{Past}
+use Rattle.engine_trials.proofs.Going.{course-more}
+use Rattle.engine_trials.proofs.course.Course.advance.Goals as goal
+
+pub invariant_of-result : goal.invariant_of-result
+invariant_of-result c =
+    let was = arc_value c.self.inside.topology in
+    let entry = c.args.entry.now in
+    let before = c.self.inside.entries.items in
+    let after = c.push.new.self.items in
+    let old = c.self.inside.version in
+    let version = c.in_ok-version.version in
+    let own : IsEntryOf was entry = subst (λ (p : Past). IsEntryOf p.topology entry) (sym c.self.view_is) c.requires in
+    let longer : after ≡ before ++ entry ∷ [] = c.in_ok-push.ensures.items in
+    course-more was before after entry old version c.self.invariant own longer c.in_ok-version.ensures.topology c.in_ok-version.ensures.stands

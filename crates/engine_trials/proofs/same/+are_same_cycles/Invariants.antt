@@ -1,0 +1,5 @@
+use Rattle.std.proofs.Common.{length}
+use Rattle.engine_trials.proofs.same.+are_same_cycles.Given as goal
+
+abbrev pub decreases-are_same_cycles : goal.decreases-are_same_cycles
+decreases-are_same_cycles l = length l.x.now

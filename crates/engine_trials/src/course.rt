@@ -1,0 +1,155 @@
+//! A history with the version that stands for it.
+
+ghost use Rattle.std.specs.Prelude.{◌≡◌, ◌<◌, [], IfOk, None, length};
+ghost use Rattle.std.specs.Arc.{arc_value};
+ghost use Rattle.dn_model.specs.Answer.{IsAnswer};
+ghost use Rattle.dn_model.specs.Entry.{IsEntryOf};
+ghost use Rattle.dn_model.specs.Query.{unknown_of};
+ghost use Rattle.engine_trials.specs.Past.{more};
+
+use delta_graph::Delta;
+use dn_model::{Answer, Change, Entry, OutOfMemory, Query, Topology, plain_answer};
+use net_engine::Version;
+use std::alloc::Global;
+use std::marker::Model;
+use std::sync::Arc;
+
+/// A history of a network that has a router, with the version that stands for it. A contract sees the topology and the
+/// entries.
+#[derive(Drop)]
+pub struct Course {
+    topology: Arc<Topology, Global>,
+    version: Version,
+    entries: Vec<Entry>,
+}
+
+impl Model for Course {
+    ghost use Rattle.std.specs.Arc.{arc_value};
+    ghost use Rattle.engine_trials.specs.Past.{IsCourse, Past};
+
+    ghost Value = { Past };
+
+    ghost view = { λ c. record { topology = arc_value c.topology; entries = c.entries.items } };
+
+    ghost invariant = { λ c. IsCourse (arc_value c.topology) c.entries.items c.version };
+}
+
+impl Course {
+    /// The history before any update. It fails for want of memory alone.
+    pub fn new(alloc: Global, topology: Topology) -> Result<Course, OutOfMemory>
+        requires { 0 < length topology.routers }
+        ensures { IfOk result (λ course. course ≡ record { topology = topology; entries = [] }) }
+    {
+        let topology = Arc::new(alloc, topology)?;
+        let version = Version::empty(alloc, Arc::try_clone(&topology)?)?;
+        Ok(Course {
+            topology,
+            version,
+            entries: Vec::new(alloc),
+        })
+    }
+
+    /// The network, which has a router.
+    pub fn topology(&self) -> &Topology
+        ensures value { result.now ≡ self.now.topology }
+        ensures some { 0 < length self.now.topology.routers }
+    {
+        &self.topology
+    }
+
+    /// The version that stands for the history.
+    pub fn version(&self) -> &Version {
+        &self.version
+    }
+
+    /// The updates so far, in order.
+    pub fn entries(&self) -> &[Entry]
+        ensures { result.now ≡ self.now.entries }
+    {
+        self.entries.as_slice()
+    }
+
+    /// The same history again. It fails for want of memory alone.
+    pub fn copy(&self, alloc: Global) -> Result<Course, OutOfMemory>
+        ensures { IfOk result (λ course. course ≡ self.now) }
+    {
+        let topology = Arc::try_clone(&self.topology)?;
+        let version = self.version.copy(alloc)?;
+        let entries = Vec::from_slice(alloc, self.entries.as_slice())?;
+        Ok(Course {
+            topology,
+            version,
+            entries,
+        })
+    }
+
+    /// The history with an update more, made in the version's own place, and what that changed. It fails for want of
+    /// memory alone.
+    pub fn advance(self, alloc: Global, entry: &Entry) -> Result<(Course, Delta), OutOfMemory>
+        requires { IsEntryOf self.topology entry.now }
+        ensures { IfOk result (λ made. made.0 ≡ more self entry.now) }
+    {
+        let Course {
+            topology,
+            version,
+            mut entries,
+        } = self;
+        // part by part, since the borrow checker's plan for a list of entries wants a value of `Op`
+        let Entry {
+            router,
+            feed_no,
+            op,
+        } = *entry;
+        let (version, delta) = version.advance(alloc, entry)?;
+        entries.push(Entry {
+            router,
+            feed_no,
+            op,
+        })?;
+        Ok((
+            Course {
+                topology,
+                version,
+                entries,
+            },
+            delta,
+        ))
+    }
+
+    /// The history with an update more, whose version is made beside this one, and what that changed. It fails for want of
+    /// memory alone.
+    pub fn apply(&self, alloc: Global, entry: &Entry) -> Result<(Course, Delta), OutOfMemory>
+        requires { IsEntryOf self.now.topology entry.now }
+        ensures { IfOk result (λ made. made.0 ≡ more self.now entry.now) }
+    {
+        let topology = Arc::try_clone(&self.topology)?;
+        let (version, delta) = self.version.apply(alloc, entry)?;
+        let mut entries = Vec::from_slice(alloc, self.entries.as_slice())?;
+        entries.push(*entry)?;
+        Ok((
+            Course {
+                topology,
+                version,
+                entries,
+            },
+            delta,
+        ))
+    }
+
+    /// The answers to a query whose names the topology has, by the version, for `Ask::Delta` with these changes, and by the
+    /// plain evaluator over the updates so far. It fails for want of memory alone.
+    pub fn answers(
+        &self,
+        alloc: Global,
+        changes: &[Change],
+        query: &Query,
+    ) -> Result<(Answer, Answer), OutOfMemory>
+        requires { unknown_of self.now.topology query.now ≡ None }
+        ensures { IfOk result (λ answers. IsAnswer self.now.topology self.now.entries query.now answers.1) }
+    {
+        let topology: &Topology = &self.topology;
+        let by_version = row_answers::answer(alloc, topology, &self.version, changes, query)?;
+        let plain = plain_answer(alloc, topology, self.entries.as_slice(), query)?;
+        Ok((by_version, plain))
+    }
+}

@@ -1,0 +1,71 @@
+//! Updates that are drawn.
+
+ghost use Rattle.std.specs.Prelude.{◌<◌, length};
+ghost use Rattle.dn_model.specs.Entry.{IsEntryOf, IsOpOf, IsTargetOf};
+
+use crate::draw::{Draw, Spot, drawn_prefix};
+use dn_model::{DropKind, Entry, Op, Port, Prefix, RouterId, Target, Topology, port};
+
+/// What a route through a router's interface does: over a link to the far router, out of the network at an edge, or, at an
+/// interface that the topology doesn't have, to its segment.
+fn through(topology: &Topology, router: RouterId, index: u32) -> Target
+    ensures { IsTargetOf topology.now result }
+{
+    match port(topology, router, index) {
+        Some(Port::Link { far, link, .. }) => Target::To(far, link),
+        Some(Port::Edge) => Target::Exit(index),
+        None => Target::OnLink(index),
+    }
+}
+
+/// What a route of a router does; most lead on over a link, the ways round and back alike.
+fn drawn_target(topology: &Topology, router: RouterId, draw: &mut Draw) -> Target
+    ensures { IsTargetOf topology.now result }
+{
+    match draw.below(16) {
+        0 => Target::Local,
+        1 => Target::OnLink(2),
+        2 => Target::Dropped(DropKind::Blackhole),
+        3 => Target::Dropped(DropKind::Unreachable),
+        4 => Target::Dropped(DropKind::Prohibit),
+        5 => through(topology, router, 1),
+        drawn => through(topology, router, 2 + drawn % 4),
+    }
+}
+
+/// What an update of a router does to the routes of a prefix: of six, four set one, one clears all, and one clears that of
+/// a metric.
+fn drawn_op(topology: &Topology, router: RouterId, prefix: Prefix, draw: &mut Draw) -> Op
+    ensures { IsOpOf topology.now result }
+{
+    let metric = 10 * draw.below(3);
+    match draw.below(6) {
+        0 => Op::Clear {
+            prefix,
+            metric: None,
+        },
+        1 => Op::Clear {
+            prefix,
+            metric: Some(metric),
+        },
+        _ => Op::Set {
+            prefix,
+            metric,
+            target: drawn_target(topology, router, draw),
+        },
+    }
+}
+
+/// An update of one of the topology's routers.
+pub fn drawn_entry(topology: &Topology, spot: &Spot, draw: &mut Draw) -> Entry
+    requires { 0 < length topology.now.routers }
+    ensures { IsEntryOf topology.now result }
+{
+    let router = RouterId(draw.below(topology.router_count()) as u16);
+    let prefix = drawn_prefix(spot, draw);
+    Entry {
+        router,
+        feed_no: 1,
+        op: drawn_op(topology, router, prefix, draw),
+    }
+}

@@ -12,8 +12,8 @@ use dn_io::{MemSource, NoGate};
 use dn_model::{Ask, List, Name, OutOfMemory, Posted, Query, RouterId, TopoEnd, Topology};
 use route_feed::FeedReader;
 use std::alloc::Global;
+use std::process::Abort;
 use std::sync::Arc;
-use std::test::Fail;
 
 /// An edge at a router's interface 2.
 fn edge(router: u16) -> TopoEnd
@@ -124,44 +124,51 @@ fn run_three(
     run_jobs(alloc, &topology, script, &mut readers, &NoGate)
 }
 
-#[test]
-fn a_script_over_two_of_three_feeds(rt: HostRuntime) -> Result<(), Fail> {
-    let alloc = rt.alloc();
-    let lines = Vec::from_array(
-        alloc,
-        [
-            take_line(1, 0, Some(1)),
-            path_line(alloc, 2)?,
-            take_line(3, 2, None),
-            path_line(alloc, 4)?,
-        ],
-    )?;
-    let script = Script {
-        lines: List::from_vec(lines),
-    };
-    let done = run_three(alloc, [2, 1, 2], Some(&script))?;
-    let feeds = feeds_of(alloc, done.history.as_slice())?;
-    assert_eq!(rt; feeds.as_slice(), [1u32, 3, 3, 1, 2].as_slice());
-    assert_eq!(rt; done.jobs.len(), 2);
-    let pins = pins_of(alloc, done.jobs[0].told.as_slice())?;
-    assert_eq!(rt; pins.as_slice(), [1u32, 3].as_slice());
-    assert_eq!(rt; done.jobs[1].number, 2);
-    Ok(())
+/// A script that takes one frame of r1 and all of r3, and asks after each.
+fn taking_script(alloc: Global) -> Result<Script, OutOfMemory> {
+    let mut lines = List::new(alloc);
+    lines.push(take_line(1, 0, Some(1)))?;
+    lines.push(path_line(alloc, 2)?)?;
+    lines.push(take_line(3, 2, None))?;
+    lines.push(path_line(alloc, 4)?)?;
+    Ok(Script { lines })
+}
+
+/// A script that asks once and takes nothing.
+fn asking_script(alloc: Global) -> Result<Script, OutOfMemory> {
+    let mut lines = List::new(alloc);
+    lines.push(path_line(alloc, 1)?)?;
+    Ok(Script { lines })
+}
+
+/// The history's entries came from these feeds.
+fn compare_feeds(rt: &impl Abort, alloc: Global, done: &JobsDone, want: &[u32]) {
+    let feeds = feeds_of(alloc, done.history.as_slice()).expect(rt, "memory");
+    assert_eq!(rt; feeds.as_slice(), want);
+}
+
+/// The first job has these pins, and there are so many jobs, whose last one has this number.
+fn compare_jobs(rt: &impl Abort, alloc: Global, done: &JobsDone, pins: &[u32], count: usize) {
+    assert!(rt; 0 < count && done.jobs.len() == count);
+    let found = pins_of(alloc, done.jobs[0].told.as_slice()).expect(rt, "memory");
+    assert_eq!(rt; found.as_slice(), pins);
+    assert_eq!(rt; done.jobs[count - 1].number as usize, count);
 }
 
 #[test]
-fn a_script_that_takes_no_feed(rt: HostRuntime) -> Result<(), Fail> {
+fn a_script_over_two_of_three_feeds(rt: HostRuntime) {
     let alloc = rt.alloc();
-    let lines = Vec::from_array(alloc, [path_line(alloc, 1)?])?;
-    let script = Script {
-        lines: List::from_vec(lines),
-    };
-    let done = run_three(alloc, [2, 1, 0], Some(&script))?;
-    let feeds = feeds_of(alloc, done.history.as_slice())?;
-    assert_eq!(rt; feeds.as_slice(), [1u32, 1, 2].as_slice());
-    assert_eq!(rt; done.jobs.len(), 4);
-    let pins = pins_of(alloc, done.jobs[0].told.as_slice())?;
-    assert_eq!(rt; pins.as_slice(), [0u32].as_slice());
-    assert_eq!(rt; done.jobs[3].number, 4);
-    Ok(())
+    let script = taking_script(alloc).expect(&rt, "memory");
+    let done = run_three(alloc, [2, 1, 2], Some(&script)).expect(&rt, "memory");
+    compare_feeds(&rt, alloc, &done, &[1, 3, 3, 1, 2]);
+    compare_jobs(&rt, alloc, &done, &[1, 3], 2);
+}
+
+#[test]
+fn a_script_that_takes_no_feed(rt: HostRuntime) {
+    let alloc = rt.alloc();
+    let script = asking_script(alloc).expect(&rt, "memory");
+    let done = run_three(alloc, [2, 1, 0], Some(&script)).expect(&rt, "memory");
+    compare_feeds(&rt, alloc, &done, &[1, 1, 2]);
+    compare_jobs(&rt, alloc, &done, &[0], 4);
 }

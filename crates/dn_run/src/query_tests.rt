@@ -1,11 +1,11 @@
 //! Whole runs that ask every query over three feeds, against answers worked out by hand.
 
 use crate::program::run;
-use crate::run_tests::{RING, file, frame_of, set_frame};
+use crate::run_tests::{RING, bytes_of, file, frame_of, set_frame};
 use crate::status::Status;
 use dn_io::{MemSink, MemWorld, NoGate};
 use std::alloc::{AllocError, Global};
-use std::test::Fail;
+use std::process::Abort;
 
 /// The ring, but link `a` is unnumbered.
 const UNNUMBERED: &str =
@@ -25,15 +25,6 @@ const CLEAR: [u8; 40] = [
     1, 1, 0, 40, 36, 0, 0, 0, 25, 0, 1, 0, 0, 0, 0, 0, 0, 0, 0, 0, 2, 16, 0, 0, 254, 11, 0, 1, 0,
     0, 0, 0, 8, 0, 1, 0, 10, 1, 0, 0,
 ];
-
-/// The bytes of frames, one after another.
-fn bytes_of(alloc: Global, frames: &[&[u8]]) -> Result<Vec<u8>, AllocError> {
-    let mut bytes = Vec::new(alloc);
-    for frame in frames {
-        bytes.extend_from_slice(frame)?;
-    }
-    Ok(bytes)
-}
 
 /// What is printed of a script's queries over this topology and the feeds of r1, r2 and r3: the report from the line
 /// after `job 1` to the line before `done`. Nothing where the run didn't end well.
@@ -79,114 +70,120 @@ fn between<'a>(text: &'a [u8], head: &[u8], tail: &[u8]) -> &'a [u8] {
     &[]
 }
 
-#[test]
-fn addresses_that_reach_and_that_use_a_link(rt: HostRuntime) -> Result<(), Fail> {
-    let alloc = rt.alloc();
+/// A script's queries over this topology and the feeds of r1, r2 and r3 are answered by these lines.
+fn compare(
+    rt: &impl Abort,
+    alloc: Global,
+    topology: &str,
+    feeds: [&[u8]; 3],
+    script: &str,
+    lines: &str,
+) {
+    let got = answers_over(alloc, topology, feeds, script).expect(rt, "memory");
+    assert_eq!(rt; got.as_slice(), lines.as_bytes(), "{lines}");
+}
+
+/// A query over three feeds, with which 10.0.0.0/8 goes from r1 by r2 to r3 and leaves there, is answered by these lines.
+fn compare_query(rt: &impl Abort, alloc: Global, query: &str, lines: &str) {
     let (first, second, third) = (set_frame(0, 8, 2), set_frame(0, 8, 3), set_frame(0, 8, 1));
-    let cases: [(&str, &str); 8] = [
-        ("reach r1 r3", "10.0.0.0-10.255.255.255\n"),
-        ("reach r1 r1", "0.0.0.0-255.255.255.255\n"),
-        (
-            "uses a",
-            "from r1\n10.0.0.0-10.255.255.255\nfrom r2\nnone\n",
-        ),
-        ("loops", "none\n"),
-        ("waypoint r1 r3 r2", "none\n"),
-        ("waypoint r1 r2 r3", "10.0.0.0-10.255.255.255\n"),
-        ("without b,b reach r1 r3", "none\n"),
-        (
-            "without b blackholes r1",
-            "at r1 noroute\n0.0.0.0-9.255.255.255\n11.0.0.0-255.255.255.255\nat r2 linkdown b\n10.0.0.0-10.255.255.255\n",
-        ),
-    ];
-    for (query, lines) in cases {
-        let script = format!(in alloc; "{TAKES}{query}\n")?;
-        let got = answers_over(alloc, RING, [&first, &second, &third], script.as_str())?;
-        let want = format!(in alloc; "line 4 at 3 {query}\n{lines}")?;
-        assert_eq!(rt; got.as_slice(), want.as_bytes(), "{query}");
-    }
-    Ok(())
+    let script = format!(in alloc; "{TAKES}{query}\n").expect(rt, "memory");
+    let want = format!(in alloc; "line 4 at 3 {query}\n{lines}").expect(rt, "memory");
+    let feeds: [&[u8]; 3] = [&first, &second, &third];
+    compare(rt, alloc, RING, feeds, script.as_str(), want.as_str());
 }
 
 #[test]
-fn a_cycle_comes_and_goes(rt: HostRuntime) -> Result<(), Fail> {
+fn addresses_that_reach_and_that_use_a_link(rt: HostRuntime) {
+    let alloc = rt.alloc();
+    let ten = "10.0.0.0-10.255.255.255\n";
+    compare_query(&rt, alloc, "reach r1 r3", ten);
+    compare_query(&rt, alloc, "reach r1 r1", "0.0.0.0-255.255.255.255\n");
+    let uses = "from r1\n10.0.0.0-10.255.255.255\nfrom r2\nnone\n";
+    compare_query(&rt, alloc, "uses a", uses);
+    compare_query(&rt, alloc, "loops", "none\n");
+    compare_query(&rt, alloc, "waypoint r1 r3 r2", "none\n");
+    compare_query(&rt, alloc, "waypoint r1 r2 r3", ten);
+}
+
+#[test]
+fn addresses_with_a_link_down(rt: HostRuntime) {
+    let alloc = rt.alloc();
+    compare_query(&rt, alloc, "without b,b reach r1 r3", "none\n");
+    let holes =
+        "at r1 noroute\n0.0.0.0-9.255.255.255\n11.0.0.0-255.255.255.255\nat r2 linkdown b\n10.0.0.0-10.255.255.255\n";
+    compare_query(&rt, alloc, "without b blackholes r1", holes);
+}
+
+const ROUND: &str =
+    "line 4 at 4 loops\ncycle r1 r2 least 10.1.0.0 addresses 65536\nline 5 at 4 path r1 10.1.2.3\nhops r1 r2 r1 r2\nend loop\nline 6 at 4 reach r1 r2\n10.0.0.0-10.255.255.255\nline 7 at 4 blackholes r1\nat r1 noroute\n0.0.0.0-9.255.255.255\n11.0.0.0-255.255.255.255\n";
+
+#[test]
+fn a_cycle_comes(rt: HostRuntime) {
     let alloc = rt.alloc();
     let (first, third) = (set_frame(0, 8, 2), set_frame(0, 8, 1));
-    let round = bytes_of(alloc, &[&set_frame(0, 8, 3), &set_frame(1, 16, 2)])?;
+    let round = bytes_of(alloc, &[&set_frame(0, 8, 3), &set_frame(1, 16, 2)]).expect(&rt, "memory");
     let script =
         "take r1 all\ntake r2 all\ntake r3 all\nloops\npath r1 10.1.2.3\nreach r1 r2\nblackholes r1\n";
-    let got = answers_over(alloc, RING, [&first, round.as_slice(), &third], script)?;
-    assert_eq!(rt;
-        got.as_slice(),
-        b"line 4 at 4 loops\ncycle r1 r2 least 10.1.0.0 addresses 65536\nline 5 at 4 path r1 10.1.2.3\nhops r1 r2 r1 r2\nend loop\nline 6 at 4 reach r1 r2\n10.0.0.0-10.255.255.255\nline 7 at 4 blackholes r1\nat r1 noroute\n0.0.0.0-9.255.255.255\n11.0.0.0-255.255.255.255\n".as_slice()
-    );
-    let gone = bytes_of(alloc, &[&set_frame(0, 8, 3), &set_frame(1, 16, 2), &CLEAR])?;
-    let script = format!(in alloc; "{TAKES}loops\nreach r1 r3\ndelta\n")?;
-    let got = answers_over(
-        alloc,
-        RING,
-        [&first, gone.as_slice(), &third],
-        script.as_str(),
-    )?;
-    assert_eq!(rt;
-        got.as_slice(),
-        b"line 4 at 5 loops\nnone\nline 5 at 5 reach r1 r3\n10.0.0.0-10.255.255.255\nline 6 at 5 delta\nr2 10.1.0.0-10.1.255.255 to r1 by a -> to r3 by b\n".as_slice()
-    );
-    Ok(())
+    let feeds: [&[u8]; 3] = [&first, round.as_slice(), &third];
+    compare(&rt, alloc, RING, feeds, script, ROUND);
+}
+
+const GONE: &str =
+    "line 4 at 5 loops\nnone\nline 5 at 5 reach r1 r3\n10.0.0.0-10.255.255.255\nline 6 at 5 delta\nr2 10.1.0.0-10.1.255.255 to r1 by a -> to r3 by b\n";
+
+#[test]
+fn a_cycle_goes(rt: HostRuntime) {
+    let alloc = rt.alloc();
+    let (first, third) = (set_frame(0, 8, 2), set_frame(0, 8, 1));
+    let (over, back) = (set_frame(0, 8, 3), set_frame(1, 16, 2));
+    let gone = bytes_of(alloc, &[&over, &back, &CLEAR]).expect(&rt, "memory");
+    let script = "take r1 all\ntake r3 all\ntake r2 all\nloops\nreach r1 r3\ndelta\n";
+    let feeds: [&[u8]; 3] = [&first, gone.as_slice(), &third];
+    compare(&rt, alloc, RING, feeds, script, GONE);
 }
 
 #[test]
-fn a_route_without_a_gateway_over_a_link(rt: HostRuntime) -> Result<(), Fail> {
+fn a_route_without_a_gateway_over_a_link(rt: HostRuntime) {
     let alloc = rt.alloc();
-    let script = format!(in alloc; "{TAKES}loops\npath r1 10.0.0.1\n")?;
-    let got = answers_over(alloc, RING, [&ON_LINK, &ON_LINK, &[]], script.as_str())?;
-    assert_eq!(rt;
-        got.as_slice(),
-        b"line 4 at 2 loops\nnone\nline 5 at 2 path r1 10.0.0.1\nhops r1\nend onlink 2\n".as_slice()
-    );
-    let got = answers_over(
+    let script = "take r1 all\ntake r3 all\ntake r2 all\nloops\npath r1 10.0.0.1\n";
+    let on_link = "line 4 at 2 loops\nnone\nline 5 at 2 path r1 10.0.0.1\nhops r1\nend onlink 2\n";
+    compare(&rt, alloc, RING, [&ON_LINK, &ON_LINK, &[]], script, on_link);
+    let round =
+        "line 4 at 2 loops\ncycle r1 r2 least 10.0.0.0 addresses 4\nline 5 at 2 path r1 10.0.0.1\nhops r1 r2 r1 r2\nend loop\n";
+    compare(
+        &rt,
         alloc,
         UNNUMBERED,
         [&ON_LINK, &ON_LINK, &[]],
-        script.as_str(),
-    )?;
-    assert_eq!(rt;
-        got.as_slice(),
-        b"line 4 at 2 loops\ncycle r1 r2 least 10.0.0.0 addresses 4\nline 5 at 2 path r1 10.0.0.1\nhops r1 r2 r1 r2\nend loop\n".as_slice()
+        script,
+        round,
     );
-    Ok(())
 }
 
 #[test]
-fn addresses_that_pass_by_a_waypoint(rt: HostRuntime) -> Result<(), Fail> {
+fn addresses_that_pass_by_a_waypoint(rt: HostRuntime) {
     let alloc = rt.alloc();
-    let first = bytes_of(
-        alloc,
-        &[&set_frame(0, 8, 2), &frame_of([10, 9, 0, 0], 24, 20, 3)],
-    )?;
+    let (over, by) = (set_frame(0, 8, 2), frame_of([10, 9, 0, 0], 24, 20, 3));
+    let first = bytes_of(alloc, &[&over, &by]).expect(&rt, "memory");
     let (second, third) = (set_frame(0, 8, 3), set_frame(0, 8, 1));
-    let script = format!(in alloc; "{TAKES}waypoint r1 r3 r2\n")?;
-    let got = answers_over(
-        alloc,
-        RING,
-        [first.as_slice(), &second, &third],
-        script.as_str(),
-    )?;
-    assert_eq!(rt;
-        got.as_slice(),
-        b"line 4 at 4 waypoint r1 r3 r2\n10.9.0.0-10.9.0.255\n".as_slice()
-    );
-    Ok(())
+    let script = "take r1 all\ntake r3 all\ntake r2 all\nwaypoint r1 r3 r2\n";
+    let lines = "line 4 at 4 waypoint r1 r3 r2\n10.9.0.0-10.9.0.255\n";
+    let feeds: [&[u8]; 3] = [first.as_slice(), &second, &third];
+    compare(&rt, alloc, RING, feeds, script, lines);
 }
 
+const UNKNOWN_NAMES: &str =
+    "line 1 at 0 loops\nnone\nline 2 at 0 delta\nnone\nline 3 at 0 blackholes r1\nat r1 noroute\n0.0.0.0-255.255.255.255\nline 4 reach r1 r9\nunknown router r9\nline 5 without z reach r9 r1\nunknown link z\nline 6 at 0 uses b\nfrom r2\nnone\nfrom r3\nnone\njob 2\njob 3\njob 4\n";
+
 #[test]
-fn queries_before_any_update_and_of_unknown_names(rt: HostRuntime) -> Result<(), Fail> {
-    let alloc = rt.alloc();
+fn queries_before_any_update_and_of_unknown_names(rt: HostRuntime) {
     let script = "loops\ndelta\nblackholes r1\nreach r1 r9\nwithout z reach r9 r1\nuses b\n";
-    let got = answers_over(alloc, RING, [&[], &[], &[]], script)?;
-    assert_eq!(rt;
-        got.as_slice(),
-        b"line 1 at 0 loops\nnone\nline 2 at 0 delta\nnone\nline 3 at 0 blackholes r1\nat r1 noroute\n0.0.0.0-255.255.255.255\nline 4 reach r1 r9\nunknown router r9\nline 5 without z reach r9 r1\nunknown link z\nline 6 at 0 uses b\nfrom r2\nnone\nfrom r3\nnone\njob 2\njob 3\njob 4\n".as_slice()
+    compare(
+        &rt,
+        rt.alloc(),
+        RING,
+        [&[], &[], &[]],
+        script,
+        UNKNOWN_NAMES,
     );
-    Ok(())
 }

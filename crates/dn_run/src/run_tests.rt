@@ -6,7 +6,7 @@ use crate::program::run;
 use crate::status::Status;
 use dn_io::{MemFile, MemSink, MemWorld, NoGate};
 use std::alloc::{AllocError, Global};
-use std::test::Fail;
+use std::process::Abort;
 
 /// Three routers in a ring: each has an edge at its interface 1, and links at 2 and 3.
 pub(crate) const RING: &str =
@@ -79,6 +79,15 @@ const CLEAR: [u8; 40] = [
     1, 1, 0, 40, 36, 0, 0, 0, 25, 0, 1, 0, 0, 0, 0, 0, 0, 0, 0, 0, 2, 8, 0, 0, 254, 11, 0, 1, 0, 0,
     0, 0, 8, 0, 1, 0, 10, 0, 0, 0,
 ];
+
+/// The bytes of frames, one after another.
+pub(crate) fn bytes_of(alloc: Global, frames: &[&[u8]]) -> Result<Vec<u8>, AllocError> {
+    let mut bytes = Vec::new(alloc);
+    for frame in frames {
+        bytes.extend_from_slice(frame)?;
+    }
+    Ok(bytes)
+}
 
 /// A file that gives `step` bytes at a time, of which these reads fail.
 pub(crate) fn file(
@@ -158,71 +167,63 @@ fn come_into(alloc: Global, feed: MemFile, sink: MemSink) -> Result<Came, AllocE
     come(alloc, &USUAL, topology, script, feed, sink)
 }
 
-/// Whether a run came to this status and wrote this text.
-fn is_come(came: &Came, status: Status, text: &str) -> bool {
-    came.status == status && came.written.as_slice() == text.as_bytes()
+/// A run came to this status and wrote this text.
+fn compare(rt: &impl Abort, came: Result<Came, AllocError>, status: Status, text: &str) {
+    let came = came.expect(rt, "memory");
+    assert_eq!(rt; came.status, status, "{text}");
+    assert_eq!(rt; came.written.as_slice(), text.as_bytes(), "{text}");
 }
 
 const FIRST_PATH: &str =
     "feed 1 r1 updates 1 skipped 0 refused 0 end\nhistory 1\n1 feed 1 r1 set 10.0.0.0/8 metric 20 to r2 by a\njob 1\nline 2 at 1 path r1 10.1.2.3\nhops r1 r2\nend noroute\ndone\n";
 
 #[test]
-fn tells_of_a_path(rt: HostRuntime) -> Result<(), Fail> {
-    let alloc = rt.alloc();
-    let came = come_to(alloc, &USUAL, RING, TAKE_ALL, &set_frame(0, 8, 2))?;
-    assert_eq!(rt; came.status, Status::Done);
-    assert_eq!(rt; came.written.as_slice(), FIRST_PATH.as_bytes());
-    Ok(())
+fn tells_of_a_path(rt: HostRuntime) {
+    let came = come_to(rt.alloc(), &USUAL, RING, TAKE_ALL, &set_frame(0, 8, 2));
+    compare(&rt, came, Status::Done, FIRST_PATH);
 }
 
 #[test]
-fn tells_the_same_byte_by_byte(rt: HostRuntime) -> Result<(), Fail> {
+fn tells_the_same_byte_by_byte(rt: HostRuntime) {
     let alloc = rt.alloc();
-    let feed = file(alloc, "f1", &set_frame(0, 8, 2), 1, &[])?;
-    let came = come_into(alloc, feed, MemSink::new(alloc, 1, Vec::new(alloc)))?;
-    assert_eq!(rt; came.status, Status::Done);
-    assert_eq!(rt; came.written.as_slice(), FIRST_PATH.as_bytes());
-    Ok(())
+    let feed = file(alloc, "f1", &set_frame(0, 8, 2), 1, &[]).expect(&rt, "memory");
+    let came = come_into(alloc, feed, MemSink::new(alloc, 1, Vec::new(alloc)));
+    compare(&rt, came, Status::Done, FIRST_PATH);
 }
 
 #[test]
-fn stops_where_the_sink_fails(rt: HostRuntime) -> Result<(), Fail> {
+fn stops_where_the_sink_fails(rt: HostRuntime) {
     let alloc = rt.alloc();
-    let feed = file(alloc, "f1", &set_frame(0, 8, 2), 4096, &[])?;
-    let sink = MemSink::new(alloc, 16, Vec::from_slice(alloc, &[2])?);
-    let came = come_into(alloc, feed, sink)?;
-    assert_eq!(rt; came.status, Status::WriteFault);
-    assert_eq!(rt; came.written.as_slice(), b"feed 1 r1 update".as_slice());
-    Ok(())
+    let feed = file(alloc, "f1", &set_frame(0, 8, 2), 4096, &[]).expect(&rt, "memory");
+    let fails = Vec::from_slice(alloc, &[2]).expect(&rt, "memory");
+    let came = come_into(alloc, feed, MemSink::new(alloc, 16, fails));
+    compare(&rt, came, Status::WriteFault, "feed 1 r1 update");
 }
 
-#[test]
-fn a_feed_that_fails_ends_alone(rt: HostRuntime) -> Result<(), Fail> {
-    let alloc = rt.alloc();
-    let feed = file(alloc, "f1", &set_frame(0, 8, 2), 64, &[2])?;
-    let came = come_into(alloc, feed, MemSink::new(alloc, 4096, Vec::new(alloc)))?;
-    assert_eq!(rt; came.status, Status::ReadFault);
-    assert_eq!(rt;
-        came.written.as_slice(),
-        b"feed 1 r1 updates 1 skipped 0 refused 0 readfault\nhistory 1\n1 feed 1 r1 set 10.0.0.0/8 metric 20 to r2 by a\njob 1\nline 2 at 1 path r1 10.1.2.3\nhops r1 r2\nend noroute\ndone\n".as_slice()
-    );
-    Ok(())
-}
+const FAILED_FEED: &str =
+    "feed 1 r1 updates 1 skipped 0 refused 0 readfault\nhistory 1\n1 feed 1 r1 set 10.0.0.0/8 metric 20 to r2 by a\njob 1\nline 2 at 1 path r1 10.1.2.3\nhops r1 r2\nend noroute\ndone\n";
 
 #[test]
-fn a_topology_that_fails_is_told(rt: HostRuntime) -> Result<(), Fail> {
+fn a_feed_that_fails_ends_alone(rt: HostRuntime) {
     let alloc = rt.alloc();
+    let feed = file(alloc, "f1", &set_frame(0, 8, 2), 64, &[2]).expect(&rt, "memory");
+    let came = come_into(alloc, feed, MemSink::new(alloc, 4096, Vec::new(alloc)));
+    compare(&rt, came, Status::ReadFault, FAILED_FEED);
+}
+
+/// What a run comes to whose first read of the topology fails.
+fn without_topology(alloc: Global) -> Result<Came, AllocError> {
     let topology = file(alloc, "topology", RING.as_bytes(), 4096, &[1])?;
     let script = file(alloc, "script", TAKE_ALL.as_bytes(), 4096, &[])?;
     let feed = file(alloc, "f1", &set_frame(0, 8, 2), 4096, &[])?;
     let sink = MemSink::new(alloc, 4096, Vec::new(alloc));
-    let came = come(alloc, &USUAL, topology, script, feed, sink)?;
-    assert_eq!(rt; came.status, Status::ReadFault);
-    assert_eq!(rt;
-        came.written.as_slice(),
-        b"error read topology\n".as_slice()
-    );
-    Ok(())
+    come(alloc, &USUAL, topology, script, feed, sink)
+}
+
+#[test]
+fn a_topology_that_fails_is_told(rt: HostRuntime) {
+    let came = without_topology(rt.alloc());
+    compare(&rt, came, Status::ReadFault, "error read topology\n");
 }
 
 /// All but the last byte.
@@ -233,295 +234,249 @@ fn but_the_last(bytes: &[u8]) -> &[u8] {
     }
 }
 
+const CUT_SHORT: &str =
+    "feed 1 r1 updates 0 skipped 0 refused 0 cutshort 0\nhistory 0\njob 1\nline 2 at 0 path r1 10.1.2.3\nhops r1\nend noroute\ndone\n";
+
 #[test]
-fn a_feed_is_cut_short(rt: HostRuntime) -> Result<(), Fail> {
-    let alloc = rt.alloc();
-    let came = come_to(
-        alloc,
-        &USUAL,
-        RING,
-        TAKE_ALL,
-        but_the_last(&set_frame(0, 8, 2)),
-    )?;
-    assert_eq!(rt; came.status, Status::Refusals);
-    assert_eq!(rt;
-        came.written.as_slice(),
-        b"feed 1 r1 updates 0 skipped 0 refused 0 cutshort 0\nhistory 0\njob 1\nline 2 at 0 path r1 10.1.2.3\nhops r1\nend noroute\ndone\n".as_slice()
-    );
-    Ok(())
+fn a_feed_is_cut_short(rt: HostRuntime) {
+    let frame = set_frame(0, 8, 2);
+    let came = come_to(rt.alloc(), &USUAL, RING, TAKE_ALL, but_the_last(&frame));
+    compare(&rt, came, Status::Refusals, CUT_SHORT);
 }
 
 /// Asks the same path before the first take, between the takes, and after the last.
 const SCRIPT_BY_TURNS: &str =
     "path r1 10.1.2.3\ntake r1 1\npath r1 10.1.2.3\ntake r1 all\npath r1 10.1.2.3\n";
 
+const BY_TURNS: &str =
+    "feed 1 r1 updates 3 skipped 0 refused 0 end\nhistory 3\n1 feed 1 r1 set 10.0.0.0/8 metric 20 to r2 by a\n2 feed 1 r1 set 10.1.0.0/16 metric 20 to r3 by c\n3 feed 1 r1 set 10.2.0.0/16 metric 20 to r3 by c\njob 1\nline 1 at 0 path r1 10.1.2.3\nhops r1\nend noroute\nline 3 at 1 path r1 10.1.2.3\nhops r1 r2\nend noroute\nline 5 at 3 path r1 10.1.2.3\nhops r1 r3\nend noroute\ndone\n";
+
 #[test]
-fn pins_hold_what_was_taken(rt: HostRuntime) -> Result<(), Fail> {
+fn pins_hold_what_was_taken(rt: HostRuntime) {
     let alloc = rt.alloc();
-    let mut bytes = Vec::from_slice(alloc, &set_frame(0, 8, 2))?;
-    bytes.extend_from_slice(&set_frame(1, 16, 3))?;
-    bytes.extend_from_slice(&set_frame(2, 16, 3))?;
-    let came = come_to(alloc, &USUAL, RING, SCRIPT_BY_TURNS, bytes.as_slice())?;
-    assert_eq!(rt; came.status, Status::Done);
-    assert_eq!(rt;
-        came.written.as_slice(),
-        b"feed 1 r1 updates 3 skipped 0 refused 0 end\nhistory 3\n1 feed 1 r1 set 10.0.0.0/8 metric 20 to r2 by a\n2 feed 1 r1 set 10.1.0.0/16 metric 20 to r3 by c\n3 feed 1 r1 set 10.2.0.0/16 metric 20 to r3 by c\njob 1\nline 1 at 0 path r1 10.1.2.3\nhops r1\nend noroute\nline 3 at 1 path r1 10.1.2.3\nhops r1 r2\nend noroute\nline 5 at 3 path r1 10.1.2.3\nhops r1 r3\nend noroute\ndone\n".as_slice()
+    let (first, second, third) = (set_frame(0, 8, 2), set_frame(1, 16, 3), set_frame(2, 16, 3));
+    let bytes = bytes_of(alloc, &[&first, &second, &third]).expect(&rt, "memory");
+    let came = come_to(alloc, &USUAL, RING, SCRIPT_BY_TURNS, bytes.as_slice());
+    compare(&rt, came, Status::Done, BY_TURNS);
+}
+
+const TWO_MESSAGES: &str =
+    "feed 1 r1 updates 3 skipped 0 refused 0 end\nhistory 3\n1 feed 1 r1 set 10.0.0.0/8 metric 20 to r2 by a\n2 feed 1 r1 clear 10.0.0.0/8 metric 20\n3 feed 1 r1 set 10.0.0.0/8 metric 20 to r3 by c\njob 1\ndone\n";
+
+#[test]
+fn a_frame_of_two_messages(rt: HostRuntime) {
+    let alloc = rt.alloc();
+    let bytes = bytes_of(alloc, &[&set_frame(0, 8, 2), &MOVE_TO_3]).expect(&rt, "memory");
+    let came = come_to(alloc, &FEED_ALONE, RING, "", bytes.as_slice());
+    compare(&rt, came, Status::Done, TWO_MESSAGES);
+}
+
+const REFUSED_FRAME: &str =
+    "feed 1 r1 updates 1 skipped 0 refused 1 end\nrefused offset 0 message 60 cause 1 BadLength\nhistory 1\n1 feed 1 r1 set 10.0.0.0/8 metric 20 to r2 by a\njob 1\ndone\n";
+
+#[test]
+fn a_refused_frame_changes_nothing(rt: HostRuntime) {
+    let alloc = rt.alloc();
+    let bytes = bytes_of(alloc, &[&BAD_LENGTH, &set_frame(0, 8, 2)]).expect(&rt, "memory");
+    let came = come_to(alloc, &FEED_ALONE, RING, "", bytes.as_slice());
+    compare(&rt, came, Status::Refusals, REFUSED_FRAME);
+}
+
+/// A run over a feed without updates comes to this status, and tells this of the feed after the word `skipped`.
+fn compare_feed(rt: &impl Abort, alloc: Global, bytes: &[u8], status: Status, told: &str) {
+    let text = format!(in alloc;
+        "feed 1 r1 updates 0 skipped {told}history 0\njob 1\ndone\n"
+    ).expect(rt, "memory");
+    let came = come_to(alloc, &FEED_ALONE, RING, "", bytes);
+    compare(rt, came, status, text.as_str());
+}
+
+#[test]
+fn feeds_that_end_before_a_frame(rt: HostRuntime) {
+    let alloc = rt.alloc();
+    compare_feed(&rt, alloc, &[], Status::Done, "0 refused 0 end\n");
+    let lost = "0 refused 0 lost 0 BadVersion\n";
+    compare_feed(&rt, alloc, &[2], Status::Refusals, lost);
+    let lost = "0 refused 0 lost 0 BadFrameLength\n";
+    compare_feed(&rt, alloc, &[1, 1, 0, 3], Status::Refusals, lost);
+}
+
+#[test]
+fn feeds_of_refused_frames(rt: HostRuntime) {
+    let alloc = rt.alloc();
+    let told = "0 refused 1 end\nrefused offset 0 message 0 cause 14 FrameType\n";
+    compare_feed(
+        &rt,
+        alloc,
+        &[1, 2, 0, 4, 1, 1, 0, 4],
+        Status::Refusals,
+        told,
     );
-    Ok(())
+    let told = "1 refused 1 end\nrefused offset 0 message 0 cause 9 Multipath\n";
+    compare_feed(&rt, alloc, &MULTIPATH_AND_IPV6, Status::Refusals, told);
+    let told = "0 refused 1 end\nrefused offset 0 message 0 cause 13 UnknownInterface\n";
+    compare_feed(&rt, alloc, &set_frame(0, 8, 9), Status::Refusals, told);
+    let told = "0 refused 1 end\nrefused offset 0 message 0 cause 7 HostBits\n";
+    compare_feed(&rt, alloc, &HOST_BITS, Status::Refusals, told);
 }
 
-#[test]
-fn a_frame_of_two_messages(rt: HostRuntime) -> Result<(), Fail> {
-    let alloc = rt.alloc();
-    let mut bytes = Vec::from_slice(alloc, &set_frame(0, 8, 2))?;
-    bytes.extend_from_slice(&MOVE_TO_3)?;
-    let came = come_to(alloc, &FEED_ALONE, RING, "", bytes.as_slice())?;
-    assert_eq!(rt; came.status, Status::Done);
-    assert_eq!(rt;
-        came.written.as_slice(),
-        b"feed 1 r1 updates 3 skipped 0 refused 0 end\nhistory 3\n1 feed 1 r1 set 10.0.0.0/8 metric 20 to r2 by a\n2 feed 1 r1 clear 10.0.0.0/8 metric 20\n3 feed 1 r1 set 10.0.0.0/8 metric 20 to r3 by c\njob 1\ndone\n".as_slice()
-    );
-    Ok(())
-}
+const CLEARED: &str =
+    "feed 1 r1 updates 1 skipped 0 refused 0 end\nhistory 1\n1 feed 1 r1 clear 10.0.0.0/8\njob 1\nline 2 at 1 path r1 10.1.2.3\nhops r1\nend noroute\nline 3 at 1 delta\nnone\ndone\n";
 
 #[test]
-fn a_refused_frame_changes_nothing(rt: HostRuntime) -> Result<(), Fail> {
-    let alloc = rt.alloc();
-    let mut bytes = Vec::from_slice(alloc, &BAD_LENGTH)?;
-    bytes.extend_from_slice(&set_frame(0, 8, 2))?;
-    let came = come_to(alloc, &FEED_ALONE, RING, "", bytes.as_slice())?;
-    assert_eq!(rt; came.status, Status::Refusals);
-    assert_eq!(rt;
-        came.written.as_slice(),
-        b"feed 1 r1 updates 1 skipped 0 refused 1 end\nrefused offset 0 message 60 cause 1 BadLength\nhistory 1\n1 feed 1 r1 set 10.0.0.0/8 metric 20 to r2 by a\njob 1\ndone\n".as_slice()
-    );
-    Ok(())
-}
-
-#[test]
-fn feeds_without_updates(rt: HostRuntime) -> Result<(), Fail> {
-    let alloc = rt.alloc();
-    let no_interface = set_frame(0, 8, 9);
-    let cases: [(&[u8], Status, &str); 7] = [
-        (&[], Status::Done, "0 refused 0 end\n"),
-        (&[2], Status::Refusals, "0 refused 0 lost 0 BadVersion\n"),
-        (
-            &[1, 1, 0, 3],
-            Status::Refusals,
-            "0 refused 0 lost 0 BadFrameLength\n",
-        ),
-        (
-            &[1, 2, 0, 4, 1, 1, 0, 4],
-            Status::Refusals,
-            "0 refused 1 end\nrefused offset 0 message 0 cause 14 FrameType\n",
-        ),
-        (
-            &MULTIPATH_AND_IPV6,
-            Status::Refusals,
-            "1 refused 1 end\nrefused offset 0 message 0 cause 9 Multipath\n",
-        ),
-        (
-            &no_interface,
-            Status::Refusals,
-            "0 refused 1 end\nrefused offset 0 message 0 cause 13 UnknownInterface\n",
-        ),
-        (
-            &HOST_BITS,
-            Status::Refusals,
-            "0 refused 1 end\nrefused offset 0 message 0 cause 7 HostBits\n",
-        ),
-    ];
-    for (bytes, status, told) in cases {
-        let came = come_to(alloc, &FEED_ALONE, RING, "", bytes)?;
-        let text = format!(in alloc; "feed 1 r1 updates 0 skipped {told}history 0\njob 1\ndone\n")?;
-        assert_eq!(rt; came.status, status, "{told}");
-        assert_eq!(rt; came.written.as_slice(), text.as_bytes(), "{told}");
-    }
-    Ok(())
-}
-
-#[test]
-fn a_clear_of_empty_tables(rt: HostRuntime) -> Result<(), Fail> {
-    let alloc = rt.alloc();
+fn a_clear_of_empty_tables(rt: HostRuntime) {
     let script = "take r1 all\npath r1 10.1.2.3\ndelta\n";
-    let came = come_to(alloc, &USUAL, RING, script, &CLEAR)?;
-    assert_eq!(rt; came.status, Status::Done);
-    assert_eq!(rt;
-        came.written.as_slice(),
-        b"feed 1 r1 updates 1 skipped 0 refused 0 end\nhistory 1\n1 feed 1 r1 clear 10.0.0.0/8\njob 1\nline 2 at 1 path r1 10.1.2.3\nhops r1\nend noroute\nline 3 at 1 delta\nnone\ndone\n".as_slice()
-    );
-    Ok(())
+    let came = come_to(rt.alloc(), &USUAL, RING, script, &CLEAR);
+    compare(&rt, came, Status::Done, CLEARED);
+}
+
+/// A run over a feed of one update prints this update and this change.
+fn compare_change(rt: &impl Abort, alloc: Global, bytes: &[u8], update: &str, change: &str) {
+    let text = format!(in alloc;
+        "feed 1 r1 updates 1 skipped 0 refused 0 end\nhistory 1\n1 feed 1 r1 set {update}\njob 1\nline 2 at 1 delta\nr1 {change}\ndone\n"
+    ).expect(rt, "memory");
+    let came = come_to(alloc, &USUAL, RING, "take r1 all\ndelta\n", bytes);
+    compare(rt, came, Status::Done, text.as_str());
 }
 
 #[test]
-fn what_one_update_changes(rt: HostRuntime) -> Result<(), Fail> {
-    let alloc = rt.alloc();
+fn what_one_update_changes(rt: HostRuntime) {
+    let update = "0.0.0.0/0 metric 20 to r2 by a";
+    let change = "0.0.0.0-255.255.255.255 noroute -> to r2 by a";
+    compare_change(&rt, rt.alloc(), &DEFAULT, update, change);
     let last_address = frame_of([255, 255, 255, 255], 32, 0, 1);
-    let cases: [(&[u8], &str, &str); 2] = [
-        (
-            &DEFAULT,
-            "0.0.0.0/0 metric 20 to r2 by a",
-            "0.0.0.0-255.255.255.255 noroute -> to r2 by a",
-        ),
-        (
-            &last_address,
-            "255.255.255.255/32 metric 0 exit 1",
-            "255.255.255.255-255.255.255.255 noroute -> exit 1",
-        ),
-    ];
-    for (bytes, update, change) in cases {
-        let came = come_to(alloc, &USUAL, RING, "take r1 all\ndelta\n", bytes)?;
-        let text = format!(in alloc;
-            "feed 1 r1 updates 1 skipped 0 refused 0 end\nhistory 1\n1 feed 1 r1 set {update}\njob 1\nline 2 at 1 delta\nr1 {change}\ndone\n"
-        )?;
-        assert_eq!(rt; came.status, Status::Done, "{update}");
-        assert_eq!(rt; came.written.as_slice(), text.as_bytes(), "{update}");
-    }
-    Ok(())
+    let update = "255.255.255.255/32 metric 0 exit 1";
+    let change = "255.255.255.255-255.255.255.255 noroute -> exit 1";
+    compare_change(&rt, rt.alloc(), &last_address, update, change);
 }
 
+const CLEARED_BOTH: &str =
+    "feed 1 r1 updates 3 skipped 0 refused 0 end\nhistory 3\n1 feed 1 r1 set 10.0.0.0/8 metric 20 to r2 by a\n2 feed 1 r1 set 10.0.0.0/8 metric 5 to r3 by c\n3 feed 1 r1 clear 10.0.0.0/8\njob 1\nline 2 at 2 path r1 10.0.0.1\nhops r1 r3\nend noroute\nline 4 at 3 delta\nr1 10.0.0.0-10.255.255.255 to r3 by c -> noroute\ndone\n";
+
 #[test]
-fn a_clear_of_both_metrics_changes_to_no_route(rt: HostRuntime) -> Result<(), Fail> {
+fn a_clear_of_both_metrics_changes_to_no_route(rt: HostRuntime) {
     let alloc = rt.alloc();
-    let mut bytes = Vec::from_slice(alloc, &set_frame(0, 8, 2))?;
-    bytes.extend_from_slice(&frame_of([10, 0, 0, 0], 8, 5, 3))?;
-    bytes.extend_from_slice(&CLEAR)?;
+    let (first, second) = (set_frame(0, 8, 2), frame_of([10, 0, 0, 0], 8, 5, 3));
+    let bytes = bytes_of(alloc, &[&first, &second, &CLEAR]).expect(&rt, "memory");
     let script = "take r1 2\npath r1 10.0.0.1\ntake r1 all\ndelta\n";
-    let came = come_to(alloc, &USUAL, RING, script, bytes.as_slice())?;
-    assert_eq!(rt; came.status, Status::Done);
-    assert_eq!(rt;
-        came.written.as_slice(),
-        b"feed 1 r1 updates 3 skipped 0 refused 0 end\nhistory 3\n1 feed 1 r1 set 10.0.0.0/8 metric 20 to r2 by a\n2 feed 1 r1 set 10.0.0.0/8 metric 5 to r3 by c\n3 feed 1 r1 clear 10.0.0.0/8\njob 1\nline 2 at 2 path r1 10.0.0.1\nhops r1 r3\nend noroute\nline 4 at 3 delta\nr1 10.0.0.0-10.255.255.255 to r3 by c -> noroute\ndone\n".as_slice()
-    );
-    Ok(())
+    let came = come_to(alloc, &USUAL, RING, script, bytes.as_slice());
+    compare(&rt, came, Status::Done, CLEARED_BOTH);
 }
 
+const THREE_FEEDS: &str =
+    "feed 1 r1 updates 1 skipped 0 refused 0 end\nfeed 2 r2 updates 1 skipped 0 refused 0 end\nfeed 3 r3 updates 1 skipped 0 refused 0 end\nhistory 3\n1 feed 1 r1 set 10.0.0.0/8 metric 20 to r2 by a\n2 feed 2 r2 set 10.0.0.0/8 metric 20 to r3 by b\n3 feed 3 r3 set 10.0.0.0/8 metric 20 exit 1\njob 1\nline 4 at 3 path r1 10.0.0.0\nhops r1 r2 r3\nend exit 1\ndone\n";
+
 #[test]
-fn a_path_over_three_feeds(rt: HostRuntime) -> Result<(), Fail> {
-    let alloc = rt.alloc();
+fn a_path_over_three_feeds(rt: HostRuntime) {
     let words = [
         "deltanet", "run", "topology", "r1=f1", "@script", "r2=f2", "r3=f3",
     ];
     let script = "take r1 all\ntake r2 all\ntake r3 all\npath r1 10.0.0.0\n";
-    let came = come_to(alloc, &words, RING, script, &set_frame(0, 8, 2))?;
-    assert_eq!(rt; came.status, Status::Done);
-    assert_eq!(rt;
-        came.written.as_slice(),
-        b"feed 1 r1 updates 1 skipped 0 refused 0 end\nfeed 2 r2 updates 1 skipped 0 refused 0 end\nfeed 3 r3 updates 1 skipped 0 refused 0 end\nhistory 3\n1 feed 1 r1 set 10.0.0.0/8 metric 20 to r2 by a\n2 feed 2 r2 set 10.0.0.0/8 metric 20 to r3 by b\n3 feed 3 r3 set 10.0.0.0/8 metric 20 exit 1\njob 1\nline 4 at 3 path r1 10.0.0.0\nhops r1 r2 r3\nend exit 1\ndone\n".as_slice()
-    );
-    Ok(())
+    let came = come_to(rt.alloc(), &words, RING, script, &set_frame(0, 8, 2));
+    compare(&rt, came, Status::Done, THREE_FEEDS);
 }
 
+const LOOP_OF_TWO: &str =
+    "feed 1 r1 updates 1 skipped 0 refused 0 end\nfeed 2 r3 updates 1 skipped 0 refused 0 end\nhistory 2\n1 feed 1 r1 set 10.0.0.0/8 metric 20 to r3 by c\n2 feed 2 r3 set 10.0.0.0/8 metric 20 to r1 by c\njob 1\nline 3 at 2 path r1 10.0.0.0\nhops r1 r3 r1 r3\nend loop\ndone\n";
+
 #[test]
-fn a_loop_of_two_of_three(rt: HostRuntime) -> Result<(), Fail> {
-    let alloc = rt.alloc();
+fn a_loop_of_two_of_three(rt: HostRuntime) {
     let words = ["deltanet", "run", "topology", "r1=f1", "r3=f2", "@script"];
     let script = "take r1 all\ntake r3 all\npath r1 10.0.0.0\n";
-    let came = come_to(alloc, &words, RING, script, &set_frame(0, 8, 3))?;
-    assert_eq!(rt; came.status, Status::Done);
-    assert_eq!(rt;
-        came.written.as_slice(),
-        b"feed 1 r1 updates 1 skipped 0 refused 0 end\nfeed 2 r3 updates 1 skipped 0 refused 0 end\nhistory 2\n1 feed 1 r1 set 10.0.0.0/8 metric 20 to r3 by c\n2 feed 2 r3 set 10.0.0.0/8 metric 20 to r1 by c\njob 1\nline 3 at 2 path r1 10.0.0.0\nhops r1 r3 r1 r3\nend loop\ndone\n".as_slice()
-    );
-    Ok(())
+    let came = come_to(rt.alloc(), &words, RING, script, &set_frame(0, 8, 3));
+    compare(&rt, came, Status::Done, LOOP_OF_TWO);
 }
 
+const TWO_JOBS: &str =
+    "feed 1 r3 updates 1 skipped 0 refused 0 end\nfeed 2 r1 updates 1 skipped 0 refused 0 end\nhistory 2\n1 feed 1 r3 set 10.0.0.0/8 metric 20 exit 1\n2 feed 2 r1 set 10.0.0.0/8 metric 20 to r2 by a\njob 1\njob 2\ndone\n";
+
 #[test]
-fn feeds_that_no_script_takes_are_jobs(rt: HostRuntime) -> Result<(), Fail> {
-    let alloc = rt.alloc();
+fn feeds_that_no_script_takes_are_jobs(rt: HostRuntime) {
     let words = ["deltanet", "run", "topology", "r3=f3", "r1=f1"];
-    let came = come_to(alloc, &words, RING, "", &set_frame(0, 8, 2))?;
-    assert_eq!(rt; came.status, Status::Done);
-    assert_eq!(rt;
-        came.written.as_slice(),
-        b"feed 1 r3 updates 1 skipped 0 refused 0 end\nfeed 2 r1 updates 1 skipped 0 refused 0 end\nhistory 2\n1 feed 1 r3 set 10.0.0.0/8 metric 20 exit 1\n2 feed 2 r1 set 10.0.0.0/8 metric 20 to r2 by a\njob 1\njob 2\ndone\n".as_slice()
-    );
-    Ok(())
+    let came = come_to(rt.alloc(), &words, RING, "", &set_frame(0, 8, 2));
+    compare(&rt, came, Status::Done, TWO_JOBS);
 }
 
+const UNKNOWN_NAME: &str =
+    "history 0\njob 1\nline 1 path r9 10.0.0.0\nunknown router r9\nline 2 at 0 path r1 10.0.0.0\nhops r1\nend noroute\nline 3 at 0 delta\nnone\ndone\n";
+
 #[test]
-fn an_unknown_name_makes_no_pin(rt: HostRuntime) -> Result<(), Fail> {
-    let alloc = rt.alloc();
+fn an_unknown_name_makes_no_pin(rt: HostRuntime) {
     let words = ["deltanet", "run", "topology", "@script"];
     let script = "path r9 10.0.0.0\npath r1 10.0.0.0\ndelta\n";
-    let came = come_to(alloc, &words, RING, script, &[])?;
-    assert_eq!(rt; came.status, Status::Done);
-    assert_eq!(rt;
-        came.written.as_slice(),
-        b"history 0\njob 1\nline 1 path r9 10.0.0.0\nunknown router r9\nline 2 at 0 path r1 10.0.0.0\nhops r1\nend noroute\nline 3 at 0 delta\nnone\ndone\n".as_slice()
-    );
-    Ok(())
+    let came = come_to(rt.alloc(), &words, RING, script, &[]);
+    compare(&rt, came, Status::Done, UNKNOWN_NAME);
+}
+
+/// A run of these words over the ring and an empty feed comes to this status and text.
+fn compare_words(rt: &impl Abort, alloc: Global, words: &[&str], status: Status, text: &str) {
+    let came = come_to(alloc, words, RING, TAKE_ALL, &[]);
+    compare(rt, came, status, text);
+}
+
+/// A run with this part after the feed of `r1` is refused with this text.
+fn compare_part(rt: &impl Abort, alloc: Global, part: &str, text: &str) {
+    let words = ["deltanet", "run", "topology", "r1=f1", part];
+    compare_words(rt, alloc, &words, Status::BadWords, text);
 }
 
 #[test]
-fn refused_words(rt: HostRuntime) -> Result<(), Fail> {
+fn refused_words(rt: HostRuntime) {
     let alloc = rt.alloc();
-    let none = come_to(alloc, &["deltanet"], RING, "", &[])?;
-    assert!(rt; is_come(&none, Status::BadWords, "error words\n"));
-    let cases: [(&str, &str); 4] = [
-        ("x", "error part 2 BadPart\n"),
-        ("r1=f2", "error part 2 RouterTwice\n"),
-        ("r9=f2", "error part 2 UnknownRouter\n"),
-        ("@", "error part 2 BadPart\n"),
-    ];
-    for (part, text) in cases {
-        let words = ["deltanet", "run", "topology", "r1=f1", part];
-        let came = come_to(alloc, &words, RING, "", &[])?;
-        assert!(rt; is_come(&came, Status::BadWords, text), "{part}");
-    }
-    Ok(())
+    compare_words(&rt, alloc, &["deltanet"], Status::BadWords, "error words\n");
+    compare_part(&rt, alloc, "x", "error part 2 BadPart\n");
+    compare_part(&rt, alloc, "r1=f2", "error part 2 RouterTwice\n");
+    compare_part(&rt, alloc, "r9=f2", "error part 2 UnknownRouter\n");
+    compare_part(&rt, alloc, "@", "error part 2 BadPart\n");
+}
+
+/// A run over this topology is refused with this text.
+fn compare_topology(rt: &impl Abort, alloc: Global, topology: &str, text: &str) {
+    let came = come_to(alloc, &USUAL, topology, TAKE_ALL, &[]);
+    compare(rt, came, Status::BadTopology, text);
 }
 
 #[test]
-fn refused_topologies(rt: HostRuntime) -> Result<(), Fail> {
+fn refused_topologies(rt: HostRuntime) {
     let alloc = rt.alloc();
-    let cases: [(&str, &str); 2] = [
-        ("routers = 1\n", "error topology top 0 3 MissingKey\n"),
-        (END_TWICE, "error topology link 2 7 EndTwice\n"),
-    ];
-    for (topology, text) in cases {
-        let came = come_to(alloc, &USUAL, topology, TAKE_ALL, &[])?;
-        assert!(rt; is_come(&came, Status::BadTopology, text), "{text}");
-    }
-    Ok(())
+    let missing = "error topology top 0 3 MissingKey\n";
+    compare_topology(&rt, alloc, "routers = 1\n", missing);
+    let twice = "error topology link 2 7 EndTwice\n";
+    compare_topology(&rt, alloc, END_TWICE, twice);
+}
+
+/// A run with this script before the feed is refused with this text.
+fn compare_script(rt: &impl Abort, alloc: Global, script: &str, text: &str) {
+    let words = ["deltanet", "run", "topology", "@script", "r1=f1"];
+    let came = come_to(alloc, &words, RING, script, &[]);
+    compare(rt, came, Status::BadScript, text);
 }
 
 #[test]
-fn refused_scripts(rt: HostRuntime) -> Result<(), Fail> {
+fn refused_scripts(rt: HostRuntime) {
     let alloc = rt.alloc();
-    let cases: [(&str, &str); 3] = [
-        ("take r9 all\n", "error script 1 line 1 2 TakeUnknown\n"),
-        ("path r1 r9\n", "error script 1 line 1 1 BadLine\n"),
-        ("# a note\ntake r1 0\n", "error script 1 line 2 1 BadLine\n"),
-    ];
-    for (script, text) in cases {
-        let words = ["deltanet", "run", "topology", "@script", "r1=f1"];
-        let came = come_to(alloc, &words, RING, script, &[])?;
-        assert!(rt; is_come(&came, Status::BadScript, text), "{text}");
-    }
-    Ok(())
+    let unknown = "error script 1 line 1 2 TakeUnknown\n";
+    compare_script(&rt, alloc, "take r9 all\n", unknown);
+    let first = "error script 1 line 1 1 BadLine\n";
+    compare_script(&rt, alloc, "path r1 r9\n", first);
+    let second = "error script 1 line 2 1 BadLine\n";
+    compare_script(&rt, alloc, "# a note\ntake r1 0\n", second);
+}
+
+/// A run of this topology, feed of `r1` and script, of which one file isn't there, ends with this text.
+fn compare_files(rt: &impl Abort, alloc: Global, files: [&str; 3], text: &str) {
+    let [topology, feed, script] = files;
+    let words = ["deltanet", "run", topology, feed, script];
+    compare_words(rt, alloc, &words, Status::ReadFault, text);
 }
 
 #[test]
-fn files_that_are_not_there(rt: HostRuntime) -> Result<(), Fail> {
+fn files_that_are_not_there(rt: HostRuntime) {
     let alloc = rt.alloc();
-    let cases: [([&str; 5], &str); 3] = [
-        (
-            ["deltanet", "run", "none", "r1=f1", "@script"],
-            "error read topology\n",
-        ),
-        (
-            ["deltanet", "run", "topology", "r1=none", "@script"],
-            "error read part 1\n",
-        ),
-        (
-            ["deltanet", "run", "topology", "r1=f1", "@none"],
-            "error read part 2\n",
-        ),
-    ];
-    for (words, text) in cases {
-        let came = come_to(alloc, &words, RING, TAKE_ALL, &[])?;
-        assert!(rt; is_come(&came, Status::ReadFault, text), "{text}");
-    }
-    Ok(())
+    let files = ["none", "r1=f1", "@script"];
+    compare_files(&rt, alloc, files, "error read topology\n");
+    let files = ["topology", "r1=none", "@script"];
+    compare_files(&rt, alloc, files, "error read part 1\n");
+    let files = ["topology", "r1=f1", "@none"];
+    compare_files(&rt, alloc, files, "error read part 2\n");
 }

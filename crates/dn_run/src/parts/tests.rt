@@ -1,6 +1,5 @@
 use super::*;
 use crate::words::copied;
-use std::test::Fail;
 
 /// What these parts are read as.
 fn read(alloc: Global, parts: &[&str]) -> Result<RunParts, PartsRefused> {
@@ -9,8 +8,8 @@ fn read(alloc: Global, parts: &[&str]) -> Result<RunParts, PartsRefused> {
 }
 
 #[test]
-fn reads_feeds_and_scripts(rt: HostRuntime) -> Result<(), Fail> {
-    let parts = read(rt.alloc(), &["r1=a=b", "@r=s", "-=f"])?;
+fn reads_feeds_and_scripts(rt: HostRuntime) {
+    let parts = read(rt.alloc(), &["r1=a=b", "@r=s", "-=f"]).expect(&rt, "parts");
     assert_eq!(rt; parts.feeds.len(), 2);
     assert_eq!(rt; parts.feeds[0].part, 1);
     assert_eq!(rt; parts.feeds[0].router.as_bytes(), b"r1".as_slice());
@@ -20,7 +19,6 @@ fn reads_feeds_and_scripts(rt: HostRuntime) -> Result<(), Fail> {
     assert_eq!(rt; parts.scripts.len(), 1);
     assert_eq!(rt; parts.scripts[0].part, 2);
     assert_eq!(rt; parts.scripts[0].file.as_str(), "r=s");
-    Ok(())
 }
 
 #[test]
@@ -42,14 +40,13 @@ fn takes_one_script(rt: HostRuntime) {
 }
 
 #[test]
-fn takes_sixty_four_feeds(rt: HostRuntime) -> Result<(), Fail> {
+fn takes_sixty_four_feeds(rt: HostRuntime) {
     let alloc = rt.alloc();
     let mut parts = ["r=f"; 66];
     parts[3] = "@s";
-    let taken = read(alloc, &parts[..65])?;
+    let taken = read(alloc, &parts[..65]).expect(&rt, "parts");
     assert_eq!(rt; taken.feeds.len(), 64);
     assert_eq!(rt; taken.feeds[63].part, 65);
     let line = ErrorLine::TooManyParts { part: 66 };
     assert_eq!(rt; read(alloc, &parts).err(), Some(PartsRefused::Line(line)));
-    Ok(())
 }

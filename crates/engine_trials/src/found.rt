@@ -47,10 +47,18 @@ fn tells_link_down(answer: &Answer) -> bool {
     }
 }
 
-/// Whether one update sets a route of another prefix of the same length at the same router as another.
+/// Whether an update sets a route.
+fn is_set(entry: &Entry) -> bool {
+    matches!(entry.op, Op::Set { .. })
+}
+
+/// Whether the first update sets a route of another prefix of the same length at the same router as the second.
 fn is_beside(first: &Entry, second: &Entry) -> bool {
     let (old, new) = (first.op.prefix(), second.op.prefix());
-    first.router == second.router && old.len() == new.len() && old.base() != new.base()
+    is_set(first)
+        && first.router == second.router
+        && old.len() == new.len()
+        && old.base() != new.base()
 }
 
 /// Whether a view has both the lowest and the highest address in a row of its own.

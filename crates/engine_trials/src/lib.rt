@@ -1,6 +1,7 @@
 //! Trials of the engine: histories that are drawn by fixed seeds, in which what a version of a network shows, with links
-//! down too, and what each update changed are compared with what the plain evaluator of `dn_model` says, which shares no
-//! code with either. The crate's tests are the trials; what it offers is the comparison of two answers.
+//! down too, and what updates changed are compared with what the plain evaluator of `dn_model` says. That one has tables,
+//! walks and answers of its own; only the types, and `router` and `link` of `dn_model`, which look names up, serve both
+//! sides. The crate's tests are the trials; what it offers is the comparison of two answers.
 #![tactic(auto)]
 
 #[cfg(test)]

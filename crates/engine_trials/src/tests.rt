@@ -69,7 +69,6 @@ fn met(rt: &impl Abort, alloc: Global, trials: &[Trial]) -> Result<Found, Fail> 
 
 /// Each kind of what is tried came about.
 fn assert_met(rt: &impl Abort, found: &Found) {
-    assert!(rt; found.compared > 1000, "{found:?}");
     assert!(rt; found.cycles > 0, "{found:?}");
     assert!(rt; found.links_down > 0, "{found:?}");
     assert!(rt; found.clears > 0, "{found:?}");
@@ -124,7 +123,6 @@ fn atoms_of_many_pages_and_chunks(rt: HostRuntime) -> Result<(), Fail> {
     }];
     let found = met(&rt, rt.alloc(), &trials)?;
     assert!(rt; found.atoms > 600, "{found:?}");
-    assert!(rt; found.compared > 200, "{found:?}");
     assert!(rt; found.links_down > 0, "{found:?}");
     assert!(rt; found.clears > 0, "{found:?}");
     Ok(())
@@ -143,7 +141,6 @@ fn a_network_of_sixty_four_routers(rt: HostRuntime) -> Result<(), Fail> {
         seed: 16,
     }];
     let found = met(&rt, rt.alloc(), &trials)?;
-    assert!(rt; found.compared > 80, "{found:?}");
     assert!(rt; found.cycles > 0, "{found:?}");
     assert!(rt; found.clears > 0, "{found:?}");
     Ok(())

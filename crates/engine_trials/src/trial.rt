@@ -166,8 +166,8 @@ fn met(alloc: Global, topology: Topology, trial: &Trial) -> Result<Found, OutOfM
     Ok(found)
 }
 
-/// What a trial meets: the answers of the version after each of its updates beside those of the plain evaluator. One
-/// without a router meets nothing; one of more routers than a topology may have, which are 1,024, is refused.
+/// What a trial meets: what the updates that are told changed, and the answers of the versions at the end of each stage,
+/// beside what the plain evaluator says. One without a router meets nothing; one of more routers than a topology may have, which are 1,024, is refused.
 pub fn agree(alloc: Global, trial: &Trial) -> Result<Found, TopoRefused> {
     let topology = ring(alloc, trial.routers)?;
     if topology.router_count() == 0 {

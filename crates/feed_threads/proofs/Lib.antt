@@ -1,4 +1,5 @@
 pub mod JobLemmas
+pub mod PlaceLemmas
 pub mod SeatLemmas
 pub mod StepLemmas
 pub mod TakeLemmas

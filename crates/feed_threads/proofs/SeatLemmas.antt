@@ -1,5 +1,5 @@
 -- What a seat saw more of the history, and what of it is its own.
-use Rattle.std.proofs.Common.{◌≡◌, ℕ, Bool, true, if◌then◌else◌, append_assoc, List, [], ◌∷◌, ◌++◌, refl, ap, sym, ◌∙◌, subst}
+use Rattle.std.proofs.Common.{◌≡◌, ℕ, ◌<◌, ◌≤◌, length, take, arith, Bool, true, if◌then◌else◌, append_assoc, List, [], ◌∷◌, ◌++◌, refl, ap, sym, ◌∙◌, subst, Result, Ok, Err, OnErr}
 use Rattle.std.specs.Prelude.{Contains}
 use Rattle.std.proofs.lemmas.List.{map-append}
 use mathlib.Core.List.{IsPrefix}
@@ -13,6 +13,7 @@ use Rattle.dn_formats.specs.Steps.{entries_by}
 use Rattle.dn_model.specs.declared.entry.Op.{Op}
 use Rattle.dn_model.specs.declared.ids.RouterId.{RouterId}
 use Rattle.feed_threads.specs.Seats.{own_of, SawMore}
+use Rattle.feed_threads.specs.Takes.{TookFirst}
 
 -- a seat that saw nothing more
 pub saw-none : (seat : Caller) → SawMore seat seat
@@ -63,3 +64,18 @@ own-more old mid new n r ops more op took saw is parts before after =
     ∙ ap (λ es. es ++ e ∷ []) before ∙ append_assoc (own_of old.number old.seen) (entries_by n r ops) (e ∷ [])
     ∙ ap (λ es. own_of old.number old.seen ++ es) (sym (map-append (λ (o : Op). record { router = r; feed_no = n; op = o }) ops (op ∷ [])))
     ∙ ap (λ os. own_of old.number old.seen ++ entries_by n r os) (sym parts)
+
+-- the own entries once a further update was refused: the first n of them stand
+pub first-refused : (old mid new : Caller) (feed_no : ℕ) (r : RouterId) (ops : List Op) (n : ℕ) → SawMore old mid → n < length ops →
+    own_of old.number mid.seen ≡ own_of old.number old.seen ++ entries_by feed_no r (take n ops) → own_of mid.number new.seen ≡ own_of mid.number mid.seen →
+    TookFirst old.number feed_no r old.seen new.seen ops
+first-refused old mid new feed_no r ops n saw below before same = record {
+  n = n;
+  few = omega (arith, below);
+  grows = subst (λ (k : ℕ). own_of k new.seen ≡ own_of k mid.seen) (saw-number old mid saw) same ∙ before;
+}
+
+-- what holds in any case holds where a call was refused
+pub on-err : {A E : Type 0} (result : Result A E) (P : Type 0) → P → OnErr result P
+on-err (Ok o) P p = tt
+on-err (Err e) P p = p

@@ -1,5 +1,5 @@
 -- What taking frames of a feed adds to what it gave, and to the job's own entries.
-use Rattle.std.proofs.Common.{◌≡◌, ℕ, ◌+◌, ◌-◌, ◌<◌, ◌≤◌, Bool, true, false, is_none, is_some, List, [], ◌∷◌, ◌++◌, length, take, Option, None, Some, Result, Ok, Err, IfOk, OnOk, refl, ap, sym, ◌∙◌, subst, arith, length-append, append_assoc}
+use Rattle.std.proofs.Common.{◌≡◌, ℕ, ◌+◌, ◌*◌, ◌-◌, ◌<◌, ◌≤◌, Bool, true, false, is_none, is_some, List, [], ◌∷◌, ◌++◌, length, take, Option, None, Some, Result, Ok, Err, IfOk, OnOk, OnErr, refl, ap, sym, ◌∙◌, subst, arith, length-append, append_assoc}
 use Rattle.std.proofs.lemmas.Grind.{flat_map-append}
 use Rattle.std.proofs.lemmas.List.{append-nil, map-append}
 use Rattle.std.proofs.Math.Seq.{take-append-add}
@@ -13,13 +13,14 @@ use Rattle.dn_model.specs.declared.ids.RouterId.{RouterId}
 use Rattle.dn_model.specs.declared.memory.OutOfMemory.{OutOfMemory}
 use Rattle.dn_model.specs.declared.topology.Topology.{Topology}
 use Rattle.dn_formats.specs.declared.told.FeedEnd.{FeedEnd}
+use Rattle.dn_formats.specs.declared.told.FeedEnd.TheVariants as ends
 use Rattle.dn_formats.specs.declared.told.FeedTold.{FeedTold}
-use Rattle.route_feed.specs.FeedReader.{Reader, end_of}
+use Rattle.route_feed.specs.FeedReader.{Reader, end_of, Advances}
 use Rattle.route_feed.specs.declared.feed_step.FeedStep.{FeedStep}
 use Rattle.route_feed.specs.declared.feed_step.FeedStep.TheVariants as answers
 use Rattle.feed_threads.specs.Feeds.{Feed, end_with, end_of_feed, handed_out, HandsOut, TookOf, Stands, ReadsOn}
 use Rattle.feed_threads.specs.Seats.{own_of}
-use Rattle.feed_threads.specs.Takes.{IsLater, IsCount, HasTaken, Gives, TakesSome, TakesAny}
+use Rattle.feed_threads.specs.Takes.{IsLater, IsCount, HasTaken, TookFirst, Passes, Gives, GivesFirst, TakesSome, TakesAny}
 use Rattle.feed_threads.proofs.StepLemmas.{none-handed}
 
 -- ---- lists
@@ -48,6 +49,27 @@ later-more (Some e) mid xs ys a same b =
 later-handed : (end : Option FeedEnd) (step : FeedStep) → ((e : FeedEnd) → end ≡ Some e → end_of step ≡ Some e) → IsLater end (handed_out step)
 later-handed None step ended = tt
 later-handed (Some e) step ended = none-handed step e (ended e refl)
+
+-- ---- the bytes that updates take
+
+pub passes-step : {S : Type 0} (step : FeedStep) (old new : Reader S) → Advances step old new → new.limit ≡ old.limit → Passes old new (handed_out step)
+passes-step (answers.Ops ops skipped) old new a limit =
+    let same : length (ops ++ []) ≡ length ops = ap length (append-nil ops) in
+    record { fits = omega (arith, a.2, same); within = λ w. a.1 }
+passes-step (answers.Refused o m c) old new a limit = record { fits = omega (arith, a.0); within = λ w. a.1 }
+passes-step answers.End old new a limit = record { fits = omega (arith, a); within = λ w. omega (arith, a, limit, w) }
+passes-step (answers.CutShort o) old new a limit = record { fits = omega (arith, a); within = λ w. omega (arith, a, limit, w) }
+passes-step (answers.Lost o c) old new a limit = record { fits = omega (arith, a); within = λ w. omega (arith, a, limit, w) }
+passes-step answers.TooLong old new a limit = record { fits = omega (arith, a); within = λ w. omega (arith, a, limit, w) }
+passes-step answers.Faulted old new a limit = record { fits = omega (arith, a); within = λ w. omega (arith, a, limit, w) }
+
+passes-none : {S : Type 0} (reader : Reader S) → Passes reader reader []
+passes-none reader = record { fits = omega arith; within = λ w. w }
+
+pub passes-more : {S : Type 0} (old mid new : Reader S) (xs ys : List FrameStep) → Passes old mid xs → Passes mid new ys → Passes old new (xs ++ ys)
+passes-more old mid new xs ys a b =
+    let both : length (updates (xs ++ ys)) ≡ length (updates xs) + length (updates ys) = ap length (updates-append xs ys) ∙ length-append (updates xs) (updates ys) in
+    record { fits = omega (arith, both, a.fits, b.fits); within = λ w. b.within (a.within w) }
 
 -- where a history had taken all, as it was seen, it had taken all as it is seen later; and so where it was full
 pub took-later : (limit : ℕ) (seen later : List Posted) (kept : Option ℕ) (steps : List FrameStep) (ops : List Op) → IsPrefix seen later → TookOf limit seen kept steps ops → TookOf limit later kept steps ops
@@ -105,7 +127,7 @@ kept-end kept end none = ap (λ (k : Option ℕ). end_with k end) none
 module _ {S : Type 0} (t : Topology) (left : S → Option (List ℕ)) (faults place : S → ℕ) (limit : ℕ) where
   pub stands-later : (seen later : List Posted) (start : Reader S) (feed : Feed S) (steps : List FrameStep) (ops : List Op) → IsPrefix seen later →
       Stands t left faults place limit seen start feed steps ops → Stands t left faults place limit later start feed steps ops
-  stands-later seen later start feed steps ops begins st = record { reads = st.reads; took = took-later limit seen later feed.kept steps ops begins st.took }
+  stands-later seen later start feed steps ops begins st = record { reads = st.reads; took = took-later limit seen later feed.kept steps ops begins st.took; unended = st.unended }
 
   -- nothing is given
   pub gives-none : (number : ℕ) (feed : Feed S) (seen : List Posted) → Gives t left faults place limit number feed feed seen seen []
@@ -115,11 +137,23 @@ module _ {S : Type 0} (t : Topology) (left : S → Option (List ℕ)) (faults pl
         subst (λ (xs : List FrameStep). Stands t left faults place limit seen start feed xs (ops-before ++ [])) (sym (append-nil steps))
         (subst (λ (xs : List Op). Stands t left faults place limit seen start feed steps xs) (sym (append-nil ops-before)) st);
     grows = sym (append-nil (own_of number seen));
+    whole = λ none. refl;
+    passes = passes-none feed.reader;
     later = later-nil (end_of_feed feed);
     ended = λ end is. (refl, refl);
     feed_no = refl;
     router = refl;
   }
+
+  -- a feed that wasn't broken off by now never was
+  unbroken : (number : ℕ) (old new : Feed S) (a b : List Posted) (xs : List FrameStep) → Gives t left faults place limit number old new a b xs → new.kept ≡ None → old.kept ≡ None
+  unbroken number old new a b xs x none = by-kept old.kept refl
+    where
+      by-kept : (k : Option ℕ) → old.kept ≡ k → old.kept ≡ None
+      by-kept None is = is
+      by-kept (Some n) is =
+          let full : end_of_feed old ≡ Some ends.Full = ap (λ (o : Option ℕ). end_with o old.reader.told.end) is in
+          sym (ap (λ (f : Feed S). f.kept) (x.ended ends.Full full).0) ∙ none
 
   -- and then some more
   pub gives-more : (number : ℕ) (old mid new : Feed S) (a b c : List Posted) (xs ys : List FrameStep) →
@@ -134,6 +168,11 @@ module _ {S : Type 0} (t : Topology) (left : S → Option (List ℕ)) (faults pl
         ∙ ap (λ z. z ++ entries_by old.reader.told.feed_no old.reader.told.router y.ops) x.grows
         ∙ append_assoc (own_of number a) (entries_by old.reader.told.feed_no old.reader.told.router x.ops) (entries_by old.reader.told.feed_no old.reader.told.router y.ops)
         ∙ ap (λ z. own_of number a ++ z) (sym (entries_by-append old.reader.told.feed_no old.reader.told.router x.ops y.ops));
+    whole = λ none.
+        let all : y.ops ≡ updates ys = y.whole none in
+        let before : x.ops ≡ updates xs = x.whole (unbroken number mid new b c ys y none) in
+        ap (λ z. z ++ y.ops) before ∙ ap (λ z. updates xs ++ z) all ∙ sym (updates-append xs ys);
+    passes = passes-more old.reader mid.reader new.reader xs ys x.passes y.passes;
     later = later-more (end_of_feed old) (end_of_feed mid) xs ys x.later (λ e is. ap end_of_feed (x.ended e is).0 ∙ is) y.later;
     ended = λ e is.
         let first : (mid ≡ old) × (x.ops ≡ []) = x.ended e is in
@@ -151,8 +190,9 @@ module _ {S : Type 0} (t : Topology) (left : S → Option (List ℕ)) (faults pl
       ((end : FeedEnd) → old.reader.told.end ≡ Some end → (new.reader ≡ old.reader) × (end_of step ≡ Some end)) →
       new.reader.told.feed_no ≡ old.reader.told.feed_no → new.reader.told.router ≡ old.reader.told.router →
       own_of number seen ≡ own_of number seen-before ++ entries_by old.reader.told.feed_no old.reader.told.router (updates (handed_out step)) →
+      Passes old.reader new.reader (handed_out step) →
       Gives t left faults place limit number old new seen-before seen (handed_out step)
-  gives-whole number old new seen-before seen step begins kept kept' handed again feed_no router grows =
+  gives-whole number old new seen-before seen step begins kept kept' handed again feed_no router grows passes =
       let going : end_of_feed old ≡ old.reader.told.end = kept-end old.kept old.reader.told.end kept in
       record {
         ops = updates (handed_out step);
@@ -160,8 +200,11 @@ module _ {S : Type 0} (t : Topology) (left : S → Option (List ℕ)) (faults pl
           reads = handed start steps st.reads;
           took = subst (λ (k : Option ℕ). TookOf limit seen k (steps ++ handed_out step) (ops-before ++ updates (handed_out step))) (sym kept')
               (ap (λ z. z ++ updates (handed_out step)) (subst (λ (k : Option ℕ). TookOf limit seen-before k steps ops-before) kept st.took) ∙ sym (updates-append steps (handed_out step)));
+          unended = λ n is. absurd (cc (sym kept' ∙ is));
         };
         grows = grows;
+        whole = λ none. refl;
+        passes = passes;
         later = later-handed (end_of_feed old) step (λ e is. (again e (sym going ∙ is)).1);
         ended = λ e is. (
           same-feed old new kept kept' (again e (sym going ∙ is)).0,
@@ -180,8 +223,9 @@ module _ {S : Type 0} (t : Topology) (left : S → Option (List ℕ)) (faults pl
       ((start : Reader S) (steps : List FrameStep) → HandsOut t left faults place start old.reader steps → HandsOut t left faults place start new.reader (steps ++ Accepted ops skipped ∷ [])) →
       new.reader.told.feed_no ≡ old.reader.told.feed_no → new.reader.told.router ≡ old.reader.told.router →
       own_of number seen ≡ own_of number seen-before ++ entries_by old.reader.told.feed_no old.reader.told.router (take n ops) →
+      new.reader.told.end ≡ None → Passes old.reader new.reader (Accepted ops skipped ∷ []) →
       Gives t left faults place limit number old new seen-before seen (Accepted ops skipped ∷ [])
-  gives-broken number old new seen-before seen ops skipped n kept going kept' fewer full handed feed_no router grows =
+  gives-broken number old new seen-before seen ops skipped n kept going kept' fewer full handed feed_no router grows unended passes =
       let none : end_of_feed old ≡ None = kept-end old.kept old.reader.told.end kept ∙ going in
       record {
         ops = take n ops;
@@ -204,8 +248,11 @@ module _ {S : Type 0} (t : Topology) (left : S → Option (List ℕ)) (faults pl
                   full = full;
                 },
               );
+              unended = λ m is. unended;
             };
         grows = grows;
+        whole = λ none. absurd (cc (sym kept' ∙ none));
+        passes = passes;
         later = subst (λ (o : Option FeedEnd). IsLater o (Accepted ops skipped ∷ [])) (sym none) tt;
         ended = λ e is. absurd (cc (sym none ∙ is));
         feed_no = feed_no;
@@ -234,19 +281,20 @@ module _ {S : Type 0} (t : Topology) (left : S → Option (List ℕ)) (faults pl
   pub took-ops : (number : ℕ) (old new : Feed S) (seen-before seen : List Posted) (ops : List Op) (skipped : ℕ) (mid : Reader S) (result : Result Bool OutOfMemory) →
       IsPrefix seen-before seen → old.kept ≡ None → old.reader.told.end ≡ None → new.reader ≡ mid → mid.told.end ≡ None → mid.told.updates ≡ old.reader.told.updates + length (updates (Accepted ops skipped ∷ [])) →
       ((start : Reader S) (steps : List FrameStep) → HandsOut t left faults place start old.reader steps → HandsOut t left faults place start mid (steps ++ Accepted ops skipped ∷ [])) →
-      mid.told.feed_no ≡ old.reader.told.feed_no → mid.told.router ≡ old.reader.told.router →
+      mid.told.feed_no ≡ old.reader.told.feed_no → mid.told.router ≡ old.reader.told.router → Passes old.reader mid (Accepted ops skipped ∷ []) →
       IfOk result (λ more. HasTaken limit number more new.kept mid.told seen-before seen ops) →
       OnOk result (TakesSome t left faults place limit number (Some 1) old new seen-before seen)
-  took-ops number old new seen-before seen ops skipped mid (Err e) begins kept going reader end count handed feed_no router took = tt
-  took-ops number old new seen-before seen ops skipped mid (Ok true) begins kept going reader end count handed feed_no router took =
+  took-ops number old new seen-before seen ops skipped mid (Err e) begins kept going reader end count handed feed_no router passes took = tt
+  took-ops number old new seen-before seen ops skipped mid (Ok true) begins kept going reader end count handed feed_no router passes took =
       took-step number old new seen-before seen (answers.Ops ops skipped) took.0 (ap (λ (r : Reader S). r.told.end) reader ∙ end)
       (gives-whole number old new seen-before seen (answers.Ops ops skipped) begins kept took.0
       (λ start steps h. subst (λ (r : Reader S). HandsOut t left faults place start r (steps ++ Accepted ops skipped ∷ [])) (sym reader) (handed start steps h))
       (λ e is. absurd (cc (sym going ∙ is)))
       (ap (λ (r : Reader S). r.told.feed_no) reader ∙ feed_no) (ap (λ (r : Reader S). r.told.router) reader ∙ router)
       (took.1 ∙ ap (λ z. own_of number seen-before ++ entries_by z mid.told.router ops) feed_no ∙ ap (λ z. own_of number seen-before ++ entries_by old.reader.told.feed_no z ops) router
-      ∙ ap (λ z. own_of number seen-before ++ entries_by old.reader.told.feed_no old.reader.told.router z) (sym (append-nil ops))))
-  took-ops number old new seen-before seen ops skipped mid (Ok false) begins kept going reader end count handed feed_no router took =
+      ∙ ap (λ z. own_of number seen-before ++ entries_by old.reader.told.feed_no old.reader.told.router z) (sym (append-nil ops)))
+      (subst (λ (r : Reader S). Passes old.reader r (Accepted ops skipped ∷ [])) (sym reader) passes))
+  took-ops number old new seen-before seen ops skipped mid (Ok false) begins kept going reader end count handed feed_no router passes took =
       let n : ℕ = took.0 in
       let fewer : n < length ops = took.1 in
       let same : length (ops ++ []) ≡ length ops = ap length (append-nil ops) in
@@ -257,7 +305,8 @@ module _ {S : Type 0} (t : Topology) (left : S → Option (List ℕ)) (faults pl
         adds = gives-broken number old new seen-before seen ops skipped n kept going kept' fewer took.3
             (λ start steps h. subst (λ (r : Reader S). HandsOut t left faults place start r (steps ++ Accepted ops skipped ∷ [])) (sym reader) (handed start steps h))
             (ap (λ (r : Reader S). r.told.feed_no) reader ∙ feed_no) (ap (λ (r : Reader S). r.told.router) reader ∙ router)
-            (took.4 ∙ ap (λ z. own_of number seen-before ++ entries_by z mid.told.router (take n ops)) feed_no ∙ ap (λ z. own_of number seen-before ++ entries_by old.reader.told.feed_no z (take n ops)) router);
+            (took.4 ∙ ap (λ z. own_of number seen-before ++ entries_by z mid.told.router (take n ops)) feed_no ∙ ap (λ z. own_of number seen-before ++ entries_by old.reader.told.feed_no z (take n ops)) router)
+            (ap (λ (r : Reader S). r.told.end) reader ∙ end) (subst (λ (r : Reader S). Passes old.reader r (Accepted ops skipped ∷ [])) (sym reader) passes);
         counted = subst (λ (k : Option ℕ). IsCount (Some 1) 1 (end_with k new.reader.told.end)) (sym kept') (omega arith);
       }
 
@@ -323,14 +372,14 @@ module _ {S : Type 0} (t : Topology) (left : S → Option (List ℕ)) (faults pl
   pub took-arm : (number : ℕ) (old : Feed S) (r : Reader S) (k : Option ℕ) (r' : Reader S) (seen : List Posted) (step : FeedStep) → record { reader = r; kept = k } ≡ old → k ≡ None → updates (handed_out step) ≡ [] →
       ((start : Reader S) (steps : List FrameStep) → HandsOut t left faults place start r steps → HandsOut t left faults place start r' (steps ++ handed_out step)) →
       ((end : FeedEnd) → r.told.end ≡ Some end → (r' ≡ r) × (end_of step ≡ Some end)) → r'.told.end ≡ end_of step →
-      r'.told.feed_no ≡ r.told.feed_no → r'.told.router ≡ r.told.router →
+      r'.told.feed_no ≡ r.told.feed_no → r'.told.router ≡ r.told.router → Passes r r' (handed_out step) →
       TakesSome t left faults place limit number (Some 1) old (record { reader = r'; kept = k }) seen seen
-  took-arm number old r k r' seen step is none no-update handed again end feed_no router =
+  took-arm number old r k r' seen step is none no-update handed again end feed_no router passes =
       let f : Feed S = record { reader = r; kept = k } in
       subst (λ (x : Feed S). TakesSome t left faults place limit number (Some 1) x (record { reader = r'; kept = k }) seen seen) is
       (took-step number f (record { reader = r'; kept = k }) seen seen step none end
       (gives-whole number f (record { reader = r'; kept = k }) seen seen step (prefix_self seen) none none handed again feed_no router
-      (sym (ap (λ (xs : List Op). own_of number seen ++ entries_by r.told.feed_no r.told.router xs) no-update ∙ append-nil (own_of number seen)))))
+      (sym (ap (λ (xs : List Op). own_of number seen ++ entries_by r.told.feed_no r.told.router xs) no-update ∙ append-nil (own_of number seen))) passes))
 
   -- an accepted frame
   pub took-accepted : (number : ℕ) (old : Feed S) (r : Reader S) (k : Option ℕ) (r' : Reader S) (new : Feed S) (seen-before seen : List Posted) (step : FeedStep) (ops : List Op) (skipped : ℕ) (result : Result Bool OutOfMemory) →
@@ -338,17 +387,17 @@ module _ {S : Type 0} (t : Topology) (left : S → Option (List ℕ)) (faults pl
       ((start : Reader S) (steps : List FrameStep) → HandsOut t left faults place start r steps → HandsOut t left faults place start r' (steps ++ handed_out step)) →
       ((end : FeedEnd) → r.told.end ≡ Some end → (r' ≡ r) × (end_of step ≡ Some end)) → r'.told.end ≡ end_of step →
       r'.told.updates ≡ r.told.updates + length (updates (handed_out step)) →
-      r'.told.feed_no ≡ r.told.feed_no → r'.told.router ≡ r.told.router → new.reader ≡ r' →
+      r'.told.feed_no ≡ r.told.feed_no → r'.told.router ≡ r.told.router → new.reader ≡ r' → Passes r r' (handed_out step) →
       IfOk result (λ more. HasTaken limit number more new.kept r'.told seen-before seen ops) →
       OnOk result (TakesSome t left faults place limit number (Some 1) old new seen-before seen)
-  took-accepted number old r k r' new seen-before seen step ops skipped result is none step-is begins handed again end count feed_no router reader took =
+  took-accepted number old r k r' new seen-before seen step ops skipped result is none step-is begins handed again end count feed_no router reader passes took =
       let f : Feed S = record { reader = r; kept = k } in
       let no-end : end_of step ≡ None = ap end_of step-is in
       subst (λ (x : Feed S). OnOk result (TakesSome t left faults place limit number (Some 1) x new seen-before seen)) is
       (took-ops number f new seen-before seen ops skipped r' result begins none (going-of (r' ≡ r) r.told.end step no-end again) reader (end ∙ no-end)
       (count ∙ ap (λ (s : FeedStep). r.told.updates + length (updates (handed_out s))) step-is)
       (λ start steps h. subst (λ (s : FeedStep). HandsOut t left faults place start r' (steps ++ handed_out s)) step-is (handed start steps h))
-      feed_no router took)
+      feed_no router (subst (λ (s : FeedStep). Passes r r' (handed_out s)) step-is passes) took)
 
   pub reads-arm : (old : Feed S) (r : Reader S) (k : Option ℕ) (r' new : Reader S) (step : FeedStep) → record { reader = r; kept = k } ≡ old → new ≡ r' →
       ((start : Reader S) (steps : List FrameStep) → HandsOut t left faults place start r steps → HandsOut t left faults place start r' (steps ++ handed_out step)) →
@@ -356,3 +405,74 @@ module _ {S : Type 0} (t : Topology) (left : S → Option (List ℕ)) (faults pl
   reads-arm old r k r' new step is same handed router =
       subst (λ (x : Feed S). ReadsOn t left faults place x.reader new) is
       (subst (λ (x : Reader S). ReadsOn t left faults place r x) (sym same) (record { more = handed_out step; on = handed; router = router }))
+
+  -- ---- where memory was wanting
+
+  -- the reader's answer was wanting
+  pub first-none : (number : ℕ) (old : Feed S) (r : Reader S) (k : Option ℕ) (r' : Reader S) (seen : List Posted) → record { reader = r; kept = k } ≡ old → k ≡ None →
+      ((start : Reader S) (steps : List FrameStep) → HandsOut t left faults place start r steps → HandsOut t left faults place start r' steps) →
+      GivesFirst t left faults place limit number old (record { reader = r'; kept = k }) seen seen
+  first-none number old r k r' seen is none waits =
+      let f : Feed S = record { reader = r; kept = k } in
+      subst (λ (x : Feed S). GivesFirst t left faults place limit number x (record { reader = r'; kept = k }) seen seen) is (record {
+        kept = none;
+        more = [];
+        reads = λ start steps h. subst (λ (xs : List FrameStep). HandsOut t left faults place start r' xs) (sym (append-nil steps)) (waits start steps h);
+        took = record { n = 0; few = omega arith; grows = sym (append-nil (own_of number seen)) };
+      })
+
+  -- one of a frame's updates was refused
+  pub first-ops : (number : ℕ) (old : Feed S) (r : Reader S) (k : Option ℕ) (r' : Reader S) (new : Feed S) (seen-before seen : List Posted) (step : FeedStep) (ops : List Op) (skipped : ℕ) (result : Result Bool OutOfMemory) →
+      record { reader = r; kept = k } ≡ old → k ≡ None → step ≡ answers.Ops ops skipped →
+      ((start : Reader S) (steps : List FrameStep) → HandsOut t left faults place start r steps → HandsOut t left faults place start r' (steps ++ handed_out step)) →
+      r'.told.feed_no ≡ r.told.feed_no → r'.told.router ≡ r.told.router → new.reader ≡ r' →
+      OnErr result (TookFirst number r'.told.feed_no r'.told.router seen-before seen ops) →
+      OnErr result (GivesFirst t left faults place limit number old new seen-before seen)
+  first-ops number old r k r' new seen-before seen step ops skipped (Ok b) is none step-is handed feed_no router reader took = tt
+  first-ops number old r k r' new seen-before seen step ops skipped (Err e) is none step-is handed feed_no router reader took =
+      let f : Feed S = record { reader = r; kept = k } in
+      let same : ops ++ [] ≡ ops = append-nil ops in
+      let first : TookFirst number r.told.feed_no r.told.router seen-before seen ops =
+      subst (λ (q : RouterId). TookFirst number r.told.feed_no q seen-before seen ops) router (subst (λ (m : ℕ). TookFirst number m r'.told.router seen-before seen ops) feed_no took) in
+      subst (λ (x : Feed S). GivesFirst t left faults place limit number x new seen-before seen) is (record {
+        kept = none;
+        more = Accepted ops skipped ∷ [];
+        reads = λ start steps h.
+            subst (λ (q : Reader S). HandsOut t left faults place start q (steps ++ Accepted ops skipped ∷ [])) (sym reader)
+            (subst (λ (s : FeedStep). HandsOut t left faults place start r' (steps ++ handed_out s)) step-is (handed start steps h));
+        took = subst (λ (xs : List Op). TookFirst number r.told.feed_no r.told.router seen-before seen xs) (sym same) first;
+      })
+
+  -- frames before that were taken whole
+  pub first-more : (number : ℕ) (old mid new : Feed S) (a b c : List Posted) (xs : List FrameStep) → Gives t left faults place limit number old mid a b xs →
+      GivesFirst t left faults place limit number mid new b c → GivesFirst t left faults place limit number old new a c
+  first-more number old mid new a b c xs x y =
+      let n : ℕ = y.took.n in
+      let unbroken-before : old.kept ≡ None = unbroken number old mid a b xs x y.kept in
+      let all : x.ops ≡ updates xs = x.whole y.kept in
+      let parts : updates (xs ++ y.more) ≡ updates xs ++ updates y.more = updates-append xs y.more in
+      let len : length (updates (xs ++ y.more)) ≡ length (updates xs) + length (updates y.more) = ap length parts ∙ length-append (updates xs) (updates y.more) in
+      let front : take (length (updates xs) + n) (updates (xs ++ y.more)) ≡ updates xs ++ take n (updates y.more) =
+      ap (λ z. take (length (updates xs) + n) z) parts ∙ take-append-add (updates xs) (updates y.more) n in
+      let few : n ≤ length (updates y.more) = y.took.few in
+      record {
+        kept = unbroken-before;
+        more = xs ++ y.more;
+        reads = λ start steps h.
+            let st : Stands t left faults place limit a start old steps (updates steps) = record {
+              reads = h;
+              took = subst (λ (o : Option ℕ). TookOf limit a o steps (updates steps)) (sym unbroken-before) refl;
+              unended = λ m is. absurd (cc (sym unbroken-before ∙ is));
+            } in
+            subst (λ (zs : List FrameStep). HandsOut t left faults place start new.reader zs) (append_assoc steps xs y.more)
+            (y.reads start (steps ++ xs) (x.stands start steps (updates steps) st).reads);
+        took = record {
+          n = length (updates xs) + n;
+          few = omega (arith, len, few);
+          grows = y.took.grows ∙ ap (λ m. own_of number b ++ entries_by m mid.reader.told.router (take n (updates y.more))) x.feed_no
+              ∙ ap (λ r. own_of number b ++ entries_by old.reader.told.feed_no r (take n (updates y.more))) x.router
+              ∙ ap (λ z. z ++ entries_by old.reader.told.feed_no old.reader.told.router (take n (updates y.more))) (x.grows ∙ ap (λ z. own_of number a ++ entries_by old.reader.told.feed_no old.reader.told.router z) all)
+              ∙ append_assoc (own_of number a) (entries_by old.reader.told.feed_no old.reader.told.router (updates xs)) (entries_by old.reader.told.feed_no old.reader.told.router (take n (updates y.more)))
+              ∙ ap (λ z. own_of number a ++ z) (sym (entries_by-append old.reader.told.feed_no old.reader.told.router (updates xs) (take n (updates y.more))) ∙ ap (λ z. entries_by old.reader.told.feed_no old.reader.told.router z) (sym front));
+        };
+      }

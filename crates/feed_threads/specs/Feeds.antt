@@ -88,10 +88,12 @@ module _ {S : Type 0} (t : Topology) (left : S → Option (List ℕ)) (faults pl
     pub counts : CountsBy now.told.end (faults now.source)
     pub stands : (bytes : List ℕ) → left start.source ≡ Some bytes → StandsBy now.told.end t now (left now.source) bytes steps
 
-  -- a feed whose reader has handed out these frames, of which the history took these updates
+  -- A feed whose reader has handed out these frames, of which the history took these updates. The reader of a feed that a
+  -- full history broke off reads no further: it has met no end of its own.
   pub record Stands (limit : ℕ) (seen : List Posted) (start : Reader S) (feed : Feed S) (steps : List FrameStep) (ops : List Op) : Type 0 where
     pub reads : HandsOut start feed.reader steps
     pub took : TookOf limit seen feed.kept steps ops
+    pub unended : (n : ℕ) → feed.kept ≡ Some n → feed.reader.told.end ≡ None
 
   -- whatever a reader had handed out before, it has then handed out some frames more, and it is of the same router
   pub record ReadsOn (old new : Reader S) : Type 0 where

@@ -1,5 +1,5 @@
 -- Jobs: what each is to do, and what it came to.
-use Rattle.std.specs.Prelude.{ℕ, ◌≡◌, ◌<◌, ◌==◌, Bool, IsTrue, true, false, List, [], ◌∷◌, ◌++◌, length, map, Option, None, Some}
+use Rattle.std.specs.Prelude.{ℕ, ◌≡◌, ◌<◌, ◌≤◌, ◌*◌, ◌==◌, Bool, IsTrue, true, false, List, [], ◌∷◌, ◌++◌, length, map, Option, None, Some}
 use Rattle.std.specs.List.{AllZip}
 use Rattle.dn_formats.specs.Lawful.{entries_of_job, TellsFront}
 use Rattle.dn_formats.specs.Steps.{FrameStep, FeedRead, updates, told_of}
@@ -59,12 +59,15 @@ IsKeptSo limit seen (Some n) f = (f.kept ≡ n) × IsBroken limit seen f.steps n
 
 module _ {S : Type 0} (t : Topology) (left : S → Option (List ℕ)) (faults place : S → ℕ) (limit : ℕ) where
   -- A feed was read to its end by a reader that began as `start`, and this was told of it when its source was given back:
-  -- the frames are those that the reader handed out.
+  -- the frames are those that the reader handed out, with at least 28 bytes for each update, within the reader's limit. Where
+  -- a full history broke the feed off its reader met no end of its own.
   pub record IsReadBy (seen : List Posted) (start : Reader S) (source : S) (told : FeedTold) (f : FeedRead) : Type 0 where
     pub reader : Reader S
     pub kept : Option ℕ
     pub source_is : reader.source ≡ source
     pub reads : HandsOut t left faults place start reader f.steps
+    pub fits : 28 * length (updates f.steps) ≤ start.limit
+    pub unended : (n : ℕ) → kept ≡ Some n → reader.told.end ≡ None
     pub end_is : end_with kept reader.told.end ≡ Some f.end
     pub kept_is : IsKeptSo limit seen kept f
     pub feed_no : f.feed_no ≡ start.told.feed_no

@@ -1,5 +1,6 @@
 pub mod Feeds
 pub mod Jobs
+pub mod Places
 pub mod Seats
 pub mod Takes
 pub mod Tells

@@ -1,9 +1,10 @@
 //! A query of a script is asked over a snapshot.
 
-ghost use Rattle.std.specs.Prelude.{◌≡◌, IfOk, OnOk, OnErr, None};
+ghost use Rattle.std.specs.Prelude.{◌≡◌, IfOk, OnOk, OnErr, None, Some};
 ghost use Rattle.dn_model.specs.Answer.{IsAnswer};
 ghost use Rattle.dn_model.specs.Entry.{entries};
 ghost use Rattle.dn_model.specs.Query.{unknown_of};
+ghost use Rattle.dn_model.specs.declared.query.Unknown.{Unknown as UnknownIs};
 ghost use Rattle.version_lock.specs.Callers.{IsSeatOf};
 ghost use Rattle.feed_threads.specs.Seats.{own_of, SawMore};
 ghost use Rattle.feed_threads.specs.Tells.{Adds, IsOutcomeNow};
@@ -30,7 +31,8 @@ fn answer_of(alloc: Global, snapshot: &Snapshot, query: &Query) -> Result<Answer
     }
 }
 
-/// The answer to a query over the history, whose length is its pin; or the query's first unknown name, without a pin.
+/// The answer to a query over the history, whose length is its pin; or the query's first unknown name, without a pin: the
+/// seat is as it was.
 fn outcome<G: Gate, R: Wait>(
     rt: &R,
     desk: &Desk<'_, G>,
@@ -40,6 +42,7 @@ fn outcome<G: Gate, R: Wait>(
     requires lock { IsSeatOf desk.now seat.old }
     ensures saw { SawMore seat.old seat.new }
     ensures own { own_of seat.old.number seat.new.seen ≡ own_of seat.old.number seat.old.seen }
+    ensures unpinned { (u : UnknownIs) → unknown_of desk.now.setup.basis.topology query.now ≡ Some u → seat.new ≡ seat.old }
     ensures good { IfOk result (IsOutcomeNow desk.now.setup.basis.topology seat.new.seen query.now) }
 {
     if let Some(unknown) = query.unknown(desk.topology()) {
@@ -66,6 +69,7 @@ pub(crate) fn ask<G: Gate, R: Wait>(
     requires lock { IsSeatOf desk.now seat.old }
     ensures saw { SawMore seat.old seat.new }
     ensures own { own_of seat.old.number seat.new.seen ≡ own_of seat.old.number seat.old.seen }
+    ensures unpinned { (u : UnknownIs) → unknown_of desk.now.setup.basis.topology query.now ≡ Some u → seat.new ≡ seat.old }
     ensures told { OnOk result (Adds told.old told.new line query.now (IsOutcomeNow desk.now.setup.basis.topology seat.new.seen query.now)) }
     ensures err { OnErr result (told.new ≡ told.old) }
 {

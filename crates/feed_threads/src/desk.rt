@@ -1,6 +1,6 @@
 //! What a job works with, whatever its feeds are.
 
-ghost use Rattle.std.specs.Prelude.{◌≡◌, ◌≤◌, ◌++◌, ◌∷◌, [], length, true, false, if◌then◌else◌, IfOk, OnOk};
+ghost use Rattle.std.specs.Prelude.{◌≡◌, ◌≤◌, ◌++◌, ◌∷◌, [], length, true, false, if◌then◌else◌, IfOk, OnErr};
 ghost use Rattle.dn_model.specs.Entry.{IsEntryOf};
 ghost use Rattle.version_lock.specs.Callers.{IsSeatOf};
 ghost use Rattle.feed_threads.specs.Seats.{own_of, SawMore};
@@ -68,7 +68,8 @@ impl<'a, G: Gate> Desk<'a, G> {
         self.topology
     }
 
-    /// Applies an entry, and answers whether the history took it: it did not where it was full.
+    /// Applies an entry, and answers whether the history took it: it did not where it was full. Where memory is wanting
+    /// nothing of the seat's own is added.
     pub(crate) fn post<R: Wait>(
         &self,
         rt: &R,
@@ -79,6 +80,7 @@ impl<'a, G: Gate> Desk<'a, G> {
         requires entry { IsEntryOf self.now.setup.basis.topology entry.now }
         ensures saw { SawMore seat.old seat.new }
         ensures own { IfOk result (λ taken. own_of seat.old.number seat.new.seen ≡ own_of seat.old.number seat.old.seen ++ (if taken then entry.now ∷ [] else [])) }
+        ensures kept { OnErr result (own_of seat.old.number seat.new.seen ≡ own_of seat.old.number seat.old.seen) }
         ensures full { IfOk result (λ taken. taken ≡ false → self.now.setup.basis.limit ≤ length seat.new.seen) }
     {
         let _number = seat.number();

@@ -5,6 +5,7 @@ mod ask;
 mod desk;
 mod feed;
 mod job;
+mod places;
 mod take;
 
 pub use job::{Job, JobDone, JobList};

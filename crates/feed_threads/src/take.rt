@@ -1,12 +1,12 @@
 //! Frames of one feed are taken through the lock.
 
-ghost use Rattle.std.specs.Prelude.{◌≡◌, ℕ, ◌<◌, ◌≤◌, ◌++◌, [], List, All, length, take, IfOk, OnOk, is_none, true, false, Some, None};
+ghost use Rattle.std.specs.Prelude.{◌≡◌, ℕ, ◌<◌, ◌≤◌, ◌++◌, [], List, All, length, take, IfOk, OnOk, OnErr, is_none, true, false, Some, None};
 ghost use Rattle.dn_formats.specs.Steps.{entries_by};
 ghost use Rattle.dn_model.specs.Entry.{IsOpOf};
 ghost use Rattle.version_lock.specs.Callers.{IsSeatOf};
 ghost use Rattle.feed_threads.specs.Feeds.{ReadsOn, end_of_feed};
 ghost use Rattle.feed_threads.specs.Seats.{own_of, SawMore};
-ghost use Rattle.feed_threads.specs.Takes.{HasTaken, TakesSome};
+ghost use Rattle.feed_threads.specs.Takes.{GivesFirst, HasTaken, TakesSome, TookFirst};
 
 use crate::desk::Desk;
 use crate::feed::{Feed, next_step};
@@ -17,7 +17,7 @@ use std::sync::Wait;
 use version_lock::Seat;
 
 /// Applies updates of one router's feed, in order, and answers how many of them the history took: all, or fewer where it
-/// was full.
+/// was full. Where memory is wanting it took the first of them.
 fn post_all<G: Gate, R: Wait>(
     rt: &R,
     desk: &Desk<'_, G>,
@@ -32,6 +32,7 @@ fn post_all<G: Gate, R: Wait>(
     ensures saw { SawMore seat.old seat.new }
     ensures few { IfOk result (λ n. n ≤ length ops.now) }
     ensures own { IfOk result (λ n. own_of seat.old.number seat.new.seen ≡ own_of seat.old.number seat.old.seen ++ entries_by feed_no router (take n ops.now)) }
+    ensures first { OnErr result (TookFirst seat.old.number feed_no router seat.old.seen seat.new.seen ops.now) }
     ensures full { IfOk result (λ n. n < length ops.now → desk.now.setup.basis.limit ≤ length seat.new.seen) }
 {
     for taken in 0..ops.len() {
@@ -64,6 +65,7 @@ fn take_ops<S: Source, G: Gate, R: Wait>(
     ensures saw { SawMore seat.old seat.new }
     ensures reader { feed.new.reader ≡ feed.old.reader }
     ensures took { IfOk result (λ more. HasTaken desk.now.setup.basis.limit seat.old.number more feed.new.kept feed.old.reader.told seat.old.seen seat.new.seen ops.now) }
+    ensures first { OnErr result (TookFirst seat.old.number feed.old.reader.told.feed_no feed.old.reader.told.router seat.old.seen seat.new.seen ops.now) }
 {
     let feed_no = feed.reader.told().feed_no;
     let router = feed.reader.told().router;
@@ -88,6 +90,7 @@ fn take_frame<S: Source, G: Gate, R: Wait>(
     requires router { feed.old.reader.told.router.0 < length desk.now.setup.basis.topology.routers }
     ensures saw { SawMore seat.old seat.new }
     ensures taken { OnOk result (TakesSome desk.now.setup.basis.topology S.left S.faults S.place desk.now.setup.basis.limit seat.old.number (Some 1) feed.old feed.new seat.old.seen seat.new.seen) }
+    ensures first { OnErr result (GivesFirst desk.now.setup.basis.topology S.left S.faults S.place desk.now.setup.basis.limit seat.old.number feed.old feed.new seat.old.seen seat.new.seen) }
     ensures more { IfOk result (λ more. more ≡ is_none (end_of_feed feed.new)) }
     ensures grows { IfOk result (λ more. more ≡ true → (feed.old.reader.passed < feed.new.reader.passed) × (feed.new.reader.passed ≤ feed.new.reader.limit)) }
     ensures reads { ReadsOn desk.now.setup.basis.topology S.left S.faults S.place feed.old.reader feed.new.reader }
@@ -119,6 +122,7 @@ fn take_some<S: Source, G: Gate, R: Wait>(
     requires router { feed.old.reader.told.router.0 < length desk.now.setup.basis.topology.routers }
     ensures saw { SawMore seat.old seat.new }
     ensures taken { OnOk result (TakesSome desk.now.setup.basis.topology S.left S.faults S.place desk.now.setup.basis.limit seat.old.number (Some count) feed.old feed.new seat.old.seen seat.new.seen) }
+    ensures first { OnErr result (GivesFirst desk.now.setup.basis.topology S.left S.faults S.place desk.now.setup.basis.limit seat.old.number feed.old feed.new seat.old.seen seat.new.seen) }
     ensures reads { ReadsOn desk.now.setup.basis.topology S.left S.faults S.place feed.old.reader feed.new.reader }
 {
     for taken in 0..count {
@@ -141,6 +145,7 @@ fn take_rest<S: Source, G: Gate, R: Wait>(
     requires router { feed.old.reader.told.router.0 < length desk.now.setup.basis.topology.routers }
     ensures saw { SawMore seat.old seat.new }
     ensures taken { OnOk result (TakesSome desk.now.setup.basis.topology S.left S.faults S.place desk.now.setup.basis.limit seat.old.number None feed.old feed.new seat.old.seen seat.new.seen) }
+    ensures first { OnErr result (GivesFirst desk.now.setup.basis.topology S.left S.faults S.place desk.now.setup.basis.limit seat.old.number feed.old feed.new seat.old.seen seat.new.seen) }
     ensures reads { ReadsOn desk.now.setup.basis.topology S.left S.faults S.place feed.old.reader feed.new.reader }
 {
     let mut more = true;
@@ -150,8 +155,8 @@ fn take_rest<S: Source, G: Gate, R: Wait>(
     Ok(())
 }
 
-/// Takes this many frames of a feed, or without a count the rest of it. After `OutOfMemory` some of what the feed gave may
-/// be missing in the history.
+/// Takes this many frames of a feed, or without a count the rest of it. After `OutOfMemory` the history has the first
+/// of what the feed gave.
 pub(crate) fn take_frames<S: Source, G: Gate, R: Wait>(
     rt: &R,
     desk: &Desk<'_, G>,
@@ -163,6 +168,7 @@ pub(crate) fn take_frames<S: Source, G: Gate, R: Wait>(
     requires router { feed.old.reader.told.router.0 < length desk.now.setup.basis.topology.routers }
     ensures saw { SawMore seat.old seat.new }
     ensures taken { OnOk result (TakesSome desk.now.setup.basis.topology S.left S.faults S.place desk.now.setup.basis.limit seat.old.number count feed.old feed.new seat.old.seen seat.new.seen) }
+    ensures first { OnErr result (GivesFirst desk.now.setup.basis.topology S.left S.faults S.place desk.now.setup.basis.limit seat.old.number feed.old feed.new seat.old.seen seat.new.seen) }
     ensures reads { ReadsOn desk.now.setup.basis.topology S.left S.faults S.place feed.old.reader feed.new.reader }
 {
     match count {

@@ -1,6 +1,6 @@
-use Rattle.std.proofs.Common.{◌≡◌, ◌+◌, ◌++◌, ◌∷◌, [], take, rules, arith}
+use Rattle.std.proofs.Common.{◌≡◌, ◌<◌, ◌+◌, ◌++◌, ◌∷◌, [], length, take, rules, arith}
 use Rattle.std.proofs.lemmas.Grind.{common_steps}
-use Rattle.feed_threads.proofs.SeatLemmas.{saw-more, own-more}
+use Rattle.feed_threads.proofs.SeatLemmas.{saw-more, own-more, first-refused, on-err}
 use Rattle.feed_threads.proofs.take.post_all.Goals as goal
 
 pub returns-then-not-branch-clause-saw : goal.returns-then-not-branch-clause-saw
@@ -14,3 +14,12 @@ loop-taken-preserved g c =
       own = own-more c.args.seat.now c.loop-taken.seat c.post.new.seat c.args.feed_no c.args.router _ _ c.index-ops-taken.result c.in_ok-post.field-0
           c.loop-taken.invariant.saw c.if-not-branch.false more c.loop-taken.invariant.own c.in_ok-post.ensures.own;
     }
+
+pub returns-in_err-post-clause-saw : goal.returns-in_err-post-clause-saw
+returns-in_err-post-clause-saw g c = saw-more _ _ _ c.loop-taken.invariant.saw c.post.ensures.saw
+
+pub returns-in_err-post-clause-first : goal.returns-in_err-post-clause-first
+returns-in_err-post-clause-first g c =
+    let below : c.loop-taken.taken < length c.args.ops.now = omega arith in
+    on-err c.from_residual.result _ (first-refused c.args.seat.now c.loop-taken.seat c.post.new.seat c.args.feed_no c.args.router c.args.ops.now c.loop-taken.taken
+    c.loop-taken.invariant.saw below c.loop-taken.invariant.own c.in_err-post.ensures.kept)

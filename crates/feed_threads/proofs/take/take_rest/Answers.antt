@@ -1,8 +1,8 @@
 use Rattle.std.proofs.Common.{◌∙◌, ℕ, Some, sym, subst}
-use Rattle.feed_threads.specs.Takes.{TakesSome}
-use Rattle.feed_threads.proofs.SeatLemmas.{saw-none, saw-more, saw-number}
+use Rattle.feed_threads.specs.Takes.{GivesFirst, TakesSome}
+use Rattle.feed_threads.proofs.SeatLemmas.{saw-none, saw-more, saw-number, on-err}
 use Rattle.feed_threads.proofs.StepLemmas.{reads-none, reads-more}
-use Rattle.feed_threads.proofs.TakeLemmas.{any-start, any-more}
+use Rattle.feed_threads.proofs.TakeLemmas.{any-start, any-more, first-more}
 use Rattle.feed_threads.proofs.take.take_rest.Goals as goal
 
 pub loop-more-init : goal.loop-more-init
@@ -28,3 +28,10 @@ loop-more-preserved g c = record {
   reads = reads-more c.args.desk.now.setup.basis.topology g.S.Source.left g.S.Source.faults g.S.Source.place _ _ _ c.loop-more.invariant.reads c.take_frame.ensures.reads;
   ended = λ e. sym c.in_ok-more.ensures.more ∙ e;
 }
+
+pub returns-in_err-more-clause-first : goal.returns-in_err-more-clause-first
+returns-in_err-more-clause-first g c =
+    on-err c.from_residual.result _ (first-more c.args.desk.now.setup.basis.topology g.S.Source.left g.S.Source.faults g.S.Source.place c.args.desk.now.setup.basis.limit c.args.seat.now.number c.args.feed.now c.loop-more.feed c.take_frame.new.feed c.args.seat.now.seen c.loop-more.seat.seen c.take_frame.new.seat.seen
+    c.loop-more.invariant.taken.more c.loop-more.invariant.taken.adds
+    (subst (λ (n : ℕ). GivesFirst c.args.desk.now.setup.basis.topology g.S.Source.left g.S.Source.faults g.S.Source.place c.args.desk.now.setup.basis.limit n c.loop-more.feed c.take_frame.new.feed c.loop-more.seat.seen c.take_frame.new.seat.seen)
+    (saw-number c.args.seat.now c.loop-more.seat c.loop-more.invariant.saw) c.in_err-more.ensures.first))

@@ -1,8 +1,8 @@
 use Rattle.std.proofs.Common.{◌+◌, ◌≤◌, ◌∙◌, ℕ, Some, sym, subst, arith}
-use Rattle.feed_threads.specs.Takes.{TakesSome}
-use Rattle.feed_threads.proofs.SeatLemmas.{saw-none, saw-more, saw-number}
+use Rattle.feed_threads.specs.Takes.{GivesFirst, TakesSome}
+use Rattle.feed_threads.proofs.SeatLemmas.{saw-none, saw-more, saw-number, on-err}
 use Rattle.feed_threads.proofs.StepLemmas.{reads-none, reads-more}
-use Rattle.feed_threads.proofs.TakeLemmas.{took-start, took-more, took-fewer}
+use Rattle.feed_threads.proofs.TakeLemmas.{took-start, took-more, took-fewer, first-more}
 use Rattle.feed_threads.proofs.take.take_some.Goals as goal
 
 pub loop-taken-init : goal.loop-taken-init
@@ -41,3 +41,10 @@ loop-taken-preserved g c = record {
       (saw-number c.args.seat.now c.loop-taken.seat c.loop-taken.invariant.saw) c.in_ok-take_frame.ensures.taken);
   reads = reads-more c.args.desk.now.setup.basis.topology g.S.Source.left g.S.Source.faults g.S.Source.place _ _ _ c.loop-taken.invariant.reads c.take_frame.ensures.reads;
 }
+
+pub returns-in_err-take_frame-clause-first : goal.returns-in_err-take_frame-clause-first
+returns-in_err-take_frame-clause-first g c =
+    on-err c.from_residual.result _ (first-more c.args.desk.now.setup.basis.topology g.S.Source.left g.S.Source.faults g.S.Source.place c.args.desk.now.setup.basis.limit c.args.seat.now.number c.args.feed.now c.loop-taken.feed c.take_frame.new.feed c.args.seat.now.seen c.loop-taken.seat.seen c.take_frame.new.seat.seen
+    c.loop-taken.invariant.taken.more c.loop-taken.invariant.taken.adds
+    (subst (λ (n : ℕ). GivesFirst c.args.desk.now.setup.basis.topology g.S.Source.left g.S.Source.faults g.S.Source.place c.args.desk.now.setup.basis.limit n c.loop-taken.feed c.take_frame.new.feed c.loop-taken.seat.seen c.take_frame.new.seat.seen)
+    (saw-number c.args.seat.now c.loop-taken.seat c.loop-taken.invariant.saw) c.in_err-take_frame.ensures.first))

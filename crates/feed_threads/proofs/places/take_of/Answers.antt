@@ -1,0 +1,5 @@
+use Rattle.feed_threads.proofs.PlaceLemmas.{failed-of, read-none}
+use Rattle.feed_threads.proofs.places.take_of.Goals as goal
+
+pub returns-in-None-clause-reads : goal.returns-in-None-clause-reads
+returns-in-None-clause-reads g c = read-none c.args.desk.now.setup.basis.topology g.S.Source.left g.S.Source.faults g.S.Source.place c.args.desk.now.setup.basis.limit c.args.feeds.now.items

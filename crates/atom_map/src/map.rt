@@ -1,6 +1,6 @@
 //! Atoms by address and by number.
 
-ghost use Rattle.std.specs.Prelude.{◌≡◌, ◌<◌, ◌≤◌, ◌^◌, Some, OnErr, IfOk, IfSome, Contains, length, map, option_map, slice_index_or};
+ghost use Rattle.std.specs.Prelude.{◌≡◌, ◌<◌, ◌≤◌, ◌^◌, Some, OnErr, IfOk, IfSome, Contains, length, map, option_map, take, drop, slice_index_or};
 ghost use Rattle.dn_model.specs.Atoms.{AreAtoms, IsCut, atom_of, atoms_in, bounds_of, row_at, row_of};
 ghost use Rattle.dn_model.specs.declared.atom_row.AtomRow.{AtomRow};
 ghost use Rattle.atom_map.specs.Index.{one_atom};
@@ -139,6 +139,15 @@ impl AtomMap {
         ensures { (d : AtomRow) → result ≡ slice_index_or self.now i d }
     {
         read(&self.rows, i)
+    }
+
+    /// The atoms from a place to the end of its page, with their bounds: at least one where there is one at the place. So a
+    /// loop over many atoms goes down to a page once for all that it has of them.
+    pub fn run_from(&self, i: u64) -> &[AtomRow]
+        ensures some { i < length self.now → 0 < length result.now }
+        ensures run { take (length result.now) (drop i self.now) ≡ result.now }
+    {
+        self.rows.run_from(i)
     }
 
     /// The bounds of an atom: its first address, and the one after its last, which for the last atom is 2^32. It takes

@@ -7,10 +7,10 @@ ghost use Rattle.atom_map.specs.Index.{first_below, AgreeBelow, IsNoted, IsParte
 
 use dn_model::{AtomId, AtomRow, OutOfMemory};
 use std::alloc::Global;
-use version_pages::Pages;
+use version_pages::{Keyed, Pages};
 
 /// The element at a place of a list in pages.
-pub fn read<T: Copy>(pages: &Pages<T>, i: u64) -> T
+pub fn read<T: Keyed + Copy>(pages: &Pages<T>, i: u64) -> T
     requires { i < length pages.now }
     ensures { (d : T) → result ≡ slice_index_or pages.now i d }
 {
@@ -27,7 +27,7 @@ pub fn place_of(rows: &Pages<AtomRow>, a: u32) -> u64
     ensures from { (d : AtomRow) → (slice_index_or rows.now result d).low ≤ a }
     ensures to { (d : AtomRow) → a < (slice_index_or rows.now result d).past }
 {
-    let past = rows.partition_point(|row: &AtomRow| row.low <= a as u64);
+    let past = rows.count_below(a as u64 + 1);
     past - 1
 }
 

@@ -10,7 +10,7 @@ use crate::chunk::{Chunk, Operation};
 use dn_model::{AtomId, List, OutOfMemory};
 use std::alloc::{AllocError, Global};
 use std::marker::Model;
-use version_pages::Pages;
+use version_pages::{Keyed, Pages};
 
 /// A set of atoms. A contract sees it as the ascending list of their numbers, so that two sets with equal members are
 /// equal. The set stands as bits in shared pages: number a is in it where bit a is 1. Bits past the last chunk are 0.
@@ -146,5 +146,14 @@ impl Clone for AtomSet {
             Ok(set) => Ok(set),
             Err(OutOfMemory) => Err(AllocError),
         }
+    }
+}
+
+/// No list of sets is searched: each has the key 0.
+impl Keyed for AtomSet {
+    ghost key_of = { λ _. 0 };
+
+    fn key(&self) -> u64 {
+        0
     }
 }

@@ -4,11 +4,21 @@ ghost use Rattle.std.specs.Prelude.{◌≡◌, ℕ, ◌<◌, ◌≤◌, ◌==◌
 ghost use Rattle.edge_labels.specs.Bits.{chunk_bit, count_below, empty_chunk, holds};
 
 use std::simd::u64x8;
+use version_pages::Keyed;
 
 /// 512 bits in eight words, lowest first.
 #[derive(Clone, Copy, Debug, PartialEq, Eq)]
 pub struct Chunk {
     pub words: [u64; 8],
+}
+
+/// No list of chunks is searched: each has the key 0.
+impl Keyed for Chunk {
+    ghost key_of = { λ _. 0 };
+
+    fn key(&self) -> u64 {
+        0
+    }
 }
 
 /// What is made of two sets.

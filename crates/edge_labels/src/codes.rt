@@ -1,6 +1,7 @@
 //! Codes of what routers do.
 
 use dn_model::Target;
+use version_pages::Keyed;
 
 /// A router, by its place in the topology's list, and something that it does: an edge of the network, or a way to drop
 /// packets.
@@ -8,4 +9,13 @@ use dn_model::Target;
 pub struct Edge {
     pub router: u32,
     pub target: Target,
+}
+
+/// No list of edges is searched: each has the key 0.
+impl Keyed for Edge {
+    ghost key_of = { λ _. 0 };
+
+    fn key(&self) -> u64 {
+        0
+    }
 }

@@ -1,6 +1,6 @@
 //! What a router does with the atoms of a span.
 
-ghost use Rattle.std.specs.Prelude.{◌≡◌, ℕ, ◌<◌, ◌≤◌, ◌^◌, true, IfOk};
+ghost use Rattle.std.specs.Prelude.{◌≡◌, ℕ, ◌<◌, ◌≤◌, ◌^◌, true, IfOk, length, take, drop};
 ghost use Rattle.dn_model.specs.Atoms.{is_boundary};
 ghost use Rattle.net_engine.specs.Numbered.{AreLabelled, does_at};
 ghost use Rattle.net_engine.specs.Reruled.{IsRelabelled};
@@ -8,12 +8,26 @@ ghost use Rattle.net_engine.specs.Reruled.{IsRelabelled};
 use crate::segment::Targets;
 use crate::span::Span;
 use atom_map::AtomMap;
-use dn_model::{OutOfMemory, RouterId};
+use dn_model::{AtomRow, OutOfMemory, RouterId};
 use edge_labels::LabelGraph;
 use std::alloc::Global;
 
-/// A router does something else with each atom of a span, at whose ends atoms begin. It looks at these atoms alone, and at
-/// none where nothing changes. At `OutOfMemory`, for which alone it fails, all is dropped.
+/// The atoms from a place on to the end of a page: those that are at hand, or, where none of them is left, those that are
+/// found by going down to the page.
+fn run_at<'a>(atoms: &'a AtomMap, run: &'a [AtomRow], place: u64) -> &'a [AtomRow]
+    requires inside { place < length atoms.now }
+    requires run { take (length run.now) (drop place atoms.now) ≡ run.now }
+    ensures some { 0 < length result.now }
+    ensures run { take (length result.now) (drop place atoms.now) ≡ result.now }
+{
+    if run.is_empty() {
+        return atoms.run_from(place);
+    }
+    run
+}
+
+/// A router does something else with each atom of a span, at whose ends atoms begin. It looks at these atoms alone,
+/// a page of them at a time, and at none where nothing changes. At `OutOfMemory`, for which alone it fails, all is dropped.
 pub fn relabel(
     alloc: Global,
     atoms: &AtomMap,
@@ -36,12 +50,15 @@ pub fn relabel(
     }
     let mut labels = labels;
     let mut place = atoms.place_of(span.lo);
+    let mut run = atoms.run_from(place);
     let mut at = u64::from(span.lo);
     'atoms: while at < span.past {
-        let row = atoms.at(place);
+        let here = run_at(atoms, run, place);
+        let row = here[0];
         labels = labels.move_atom(alloc, r, row.atom, targets.before, targets.after)?;
         at = row.past;
         place += 1;
+        run = &here[1..];
     }
     Ok(labels)
 }

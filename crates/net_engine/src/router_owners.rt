@@ -59,8 +59,7 @@ impl RouterOwners {
     fn search(&self, at: u32) -> u64
         ensures { IsPlace self.now at result }
     {
-        self.segments
-            .partition_point(|segment: &Segment| segment.low < at)
+        self.segments.count_below(u64::from(at))
     }
 
     /// The place of the first segment that doesn't begin below an address, where it stands in one page with a place and

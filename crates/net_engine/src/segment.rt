@@ -7,6 +7,7 @@ ghost use Rattle.net_engine.specs.Segments.{IsInForce, IsReruled};
 use dn_model::{Op, OutOfMemory, Rule, Target};
 use owner_tree::Owners;
 use std::alloc::{AllocError, Global};
+use version_pages::Keyed;
 
 /// The addresses of a router from `low` on, up to where its next segment begins: its rules there, and what the first of
 /// them says is done.
@@ -29,6 +30,15 @@ impl Clone for Segment {
             }),
             Err(OutOfMemory) => Err(AllocError),
         }
+    }
+}
+
+/// Segments are searched by their first addresses.
+impl Keyed for Segment {
+    ghost key_of = { λ segment. segment.low };
+
+    fn key(&self) -> u64 {
+        u64::from(self.low)
     }
 }
 

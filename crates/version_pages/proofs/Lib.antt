@@ -1,7 +1,9 @@
 pub mod Deep
 pub mod Edits
 pub mod Ending
+pub mod FirstKeys
 pub mod Grows
 pub mod Joined
 pub mod Parted
+pub mod Runs
 pub mod Within

@@ -3,6 +3,7 @@ use Rattle.std.specs.Prelude.{ℕ, ◌≡◌, ◌+◌, ◌*◌, ◌≤◌, max, 
 use Rattle.std.proofs.Common.{arith}
 use Rattle.std.proofs.lemmas.List.Elements.{All-head, All-tail}
 use denote.Param.Weighed.{most}
+use Rattle.version_pages.specs.declared.keyed.Keyed.{Ghosts}
 use Rattle.version_pages.specs.declared.tree.Node.{Node}
 use Rattle.version_pages.specs.declared.tree.Node.TheVariants.{Page, Fork}
 use Rattle.version_pages.specs.declared.tree.Kid.TheDeep.{deep-Node}
@@ -18,6 +19,6 @@ most-under height (k ∷ ks) h =
     omega arith
 
 -- no child is as deep as the node is high
-pub deep_le-height : {T : Type 0} (n : Node T) → IsKept n → max (deep-Node T n) 0 ≤ 2 * (shape_of n).height
-deep_le-height (Page items) h = omega arith
-deep_le-height (Fork kids height) h = let m = most-under height kids.items h.under in omega (arith, m)
+pub deep_le-height : {T : Type 0} (keyed : Ghosts T) (n : Node T) → IsKept n → max (deep-Node T keyed n) 0 ≤ 2 * (shape_of n).height
+deep_le-height keyed (Page items) h = omega arith
+deep_le-height keyed (Fork kids height) h = let m = most-under height kids.items h.under in omega (arith, m)

@@ -3,10 +3,12 @@
 #![tactic(auto)]
 
 mod growth;
+mod keyed;
 mod page;
 mod pages;
 #[cfg(test)]
 mod tests;
 mod tree;
 
+pub use keyed::Keyed;
 pub use pages::Pages;

@@ -4,9 +4,10 @@ ghost use Rattle.std.specs.Prelude.{◌≡◌, ◌+◌, ◌*◌, ◌<◌, ◌≤
 ghost use Rattle.std.specs.Prelude.{IfOk, OnErr, IfSome, IsSome, is_ok, if◌then◌else◌, length, set, insert, take, drop, slice_index_or};
 ghost use Rattle.version_pages.specs.Changes.{Changes};
 ghost use Rattle.version_pages.specs.Growth.{grown, CanGrow};
-ghost use Rattle.version_pages.specs.Search.{Ends};
+ghost use Rattle.version_pages.specs.Search.{EndsBelow};
 
 use crate::growth::Growth;
+use crate::keyed::Keyed;
 use crate::page::page_of_one;
 use crate::tree::{Kid, page_kid};
 use dn_model::OutOfMemory;
@@ -18,11 +19,11 @@ use std::marker::Model;
 /// A copy is one count. A write changes in place the pages, and the nodes above them, that no other list holds, and
 /// copies those that another list holds too: what the other list reads stays.
 #[derive(Drop)]
-pub struct Pages<T> {
+pub struct Pages<T: Keyed> {
     root: Option<Kid<T>>,
 }
 
-impl<T> Model for Pages<T> {
+impl<T: Keyed> Model for Pages<T> {
     ghost use Rattle.std.specs.Prelude.{List, [], option_map, unwrap_or};
     ghost use Rattle.version_pages.specs.Shape.{items_of};
 
@@ -31,7 +32,7 @@ impl<T> Model for Pages<T> {
     ghost view = { λ p. unwrap_or (option_map items_of p.root) [] };
 }
 
-impl<T> Pages<T> {
+impl<T: Keyed> Pages<T> {
     /// The empty list, which takes no memory.
     pub fn new() -> Pages<T>
         ensures { result ≡ [] }
@@ -92,7 +93,7 @@ impl<T> Pages<T> {
     }
 }
 
-impl<T: Drop> Pages<T> {
+impl<T: Keyed + Drop> Pages<T> {
     /// The same list again, which shares all pages with this one. It fails for want of memory alone.
     pub fn copy(&self) -> Result<Pages<T>, OutOfMemory>
         ensures { IfOk result (λ pages. pages ≡ self.now) }
@@ -106,7 +107,7 @@ impl<T: Drop> Pages<T> {
     }
 }
 
-impl<T: Clone> Pages<T> {
+impl<T: Keyed + Clone> Pages<T> {
     /// Has an element changed in its place. After `OutOfMemory` the list is as before, and the change was not called.
     pub fn change<R, F: FnOnce(&mut T) -> R>(
         &mut self,
@@ -199,17 +200,16 @@ impl<T: Clone> Pages<T> {
     }
 }
 
-impl<T> Pages<T> {
-    /// The place of the first element that fails a test, where none that passes it comes after one that fails: the
-    /// element before passes, and the one at the place fails. It goes down once, looks at the logarithm of the length
-    /// many elements, and takes no memory.
-    pub fn partition_point<P: Fn(&T) -> bool>(&self, test: P) -> u64
-        requires { P.IsAlwaysCallable test }
-        ensures { Ends P.Fn test self.now result }
+impl<T: Keyed> Pages<T> {
+    /// How many elements have a key below this one, where keys ascend: the element before that place has a key below it,
+    /// and the one at the place has none below it, also where keys don't ascend. It goes down once, takes no memory, and
+    /// looks at the elements of one page alone: each fork on the way has the keys of its children's first elements.
+    pub fn count_below(&self, key: u64) -> u64
+        ensures { EndsBelow T.key_of self.now key result }
     {
         match &self.root {
             None => 0,
-            Some(root) => root.search(&test),
+            Some(root) => root.count_below(key),
         }
     }
 }

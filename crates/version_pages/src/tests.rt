@@ -3,7 +3,7 @@
 ghost use Rattle.std.specs.Prelude.{◌≡◌, IfOk};
 ghost use Rattle.std.specs.Arc.{arc_value};
 
-use super::Pages;
+use super::{Keyed, Pages};
 use dn_model::OutOfMemory;
 use std::alloc::{AllocError, Global};
 use std::marker::Model;
@@ -38,6 +38,14 @@ impl Shared {
         ensures { result ≡ self.now }
     {
         *self.number
+    }
+}
+
+impl Keyed for Shared {
+    ghost key_of = { λ shared. shared };
+
+    fn key(&self) -> u64 {
+        self.number()
     }
 }
 
@@ -180,17 +188,72 @@ fn the_copy_reads_as_before(rt: HostRuntime) -> Result<(), Fail> {
 }
 
 #[test]
-fn a_search_ends_where_elements_begin_to_fail(rt: HostRuntime) -> Result<(), Fail> {
-    let mut pages = Pages::new();
-    assert_eq!(rt; pages.partition_point(|x: &u64| *x < 5), 0);
+fn a_search_ends_where_keys_are_no_more_below(rt: HostRuntime) -> Result<(), Fail> {
+    let mut pages: Pages<u64> = Pages::new();
+    assert_eq!(rt; pages.count_below(5), 0);
     for k in 0..5000u64 {
         pages.push(rt.alloc(), 3 * k)?;
     }
     for k in 0..5000u64 {
-        assert_eq!(rt; pages.partition_point(|x: &u64| *x < 3 * k), k);
-        assert_eq!(rt; pages.partition_point(|x: &u64| *x <= 3 * k), k + 1);
+        assert_eq!(rt; pages.count_below(3 * k), k);
+        assert_eq!(rt; pages.count_below(3 * k + 1), k + 1);
     }
-    assert_eq!(rt; pages.partition_point(|x: &u64| *x < 1_000_000), 5000);
+    assert_eq!(rt; pages.count_below(1_000_000), 5000);
+    Ok(())
+}
+
+/// The list has so many elements, and a search finds each of them at its place.
+fn are_found(rt: &impl Abort, pages: &Pages<u64>, len: u64) {
+    assert_eq!(rt; pages.len(), len);
+    for k in 0..pages.len() {
+        match pages.get(k) {
+            Some(number) => {
+                assert_eq!(rt; pages.count_below(*number), k);
+                assert_eq!(rt; pages.count_below(number.saturating_add(1)), k + 1);
+            }
+            None => assert!(rt; false),
+        }
+    }
+}
+
+/// Elements go in at the front, where each changes the key of a page's first element on every level, through all that is
+/// split on the way; a copy that was held on the way is searched as it was.
+#[test]
+fn a_search_after_insertions_at_the_front(rt: HostRuntime) -> Result<(), Fail> {
+    let mut pages: Pages<u64> = Pages::new();
+    let mut held = pages.copy()?;
+    for k in 0..10_000u64 {
+        if k == 3333 {
+            held = pages.copy()?;
+        }
+        pages.insert_at(rt.alloc(), 0, 1_000_000 - 3 * k)?;
+    }
+    are_found(&rt, &pages, 10_000);
+    are_found(&rt, &held, 3333);
+    Ok(())
+}
+
+/// First elements of pages are put, changed and parted, with a copy held: both are searched by the keys that they have.
+#[test]
+fn a_search_after_changes_of_first_elements(rt: HostRuntime) -> Result<(), Fail> {
+    let mut pages: Pages<u64> = Pages::new();
+    for k in 0..5000u64 {
+        pages.push(rt.alloc(), 10 * k + 5)?;
+    }
+    let held = pages.copy()?;
+    for k in 0..5000u64 {
+        if k < pages.len() {
+            pages.put(rt.alloc(), k, 10 * k + 2)?;
+        }
+    }
+    are_found(&rt, &pages, 5000);
+    for k in 0..5000u64 {
+        if 2 * k < pages.len() {
+            pages.replace_by_two(rt.alloc(), 2 * k, 10 * k + 1, 10 * k + 7)?;
+        }
+    }
+    are_found(&rt, &pages, 10_000);
+    are_found(&rt, &held, 5000);
     Ok(())
 }
 

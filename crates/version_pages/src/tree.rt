@@ -4,6 +4,7 @@
 ghost use Rattle.std.specs.Prelude.{◌≡◌, ◌+◌, ◌-◌, ◌<◌, ◌≤◌, ◌^◌, ◌*◌, ◌↔◌, ◌++◌, IfOk, IsTrue, length, take, slice_index_or, All, Contains};
 ghost use Rattle.std.specs.Arc.{arc_value};
 ghost use Rattle.version_pages.specs.Shape.{Shape, IsDeep, IsUnder, AreKids, IsAt, IsWithin, joined};
+ghost use Rattle.version_pages.specs.Keys.{first_key};
 
 mod change;
 mod grow;
@@ -11,6 +12,7 @@ mod own;
 mod parts;
 mod search;
 
+use crate::keyed::Keyed;
 pub use parts::page_kid;
 use std::alloc::Global;
 use std::marker::Model;
@@ -26,14 +28,14 @@ pub const WIDE: usize = 32;
 /// may take, and how many it may lose.
 #[cycle(tree)]
 #[derive(Drop)]
-pub struct Tree<T> {
+pub struct Tree<T: Keyed> {
     node: Node<T>,
 }
 
 /// What a tree is made of.
 #[cycle(tree)]
 #[derive(Drop)]
-enum Node<T> {
+enum Node<T: Keyed> {
     /// 1 to 64 elements.
     Page(Vec<T>),
     /// 2 to 32 trees of equal height, one after another.
@@ -44,15 +46,17 @@ enum Node<T> {
     },
 }
 
-/// A tree that others may hold too, with the number of its elements. A contract sees it as the tree.
+/// A tree that others may hold too, with the number of its elements and the key of the first. A contract sees it as the
+/// tree.
 #[cycle(tree)]
 #[derive(Drop)]
-pub struct Kid<T> {
+pub struct Kid<T: Keyed> {
     tree: Arc<Tree<T>, Global>,
     len: u64,
+    key: u64,
 }
 
-impl<T> Model for Tree<T> {
+impl<T: Keyed> Model for Tree<T> {
     ghost use Rattle.std.specs.Prelude.{◌*◌};
     ghost use Rattle.version_pages.specs.Shape.{Shape};
 
@@ -68,19 +72,20 @@ impl<T> Model for Tree<T> {
 
     ghost use Rattle.version_pages.specs.Falls.{deep_le-height};
 
-    ghost size_decreases = { λ t h. deep_le-height t.node h };
+    ghost size_decreases = { λ t h. deep_le-height (record { key_of = T.key_of }) t.node h };
 }
 
-impl<T> Model for Kid<T> {
+impl<T: Keyed> Model for Kid<T> {
     ghost use Rattle.std.specs.Prelude.{◌≡◌, ◌+◌, ◌*◌, length};
     ghost use Rattle.std.specs.Arc.{arc_value};
+    ghost use Rattle.version_pages.specs.Keys.{first_key};
     ghost use Rattle.version_pages.specs.Shape.{Shape};
 
     ghost Value = { Shape T };
 
     ghost view = { λ k. arc_value k.tree };
 
-    ghost invariant = { λ k. k.len ≡ length (arc_value k.tree).items };
+    ghost invariant = { λ k. (k.len ≡ length (arc_value k.tree).items) × (k.key ≡ first_key T.key_of (arc_value k.tree).items) };
 
     ghost size = { λ s. 2 * s.height + 1 };
 
@@ -89,12 +94,19 @@ impl<T> Model for Kid<T> {
     ghost size_decreases = { λ k h. Prim.grind arith };
 }
 
-impl<T> Kid<T> {
+impl<T: Keyed> Kid<T> {
     /// How many elements there are.
     pub fn len(&self) -> u64
         ensures { result ≡ length self.now.items }
     {
         self.len
+    }
+
+    /// The key of the first element.
+    pub fn key(&self) -> u64
+        ensures { result ≡ first_key T.key_of self.now.items }
+    {
+        self.key
     }
 
     /// The tree.
@@ -106,7 +118,7 @@ impl<T> Kid<T> {
 }
 
 /// The child that has the element at a place, or the last where there is none, with the element's place in it.
-fn find<T>(kids: &Vec<Kid<T>>, i: u64) -> (usize, u64)
+fn find<T: Keyed>(kids: &Vec<Kid<T>>, i: u64) -> (usize, u64)
     requires some { 0 < length kids.now.items }
     ensures { IsAt kids.now.items i result.0 result.1 }
 {
@@ -125,7 +137,7 @@ fn find<T>(kids: &Vec<Kid<T>>, i: u64) -> (usize, u64)
 }
 
 /// The child that has the element at a place, with the element's place in it.
-fn child_at<T>(kids: &Vec<Kid<T>>, i: u64) -> (&Tree<T>, u64)
+fn child_at<T: Keyed>(kids: &Vec<Kid<T>>, i: u64) -> (&Tree<T>, u64)
     requires { i < length (joined kids.now.items) }
     ensures inside { result.1 < length result.0.now.items }
     ensures within { IsWithin (joined kids.now.items) result.0.now.items i result.1 }
@@ -135,7 +147,7 @@ fn child_at<T>(kids: &Vec<Kid<T>>, i: u64) -> (&Tree<T>, u64)
     (kids[k].tree(), j)
 }
 
-impl<T> Tree<T> {
+impl<T: Keyed> Tree<T> {
     /// How many forks stand above each page.
     pub fn height(&self) -> u64
         ensures value { result ≡ self.now.height }
@@ -144,6 +156,16 @@ impl<T> Tree<T> {
         match &self.node {
             Node::Page(_) => 0,
             Node::Fork { height, .. } => *height,
+        }
+    }
+
+    /// The key of the first element.
+    pub fn key(&self) -> u64
+        ensures { result ≡ first_key T.key_of self.now.items }
+    {
+        match &self.node {
+            Node::Page(items) => items[0].key(),
+            Node::Fork { kids, .. } => kids[0].key(),
         }
     }
 
@@ -175,4 +197,13 @@ impl<T> Tree<T> {
             }
         }
     }
+}
+
+/// The key of a tree's first element after a change at a place, before which it was this one. Where another element was
+/// changed, the tree isn't looked at.
+fn key_after<T: Keyed>(tree: &Tree<T>, i: u64, key: u64) -> u64
+    requires { 0 < i → key ≡ first_key T.key_of tree.now.items }
+    ensures { result ≡ first_key T.key_of tree.now.items }
+{
+    if i == 0 { tree.key() } else { key }
 }

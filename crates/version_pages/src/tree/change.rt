@@ -5,7 +5,8 @@ ghost use Rattle.std.specs.Fn.{FnOnceReturnsAtMut};
 ghost use Rattle.version_pages.specs.Changes.{Changes};
 
 use super::own::unshare;
-use super::{Kid, Node, Tree, find};
+use super::{Kid, Node, Tree, find, key_after};
+use crate::keyed::Keyed;
 use dn_model::OutOfMemory;
 use std::alloc::Global;
 use std::sync::Arc;
@@ -18,7 +19,7 @@ fn call_at<T, R, F: FnOnce(&mut T) -> R>(change: F, value: &mut T) -> R
     change(value)
 }
 
-impl<T: Clone> Tree<T> {
+impl<T: Keyed + Clone> Tree<T> {
     /// Has an element changed in its place. After `OutOfMemory` the list is as before, and the change was not called.
     fn change<R, F: FnOnce(&mut T) -> R>(
         &mut self,
@@ -42,13 +43,15 @@ impl<T: Clone> Tree<T> {
                 let Some(child) = Arc::get_mut(&mut kid.tree) else {
                     return Err(OutOfMemory);
                 };
-                return child.change(alloc, j, change);
+                let answer = child.change(alloc, j, change);
+                kid.key = key_after(child, j, kid.key);
+                return answer;
             }
         }
     }
 }
 
-impl<T: Clone> Kid<T> {
+impl<T: Keyed + Clone> Kid<T> {
     /// Has an element changed in its place. After `OutOfMemory` the list is as before, and the change was not called.
     pub fn change<R, F: FnOnce(&mut T) -> R>(
         &mut self,
@@ -66,6 +69,8 @@ impl<T: Clone> Kid<T> {
         let Some(tree) = Arc::get_mut(&mut self.tree) else {
             return Err(OutOfMemory);
         };
-        return tree.change(alloc, i, change);
+        let answer = tree.change(alloc, i, change);
+        self.key = key_after(tree, i, self.key);
+        return answer;
     }
 }

@@ -6,14 +6,15 @@ ghost use Rattle.version_pages.specs.Shape.{Shape, AreHalves, IsAt, IsDeep, IsPa
 ghost use Rattle.version_pages.specs.Growth.{grown, CanGrow};
 
 use super::own::unshare;
-use super::{Kid, Node, Tree, find};
+use super::{Kid, Node, Tree, find, key_after};
 use crate::growth::{Growth, grow_page};
+use crate::keyed::Keyed;
 use dn_model::OutOfMemory;
 use std::alloc::Global;
 use std::sync::Arc;
 
 /// Puts the two halves of a child in its place.
-fn part<T: Drop>(
+fn part<T: Keyed + Drop>(
     kids: &mut Vec<Kid<T>>,
     k: usize,
     lower: Kid<T>,
@@ -31,7 +32,7 @@ fn part<T: Drop>(
 
 /// The child that has the element at a place, with the element's place in it. It has room for one more: a full one is
 /// parted before.
-fn ready<T: Clone>(
+fn ready<T: Keyed + Clone>(
     alloc: Global,
     kids: &mut Vec<Kid<T>>,
     i: u64,
@@ -59,7 +60,7 @@ fn ready<T: Clone>(
     Ok((k + 1, j - len))
 }
 
-impl<T: Clone> Kid<T> {
+impl<T: Keyed + Clone> Kid<T> {
     /// Grows by one element at a place. After `OutOfMemory` the list is as before.
     #[cycle(grow)]
     fn grow(&mut self, alloc: Global, i: u64, growth: Growth<T>) -> Result<(), OutOfMemory>
@@ -78,6 +79,7 @@ impl<T: Clone> Kid<T> {
         tree.grow(alloc, i, growth)?;
         let _height = tree.height();
         self.len += 1;
+        self.key = key_after(tree, i, self.key);
         Ok(())
     }
 
@@ -104,7 +106,7 @@ impl<T: Clone> Kid<T> {
     }
 }
 
-impl<T: Clone> Tree<T> {
+impl<T: Keyed + Clone> Tree<T> {
     /// Grows by one element at a place. After `OutOfMemory` the list is as before.
     #[cycle(grow)]
     fn grow(&mut self, alloc: Global, i: u64, growth: Growth<T>) -> Result<(), OutOfMemory>

@@ -4,12 +4,13 @@ ghost use Rattle.std.specs.Prelude.{◌≡◌, IfOk};
 ghost use Rattle.std.specs.Arc.{arc_value};
 
 use super::{FULL, Kid, Node, Tree, WIDE};
+use crate::keyed::Keyed;
 use crate::page::page_of;
 use dn_model::OutOfMemory;
 use std::alloc::{AllocError, Global};
 use std::sync::Arc;
 
-impl<T: Drop> Clone for Kid<T> {
+impl<T: Keyed + Drop> Clone for Kid<T> {
     ghost is_clone = { λ kid copy. copy ≡ kid };
 
     fn clone(&self) -> Result<Kid<T>, AllocError> {
@@ -17,11 +18,12 @@ impl<T: Drop> Clone for Kid<T> {
         Ok(Kid {
             tree,
             len: self.len,
+            key: self.key,
         })
     }
 }
 
-impl<T: Clone> Tree<T> {
+impl<T: Keyed + Clone> Tree<T> {
     /// The same tree again: a page of copies, or a fork that shares its children.
     fn duplicate(&self, alloc: Global) -> Result<Tree<T>, OutOfMemory>
         requires { (x y : T) → T.is_clone x y → y ≡ x }
@@ -48,7 +50,10 @@ impl<T: Clone> Tree<T> {
 }
 
 /// Makes a pointer the only one to its tree: where somebody else holds it too, this one gets a copy.
-pub fn unshare<T: Clone>(alloc: Global, tree: &mut Arc<Tree<T>, Global>) -> Result<(), OutOfMemory>
+pub fn unshare<T: Keyed + Clone>(
+    alloc: Global,
+    tree: &mut Arc<Tree<T>, Global>,
+) -> Result<(), OutOfMemory>
     requires { (x y : T) → T.is_clone x y → y ≡ x }
     ensures { arc_value tree.new ≡ arc_value tree.old }
 {

@@ -4,13 +4,14 @@ ghost use Rattle.std.specs.Prelude.{◌≡◌, ◌<◌, ◌≤◌, ◌^◌, ◌+
 ghost use Rattle.version_pages.specs.Shape.{AreHalves, IsDeep, IsUnder, AreKids, joined, page_shape, fork_shape};
 
 use super::{FULL, Kid, Node, Tree, WIDE};
+use crate::keyed::Keyed;
 use crate::page::{page_of, page_of_one};
 use dn_model::OutOfMemory;
 use std::alloc::Global;
 use std::sync::Arc;
 
 /// How many elements children have together.
-fn len_of<T>(kids: &Vec<Kid<T>>) -> u64
+fn len_of<T: Keyed>(kids: &Vec<Kid<T>>) -> u64
     requires { length (joined kids.now.items) < 2 ^ 64 }
     ensures { result ≡ length (joined kids.now.items) }
 {
@@ -22,7 +23,7 @@ fn len_of<T>(kids: &Vec<Kid<T>>) -> u64
 }
 
 /// A page, to be shared.
-pub fn page_kid<T: Drop>(alloc: Global, items: Vec<T>) -> Result<Kid<T>, OutOfMemory>
+pub fn page_kid<T: Keyed + Drop>(alloc: Global, items: Vec<T>) -> Result<Kid<T>, OutOfMemory>
     requires some { 0 < length items.items }
     requires few { length items.items ≤ FULL }
     ensures page { IfOk result (λ kid. kid ≡ page_shape items.items) }
@@ -33,12 +34,13 @@ pub fn page_kid<T: Drop>(alloc: Global, items: Vec<T>) -> Result<Kid<T>, OutOfMe
         node: Node::Page(items),
     };
     let _height = tree.height();
+    let key = tree.key();
     let tree = Arc::new(alloc, tree)?;
-    Ok(Kid { tree, len })
+    Ok(Kid { tree, len, key })
 }
 
 /// A fork, to be shared.
-pub fn fork_kid<T: Drop>(
+pub fn fork_kid<T: Keyed + Drop>(
     alloc: Global,
     kids: Vec<Kid<T>>,
     height: u64,
@@ -53,11 +55,12 @@ pub fn fork_kid<T: Drop>(
         node: Node::Fork { kids, height },
     };
     let _height = tree.height();
+    let key = tree.key();
     let tree = Arc::new(alloc, tree)?;
-    Ok(Kid { tree, len })
+    Ok(Kid { tree, len, key })
 }
 
-impl<T> Tree<T> {
+impl<T: Keyed> Tree<T> {
     /// Whether the top node may take one more element or child.
     pub fn has_room(&self) -> bool
         ensures { IsTrue result ↔ (0 < self.now.room) }
@@ -69,7 +72,7 @@ impl<T> Tree<T> {
     }
 }
 
-impl<T: Clone> Tree<T> {
+impl<T: Keyed + Clone> Tree<T> {
     /// A full tree as two, of the same height. Where it grows at its end the first of them is nearly full.
     pub fn halves(&self, alloc: Global, at_end: bool) -> Result<(Kid<T>, Kid<T>), OutOfMemory>
         requires full { self.now.room ≡ 0 }
@@ -96,7 +99,7 @@ impl<T: Clone> Tree<T> {
     }
 }
 
-impl<T: Clone> Kid<T> {
+impl<T: Keyed + Clone> Kid<T> {
     /// A full tree as two, of the same height. Where it grows at its end the first of them is nearly full.
     pub fn halves(&self, alloc: Global, at_end: bool) -> Result<(Kid<T>, Kid<T>), OutOfMemory>
         requires full { self.now.room ≡ 0 }

@@ -1,35 +1,22 @@
-//! A search in one descent: a fork looks at the first elements of its children, and a page at its own.
+//! A search in one descent: a fork looks at the keys of its children's first elements, which it has beside them, and a
+//! page at its elements.
 
-ghost use Rattle.std.specs.Prelude.{◌≡◌, ◌+◌, ◌-◌, ◌<◌, ◌≤◌, ◌^◌, ℕ, true, false, length, take, slice_index_or};
-ghost use Rattle.std.specs.Fn.{FnReturnsAt};
-ghost use Rattle.version_pages.specs.Shape.{Shape, joined};
-ghost use Rattle.version_pages.specs.Search.{Ends};
-ghost use Rattle.version_pages.specs.Fork.{AreSome, EndsIn};
+ghost use Rattle.std.specs.Prelude.{◌≡◌, ◌+◌, ◌<◌, ◌^◌, length, take};
+ghost use Rattle.version_pages.specs.Shape.{joined};
+ghost use Rattle.version_pages.specs.Search.{EndsBelow, EndsIn};
 
 use super::{Kid, Node, Tree};
+use crate::keyed::Keyed;
 
-/// Calls a test on an element.
-fn passes<T, P: Fn(&T) -> bool>(test: &P, element: &T) -> bool
-    requires { P.IsAlwaysCallable test.now }
-    ensures { FnReturnsAt P.Fn test.now element.now result }
+/// Where the elements of a page end that have a key below this one.
+fn search_page<T: Keyed>(items: &[T], key: u64) -> usize
+    ensures { EndsBelow T.key_of items.now key result }
 {
-    test(element)
-}
-
-/// Where the elements of a page that pass a test end. The first elements, so many as `from`, which is 0 or 1, are known
-/// to pass.
-fn search_page<T, P: Fn(&T) -> bool>(items: &[T], test: &P, from: usize) -> usize
-    requires callable { P.IsAlwaysCallable test.now }
-    requires inside { from ≤ length items.now }
-    requires known { (d : T) → 0 < from → FnReturnsAt P.Fn test.now (slice_index_or items.now (from - 1) d) true }
-    ensures from { from ≤ result }
-    ensures ends { Ends P.Fn test.now items.now result }
-{
-    let mut low = from;
+    let mut low = 0;
     let mut high = items.len();
     'halving: while low < high {
         let middle = low + (high - low) / 2;
-        if passes(test, &items[middle]) {
+        if items[middle].key() < key {
             low = middle + 1;
         } else {
             high = middle;
@@ -38,72 +25,49 @@ fn search_page<T, P: Fn(&T) -> bool>(items: &[T], test: &P, from: usize) -> usiz
     low
 }
 
-/// The child in which the elements that pass a test end.
-fn search_kids<T, P: Fn(&T) -> bool>(kids: &Vec<Kid<T>>, test: &P) -> usize
-    requires callable { P.IsAlwaysCallable test.now }
-    requires some { AreSome kids.now.items }
-    ensures { EndsIn P.Fn test.now kids.now.items result }
-{
-    let mut low = 0;
-    let mut high = kids.len();
-    'halving: while high - low > 1 {
-        let middle = low + (high - low) / 2;
-        if passes(test, kids[middle].tree().get(0)) {
-            low = middle;
-        } else {
-            high = middle;
-        }
-    }
-    low
-}
-
-/// How many elements the first children have together.
-fn len_before<T>(kids: &Vec<Kid<T>>, k: usize) -> u64
-    requires inside { k ≤ length kids.now.items }
+/// The child in which the elements end that have a key below this one, and how many elements go before the child.
+fn search_kids<T: Keyed>(kids: &Vec<Kid<T>>, key: u64) -> (usize, u64)
+    requires some { 0 < length kids.now.items }
     requires few { length (joined kids.now.items) < 2 ^ 64 }
-    ensures { result ≡ length (joined (take k kids.now.items)) }
+    ensures ends { EndsIn T.key_of kids.now.items key result.0 }
+    ensures before { result.1 ≡ length (joined (take result.0 kids.now.items)) }
 {
-    let mut len = 0;
-    for i in 0..k {
-        len += kids[i].len();
+    let last = kids.len() - 1;
+    let mut k = 0;
+    let mut before = 0;
+    'kids: while k < last {
+        if kids[k + 1].key() >= key {
+            break;
+        }
+        before += kids[k].len();
+        k += 1;
     }
-    len
+    (k, before)
 }
 
-impl<T> Tree<T> {
-    /// Where the elements that pass a test end: the one before passes, and the one at the place fails. The first
-    /// elements, so many as `from`, which is 0 or 1, are known to pass.
-    pub fn search<P: Fn(&T) -> bool>(&self, test: &P, from: usize) -> u64
-        requires callable { P.IsAlwaysCallable test.now }
-        requires one { from ≤ 1 }
-        requires known { (d : T) → 0 < from →
-            FnReturnsAt P.Fn test.now (slice_index_or self.now.items (from - 1) d) true }
-        requires few { length self.now.items < 2 ^ 64 }
-        ensures from { from ≤ result }
-        ensures ends { Ends P.Fn test.now self.now.items result }
+impl<T: Keyed> Tree<T> {
+    /// Where the elements end that have a key below this one.
+    pub fn count_below(&self, key: u64) -> u64
+        requires { length self.now.items < 2 ^ 64 }
+        ensures { EndsBelow T.key_of self.now.items key result }
     {
         match &self.node {
-            Node::Page(items) => search_page(items, test, from) as u64,
+            Node::Page(items) => search_page(items, key) as u64,
             Node::Fork { kids, .. } => {
-                let k = search_kids(kids, test);
-                let before = len_before(kids, k);
-                if k == 0 {
-                    return kids[0].tree().search(test, from);
-                }
-                before + kids[k].tree().search(test, 1)
+                let (k, before) = search_kids(kids, key);
+                before + kids[k].tree().count_below(key)
             }
         }
     }
 }
 
-impl<T> Kid<T> {
-    /// Where the elements that pass a test end: the one before passes, and the one at the place fails.
-    pub fn search<P: Fn(&T) -> bool>(&self, test: &P) -> u64
-        requires { P.IsAlwaysCallable test.now }
-        ensures { Ends P.Fn test.now self.now.items result }
+impl<T: Keyed> Kid<T> {
+    /// Where the elements end that have a key below this one.
+    pub fn count_below(&self, key: u64) -> u64
+        ensures { EndsBelow T.key_of self.now.items key result }
     {
         let len = self.len;
         prove!(len <= u64::MAX);
-        self.tree.search(test, 0)
+        self.tree.count_below(key)
     }
 }

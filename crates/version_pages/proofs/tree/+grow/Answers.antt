@@ -1,7 +1,10 @@
 use Rattle.std.proofs.Common.{◌≡◌, ◌+◌, ◌-◌, ◌<◌, ◌≤◌, ◌^◌, ◌∙◌, ap, sym, subst, length, arith, rules}
-use Rattle.version_pages.specs.Growth.{CanGrow}
+use Rattle.std.proofs.lemmas.Grind.{common_steps}
+use Rattle.version_pages.specs.Growth.{grown, CanGrow}
+use Rattle.version_pages.specs.Keys.{first_key}
 use Rattle.version_pages.specs.Nodes.{shape_of, IsKept}
 use Rattle.version_pages.specs.Shape.{Shape, fork_shape, items_of, joined, AreKids, IsAt}
+use Rattle.version_pages.proofs.FirstKeys.{grown-key}
 use Rattle.version_pages.proofs.Grows.{can-at, grown-kept, kid-few, kid-level, kids-ready, kids-set}
 use Rattle.version_pages.proofs.tree.+grow.Goals as goal
 
@@ -42,3 +45,10 @@ Tree::grow-grow-requires g t c κs within =
     let all : length (joined c.ready.new.kids.items) + 1 < 2 ^ 64 = omega (arith, ap length e, c.requires.few) in
     let roomy : 0 < c.index_mut-kid.result.now.room = rw is (c.in_ok-k-in-Fork.ensures.room c.index_mut-kid.result.now) in
     (search rules, (search rules, (can, (roomy, (omega arith, c.requires.clones)))))
+
+pub Kid::grow-key_after-self-inside-requires : goal.Kid::grow-key_after-self-inside-requires
+Kid::grow-key_after-self-inside-requires g t c =
+    let a : c.in-Some.tree.now ≡ c.args.self.now = grind (arith, common_steps) in
+    let noted : c.self.inside.key ≡ first_key g.T.Keyed.key_of c.args.self.now.items = c.self.invariant.1 ∙ ap (λ (s : Shape _). first_key g.T.Keyed.key_of (items_of s)) c.self.view_is in
+    let made : c.grow.new.self.items ≡ grown c.args.growth c.args.self.now.items c.args.i = c.in_ok-grow.ensures.items ∙ ap (λ (s : Shape _). grown c.args.growth (items_of s) c.args.i) a in
+    grown-key g.T.Keyed.key_of c.args.growth c.args.self.now.items c.grow.new.self.items c.args.i c.self.inside.key noted c.requires.inside made

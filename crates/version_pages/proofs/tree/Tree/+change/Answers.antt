@@ -10,13 +10,13 @@ returns-in-Fork-clause-changed g t c =
     let e : joined c.in-Fork.kids.items ≡ c.args.self.now.items = ap items_of (ap shape_of (sym c.in-Fork.is) ∙ c.self.view_is) in
     let a : c.in-Some.child.now ≡ c.index_mut-kid.result.now = grind (arith, common_steps) in
     let in' : c.args.i < length (joined c.in-Fork.kids.items) = omega (arith, ap length e, c.requires.inside) in
-    changed-in _ _ c.in-Fork.kids.items _ c.find-k.result.0 _ c.find-k.result.1 _ _ _ e c.index_mut-kid.ensures.value c.find-k.ensures.child c.find-k.ensures.place (c.find-k.ensures.inside _ in') (rw a at c.change.ensures.changed)
+    changed-in _ _ c.in-Fork.kids.items _ c.find-k.result.0 _ c.find-k.result.1 _ _ _ e c.index_mut-kid.ensures.value c.find-k.ensures.child c.find-k.ensures.place (c.find-k.ensures.inside _ in') (rw a at c.change-answer.ensures.changed)
 
 pub returns-in-Fork-clause-same : goal.returns-in-Fork-clause-same
 returns-in-Fork-clause-same g t c =
     let e : joined c.in-Fork.kids.items ≡ c.args.self.now.items = ap items_of (ap shape_of (sym c.in-Fork.is) ∙ c.self.view_is) in
     let a : c.in-Some.child.now ≡ c.index_mut-kid.result.now = grind (arith, common_steps) in
-    same-kept c.in-Fork.kids.items _ c.find-k.result.0 _ _ _ e c.index_mut-kid.ensures.value c.find-k.ensures.child (rw a at c.change.ensures.same)
+    same-kept c.in-Fork.kids.items _ c.find-k.result.0 _ _ _ e c.index_mut-kid.ensures.value c.find-k.ensures.child (rw a at c.change-answer.ensures.same)
 
 pub returns-clause-changed : goal.returns-clause-changed
 returns-clause-changed g t c =

@@ -1,6 +1,7 @@
 pub mod Around
-pub mod Cleared
-pub mod Least
+pub mod Changing
 pub mod Listed
-pub mod Routes
-pub mod Standing
+pub mod Places
+pub mod Prefixes
+pub mod Setting
+pub mod Whole

@@ -1,31 +1,23 @@
--- The routes listed one entry after another.
-use Rattle.std.proofs.Common.{◌≡◌, ◌∙◌, List, [], ◌∷◌, ◌++◌, ap, sym, subst, append_assoc}
-use Rattle.std.specs.List.{Contains}
-use Rattle.dn_model.specs.Cidr.{IsCidr}
+-- The routes of slots listed, one page after another.
+use Rattle.std.proofs.Common.{◌≡◌, ◌≤◌, ◌+◌, ◌-◌, ◌∙◌, ℕ, List, ◌++◌, length, min, take, drop, ap, sym, append_assoc, take-add, arith}
+use Rattle.std.proofs.lemmas.List.{length-drop, length-take}
+use Rattle.std.proofs.lemmas.Grind.{flat_map-append}
 use Rattle.dn_model.specs.declared.entry.Route.{Route}
-use Rattle.dn_model.specs.declared.target.Target.{Target}
-use Rattle.dn_model.proofs.Best.{contains-here, contains-there}
-use Rattle.route_table.specs.declared.key.RouteKey.{RouteKey}
-use Rattle.route_table.specs.Entries.{prefix_of, route_of, routes_of}
+use Rattle.route_table.specs.Slots.{routes_at, routes_of}
+use Rattle.route_table.specs.declared.slots.PrefixRoutes.{PrefixRoutes}
 
--- the routes so far and those of the entries that are left are all, and those that are left have no host bits
-abbrev pub IsPart : List Route → List Route → List (RouteKey × Target) → Type 0
-IsPart now done left = (done ++ routes_of left ≡ now) × ((r : Route) → Contains (routes_of left) r → IsCidr r.prefix)
+pub run-inside : (slots run : List PrefixRoutes) (place : ℕ) → take (length run) (drop place slots) ≡ run → place ≤ length slots → place + length run ≤ length slots
+run-inside slots run place is l =
+    let e : length (take (length run) (drop place slots)) ≡ length run = ap (λ (xs : List PrefixRoutes). length xs) is in
+    let m : length (take (length run) (drop place slots)) ≡ min (length run) (length (drop place slots)) = length-take (length run) (drop place slots) in
+    let n : length (drop place slots) ≡ length slots - place = length-drop place slots in
+    omega arith
 
-pub part-first : (es left : List (RouteKey × Target)) (done now : List Route) → left ≡ es → done ≡ [] → routes_of es ≡ now → ((r : Route) → Contains (routes_of es) r → IsCidr r.prefix) → IsPart now done left
-part-first es left done now all none is sound =
-    let P : List (RouteKey × Target) → Type 0 = λ fs. (r : Route) → Contains (routes_of fs) r → IsCidr r.prefix in
-    (ap (λ rs. rs ++ routes_of left) none ∙ ap routes_of all ∙ is, subst P (sym all) sound)
-
-pub part-sound : (now done : List Route) (left : List (RouteKey × Target)) (e : RouteKey × Target) (rest : List (RouteKey × Target)) → left ≡ e ∷ rest → IsPart now done left → IsCidr (prefix_of e.0)
-part-sound now done left e rest front part =
-    let P : List (RouteKey × Target) → Type 0 = λ fs. IsPart now done fs in
-    (subst P front part).1 (route_of e) (contains-here (route_of e) (routes_of rest))
-
-pub part-more : (now done new : List Route) (left : List (RouteKey × Target)) (e : RouteKey × Target) (r : Route) (rest : List (RouteKey × Target)) → left ≡ e ∷ rest → r ≡ route_of e → new ≡ done ++ r ∷ [] → IsPart now done left → IsPart now new rest
-part-more now done new left e r rest front is push part =
-    let P : List (RouteKey × Target) → Type 0 = λ fs. IsPart now done fs in
-    let at : IsPart now done (e ∷ rest) = subst P front part in (
-      ap (λ rs. rs ++ routes_of rest) push ∙ append_assoc done (r ∷ []) (routes_of rest) ∙ ap (λ (x : Route). done ++ x ∷ routes_of rest) is ∙ at.0,
-      λ x h. at.1 x (contains-there (route_of e) x (routes_of rest) h),
-    )
+-- the routes of one more page
+pub run-more : (slots run : List PrefixRoutes) (place : ℕ) (first now new : List Route) → take (length run) (drop place slots) ≡ run → now ≡ first ++ routes_of (take place slots) → new ≡ now ++ routes_of run → new ≡ first ++ routes_of (take (place + length run) slots)
+run-more slots run place first now new is so more =
+    let all : take (place + length run) slots ≡ take place slots ++ run = take-add place (length run) slots ∙ ap (λ xs. take place slots ++ xs) is in
+    more
+    ∙ ap (λ rs. rs ++ routes_of run) so
+    ∙ append_assoc first (routes_of (take place slots)) (routes_of run)
+    ∙ ap (λ rs. first ++ rs) (sym (ap routes_of all ∙ flat_map-append routes_at (take place slots) run))

@@ -2,9 +2,8 @@
 //! prefix, then least metric: RFC 1812).
 #![tactic(auto)]
 
-mod key;
+mod slots;
 mod table;
-#[cfg(test)]
-mod tests;
+mod targets;
 
 pub use table::RouteTable;

@@ -3,52 +3,48 @@
 ghost use Rattle.std.specs.Prelude.{◌≡◌, ◌<◌, ◌≤◌, ℕ, [], ◌∷◌, ◌++◌, length, filter, not, OnOk, OnErr, IfOk, Contains, IsFalse, IsTrue, IfSome, IfNone, IsPermutation, Some, None};
 ghost use Rattle.dn_model.specs.Cidr.{IsCidr, covers};
 ghost use Rattle.dn_model.specs.Routes.{IsTable};
-ghost use Rattle.dn_model.specs.Table.{is_of_prefix, has_key, after_op, best, HasKeysOnce};
+ghost use Rattle.dn_model.specs.Table.{is_of_prefix, after_op, best};
 ghost use Rattle.dn_model.specs.declared.entry.Op.TheVariants.{Set, Clear};
 ghost use Rattle.dn_model.specs.declared.entry.Route.{Route as RouteIs};
+ghost use Rattle.route_table.specs.Slots.{routes_at, routes_of, AreSlots, IsSlot};
 
-use crate::key::RouteKey;
+use crate::slots::{PrefixRoutes, add_at, clear_at, place_of, set_at, slot_at};
 use dn_model::{List, OutOfMemory, Prefix, Route, Target};
 use std::alloc::Global;
-use std::collections::BTreeMap;
 use std::marker::Model;
+use version_pages::Pages;
 
 /// The routes of one router. A contract sees it as the list of its routes, whose order means nothing: each prefix
 /// and metric is there once.
+///
+/// They stand by prefix in shared pages: a copy is one count, and an update copies only the page of its prefix and the
+/// way to it, where a copy holds them too. A prefix whose routes are all cleared keeps its slot, so a table takes memory
+/// for each prefix that was ever set.
 #[derive(Drop)]
 pub struct RouteTable {
-    routes: BTreeMap<RouteKey, Target>,
+    slots: Pages<PrefixRoutes>,
 }
 
 impl Model for RouteTable {
     ghost use Rattle.std.specs.Prelude.{List};
     ghost use Rattle.dn_model.specs.declared.entry.Route.{Route};
-    ghost use Rattle.route_table.specs.Entries.{routes_of};
-    ghost use Rattle.route_table.specs.Sound.{IsWhole};
+    ghost use Rattle.route_table.specs.Slots.{routes_of, AreSlots};
 
     ghost Value = { List Route };
 
-    ghost view = { λ t. routes_of t.routes.entries };
+    ghost view = { λ t. routes_of t.slots };
 
-    ghost invariant = { λ t. IsWhole t.routes };
+    ghost invariant = { λ t. AreSlots t.slots };
 }
 
 impl RouteTable {
     /// The table with no route, which takes no memory.
-    pub fn new(alloc: Global) -> Self
+    pub fn new() -> Self
         ensures { result ≡ [] }
     {
         RouteTable {
-            routes: BTreeMap::new(alloc),
+            slots: Pages::new(),
         }
-    }
-
-    /// Removes the route of a key, if there is one.
-    fn remove_key(&mut self, prefix: Prefix, metric: u32)
-        ensures { self.new ≡ filter (λ r. not (has_key prefix metric r)) self.old }
-    {
-        let key = RouteKey::new(prefix, metric);
-        let _removed = self.routes.remove(&key);
     }
 
     /// The route of this prefix with the least metric. It is none exactly where the table has no route of the prefix.
@@ -58,49 +54,57 @@ impl RouteTable {
         ensures none { IfNone result ((r : RouteIs) → Contains self.now r → IsFalse (is_of_prefix prefix r)) }
         ensures some { IfSome result (λ b. Contains self.now b × (b.prefix ≡ prefix) × ((r : RouteIs) → Contains self.now r → IsTrue (is_of_prefix prefix r) → b.metric ≤ r.metric)) }
     {
-        let first = RouteKey::new(prefix, 0);
-        let Some((key, target)) = self.routes.range(first..).next() else {
+        let place = place_of(&self.slots, prefix);
+        let Some(slot) = slot_at(&self.slots, place, prefix) else {
             return None;
         };
-        if !key.is_of(prefix) {
+        let Some(first) = slot.targets.first() else {
             return None;
-        }
-        Some(Route {
-            prefix,
-            metric: key.metric,
-            target: *target,
-        })
-    }
-
-    /// Removes all routes of a prefix.
-    fn remove_prefix(&mut self, prefix: Prefix)
-        ensures { self.new ≡ filter (λ r. not (is_of_prefix prefix r)) self.old }
-    {
-        while let Some(route) = self.least_of(prefix) {
-            self.remove_key(prefix, route.metric);
-        }
+        };
+        Some(first.route(prefix))
     }
 
     /// Sets the route of this prefix and metric, in place of the one that has them. After `OutOfMemory`, for which
-    /// alone it fails, the table is as before.
-    pub fn set(&mut self, prefix: Prefix, metric: u32, target: Target) -> Result<(), OutOfMemory>
+    /// alone it fails, the table is as before. One that is there already changes nothing.
+    pub fn set(
+        &mut self,
+        alloc: Global,
+        prefix: Prefix,
+        metric: u32,
+        target: Target,
+    ) -> Result<(), OutOfMemory>
         ensures ok { OnOk result (IsPermutation self.new (after_op self.old (Set prefix metric target))) }
         ensures err { OnErr result (self.new ≡ self.old) }
     {
-        let key = RouteKey::new(prefix, metric);
-        let _replaced = self.routes.insert(key, target)?;
-        Ok(())
+        let place = place_of(&self.slots, prefix);
+        let Some(slot) = slot_at(&self.slots, place, prefix) else {
+            return add_at(alloc, &mut self.slots, place, prefix, metric, target);
+        };
+        if slot.targets.does(metric, target) {
+            return Ok(());
+        }
+        return set_at(alloc, &mut self.slots, place, metric, target);
     }
 
     /// Removes the route of this prefix and metric; without a metric all routes of the prefix. One that isn't there
-    /// changes nothing.
-    pub fn clear(&mut self, prefix: Prefix, metric: Option<u32>)
-        ensures { IsPermutation self.new (after_op self.old (Clear prefix metric)) }
+    /// changes nothing, and takes no memory. After `OutOfMemory`, for which alone it fails, the table is as before.
+    pub fn clear(
+        &mut self,
+        alloc: Global,
+        prefix: Prefix,
+        metric: Option<u32>,
+    ) -> Result<(), OutOfMemory>
+        ensures ok { OnOk result (IsPermutation self.new (after_op self.old (Clear prefix metric))) }
+        ensures err { OnErr result (self.new ≡ self.old) }
     {
-        match metric {
-            Some(metric) => self.remove_key(prefix, metric),
-            None => self.remove_prefix(prefix),
+        let place = place_of(&self.slots, prefix);
+        let Some(slot) = slot_at(&self.slots, place, prefix) else {
+            return Ok(());
+        };
+        if !slot.targets.has(metric) {
+            return Ok(());
         }
+        return clear_at(alloc, &mut self.slots, place, metric);
     }
 
     /// Of the routes whose prefixes have this length and cover an address the one with the least metric.
@@ -120,7 +124,7 @@ impl RouteTable {
         ensures value { result ≡ best self.now a }
         ensures table { IsTable self.now }
     {
-        if self.routes.is_empty() {
+        if self.slots.len() == 0 {
             return None;
         }
         for len in (0..33u8).rev() {
@@ -137,19 +141,50 @@ impl RouteTable {
         ensures table { IsTable self.now }
     {
         let mut routes = Vec::new(alloc);
-        for (key, target) in self.routes.iter() {
-            routes.push(key.route(*target))?;
-        }
+        push_all(&mut routes, &self.slots)?;
         Ok(List::from_vec(routes))
     }
 
-    /// A table with the same routes.
+    /// A table with the same routes, which shares them with this one.
     pub fn copy(&self) -> Result<RouteTable, OutOfMemory>
         ensures { IfOk result (λ table. table ≡ self.now) }
     {
-        let routes = self.routes.clone()?;
-        Ok(RouteTable { routes })
+        let slots = self.slots.copy()?;
+        Ok(RouteTable { slots })
     }
+}
+
+/// Adds the routes of all slots at the end of a list.
+fn push_all(routes: &mut Vec<Route>, slots: &Pages<PrefixRoutes>) -> Result<(), OutOfMemory>
+    ensures { OnOk result (routes.new.items ≡ routes.old.items ++ routes_of slots.now) }
+{
+    let mut place = 0;
+    'slots: while place < slots.len() {
+        let run = slots.run_from(place);
+        push_run(routes, run)?;
+        place += run.len() as u64;
+    }
+    Ok(())
+}
+
+/// Adds the routes of some slots at the end of a list.
+fn push_run(routes: &mut Vec<Route>, run: &[PrefixRoutes]) -> Result<(), OutOfMemory>
+    ensures { OnOk result (routes.new.items ≡ routes.old.items ++ routes_of run.now) }
+{
+    for slot in run {
+        push_slot(routes, slot)?;
+    }
+    Ok(())
+}
+
+/// Adds the routes of a slot at the end of a list.
+fn push_slot(routes: &mut Vec<Route>, slot: &PrefixRoutes) -> Result<(), OutOfMemory>
+    ensures { OnOk result (routes.new.items ≡ routes.old.items ++ routes_at slot.now) }
+{
+    for entry in slot.targets.as_slice() {
+        routes.push(entry.route(slot.prefix))?;
+    }
+    Ok(())
 }
 
 /// The prefix of this length that covers an address.

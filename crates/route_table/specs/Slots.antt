@@ -1,0 +1,65 @@
+-- The slots of a routing table: each has the routes of one prefix, in order of their metrics. The slots are in order of
+-- their prefixes.
+use Rattle.std.specs.Prelude.{ℕ, List, [], ◌∷◌, Option, ◌≡◌, ◌+◌, ◌*◌, map, flat_map, set, insert, slice_index_or, IsPermutation}
+use Rattle.std.specs.List.{AllByRecursion}
+use Rattle.dn_model.specs.Cidr.{Cidr, IsCidr}
+use Rattle.dn_model.specs.declared.entry.Route.{Route}
+use Rattle.dn_model.specs.declared.target.Target.{Target}
+use Rattle.route_table.specs.Ascending.{AscendsFrom}
+use Rattle.route_table.specs.Targets.{cleared, metric_of, route_at, with_target}
+use Rattle.route_table.specs.declared.slots.PrefixRoutes.{PrefixRoutes}
+
+-- what tells prefixes apart: lengths are below 64
+abbrev pub key_of : Cidr → ℕ
+key_of p = p.base * 64 + p.len
+
+abbrev pub slot_key : PrefixRoutes → ℕ
+slot_key s = key_of s.prefix
+
+abbrev pub routes_at : PrefixRoutes → List Route
+routes_at s = map (route_at s.prefix) s.targets
+
+-- the routes of a table: those of its slots, one slot after another
+abbrev pub routes_of : List PrefixRoutes → List Route
+routes_of slots = flat_map routes_at slots
+
+pub record IsSlot (s : PrefixRoutes) : Type 0 where
+  pub sound : IsCidr s.prefix
+  pub metrics : AscendsFrom metric_of 0 s.targets
+
+-- the keys of the prefixes ascend, so that each prefix has one slot at most
+pub record AreSlots (slots : List PrefixRoutes) : Type 0 where
+  pub keys : AscendsFrom slot_key 0 slots
+  pub each : AllByRecursion IsSlot slots
+
+-- the route with this metric was set among those of a slot
+pub record IsSetIn (old new : PrefixRoutes) (m : ℕ) (t : Target) : Type 0 where
+  pub same : new.prefix ≡ old.prefix
+  pub targets : IsPermutation new.targets (with_target old.targets m t)
+  pub metrics : AscendsFrom metric_of 0 new.targets
+
+-- the route with this metric was cleared among those of a slot, or without a metric all of them
+pub record IsClearedIn (old new : PrefixRoutes) (metric : Option ℕ) : Type 0 where
+  pub same : new.prefix ≡ old.prefix
+  pub targets : new.targets ≡ cleared old.targets metric
+  pub metrics : AscendsFrom metric_of 0 new.targets
+
+-- so it was in the slot at a place
+pub record IsSetAt (old new : List PrefixRoutes) (place : ℕ) (m : ℕ) (t : Target) : Type 0 where
+  pub slot : PrefixRoutes
+  pub made : (d : PrefixRoutes) → IsSetIn (slice_index_or old place d) slot m t
+  pub list : new ≡ set old place slot
+
+pub record IsClearedAt (old new : List PrefixRoutes) (place : ℕ) (metric : Option ℕ) : Type 0 where
+  pub slot : PrefixRoutes
+  pub made : (d : PrefixRoutes) → IsClearedIn (slice_index_or old place d) slot metric
+  pub list : new ≡ set old place slot
+
+-- one more slot stands at a place, with one route of a prefix
+pub record IsAddedAt (old new : List PrefixRoutes) (place : ℕ) (p : Cidr) (m : ℕ) (t : Target) : Type 0 where
+  pub slot : PrefixRoutes
+  pub prefix : slot.prefix ≡ p
+  pub sound : IsCidr p
+  pub targets : IsPermutation slot.targets (record { metric = m; target = t } ∷ [])
+  pub metrics : AscendsFrom metric_of 0 slot.targets
+  pub list : new ≡ insert old place slot

@@ -4,12 +4,11 @@ use denote.Param.Send.{IsSend, IsSync, sendable}
 use Rattle.std.proofs.Crossing.{crosses}
 use Rattle.std.proofs.MapsCrossing as maps
 use Rattle.atom_map.proofs.Crossing.{AtomMap-send, AtomMap-sync}
-use Rattle.route_table.specs.contracts.table.RouteTable as RouteTable
+use Rattle.route_table.proofs.Crossing.{RouteTable-send, RouteTable-sync}
 use Rattle.edge_labels.proofs.Crossing.{LabelGraph-send, LabelGraph-sync}
 use Rattle.version_pages.proofs.tree.Kid.TheLaws.TheKnot as knot
 use Rattle.net_engine.specs.contracts.router_owners.RouterOwners as RouterOwners
 use Rattle.net_engine.specs.contracts.segment.Segment as Segment
-use Rattle.net_engine.specs.contracts.shared_table.SharedTable as SharedTable
 use Rattle.net_engine.specs.contracts.version.Version as Version
 
 Segment-send : IsSend Segment.the_row
@@ -24,20 +23,8 @@ RouterOwners-send = search (Segment-send, Segment-sync, sendable, crosses, knot.
 RouterOwners-sync : IsSync RouterOwners.the_row
 RouterOwners-sync = search (Segment-send, Segment-sync, sendable, crosses, knot.crosses) depth 40
 
-RouteTable-send : IsSend RouteTable.the_row
-RouteTable-send = search (sendable, crosses, maps.crosses) depth 40
-
-RouteTable-sync : IsSync RouteTable.the_row
-RouteTable-sync = search (sendable, crosses, maps.crosses) depth 40
-
-SharedTable-send : IsSend SharedTable.the_row
-SharedTable-send = search (RouteTable-send, RouteTable-sync, sendable, crosses) depth 40
-
-SharedTable-sync : IsSync SharedTable.the_row
-SharedTable-sync = search (RouteTable-send, RouteTable-sync, sendable, crosses) depth 40
-
 pub Version-send : IsSend Version.the_row
-Version-send = search (AtomMap-send, LabelGraph-send, RouterOwners-send, SharedTable-send, sendable, crosses, maps.crosses) depth 40
+Version-send = search (AtomMap-send, LabelGraph-send, RouterOwners-send, RouteTable-send, sendable, crosses, maps.crosses) depth 40
 
 pub Version-sync : IsSync Version.the_row
-Version-sync = search (AtomMap-sync, LabelGraph-sync, RouterOwners-sync, SharedTable-sync, sendable, crosses, maps.crosses) depth 40
+Version-sync = search (AtomMap-sync, LabelGraph-sync, RouterOwners-sync, RouteTable-sync, sendable, crosses, maps.crosses) depth 40

@@ -11,7 +11,6 @@ mod net_tests;
 mod relabel;
 mod router_owners;
 mod segment;
-mod shared_table;
 mod span;
 mod tables;
 mod version;

@@ -10,12 +10,12 @@ ghost use Rattle.net_engine.specs.Walked.{BeginsAtEnds, IsClear, IsCutAt, IsSet,
 
 use crate::ends::{cut_ends, past_of};
 use crate::net::Net;
-use crate::shared_table::SharedTable;
 use crate::span::Span;
 use crate::tables::{copies, empty_tables, has_route_of, update_at};
 use delta_graph::Delta;
 use dn_model::{Entry, Op, OutOfMemory, Prefix, RouterId, Target, Topology};
 use label_view::LabelView;
+use route_table::RouteTable;
 use std::alloc::Global;
 use std::marker::Model;
 use std::sync::Arc;
@@ -27,7 +27,7 @@ use std::sync::Arc;
 pub struct Version {
     topology: Arc<Topology, Global>,
     net: Net,
-    tables: Vec<SharedTable>,
+    tables: Vec<RouteTable>,
 }
 
 impl Model for Version {

@@ -1,5 +1,6 @@
 pub mod Around
 pub mod Changing
+pub mod Crossing
 pub mod Listed
 pub mod Places
 pub mod Prefixes

@@ -1,6 +1,7 @@
 //! What a router does with the atoms of a span.
 
-ghost use Rattle.std.specs.Prelude.{◌≡◌, ℕ, ◌<◌, ◌≤◌, ◌^◌, true, IfOk, length, take, drop};
+ghost use Rattle.std.specs.Prelude.{◌≡◌, ℕ, ◌+◌, ◌<◌, ◌≤◌, ◌^◌, true, IfOk, length, take, drop, slice_index_or};
+ghost use Rattle.dn_model.specs.declared.atom_row.AtomRow.{AtomRow};
 ghost use Rattle.dn_model.specs.Atoms.{is_boundary};
 ghost use Rattle.net_engine.specs.Numbered.{AreLabelled, does_at};
 ghost use Rattle.net_engine.specs.Reruled.{IsRelabelled};
@@ -24,6 +25,17 @@ fn run_at<'a>(atoms: &'a AtomMap, run: &'a [AtomRow], place: u64) -> &'a [AtomRo
         return atoms.run_from(place);
     }
     run
+}
+
+/// The atom at a place, and those behind it to the end of its page. Those that are at hand are looked at first.
+fn next<'a>(atoms: &'a AtomMap, run: &'a [AtomRow], place: u64) -> (AtomRow, &'a [AtomRow])
+    requires inside { place < length atoms.now }
+    requires run { take (length run.now) (drop place atoms.now) ≡ run.now }
+    ensures row { (d : AtomRow) → result.0 ≡ slice_index_or atoms.now place d }
+    ensures rest { take (length result.1.now) (drop (place + 1) atoms.now) ≡ result.1.now }
+{
+    let here = run_at(atoms, run, place);
+    (here[0], &here[1..])
 }
 
 /// A router does something else with each atom of a span, at whose ends atoms begin. It looks at these atoms alone,
@@ -53,12 +65,11 @@ pub fn relabel(
     let mut run = atoms.run_from(place);
     let mut at = u64::from(span.lo);
     'atoms: while at < span.past {
-        let here = run_at(atoms, run, place);
-        let row = here[0];
+        let (row, rest) = next(atoms, run, place);
         labels = labels.move_atom(alloc, r, row.atom, targets.before, targets.after)?;
         at = row.past;
         place += 1;
-        run = &here[1..];
+        run = rest;
     }
     Ok(labels)
 }

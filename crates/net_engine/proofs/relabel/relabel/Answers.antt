@@ -14,6 +14,7 @@ atoms-init c =
       to = omega arith;
       begins = λ l. subst (λ n. AtomBegins c.args.atoms.now c.place_of-place.result n) (sym same)
           (atom-begins c.args.atoms.now c.place_of-place.result c.args.span.lo c.requires.labelled.atoms c.place_of-place.ensures.inside c.place_of-place.ensures.from c.place_of-place.ensures.to c.requires.first);
+      run = c.run_from-run.ensures.run;
       made = subst (λ n. IsRelabelled c.args.atoms.now c.args.labels c.args.labels c.args.r.0 c.args.span.lo n c.args.targets.after) (sym same)
           (relabelled-none c.args.atoms.now c.args.labels c.args.r.0 c.args.span.lo c.args.targets.after c.requires.labelled);
     }
@@ -21,14 +22,14 @@ atoms-init c =
 pub move_atom-requires-clause-atom : goal.move_atom-requires-clause-atom
 move_atom-requires-clause-atom c =
     let below : c.atoms.at < 2 ^ 32 = omega (arith, c.atoms-test.true, c.requires.end) in
-    let s : Stands c.args.atoms.now c.atoms.place c.atoms.at c.at-row.result = stands-at c.args.atoms.now c.atoms.place c.atoms.at c.at-row.result c.requires.labelled.atoms (c.atoms.invariant.begins below) c.at-row.ensures in
-    subst (λ n. c.at-row.result.atom.0 < n) (sym c.atoms.invariant.made.labelled.there) s.below
+    let s : Stands c.args.atoms.now c.atoms.place c.atoms.at c.next.result.0 = stands-at c.args.atoms.now c.atoms.place c.atoms.at c.next.result.0 c.requires.labelled.atoms (c.atoms.invariant.begins below) c.next.ensures.row in
+    subst (λ n. c.next.result.0.atom.0 < n) (sym c.atoms.invariant.made.labelled.there) s.below
 
 pub move_atom-requires-clause-before : goal.move_atom-requires-clause-before
 move_atom-requires-clause-before c =
     let below : c.atoms.at < 2 ^ 32 = omega (arith, c.atoms-test.true, c.requires.end) in
-    let s : Stands c.args.atoms.now c.atoms.place c.atoms.at c.at-row.result = stands-at c.args.atoms.now c.atoms.place c.atoms.at c.at-row.result c.requires.labelled.atoms (c.atoms.invariant.begins below) c.at-row.ensures in
-    not-yet c.args.atoms.now c.args.labels c.atoms.labels c.args.r.0 c.args.span.lo c.atoms.at c.atoms.place c.args.targets.after c.args.targets.before c.at-row.result c.atoms.invariant.made s
+    let s : Stands c.args.atoms.now c.atoms.place c.atoms.at c.next.result.0 = stands-at c.args.atoms.now c.atoms.place c.atoms.at c.next.result.0 c.requires.labelled.atoms (c.atoms.invariant.begins below) c.next.ensures.row in
+    not-yet c.args.atoms.now c.args.labels c.atoms.labels c.args.r.0 c.args.span.lo c.atoms.at c.atoms.place c.args.targets.after c.args.targets.before c.next.result.0 c.atoms.invariant.made s
     (c.requires.before c.atoms.at c.atoms.invariant.from c.atoms-test.true)
 
 pub overflow_add-place : goal.overflow_add-place
@@ -41,22 +42,23 @@ overflow_add-place c =
 pub atoms-smaller : goal.atoms-smaller
 atoms-smaller c =
     let below : c.atoms.at < 2 ^ 32 = omega (arith, c.atoms-test.true, c.requires.end) in
-    let s : Stands c.args.atoms.now c.atoms.place c.atoms.at c.at-row.result = stands-at c.args.atoms.now c.atoms.place c.atoms.at c.at-row.result c.requires.labelled.atoms (c.atoms.invariant.begins below) c.at-row.ensures in
-    let low : c.at-row.result.low ≡ c.atoms.at = s.low in
-    let order : c.at-row.result.low < c.at-row.result.past = s.order in
+    let s : Stands c.args.atoms.now c.atoms.place c.atoms.at c.next.result.0 = stands-at c.args.atoms.now c.atoms.place c.atoms.at c.next.result.0 c.requires.labelled.atoms (c.atoms.invariant.begins below) c.next.ensures.row in
+    let low : c.next.result.0.low ≡ c.atoms.at = s.low in
+    let order : c.next.result.0.low < c.next.result.0.past = s.order in
     let more : c.atoms.at < c.args.span.past = c.atoms-test.true in
     omega arith
 
 pub atoms-preserved : goal.atoms-preserved
 atoms-preserved c =
     let below : c.atoms.at < 2 ^ 32 = omega (arith, c.atoms-test.true, c.requires.end) in
-    let s : Stands c.args.atoms.now c.atoms.place c.atoms.at c.at-row.result = stands-at c.args.atoms.now c.atoms.place c.atoms.at c.at-row.result c.requires.labelled.atoms (c.atoms.invariant.begins below) c.at-row.ensures in
-    let low : c.at-row.result.low ≡ c.atoms.at = s.low in
-    let order : c.at-row.result.low < c.at-row.result.past = s.order in
+    let s : Stands c.args.atoms.now c.atoms.place c.atoms.at c.next.result.0 = stands-at c.args.atoms.now c.atoms.place c.atoms.at c.next.result.0 c.requires.labelled.atoms (c.atoms.invariant.begins below) c.next.ensures.row in
+    let low : c.next.result.0.low ≡ c.atoms.at = s.low in
+    let order : c.next.result.0.low < c.next.result.0.past = s.order in
     let from : c.args.span.lo ≤ c.atoms.at = c.atoms.invariant.from in
     record {
       from = omega arith;
       to = s.within c.args.span.past c.atoms-test.true c.requires.end c.requires.last;
       begins = s.next;
-      made = relabelled-more c.args.atoms.now c.args.labels c.atoms.labels c.in_ok-labels.labels c.args.r.0 c.args.span.lo c.atoms.at c.atoms.place c.args.targets.after c.at-row.result from c.atoms.invariant.made s c.requires.router c.in_ok-labels.ensures;
+      run = c.next.ensures.rest;
+      made = relabelled-more c.args.atoms.now c.args.labels c.atoms.labels c.in_ok-labels.labels c.args.r.0 c.args.span.lo c.atoms.at c.atoms.place c.args.targets.after c.next.result.0 from c.atoms.invariant.made s c.requires.router c.in_ok-labels.ensures;
     }

@@ -48,7 +48,7 @@ map-again : {X Y : Type 0} (f : X → Y) (g : Y → X) → ((x : X) → g (f x) 
 map-again f g same [] = refl
 map-again f g same (x ∷ xs) = ap (λ y. y ∷ map g (map f xs)) (same x) ∙ ap (λ ys. x ∷ ys) (map-again f g same xs)
 
-map-then : {X Y Z : Type 0} (f : X → Y) (g : Y → Z) (xs : List X) → map g (map f xs) ≡ map (λ x. g (f x)) xs
+pub map-then : {X Y Z : Type 0} (f : X → Y) (g : Y → Z) (xs : List X) → map g (map f xs) ≡ map (λ x. g (f x)) xs
 map-then f g [] = refl
 map-then f g (x ∷ xs) = ap (λ ys. g (f x) ∷ ys) (map-then f g xs)
 

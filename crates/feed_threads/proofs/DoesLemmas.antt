@@ -1,10 +1,9 @@
 -- What one call does of a job's lines, and then another.
-use Rattle.std.proofs.Common.{◌≡◌, ℕ, zero, suc, ◌+◌, get_or, take, arith, ◌<◌, Bool, Result, Ok, Err, OnOk, is_err, All, List, [], ◌∷◌, ◌++◌, length, map, Option, None, Some, refl, ap, sym, ◌∙◌, subst, append_assoc}
+use Rattle.std.proofs.Common.{◌≡◌, ℕ, zero, suc, ◌+◌, get_or, take, arith, ◌<◌, Bool, Result, Ok, Err, OnOk, is_err, All, List, [], ◌∷◌, ◌++◌, length, map, Option, None, refl, ap, sym, ◌∙◌, subst, append_assoc}
 use Rattle.std.specs.List.{position}
 use Rattle.std.proofs.lemmas.Grind.{flat_map-append}
 use Rattle.std.proofs.lemmas.List.{append-nil}
 use Rattle.std.proofs.lemmas.List.Elements.{All-map}
-use mathlib.Core.List.{IsPrefix}
 use Rattle.dn_formats.specs.Lawful.{TellsFront}
 use Rattle.dn_formats.specs.declared.script.Line.{Line}
 use Rattle.dn_formats.specs.declared.script.Line.TheVariants as line
@@ -18,7 +17,7 @@ use Rattle.dn_model.specs.declared.ids.RouterId.{RouterId}
 use Rattle.dn_model.specs.declared.topology.Topology.{Topology}
 use Rattle.route_feed.specs.FeedReader.{Reader}
 use Rattle.version_lock.specs.Callers.{Caller, Lock}
-use Rattle.feed_threads.specs.Feeds.{Feed, ReadsOn}
+use Rattle.feed_threads.specs.Feeds.{Feed}
 use Rattle.feed_threads.specs.Jobs.{Task, AreApart, IsFresh, unread, back_of, HasRun, HasRunUnless, Ends}
 use Rattle.feed_threads.specs.Places.{is_feed_of, HaveRouters, ReadOn, TakesOf}
 use Rattle.feed_threads.specs.Seats.{own_of, SawMore}

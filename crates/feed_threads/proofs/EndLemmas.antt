@@ -1,5 +1,5 @@
 -- A job before its first line and after its last.
-use Rattle.std.proofs.Common.{◌≡◌, ℕ, ◌+◌, ◌*◌, ◌<◌, ◌≤◌, ◌==◌, Bool, true, false, ◌&&◌, ◌||◌, not, cond, IsTrue, List, [], ◌∷◌, ◌++◌, length, map, filter, take, get_or, All, Option, None, Some, refl, ap, sym, ◌∙◌, arith, subst, append_assoc, eq-eqb}
+use Rattle.std.proofs.Common.{◌≡◌, ℕ, ◌+◌, ◌*◌, ◌≤◌, ◌==◌, Bool, true, false, ◌&&◌, ◌||◌, not, cond, List, [], ◌∷◌, ◌++◌, length, map, filter, take, get_or, All, Option, None, Some, refl, ap, sym, ◌∙◌, arith, subst, append_assoc, eq-eqb}
 use Rattle.std.specs.List.{AllZip, list_any, flat_map}
 use Rattle.std.proofs.Math.Seq.{take-length}
 use Rattle.std.proofs.Math.Bool.{or-true, or-false}
@@ -10,8 +10,8 @@ use Rattle.std.proofs.lemmas.List.Folds.{list_any-append}
 use Rattle.std.proofs.lemmas.List.Elements.{All-nil, All-cons, All-head, All-tail, All-map, filter-append}
 use Rattle.dn_io.specs.Told.{with_front}
 use Rattle.dn_formats.specs.Frames.{IsFrame}
-use Rattle.dn_formats.specs.Lawful.{asked, takes, takes_feed, taken_along, first_taken, left_by, entries_of_job, TellsFront, Tells}
-use Rattle.dn_formats.specs.Steps.{FrameStep, FeedRead, updates, kept_of, told_of}
+use Rattle.dn_formats.specs.Lawful.{asked, takes, takes_feed, taken_along, first_taken, left_by, entries_of_job, TellsFront}
+use Rattle.dn_formats.specs.Steps.{FrameStep, FeedRead, updates, told_of}
 use Rattle.dn_model.specs.Entry.{entries}
 use Rattle.dn_model.specs.Topology.{all_differ}
 use Rattle.dn_model.specs.declared.entry.Entry.{Entry}
@@ -26,13 +26,13 @@ use Rattle.dn_formats.specs.declared.told.FeedEnd.TheVariants as ends
 use Rattle.dn_formats.specs.declared.told.FeedTold.{FeedTold}
 use Rattle.dn_formats.specs.declared.told.Told.{Told}
 use Rattle.route_feed.specs.FeedReader.{Reader, IsAt, told_so_far}
-use Rattle.feed_threads.specs.Feeds.{Feed, end_with, end_of_feed, told_upto, told_with, StandsBy, CountsBy, HandsOut, ReadsOn, Stands, TookOf}
-use Rattle.feed_threads.specs.Jobs.{Task, AreApart, same_router, unread, back_of, IsFresh, IsKeptSo, IsReadBy, AreReadBy, IsBack, HasRun}
+use Rattle.feed_threads.specs.Feeds.{Feed, end_with, end_of_feed, told_upto, told_with, StandsBy, CountsBy, HandsOut, Stands, TookOf}
+use Rattle.feed_threads.specs.Jobs.{Task, AreApart, same_router, unread, back_of, IsFresh, IsKeptSo, AreReadBy, IsBack, HasRun}
 use Rattle.feed_threads.specs.Places.{ReadOn}
 use Rattle.feed_threads.specs.Seats.{own_of}
-use Rattle.feed_threads.specs.Takes.{IsCount, IsLater, Passes}
+use Rattle.feed_threads.specs.Takes.{IsCount, Passes}
 use Rattle.feed_threads.specs.Tells.{TellsOwn}
-use Rattle.feed_threads.specs.Tracks.{Strand, GoesOn, IsApartFrom, AllApart, Woven, Tracks, Whatever, rest_of, rests_of, rest_by, rests_by}
+use Rattle.feed_threads.specs.Tracks.{Strand, GoesOn, IsApartFrom, AllApart, Tracks, Whatever, rest_of, rests_of, rests_by}
 use Rattle.feed_threads.proofs.ListLemmas.{All-unmap, eqb-back}
 use Rattle.feed_threads.proofs.RestLemmas.{asked-rests, filter-none, rests-left, taken_along-append, first_taken-append}
 use Rattle.feed_threads.proofs.StrandLemmas.{nows, Others, apart-others}

@@ -7,7 +7,7 @@ use Rattle.std.proofs.lemmas.List.Sums.{fold-append}
 use Rattle.std.proofs.Math.Seq.{drop-append_seam}
 use Rattle.std.proofs.lemmas.List.Elements.{All-head, All-tail}
 use Rattle.dn_formats.specs.Lawful.{asked, asked_by, both_counts, front_of, taken, takes, kept_by, taken_by, taken_along}
-use Rattle.dn_formats.specs.Steps.{FrameStep, FeedRead, kept_of, entries_of}
+use Rattle.dn_formats.specs.Steps.{FeedRead, kept_of, entries_of}
 use Rattle.dn_model.specs.declared.entry.Entry.{Entry}
 use Rattle.dn_model.specs.declared.entry.Op.{Op}
 use Rattle.dn_model.specs.declared.ids.RouterId.{RouterId}

@@ -1,7 +1,7 @@
 -- What holds of all feeds of a job stays true when one of them gives more.
-use Rattle.std.proofs.Common.{◌≡◌, ℕ, zero, suc, ◌+◌, ◌≤◌, ◌==◌, get_or, false, List, [], ◌∷◌, ◌++◌, length, take, drop, map, All, Option, None, Some, refl, ap, sym, ◌∙◌, arith, subst, append_assoc}
+use Rattle.std.proofs.Common.{◌≡◌, ℕ, zero, suc, ◌==◌, get_or, List, [], ◌∷◌, ◌++◌, length, take, map, All, Option, None, Some, refl, ap, sym, ◌∙◌, subst, append_assoc}
 use Rattle.std.specs.List.{AllZip}
-use Rattle.std.proofs.lemmas.List.{append-nil, length-append, length-map, map-append}
+use Rattle.std.proofs.lemmas.List.{append-nil, length-map, map-append}
 use Rattle.std.proofs.lemmas.List.Elements.{All-nil, All-cons}
 use mathlib.Core.List.{IsPrefix}
 use Rattle.dn_formats.specs.Steps.{FrameStep, FeedRead, updates, kept_of}
@@ -35,6 +35,9 @@ pub record Split {S : Type 0} (ss : List (Strand S)) (a : List (Feed S)) (r : Fe
 front-of : {S : Type 0} (s : Strand S) (front : List (Strand S)) (a : List (Feed S)) (x : Feed S) → s.now ≡ x → nows front ≡ a → nows (s ∷ front) ≡ x ∷ a
 front-of s front a x head is = ap (λ xs. s.now ∷ xs) is ∙ ap (λ y. y ∷ a) head
 
+pushed : {S : Type 0} (s : Strand S) (ss ts : List (Strand S)) → ss ≡ ts → s ∷ ss ≡ s ∷ ts
+pushed s ss ts is = ap (λ xs. s ∷ xs) is
+
 pub split-at : {S : Type 0} (ss : List (Strand S)) (a : List (Feed S)) (r : Feed S) (b : List (Feed S)) → nows ss ≡ a ++ r ∷ b → Split ss a r b
 split-at [] [] r b e = cc
 split-at [] (x ∷ a) r b e = cc
@@ -47,7 +50,7 @@ split-at (s ∷ ss) (x ∷ a) r b e =
       front = s ∷ rest.front;
       mid = rest.mid;
       back = rest.back;
-      whole = ap (λ xs. s ∷ xs) rest.whole;
+      whole = pushed s ss (rest.front ++ rest.mid ∷ rest.back) rest.whole;
       front_is = front-of s rest.front a x head rest.front_is;
       mid_is = rest.mid_is;
       back_is = rest.back_is;

@@ -1,9 +1,9 @@
 -- How what a job tells goes on by a line.
-use Rattle.std.proofs.Common.{◌≡◌, ℕ, zero, suc, ◌+◌, ◌≤◌, List, [], ◌∷◌, ◌++◌, length, fold, take, map, All, Option, None, Some, refl, ap, sym, ◌∙◌, arith, subst, append_assoc}
-use Rattle.std.proofs.lemmas.List.{append-nil, take_all, length-append}
+use Rattle.std.proofs.Common.{◌≡◌, ℕ, zero, suc, ◌≤◌, List, [], ◌∷◌, ◌++◌, length, fold, take, Option, refl, ap, sym, ◌∙◌, arith, subst, append_assoc}
+use Rattle.std.proofs.lemmas.List.{append-nil, length-append}
 use Rattle.std.proofs.lemmas.List.Elements.{All-nil}
 use Rattle.std.proofs.Math.Seq.{take-append_seam}
-use Rattle.dn_formats.specs.Lawful.{Tells, IsOutcome, TellsLines, pin_after, taken_along}
+use Rattle.dn_formats.specs.Lawful.{Tells, IsOutcome, pin_after, taken_along}
 use Rattle.dn_formats.specs.Steps.{FeedRead}
 use Rattle.dn_model.specs.Answer.{IsAnswer}
 use Rattle.dn_model.specs.Entry.{entries}

@@ -1,7 +1,7 @@
 -- How what a job has taken and told goes on by a line.
-use Rattle.std.proofs.Common.{◌≡◌, ℕ, suc, ◌+◌, ◌≤◌, Bool, true, false, ◌==◌, nat_lt, cond, if◌then◌else◌, Result, Ok, Err, OnOk, List, [], ◌∷◌, ◌++◌, length, take, get_or, All, Option, None, Some, refl, ap, sym, ◌∙◌, arith, subst, append_assoc}
+use Rattle.std.proofs.Common.{◌≡◌, ℕ, suc, ◌+◌, ◌≤◌, Bool, true, false, ◌==◌, nat_lt, cond, if◌then◌else◌, List, [], ◌∷◌, ◌++◌, length, take, get_or, All, Option, None, Some, refl, ap, sym, ◌∙◌, arith, subst, append_assoc}
 use Rattle.std.specs.List.{AllZip, flat_map, position, position_or_len}
-use Rattle.std.proofs.lemmas.List.{append-nil, length-append, length-map, map-append, take_all}
+use Rattle.std.proofs.lemmas.List.{append-nil, length-map, map-append, take_all}
 use Rattle.std.proofs.Math.Seq.{get_or-append_seam, take-append_seam}
 use Rattle.std.proofs.lemmas.List.Elements.{All-nil, All-cons, All-same}
 use Rattle.std.proofs.lemmas.List.Sums.{fold-append}
@@ -22,9 +22,9 @@ use Rattle.dn_formats.specs.declared.told.FeedEnd.{FeedEnd}
 use Rattle.dn_formats.specs.declared.told.Told.{Told}
 use Rattle.route_feed.specs.FeedReader.{Reader}
 use Rattle.feed_threads.specs.Feeds.{Feed, end_of_feed, Stands}
-use Rattle.feed_threads.specs.Places.{is_feed_of, TakesAt, TakesOf}
+use Rattle.feed_threads.specs.Places.{is_feed_of, TakesAt}
 use Rattle.feed_threads.specs.Seats.{own_of}
-use Rattle.feed_threads.specs.Takes.{IsCount, IsLater, Gives, TakesSome}
+use Rattle.feed_threads.specs.Takes.{IsCount, IsLater, TakesSome}
 use Rattle.feed_threads.specs.Tells.{Adds, IsOutcomeNow, TellsOwn}
 use Rattle.feed_threads.specs.Tracks.{Strand, GoesOn, IsApartFrom, Woven, Tracks, Whatever, last_pin}
 use Rattle.feed_threads.proofs.ListLemmas.{Parts, all-parts, all-joined, All-unmap, all-through, eqb-back, ZipParts, zip-parts}

@@ -1,5 +1,5 @@
 -- What a job over several feeds has taken and told so far.
-use Rattle.std.specs.Prelude.{ℕ, ◌≡◌, ◌≤◌, ◌==◌, Bool, false, List, [], ◌∷◌, ◌++◌, length, map, fold, All, Option, None, Some}
+use Rattle.std.specs.Prelude.{ℕ, ◌≡◌, ◌≤◌, ◌==◌, false, List, [], ◌∷◌, ◌++◌, length, map, fold, All, Option, None}
 use Rattle.std.specs.List.{AllZip, flat_map}
 use Rattle.dn_formats.specs.Lawful.{asked, pin_after, taken_along, TellsFront}
 use Rattle.dn_formats.specs.Steps.{FrameStep, FeedRead, kept_of}

@@ -1,5 +1,13 @@
+pub mod DoesLemmas
+pub mod EndLemmas
 pub mod JobLemmas
+pub mod ListLemmas
+pub mod OrderLemmas
 pub mod PlaceLemmas
+pub mod RestLemmas
 pub mod SeatLemmas
 pub mod StepLemmas
+pub mod StrandLemmas
 pub mod TakeLemmas
+pub mod TellLemmas
+pub mod TracksLemmas

@@ -1,5 +1,5 @@
 -- One of a job's feeds gave frames.
-use Rattle.std.proofs.Common.{◌≡◌, ℕ, suc, ◌<◌, Result, Ok, Err, OnOk, OnErr, List, [], ◌∷◌, ◌++◌, length, get_or, set, take, drop, All, Option, Some, refl, ap, sym, ◌∙◌, subst, arith}
+use Rattle.std.proofs.Common.{◌≡◌, ℕ, suc, ◌<◌, Result, Ok, Err, OnOk, OnErr, List, [], ◌∷◌, ◌++◌, length, get_or, set, take, drop, Option, Some, ap, sym, ◌∙◌, subst, arith}
 use Rattle.std.specs.List.{AllZip, position}
 use Rattle.std.proofs.lemmas.List.{set-get_or, set_split, length-take-le}
 use Rattle.std.proofs.lemmas.List.Elements.{All-set}

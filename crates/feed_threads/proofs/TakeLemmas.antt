@@ -1,5 +1,5 @@
 -- What taking frames of a feed adds to what it gave, and to the job's own entries.
-use Rattle.std.proofs.Common.{◌≡◌, ℕ, ◌+◌, ◌*◌, ◌-◌, ◌<◌, ◌≤◌, Bool, true, false, is_none, is_some, List, [], ◌∷◌, ◌++◌, length, take, Option, None, Some, Result, Ok, Err, IfOk, OnOk, OnErr, refl, ap, sym, ◌∙◌, subst, arith, length-append, append_assoc}
+use Rattle.std.proofs.Common.{◌≡◌, ℕ, ◌+◌, ◌-◌, ◌<◌, ◌≤◌, Bool, true, false, is_none, is_some, List, [], ◌∷◌, ◌++◌, length, take, Option, None, Some, Result, Ok, Err, IfOk, OnOk, OnErr, refl, ap, sym, ◌∙◌, subst, arith, length-append, append_assoc}
 use Rattle.std.proofs.lemmas.Grind.{flat_map-append}
 use Rattle.std.proofs.lemmas.List.{append-nil, map-append}
 use Rattle.std.proofs.Math.Seq.{take-append-add}
@@ -63,7 +63,7 @@ passes-step (answers.Lost o c) old new a limit = record { fits = omega (arith, a
 passes-step answers.TooLong old new a limit = record { fits = omega (arith, a); within = λ w. omega (arith, a, limit, w) }
 passes-step answers.Faulted old new a limit = record { fits = omega (arith, a); within = λ w. omega (arith, a, limit, w) }
 
-passes-none : {S : Type 0} (reader : Reader S) → Passes reader reader []
+pub passes-none : {S : Type 0} (reader : Reader S) → Passes reader reader []
 passes-none reader = record { fits = omega arith; within = λ w. w }
 
 pub passes-more : {S : Type 0} (old mid new : Reader S) (xs ys : List FrameStep) → Passes old mid xs → Passes mid new ys → Passes old new (xs ++ ys)

@@ -4,3 +4,4 @@ pub mod Places
 pub mod Seats
 pub mod Takes
 pub mod Tells
+pub mod Tracks

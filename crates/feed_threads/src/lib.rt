@@ -5,7 +5,10 @@ mod ask;
 mod desk;
 mod feed;
 mod job;
+mod lines;
+mod one_job;
 mod places;
 mod take;
 
 pub use job::{Job, JobDone, JobList};
+pub use one_job::run_job;

@@ -45,7 +45,7 @@ fn take_at<S: Source, G: Gate, R: Wait>(
 }
 
 /// Takes frames of this router's feed, where the job has it.
-fn take_of<S: Source, G: Gate, R: Wait>(
+pub(crate) fn take_of<S: Source, G: Gate, R: Wait>(
     rt: &R,
     desk: &Desk<'_, G>,
     seat: &mut Seat,

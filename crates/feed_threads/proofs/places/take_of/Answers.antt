@@ -1,4 +1,4 @@
-use Rattle.feed_threads.proofs.PlaceLemmas.{failed-of, read-none}
+use Rattle.feed_threads.proofs.PlaceLemmas.{read-none}
 use Rattle.feed_threads.proofs.places.take_of.Goals as goal
 
 pub returns-in-None-clause-reads : goal.returns-in-None-clause-reads

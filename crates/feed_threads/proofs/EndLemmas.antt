@@ -1,0 +1,382 @@
+-- A job before its first line and after its last.
+use Rattle.std.proofs.Common.{◌≡◌, ℕ, ◌+◌, ◌*◌, ◌≤◌, ◌==◌, Bool, true, false, ◌&&◌, ◌||◌, not, cond, List, [], ◌∷◌, ◌++◌, length, map, filter, take, get_or, All, Option, None, Some, refl, ap, sym, ◌∙◌, arith, subst, append_assoc, eq-eqb}
+use Rattle.std.specs.List.{AllZip, list_any, flat_map}
+use Rattle.std.proofs.Math.Seq.{take-length}
+use Rattle.std.proofs.Math.Bool.{or-true, or-false}
+use Rattle.std.proofs.lemmas.Bool.{and_parts, or_parts}
+use Rattle.std.proofs.lemmas.Grind.{flat_map-append}
+use Rattle.std.proofs.lemmas.List.{append-nil, map-append}
+use Rattle.std.proofs.lemmas.List.Folds.{list_any-append}
+use Rattle.std.proofs.lemmas.List.Elements.{All-nil, All-cons, All-head, All-tail, All-map, filter-append}
+use Rattle.dn_io.specs.Told.{with_front}
+use Rattle.dn_formats.specs.Frames.{IsFrame}
+use Rattle.dn_formats.specs.Lawful.{asked, takes, takes_feed, taken_along, first_taken, left_by, entries_of_job, TellsFront}
+use Rattle.dn_formats.specs.Steps.{FrameStep, FeedRead, updates, told_of}
+use Rattle.dn_model.specs.Entry.{entries}
+use Rattle.dn_model.specs.Topology.{all_differ}
+use Rattle.dn_model.specs.declared.entry.Entry.{Entry}
+use Rattle.dn_model.specs.declared.entry.Op.{Op}
+use Rattle.dn_model.specs.declared.entry.Posted.{Posted}
+use Rattle.dn_model.specs.declared.ids.RouterId.{RouterId}
+use Rattle.dn_model.specs.declared.topology.Topology.{Topology}
+use Rattle.dn_formats.specs.declared.script.Line.{Line}
+use Rattle.dn_formats.specs.declared.script.Line.TheVariants as line
+use Rattle.dn_formats.specs.declared.told.FeedEnd.{FeedEnd}
+use Rattle.dn_formats.specs.declared.told.FeedEnd.TheVariants as ends
+use Rattle.dn_formats.specs.declared.told.FeedTold.{FeedTold}
+use Rattle.dn_formats.specs.declared.told.Told.{Told}
+use Rattle.route_feed.specs.FeedReader.{Reader, IsAt, told_so_far}
+use Rattle.feed_threads.specs.Feeds.{Feed, end_with, end_of_feed, told_upto, told_with, StandsBy, CountsBy, HandsOut, Stands, TookOf}
+use Rattle.feed_threads.specs.Jobs.{Task, AreApart, same_router, unread, back_of, IsFresh, IsKeptSo, AreReadBy, IsBack, HasRun}
+use Rattle.feed_threads.specs.Places.{ReadOn}
+use Rattle.feed_threads.specs.Seats.{own_of}
+use Rattle.feed_threads.specs.Takes.{IsCount, Passes}
+use Rattle.feed_threads.specs.Tells.{TellsOwn}
+use Rattle.feed_threads.specs.Tracks.{Strand, GoesOn, IsApartFrom, AllApart, Tracks, Whatever, rest_of, rests_of, rests_by}
+use Rattle.feed_threads.proofs.ListLemmas.{All-unmap, eqb-back}
+use Rattle.feed_threads.proofs.RestLemmas.{asked-rests, filter-none, rests-left, taken_along-append, first_taken-append}
+use Rattle.feed_threads.proofs.StrandLemmas.{nows, Others, apart-others}
+use Rattle.feed_threads.proofs.TakeLemmas.{later-nil, passes-none}
+use Rattle.feed_threads.proofs.TellLemmas.{tells-untake, tells-lines}
+
+-- ---- before the first line
+
+abbrev pub fresh_strand : {S : Type 0} → Reader S → Strand S
+fresh_strand r = record { start = r; now = unread r; steps = []; ops = [] }
+
+map-again : {X Y : Type 0} (f : X → Y) (g : Y → X) → ((x : X) → g (f x) ≡ x) → (xs : List X) → map g (map f xs) ≡ xs
+map-again f g same [] = refl
+map-again f g same (x ∷ xs) = ap (λ y. y ∷ map g (map f xs)) (same x) ∙ ap (λ ys. x ∷ ys) (map-again f g same xs)
+
+pub map-then : {X Y Z : Type 0} (f : X → Y) (g : Y → Z) (xs : List X) → map g (map f xs) ≡ map (λ x. g (f x)) xs
+map-then f g [] = refl
+map-then f g (x ∷ xs) = ap (λ ys. g (f x) ∷ ys) (map-then f g xs)
+
+not-true : (b : Bool) → not b ≡ true → b ≡ false
+not-true true e = cc
+not-true false e = refl
+
+any-false : {X : Type 0} (p : X → Bool) (xs : List X) → list_any p xs ≡ false → All (λ x. p x ≡ false) xs
+any-false p [] e = All-nil (λ x. p x ≡ false)
+any-false p (x ∷ xs) e =
+    let parts : (p x ≡ false) × (list_any p xs ≡ false) = or_parts (p x) (list_any p xs) e in
+    All-cons (λ x. p x ≡ false) x xs parts.0 (any-false p xs parts.1)
+
+apart-fresh : {S : Type 0} (rs : List (Reader S)) → all_differ same_router (map (λ r. r.told.router) rs) ≡ true → AllApart (map fresh_strand rs)
+apart-fresh [] apart = tt
+apart-fresh {S = S} (r ∷ rs) apart =
+    let parts : (not (list_any (same_router r.told.router) (map (λ r. r.told.router) rs)) ≡ true) × (all_differ same_router (map (λ r. r.told.router) rs) ≡ true) =
+    and_parts (not (list_any (same_router r.told.router) (map (λ r. r.told.router) rs))) (all_differ same_router (map (λ r. r.told.router) rs)) apart in
+    let routers : All (λ (x : Reader S). (r.told.router.0 == x.told.router.0) ≡ false) rs =
+    All-unmap (λ q. same_router r.told.router q ≡ false) (λ (x : Reader S). x.told.router) rs
+    (any-false (same_router r.told.router) (map (λ r. r.told.router) rs) (not-true (list_any (same_router r.told.router) (map (λ r. r.told.router) rs)) parts.0)) in (
+      All-map (IsApartFrom (fresh_strand r)) fresh_strand rs
+          (λ k d i. record { router = routers k d i; back = eqb-back r.told.router.0 (get_or rs k d).told.router.0 (routers k d i) }),
+      apart-fresh rs parts.1,
+    )
+
+-- ---- a feed that was read
+
+abbrev pub end_or : Option FeedEnd → FeedEnd
+end_or None = ends.End
+end_or (Some end) = end
+
+abbrev pub kept_or : Option ℕ → List FrameStep → ℕ
+kept_or None steps = length (updates steps)
+kept_or (Some n) steps = n
+
+-- what a feed has given so far as a feed that was read
+abbrev pub feed_of : {S : Type 0} → Strand S → FeedRead
+feed_of s = record {
+  feed_no = s.now.reader.told.feed_no;
+  router = s.now.reader.told.router;
+  steps = s.steps;
+  kept = kept_or s.now.kept s.steps;
+  end = end_or (end_of_feed s.now);
+}
+
+kept-or : (limit : ℕ) (seen : List Posted) (kept : Option ℕ) (steps : List FrameStep) (ops : List Op) → TookOf limit seen kept steps ops → take (kept_or kept steps) (updates steps) ≡ ops
+kept-or limit seen None steps ops took = take-length (updates steps) ∙ sym took
+kept-or limit seen (Some n) steps ops took = sym took.0
+
+kept-so : (limit : ℕ) (seen : List Posted) (kept : Option ℕ) (f : FeedRead) (ops : List Op) → f.kept ≡ kept_or kept f.steps → TookOf limit seen kept f.steps ops → IsKeptSo limit seen kept f
+kept-so limit seen None f ops is took = is
+kept-so limit seen (Some n) f ops is took = (is, took.1)
+
+-- a count without a number is over at the end alone
+end-is : (len : ℕ) (end : Option FeedEnd) → IsCount None len end → end ≡ Some (end_or end)
+end-is len None is = absurd is
+end-is len (Some e) is = refl
+
+told-is : (kept : Option ℕ) (told : FeedTold) (feed_no : ℕ) (router : RouterId) (steps : List FrameStep) (end : Option FeedEnd) (e : FeedEnd) → told ≡ told_upto feed_no router steps end → end_with kept end ≡ Some e →
+    told_with kept told ≡ told_of (record { feed_no = feed_no; router = router; steps = steps; kept = kept_or kept steps; end = e })
+told-is None told feed_no router steps end e is ended = is ∙ ap (told_upto feed_no router steps) ended
+told-is (Some n) told feed_no router steps end e is ended =
+    ap (λ (x : FeedTold). record x { updates = n; end = Some ends.Full }) is ∙ ap (λ o. record (told_so_far feed_no router steps) { updates = n; end = o }) ended
+
+-- ---- the rests of all feeds
+
+-- the line that takes the rest of a feed that was read
+abbrev rest_line : FeedRead → Line
+rest_line f = line.Take 0 f.router None
+
+-- lines that name none of these feeds' routers
+unnamed-by : {S : Type 0} (s : Strand S) (ss : List (Strand S)) → All (IsApartFrom s) ss → list_any (takes s.now.reader.told.router) (map (λ x. rest_line (feed_of x)) ss) ≡ false
+unnamed-by s [] apart = refl
+unnamed-by {S = S} s (x ∷ ss) apart =
+    let here : (x.now.reader.told.router.0 == s.now.reader.told.router.0) ≡ false = (All-head (IsApartFrom s) x ss apart).back in
+    rw here (unnamed-by s ss (All-tail (IsApartFrom s) x ss apart))
+
+-- the feeds that the rests of all take first, after some lines, are those that no line takes
+first-rests : {S : Type 0} (lines : List Line) (front back : List (Strand S)) → AllApart (front ++ back) →
+    first_taken (map feed_of (front ++ back)) (lines ++ map (λ x. rest_line (feed_of x)) front) (map (λ x. rest_line (feed_of x)) back) ≡ filter (λ f. not (takes_feed lines f)) (map feed_of back)
+first-rests lines front [] apart = refl
+first-rests {S = S} lines front (s ∷ back) apart =
+    let rests : List (Strand S) → List Line = λ ss. map (λ x. rest_line (feed_of x)) ss in
+    let b : List Line = lines ++ rests front in
+    let f : FeedRead = feed_of s in
+    let p : FeedRead → Bool = λ g. takes g.router (rest_line f) && not (takes_feed b g) in
+    let others : Others front s back = apart-others front s back apart in
+    let none-of : (ss : List (Strand S)) → All (IsApartFrom s) ss → filter p (map feed_of ss) ≡ [] =
+    λ ss out. filter-none p (map feed_of ss) (All-map (λ g. p g ≡ false) feed_of ss (λ k d i. ap (λ c. c && not (takes_feed b (feed_of (get_or ss k d)))) (out k d i).router)) in
+    let own : (f.router.0 == f.router.0) ≡ true = eq-eqb f.router.0 f.router.0 refl in
+    let named : takes_feed b f ≡ takes_feed lines f =
+    list_any-append (takes f.router) lines (rests front) ∙ ap (λ c. takes_feed lines f || c) (unnamed-by s front others.in_front) ∙ or-false (takes_feed lines f) in
+    let test : p f ≡ not (takes_feed lines f) = ap (λ c. c && not (takes_feed b f)) own ∙ ap not named in
+    let here : filter p (map feed_of (front ++ s ∷ back)) ≡ cond (not (takes_feed lines f)) (f ∷ []) [] =
+    ap (filter p) (map-append feed_of front (s ∷ back)) ∙ filter-append p (map feed_of front) (map feed_of (s ∷ back))
+    ∙ ap (λ gs. gs ++ filter p (map feed_of (s ∷ back))) (none-of front others.in_front)
+    ∙ ap (λ gs. cond (p f) (f ∷ gs) gs) (none-of back others.in_back) ∙ ap (λ c. cond c (f ∷ []) []) test in
+    let whole : (front ++ s ∷ []) ++ back ≡ front ++ s ∷ back = append_assoc front (s ∷ []) back in
+    let next : b ++ rest_line f ∷ [] ≡ lines ++ rests (front ++ s ∷ []) =
+    append_assoc lines (rests front) (rest_line f ∷ []) ∙ ap (λ ls. lines ++ ls) (sym (map-append (λ x. rest_line (feed_of x)) front (s ∷ []))) in
+    let rest : first_taken (map feed_of (front ++ s ∷ back)) (b ++ rest_line f ∷ []) (rests back) ≡ filter (λ f. not (takes_feed lines f)) (map feed_of back) =
+    ap (λ ls. first_taken (map feed_of (front ++ s ∷ back)) ls (rests back)) next
+    ∙ ap (λ (ss : List (Strand S)). first_taken (map feed_of ss) (lines ++ rests (front ++ s ∷ [])) (rests back)) (sym whole)
+    ∙ first-rests lines (front ++ s ∷ []) back (subst (λ (ss : List (Strand S)). AllApart ss) (sym whole) apart) in
+    ap (λ gs. gs ++ first_taken (map feed_of (front ++ s ∷ back)) (b ++ rest_line f ∷ []) (rests back)) here
+    ∙ ap (λ gs. cond (not (takes_feed lines f)) (f ∷ []) [] ++ gs) rest
+    ∙ joined (not (takes_feed lines f)) f (filter (λ f. not (takes_feed lines f)) (map feed_of back))
+  where
+    joined : (b : Bool) (f : FeedRead) (gs : List FeedRead) → cond b (f ∷ []) [] ++ gs ≡ cond b (f ∷ gs) gs
+    joined true f gs = refl
+    joined false f gs = refl
+
+rests-again : {S : Type 0} (ss : List (Strand S)) → rests_of (map (λ x. rest_line (feed_of x)) ss) ≡ map (λ x. rest_line (feed_of x)) ss
+rests-again [] = refl
+rests-again (s ∷ ss) = ap (λ ls. rest_line (feed_of s) ∷ ls) (rests-again ss)
+
+-- A job's lines, then the rests of the feeds that they name, then those of all: what they take are the entries of the job.
+job-order : {S : Type 0} (number : ℕ) (lines : List Line) (ss : List (Strand S)) → AllApart ss →
+    taken_along (map feed_of ss) [] ((lines ++ rests_of lines) ++ map (λ x. rest_line (feed_of x)) ss)
+    ≡ entries_of_job (record { number = number; lines = lines; feeds = map feed_of ss })
+job-order {S = S} number lines ss apart =
+    let fs : List FeedRead = map feed_of ss in
+    let rests : List Line = map (λ x. rest_line (feed_of x)) ss in
+    let order : (lines ++ rests_of lines) ++ rests ≡ lines ++ rests_of (lines ++ rests) =
+    append_assoc lines (rests_of lines) rests ∙ ap (λ ls. lines ++ (rests_of lines ++ ls)) (sym (rests-again ss)) ∙ ap (λ ls. lines ++ ls) (sym (flat_map-append rest_of lines rests)) in
+    let first : first_taken fs [] (lines ++ rests) ≡ first_taken fs [] lines ++ filter (λ f. not (takes_feed lines f)) fs =
+    first_taken-append fs [] lines rests ∙ ap (λ gs. first_taken fs [] lines ++ gs)
+    (ap (λ ls. first_taken fs ls rests) (sym (append-nil lines)) ∙ first-rests lines [] ss apart) in
+    ap (taken_along fs []) order ∙ taken_along-append fs [] lines (rests_of (lines ++ rests))
+    ∙ ap (λ es. taken_along fs [] lines ++ es)
+    (ap (λ b. taken_along fs b (rests_of (lines ++ rests))) (sym (append-nil lines)) ∙ rests-left fs lines [] (lines ++ rests) ∙ ap (flat_map (left_by lines)) first)
+
+-- ---- what is told after takes alone
+
+pub tells-rests : (t : Topology) (h : List Posted) (k : ℕ) (start : List Entry) (feeds : List FeedRead) (lines more : List Line) (tolds : List Told) →
+    TellsOwn t h k start feeds [] 0 (lines ++ rests_of more) tolds → TellsOwn t h k start feeds [] 0 lines tolds
+tells-rests t h k start feeds lines [] tolds told = subst (λ (ls : List Line). TellsOwn t h k start feeds [] 0 ls tolds) (append-nil lines) told
+tells-rests t h k start feeds lines (line.Ask l q ∷ more) tolds told = tells-rests t h k start feeds lines more tolds told
+tells-rests t h k start feeds lines (line.Take l r c ∷ more) tolds told =
+    tells-untake t h k start feeds [] 0 lines tolds l r None
+    (tells-rests t h k start feeds (lines ++ line.Take l r None ∷ []) more tolds
+    (subst (λ (ls : List Line). TellsOwn t h k start feeds [] 0 ls tolds) (sym (append_assoc lines (line.Take l r None ∷ []) (rests_of more))) told))
+
+module _ {S : Type 0} (t : Topology) (left : S → Option (List ℕ)) (faults place : S → ℕ) (limit : ℕ) where
+  at-start : (r : Reader S) → IsFresh t faults r → (bytes : List ℕ) → left r.source ≡ Some bytes → IsAt t r (left r.source) bytes []
+  at-start r fresh bytes is = record {
+    frames = [];
+    each = All-nil IsFrame;
+    come_to = tt;
+    passed = fresh.passed;
+    whole = sym (ap (with_front ([] ++ r.held)) is ∙ ap (λ xs. with_front xs (Some bytes)) fresh.held);
+    within = (let p : r.passed ≡ 0 = fresh.passed in let q : length r.held ≡ 0 = ap length fresh.held in omega arith);
+    counted = fresh.told;
+  }
+
+  going-on : (r : Reader S) → IsFresh t faults r → r.told.end ≡ None
+  going-on r fresh = ap (λ (x : FeedTold). x.end) fresh.told
+
+  -- a reader that has read nothing has handed out no frame
+  pub hands-none : (r : Reader S) → IsFresh t faults r → HandsOut t left faults place r r []
+  hands-none r fresh =
+      let going : r.told.end ≡ None = going-on r fresh in
+      record {
+        feed_no = refl;
+        router = refl;
+        limit = refl;
+        keeps_place = refl;
+        told = fresh.told ∙ ap (told_upto r.told.feed_no r.told.router []) (sym going);
+        counts = subst (λ (e : Option FeedEnd). CountsBy e (faults r.source)) (sym going) fresh.faults_none;
+        stands = λ bytes is. subst (λ (e : Option FeedEnd). StandsBy e t r (left r.source) bytes []) (sym going) (at-start r fresh bytes is);
+      }
+
+  -- a job that has done no line
+  pub tracks-start : (number : ℕ) (readers : List (Reader S)) (news : List (Feed S)) (seen : List Posted) → news ≡ map unread readers → All (IsFresh t faults) readers → AreApart readers →
+      Tracks t left faults place limit number (own_of number seen) readers news seen [] []
+  tracks-start number readers news seen are fresh apart = record {
+    strands = map fresh_strand readers;
+    woven = record {
+      starts = map-again fresh_strand (λ s. s.start) (λ r. refl) readers;
+      nows = map-then fresh_strand (λ s. s.now) readers ∙ sym are;
+      each = All-map (λ (s : Strand S). Stands t left faults place limit seen s.start s.now s.steps s.ops) fresh_strand readers (λ k d i. record {
+        reads = hands-none (get_or readers k d) (fresh k d i);
+        took = refl;
+        unended = λ n is. cc;
+      });
+      passes = All-map (λ (s : Strand S). Passes s.start s.now.reader s.steps) fresh_strand readers (λ k d i. passes-none (get_or readers k d));
+      apart = apart-fresh readers apart;
+    };
+    counted = All-map (λ (s : Strand S). IsCount (asked s.now.reader.told.router []) (length s.steps) (end_of_feed s.now)) fresh_strand readers
+        (λ k d i. subst (λ (e : Option FeedEnd). IsCount (Some 0) 0 e) (sym (going-on (get_or readers k d) (fresh k d i))) refl);
+    pinned = omega arith;
+    whatever = λ fs zip. record { order = sym (append-nil (own_of number seen)); tells = λ later. tt };
+  }
+
+  -- ---- some feeds go on from the strands: those of what was read so far
+
+  goes-itself : (seen : List Posted) (ss : List (Strand S)) → All (λ s. Stands t left faults place limit seen s.start s.now s.steps s.ops) ss → AllZip GoesOn ss (map feed_of ss)
+  goes-itself seen [] each = tt
+  goes-itself seen (s ∷ ss) each =
+      let here : Stands t left faults place limit seen s.start s.now s.steps s.ops = All-head (λ (s : Strand S). Stands t left faults place limit seen s.start s.now s.steps s.ops) s ss each in (
+        record {
+          feed_no = refl;
+          router = refl;
+          later = [];
+          steps = sym (append-nil s.steps);
+          kept = kept-or limit seen s.now.kept s.steps s.ops here.took;
+          none_after_end = later-nil (end_of_feed s.now);
+        },
+        goes-itself seen ss (All-tail (λ (s : Strand S). Stands t left faults place limit seen s.start s.now s.steps s.ops) s ss each),
+      )
+
+  -- what some lines told is that of a front of lines that begin so
+  pub front-of : (number : ℕ) (start : List Entry) (readers : List (Reader S)) (news : List (Feed S)) (seen : List Posted) (xs ys all : List Line) (tolds : List Told) (more : List Posted) → all ≡ xs ++ ys →
+      Tracks t left faults place limit number start readers news seen xs tolds → TellsFront t (entries (seen ++ more)) all tolds
+  front-of number start readers news seen xs ys all tolds more is tracks =
+      let fs : List FeedRead = map feed_of tracks.strands in
+      let w : Whatever t number start seen xs tolds fs = tracks.whatever fs (goes-itself seen tracks.strands tracks.woven.each) in
+      (xs, ys, is, tells-lines t (seen ++ more) number start fs [] 0 xs tolds (w.tells more))
+
+  -- ---- after the last line
+
+  read-itself : (seen : List Posted) (ss : List (Strand S)) → All (IsFresh t faults) (map (λ s. s.start) ss) → All (λ s. Stands t left faults place limit seen s.start s.now s.steps s.ops) ss →
+      All (λ s. Passes s.start s.now.reader s.steps) ss → All (λ s. end_of_feed s.now ≡ Some (end_or (end_of_feed s.now))) ss →
+      AreReadBy t left faults place limit seen (map (λ s. s.start) ss) (map back_of (nows ss)) (map feed_of ss)
+  read-itself seen [] fresh each passes ended = tt
+  read-itself seen (s ∷ ss) fresh each passes ended =
+      let Q : Strand S → Type 0 = λ s. Stands t left faults place limit seen s.start s.now s.steps s.ops in
+      let E : Strand S → Type 0 = λ s. end_of_feed s.now ≡ Some (end_or (end_of_feed s.now)) in
+      let P : Strand S → Type 0 = λ s. Passes s.start s.now.reader s.steps in
+      let st : Q s = All-head Q s ss each in
+      let e : E s = All-head E s ss ended in
+      let p : P s = All-head P s ss passes in
+      let r : IsFresh t faults s.start = All-head (IsFresh t faults) s.start (map (λ s. s.start) ss) fresh in
+      let zero : s.start.passed ≡ 0 = r.passed in
+      let within : s.now.reader.passed ≤ s.now.reader.limit =
+      subst (λ (n : ℕ). s.now.reader.passed ≤ n) refl (p.within (omega (arith, zero))) in
+      let same : s.now.reader.limit ≡ s.start.limit = st.reads.limit in
+      let fits : s.start.passed + 28 * length (updates s.steps) ≤ s.now.reader.passed = p.fits in (
+        record {
+          reader = s.now.reader;
+          kept = s.now.kept;
+          source_is = refl;
+          reads = st.reads;
+          fits = omega (arith, within, same, fits);
+          unended = st.unended;
+          end_is = e;
+          kept_is = kept-so limit seen s.now.kept (feed_of s) s.ops refl st.took;
+          feed_no = st.reads.feed_no;
+          router = st.reads.router;
+          told_is = told-is s.now.kept s.now.reader.told s.now.reader.told.feed_no s.now.reader.told.router s.steps s.now.reader.told.end (end_or (end_of_feed s.now)) st.reads.told e;
+        },
+        read-itself seen ss (All-tail (IsFresh t faults) s.start (map (λ s. s.start) ss) fresh) (All-tail Q s ss each) (All-tail P s ss passes) (All-tail E s ss ended),
+      )
+
+  -- a feed whose rest was taken has ended
+  ended-by : (before : List Line) (ss done : List (Strand S)) → All (λ s. IsCount (asked s.now.reader.told.router (before ++ rests_of (map (λ x. rest_line (feed_of x)) (done ++ ss)))) (length s.steps) (end_of_feed s.now)) ss →
+      All (λ s. end_of_feed s.now ≡ Some (end_or (end_of_feed s.now))) ss
+  ended-by before [] done counted = All-nil (λ s. end_of_feed s.now ≡ Some (end_or (end_of_feed s.now)))
+  ended-by before (s ∷ ss) done counted =
+      let rests : List (Strand S) → List Line = λ xs. map (λ x. rest_line (feed_of x)) xs in
+      let r : RouterId = s.now.reader.told.router in
+      let C : List (Strand S) → Strand S → Type 0 = λ xs s. IsCount (asked s.now.reader.told.router (before ++ rests_of (rests xs))) (length s.steps) (end_of_feed s.now) in
+      let own : (r.0 == r.0) ≡ true = eq-eqb r.0 r.0 refl in
+      let named : list_any (takes r) (rests (done ++ s ∷ ss)) ≡ true =
+      ap (list_any (takes r)) (map-append (λ x. rest_line (feed_of x)) done (s ∷ ss)) ∙ list_any-append (takes r) (rests done) (rests (s ∷ ss))
+      ∙ ap (λ b. list_any (takes r) (rests done) || (b || list_any (takes r) (rests ss))) own ∙ or-true (list_any (takes r) (rests done)) in
+      let all : asked r (before ++ rests_of (rests (done ++ s ∷ ss))) ≡ None = asked-rests r before (rests (done ++ s ∷ ss)) named in
+      All-cons (λ s. end_of_feed s.now ≡ Some (end_or (end_of_feed s.now))) s ss
+      (end-is (length s.steps) (end_of_feed s.now) (subst (λ (c : Option ℕ). IsCount c (length s.steps) (end_of_feed s.now)) all (All-head (C (done ++ s ∷ ss)) s ss counted)))
+      (ended-by before ss (done ++ s ∷ []) (subst (λ (xs : List (Strand S)). All (C xs) ss) (sym (append_assoc done (s ∷ []) ss)) (All-tail (C (done ++ s ∷ ss)) s ss counted)))
+
+  -- the rests of the feeds at a job's beginning are those of the strands
+  rests-same : (news : List (Feed S)) (ss : List (Strand S)) (olds : List (Feed S)) → ReadOn t left faults place olds news → nows ss ≡ news → rests_by olds ≡ map (λ x. rest_line (feed_of x)) ss
+  rests-same [] [] [] on is = refl
+  rests-same [] [] (o ∷ olds) on is = absurd on
+  rests-same [] (s ∷ ss) olds on is = cc
+  rests-same (n ∷ news) [] olds on is = cc
+  rests-same (n ∷ news) (s ∷ ss) [] on is = absurd on
+  rests-same (n ∷ news) (s ∷ ss) (o ∷ olds) on is =
+      let head : s.now ≡ n = cc in
+      let tail : nows ss ≡ news = cc in
+      ap (λ (q : RouterId). line.Take 0 q None ∷ rests_by olds) (sym on.0.router ∙ ap (λ (f : Feed S). f.reader.told.router) (sym head))
+      ∙ ap (λ ls. rest_line (feed_of s) ∷ ls) (rests-same news ss olds on.1 tail)
+
+  -- a job that has done its lines and taken the rests has run
+  pub has-run : (number : ℕ) (start : List Entry) (seen : List Posted) (task : Task S) (olds news : List (Feed S)) (tolds : List Told) → All (IsFresh t faults) task.feeds → ReadOn t left faults place olds news →
+      Tracks t left faults place limit number start task.feeds news seen ((task.lines ++ rests_of task.lines) ++ rests_by olds) tolds →
+      HasRun t left faults place limit number start seen task tolds (map back_of news)
+  has-run number start seen task olds news tolds fresh on tracks =
+      let ss : List (Strand S) = tracks.strands in
+      let fs : List FeedRead = map feed_of ss in
+      let rests : List Line = map (λ x. rest_line (feed_of x)) ss in
+      let before : List Line = task.lines ++ rests_of task.lines in
+      let same : rests_by olds ≡ rests = rests-same news ss olds on tracks.woven.nows in
+      let w : Whatever t number start seen (before ++ rests_by olds) tolds fs = tracks.whatever fs (goes-itself seen ss tracks.woven.each) in
+      let lines-are : before ++ rests_by olds ≡ before ++ rests_of rests = ap (λ ls. before ++ ls) (same ∙ sym (rests-again ss)) in
+      let ended : All (λ (s : Strand S). end_of_feed s.now ≡ Some (end_or (end_of_feed s.now))) ss =
+      ended-by before ss [] (subst (λ (ls : List Line). All (λ (s : Strand S). IsCount (asked s.now.reader.told.router ls) (length s.steps) (end_of_feed s.now)) ss) lines-are tracks.counted) in
+      record {
+        feeds = fs;
+        read = subst (λ (xs : List (Feed S)). AreReadBy t left faults place limit seen task.feeds (map back_of xs) fs) tracks.woven.nows
+            (subst (λ (rs : List (Reader S)). AreReadBy t left faults place limit seen rs (map back_of (nows ss)) fs) tracks.woven.starts
+            (read-itself seen ss (subst (λ (rs : List (Reader S)). All (IsFresh t faults) rs) (sym tracks.woven.starts) fresh) tracks.woven.each tracks.woven.passes ended));
+        order = w.order ∙ ap (λ es. start ++ es) (ap (λ ls. taken_along fs [] (before ++ ls)) same ∙ job-order task.number task.lines ss tracks.woven.apart);
+        tells = tells-rests t seen number start fs task.lines task.lines tolds
+            (tells-rests t seen number start fs before rests tolds
+            (subst (λ (ls : List Line). TellsOwn t seen number start fs [] 0 ls tolds) lines-are
+            (subst (λ (h : List Posted). TellsOwn t h number start fs [] 0 (before ++ rests_by olds) tolds) (append-nil seen) (w.tells []))));
+      }
+
+  -- every source came back
+  pub backs-are : (readers : List (Reader S)) (olds news : List (Feed S)) → olds ≡ map unread readers → All (IsFresh t faults) readers → ReadOn t left faults place olds news →
+      AllZip (IsBack t left faults place limit) readers (map back_of news)
+  backs-are readers olds news are fresh on = backs readers news fresh (subst (λ (xs : List (Feed S)). ReadOn t left faults place xs news) are on)
+    where
+      backs : (readers : List (Reader S)) (news : List (Feed S)) → All (IsFresh t faults) readers → ReadOn t left faults place (map unread readers) news → AllZip (IsBack t left faults place limit) readers (map back_of news)
+      backs [] [] fresh on = tt
+      backs [] (n ∷ news) fresh on = absurd on
+      backs (r ∷ readers) [] fresh on = absurd on
+      backs (r ∷ readers) (n ∷ news) fresh on = (
+        record {
+          reader = n.reader;
+          kept = n.kept;
+          steps = on.0.more;
+          source_is = refl;
+          reads = on.0.on r [] (hands-none r (All-head (IsFresh t faults) r readers fresh));
+          told_is = refl;
+        },
+        backs readers news (All-tail (IsFresh t faults) r readers fresh) on.1,
+      )

@@ -1,0 +1,35 @@
+use Rattle.feed_threads.proofs.DoesLemmas.{does-all, front-later, read-more}
+use Rattle.feed_threads.proofs.SeatLemmas.{saw-more}
+use Rattle.feed_threads.proofs.lines.do_all.Goals as goal
+
+pub returns-in_err-take_rests-clause-saw : goal.returns-in_err-take_rests-clause-saw
+returns-in_err-take_rests-clause-saw g c = saw-more _ _ _ c.do_lines.ensures.saw c.take_rests.ensures.saw
+
+pub returns-in_err-take_rests-clause-front : goal.returns-in_err-take_rests-clause-front
+returns-in_err-take_rests-clause-front g c =
+    front-later c.args.desk.now g.S.Source.left g.S.Source.faults g.S.Source.place c.args.seat.now c.do_lines.new.seat c.take_rests.new.seat c.args.feeds.now.items c.args.told.now c.do_lines.new.told c.args.lines.now
+    c.take_rests.ensures.saw c.do_lines.ensures.front
+
+pub returns-in_err-take_rests-clause-reads : goal.returns-in_err-take_rests-clause-reads
+returns-in_err-take_rests-clause-reads g c = read-more c.args.desk.now.setup.basis.topology g.S.Source.left g.S.Source.faults g.S.Source.place _ _ _ c.do_lines.ensures.reads c.take_rests.ensures.reads
+
+pub returns-clause-saw : goal.returns-clause-saw
+returns-clause-saw g c = saw-more _ _ _ (saw-more _ _ _ c.do_lines.ensures.saw c.take_rests.ensures.saw) c.take_all.ensures.saw
+
+pub returns-clause-does : goal.returns-clause-does
+returns-clause-does g c =
+    does-all c.args.desk.now g.S.Source.left g.S.Source.faults g.S.Source.place c.take_all.result c.args.seat.now c.do_lines.new.seat c.take_rests.new.seat c.take_all.new.seat
+    c.args.feeds.now.items c.do_lines.new.feeds.items c.take_rests.new.feeds.items c.take_all.new.feeds.items c.args.told.now c.do_lines.new.told c.args.lines.now
+    c.do_lines.ensures.saw c.take_rests.ensures.saw
+    (read-more c.args.desk.now.setup.basis.topology g.S.Source.left g.S.Source.faults g.S.Source.place _ _ _ c.do_lines.ensures.reads c.take_rests.ensures.reads)
+    c.in_ok-do_lines.ensures.does (c.in_ok-take_rests.ensures.does c.do_lines.new.told) c.take_all.ensures.does
+
+pub returns-clause-front : goal.returns-clause-front
+returns-clause-front g c =
+    front-later c.args.desk.now g.S.Source.left g.S.Source.faults g.S.Source.place c.args.seat.now c.do_lines.new.seat c.take_all.new.seat c.args.feeds.now.items c.args.told.now c.do_lines.new.told c.args.lines.now
+    (saw-more _ _ _ c.take_rests.ensures.saw c.take_all.ensures.saw) c.do_lines.ensures.front
+
+pub returns-clause-reads : goal.returns-clause-reads
+returns-clause-reads g c =
+    read-more c.args.desk.now.setup.basis.topology g.S.Source.left g.S.Source.faults g.S.Source.place _ _ _
+    (read-more c.args.desk.now.setup.basis.topology g.S.Source.left g.S.Source.faults g.S.Source.place _ _ _ c.do_lines.ensures.reads c.take_rests.ensures.reads) c.take_all.ensures.reads

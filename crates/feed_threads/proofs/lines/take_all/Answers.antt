@@ -1,0 +1,48 @@
+use Rattle.std.proofs.Common.{◌≡◌, ◌+◌, ◌++◌, ◌∷◌, [], List, take, take_all, ap, ◌∙◌, subst, arith, None}
+use Rattle.std.proofs.lemmas.List.{length-map}
+use Rattle.dn_formats.specs.declared.script.Line.{Line}
+use Rattle.dn_formats.specs.declared.script.Line.TheVariants as line
+use Rattle.dn_formats.specs.declared.told.FeedTold.{FeedTold}
+use Rattle.feed_threads.specs.Feeds.{Feed}
+use Rattle.feed_threads.specs.Tracks.{Does, rest_by, rests_by}
+use Rattle.feed_threads.proofs.DoesLemmas.{does-none, does-more, does-at, rests-at, read-length, read-more}
+use Rattle.feed_threads.proofs.PlaceLemmas.{read-none}
+use Rattle.feed_threads.proofs.SeatLemmas.{saw-none, saw-more}
+use Rattle.feed_threads.proofs.lines.take_all.Goals as goal
+
+pub loop-at-init : goal.loop-at-init
+loop-at-init g c = record {
+  saw = saw-none c.args.seat.now;
+  does = λ told. does-none c.args.desk.now g.S.Source.left g.S.Source.faults g.S.Source.place c.args.seat.now c.args.feeds.now.items told;
+  reads = read-none c.args.desk.now.setup.basis.topology g.S.Source.left g.S.Source.faults g.S.Source.place c.args.desk.now.setup.basis.limit c.args.feeds.now.items;
+  routers = c.requires.routers;
+}
+
+pub loop-at-preserved : goal.loop-at-preserved
+loop-at-preserved g c =
+    let more : take (c.loop-at.at + 1) (rests_by c.args.feeds.now.items) ≡ take c.loop-at.at (rests_by c.args.feeds.now.items) ++ line.Take 0 c.told.result.now.router None ∷ [] =
+    rests-at c.args.desk.now.setup.basis.topology g.S.Source.left g.S.Source.faults g.S.Source.place c.args.feeds.now.items c.loop-at.feeds.items c.loop-at.at c.index.result.now c.loop-at.invariant.reads
+    (omega (arith, c.loop-at-test.true, c.len-at-end.ensures, read-length c.args.desk.now.setup.basis.topology g.S.Source.left g.S.Source.faults g.S.Source.place c.args.feeds.now.items c.loop-at.feeds.items c.loop-at.invariant.reads))
+    c.index.ensures c.told.result.now.router (ap (λ (x : FeedTold). x.router) c.told.ensures ∙ ap (λ (f : Feed _). f.reader.told.router) c.behind-feeds.view_is) in
+    record {
+      saw = saw-more _ _ _ c.loop-at.invariant.saw c.take_of.ensures.saw;
+      does = λ told.
+          does-more c.args.desk.now g.S.Source.left g.S.Source.faults g.S.Source.place c.args.seat.now c.loop-at.seat c.take_of.new.seat c.args.feeds.now.items c.loop-at.feeds.items c.take_of.new.feeds.items
+          told told told (take c.loop-at.at (rests_by c.args.feeds.now.items)) (line.Take 0 c.told.result.now.router None ∷ []) (take (c.loop-at.at + 1) (rests_by c.args.feeds.now.items))
+          c.loop-at.invariant.saw (c.loop-at.invariant.does told)
+          (does-at c.args.desk.now g.S.Source.left g.S.Source.faults g.S.Source.place c.loop-at.seat c.take_of.new.seat c.loop-at.feeds.items c.take_of.new.feeds.items c.told.result.now.router c.take_of.ensures.saw c.in_ok-take_of.ensures.took told)
+          more;
+      reads = read-more c.args.desk.now.setup.basis.topology g.S.Source.left g.S.Source.faults g.S.Source.place _ _ _ c.loop-at.invariant.reads c.take_of.ensures.reads;
+      routers = c.take_of.ensures.routers;
+    }
+
+pub returns-in_err-take_of-clause-saw : goal.returns-in_err-take_of-clause-saw
+returns-in_err-take_of-clause-saw g c = saw-more _ _ _ c.loop-at.invariant.saw c.take_of.ensures.saw
+
+pub returns-in_err-take_of-clause-reads : goal.returns-in_err-take_of-clause-reads
+returns-in_err-take_of-clause-reads g c = read-more c.args.desk.now.setup.basis.topology g.S.Source.left g.S.Source.faults g.S.Source.place _ _ _ c.loop-at.invariant.reads c.take_of.ensures.reads
+
+pub returns-clause-does : goal.returns-clause-does
+returns-clause-does g c = λ told.
+    subst (λ (ls : List Line). Does c.args.desk.now g.S.Source.left g.S.Source.faults g.S.Source.place c.args.seat.now c.loop-at.seat c.args.feeds.now.items c.loop-at.feeds.items told told ls)
+    (take_all c.loop-at.at (rests_by c.args.feeds.now.items) (omega (arith, c.loop-at-test.false, c.len-at-end.ensures, length-map c.args.feeds.now.items (rest_by)))) (c.loop-at.invariant.does told)

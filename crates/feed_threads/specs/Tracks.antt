@@ -1,0 +1,106 @@
+-- What a job over several feeds has taken and told so far.
+use Rattle.std.specs.Prelude.{ℕ, ◌≡◌, ◌≤◌, ◌==◌, false, List, [], ◌∷◌, ◌++◌, length, map, fold, All, Option, None}
+use Rattle.std.specs.List.{AllZip, flat_map}
+use Rattle.dn_formats.specs.Lawful.{asked, pin_after, taken_along, TellsFront}
+use Rattle.dn_formats.specs.Steps.{FrameStep, FeedRead, kept_of}
+use Rattle.dn_model.specs.Entry.{entries}
+use Rattle.dn_model.specs.declared.entry.Entry.{Entry}
+use Rattle.dn_model.specs.declared.entry.Op.{Op}
+use Rattle.dn_model.specs.declared.entry.Posted.{Posted}
+use Rattle.dn_model.specs.declared.topology.Topology.{Topology}
+use Rattle.dn_formats.specs.declared.script.Line.{Line}
+use Rattle.dn_formats.specs.declared.script.Line.TheVariants.{Take, Ask}
+use Rattle.dn_formats.specs.declared.told.Told.{Told}
+use Rattle.route_feed.specs.FeedReader.{Reader}
+use Rattle.feed_threads.specs.Feeds.{Feed, end_of_feed, Stands}
+use Rattle.feed_threads.specs.Seats.{own_of}
+use Rattle.feed_threads.specs.Takes.{IsLater, IsCount, Passes}
+use Rattle.feed_threads.specs.Tells.{TellsOwn}
+use Rattle.version_lock.specs.Callers.{Caller, Lock}
+
+-- the rest of each feed is taken that a line names
+abbrev pub rest_of : Line → List Line
+rest_of (Take l q count) = Take l q None ∷ []
+rest_of (Ask l query) = []
+
+abbrev pub rests_of : List Line → List Line
+rests_of lines = flat_map rest_of lines
+
+-- the rest of each of some feeds is taken
+abbrev pub rest_by : {S : Type 0} → Feed S → Line
+rest_by feed = Take 0 feed.reader.told.router None
+
+abbrev pub rests_by : {S : Type 0} → List (Feed S) → List Line
+rests_by feeds = map rest_by feeds
+
+-- a feed's reader as it was before the job, the feed as it is now, the frames that were handed out since, and which of
+-- their updates the history took
+pub record Strand (S : Type 0) : Type 0 where
+  pub start : Reader S
+  pub now : Feed S
+  pub steps : List FrameStep
+  pub ops : List Op
+
+-- a feed that has what a strand has, and further frames where that hasn't ended
+pub record GoesOn {S : Type 0} (s : Strand S) (f : FeedRead) : Type 0 where
+  pub feed_no : f.feed_no ≡ s.now.reader.told.feed_no
+  pub router : f.router ≡ s.now.reader.told.router
+  pub later : List FrameStep
+  pub steps : f.steps ≡ s.steps ++ later
+  pub kept : kept_of f s.steps ≡ s.ops
+  pub none_after_end : IsLater (end_of_feed s.now) later
+
+-- two feeds are not of one router
+pub record IsApartFrom {S : Type 0} (x y : Strand S) : Type 0 where
+  pub router : (x.now.reader.told.router.0 == y.now.reader.told.router.0) ≡ false
+  pub back : (y.now.reader.told.router.0 == x.now.reader.told.router.0) ≡ false
+
+abbrev pub AllApart : {S : Type 0} → List (Strand S) → Type 0
+AllApart [] = Unit {0}
+AllApart (s ∷ ss) = All (IsApartFrom s) ss × AllApart ss
+
+-- the last pin of what was told
+abbrev pub last_pin : List Told → ℕ
+last_pin tolds = fold (λ last told. pin_after last told.outcome) 0 tolds
+
+-- What these lines have taken and told holds of whatever the feeds come to: the job's own entries so far are those that it
+-- had before and then what the lines took, line by line; and what is told is right, however the history goes on.
+pub record Whatever (t : Topology) (number : ℕ) (start : List Entry) (seen : List Posted) (before : List Line) (tolds : List Told) (feeds : List FeedRead) : Type 0 where
+  pub order : own_of number seen ≡ start ++ taken_along feeds [] before
+  pub tells : (more : List Posted) → TellsOwn t (seen ++ more) number start feeds [] 0 before tolds
+
+module _ {S : Type 0} (t : Topology) (left : S → Option (List ℕ)) (faults place : S → ℕ) (limit : ℕ) where
+  -- these strands lead from the readers before the job to the feeds as they are now
+  pub record Woven (olds : List (Reader S)) (news : List (Feed S)) (seen : List Posted) (strands : List (Strand S)) : Type 0 where
+    pub starts : map (λ s. s.start) strands ≡ olds
+    pub nows : map (λ s. s.now) strands ≡ news
+    pub each : All (λ s. Stands t left faults place limit seen s.start s.now s.steps s.ops) strands
+    pub passes : All (λ s. Passes s.start s.now.reader s.steps) strands
+    pub apart : AllApart strands
+
+  -- after these lines: each feed has given as many frames as they ask for, and no pin is past what was seen
+  pub record Tracks (number : ℕ) (start : List Entry) (olds : List (Reader S)) (news : List (Feed S)) (seen : List Posted) (before : List Line) (tolds : List Told) : Type 0 where
+    pub strands : List (Strand S)
+    pub woven : Woven olds news seen strands
+    pub counted : All (λ s. IsCount (asked s.now.reader.told.router before) (length s.steps) (end_of_feed s.now)) strands
+    pub pinned : last_pin tolds ≤ length seen
+    pub whatever : (feeds : List FeedRead) → AllZip GoesOn strands feeds → Whatever t number start seen before tolds feeds
+
+module _ {S : Type 0} (lock : Lock) (left : S → Option (List ℕ)) (faults place : S → ℕ) where
+  -- the same of a job whose seat is this and works over this lock
+  abbrev pub HasDone : ℕ → List Entry → List (Reader S) → List (Feed S) → List Posted → List Line → List Told → Type 0
+  HasDone number start olds news seen before tolds =
+      Tracks lock.setup.basis.topology left faults place lock.setup.basis.limit number start olds news seen before tolds
+
+  -- A call does these lines, between what the seat had seen, the feeds and what was told before it and after it: a job that
+  -- had done others before has then done these too.
+  pub record Does (old new : Caller) (olds news : List (Feed S)) (tolds tolds' : List Told) (lines : List Line) : Type 0 where
+    pub on : (start : List Entry) (readers : List (Reader S)) (before : List Line) →
+        HasDone old.number start readers olds old.seen before tolds →
+        HasDone old.number start readers news new.seen (before ++ lines) tolds'
+
+  -- What a call tells is that of a front of these lines, where none was done before, however the history goes on.
+  pub record TellsFrontOf (old new : Caller) (olds : List (Feed S)) (tolds tolds' : List Told) (lines : List Line) : Type 0 where
+    pub on : (start : List Entry) (readers : List (Reader S)) (more : List Posted) →
+        HasDone old.number start readers olds old.seen [] tolds →
+        TellsFront lock.setup.basis.topology (entries (new.seen ++ more)) lines tolds'

@@ -1,6 +1,11 @@
+pub mod AllLemmas
 pub mod DoesLemmas
 pub mod EndLemmas
+pub mod EntriesLemmas
+pub mod FullLemmas
+pub mod HistoryLemmas
 pub mod JobLemmas
+pub mod LawLemmas
 pub mod ListLemmas
 pub mod OrderLemmas
 pub mod PlaceLemmas

@@ -1,3 +1,4 @@
+pub mod AllJobs
 pub mod Feeds
 pub mod Jobs
 pub mod Places

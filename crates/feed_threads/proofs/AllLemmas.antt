@@ -1,0 +1,379 @@
+-- What jobs with a seat came to holds of what is seen later too, and of one job more.
+use Rattle.std.proofs.Common.{◌≡◌, ℕ, zero, suc, ◌+◌, ◌-◌, ◌<◌, ◌≤◌, ◌≢◌, ◌⊎◌, inl, inr, ⊎_elim, Bool, true, false, ◌==◌, not, List, [], ◌∷◌, ◌++◌, length, get_or, map, take, filter, All, Option, None, Some, refl, ap, sym, ◌∙◌, arith, subst, append_assoc}
+use Rattle.std.specs.List.{list_any, Contains}
+use Rattle.std.specs.Prelude.{nat_lt}
+use Rattle.std.proofs.lemmas.Bool.Decides.{nat_tests}
+use Rattle.std.proofs.lemmas.List.{map-append, length-append, length-map, take-append-le}
+use Rattle.std.proofs.lemmas.List.Folds.{list_any_none}
+use Rattle.std.proofs.lemmas.List.Elements.{All-nil, All-cons, All-head, All-tail, All-append, All-map, Contains-append_left, Contains-append_right, Contains-append_cases, Contains-push}
+use mathlib.Core.List.{IsPrefix}
+use Rattle.dn_model.specs.Answer.{IsAnswer}
+use Rattle.dn_model.specs.Entry.{entries}
+use Rattle.dn_model.specs.Query.{Question}
+use Rattle.dn_model.specs.Topology.{all_differ}
+use Rattle.dn_model.specs.declared.entry.Entry.{Entry}
+use Rattle.dn_model.specs.declared.entry.Posted.{Posted}
+use Rattle.dn_model.specs.declared.topology.Topology.{Topology}
+use Rattle.dn_formats.proofs.TopologySound.{all_differ-push}
+use Rattle.dn_formats.specs.Lawful.{HoldsWhatWasTaken, IsOutcome, Tells, TellsFront, taken_along, pin_after}
+use Rattle.dn_formats.specs.Steps.{FeedRead}
+use Rattle.dn_formats.specs.declared.script.Line.{Line}
+use Rattle.dn_formats.specs.declared.script.Line.TheVariants as line
+use Rattle.dn_formats.specs.declared.told.FeedTold.{FeedTold}
+use Rattle.dn_formats.specs.declared.told.Outcome.{Outcome}
+use Rattle.dn_formats.specs.declared.told.Outcome.TheVariants.{Answered, Unknown}
+use Rattle.dn_formats.specs.declared.told.Told.{Told}
+use Rattle.route_feed.specs.FeedReader.{Reader}
+use Rattle.version_lock.proofs.Histories.{prefix_self, prefix_trans}
+use Rattle.version_lock.specs.Callers.{Caller, HasNumber, IsSameSeat, IsSeatOf, KeepsOwn, Lock, numbers, upper_seat}
+use Rattle.version_lock.specs.History.{posted_by, HasSameOf}
+use Rattle.version_lock.specs.Rule.{longer}
+use Rattle.feed_threads.specs.declared.job.JobDone.{JobDone}
+use Rattle.feed_threads.specs.AllJobs.{AllEnd, CameTo, Run, numbers_of_runs, same_no}
+use Rattle.feed_threads.specs.Feeds.{IsBroken}
+use Rattle.feed_threads.specs.Jobs.{AreReadBy, Ends, HasRun, HasRunUnless, IsKeptSo, IsReadBy, Task}
+use Rattle.feed_threads.specs.Seats.{own_of, SawMore}
+use Rattle.feed_threads.specs.Tells.{IsOwnOutcome, TellsOwn}
+use Rattle.feed_threads.proofs.SeatLemmas.{saw-seat}
+
+-- ---- what is told stays told
+
+take-prefix : {X : Type 0} (n : ℕ) (xs ys : List X) → n ≤ length xs → IsPrefix xs ys → take n xs ≡ take n ys
+take-prefix n xs ys within p = sym (take-append-le n xs p.0 within) ∙ ap (take n) p.1
+
+longer-prefix : {X : Type 0} (xs ys : List X) → IsPrefix xs ys → length xs ≤ length ys
+longer-prefix xs ys p = let e : length ys ≡ length xs + length p.0 = ap length (sym p.1) ∙ length-append xs p.0 in omega (arith, e)
+
+entries-prefix : (xs ys : List Posted) → IsPrefix xs ys → IsPrefix (entries xs) (entries ys)
+entries-prefix xs ys p = (entries p.0, sym (map-append (λ (q : Posted). q.entry) xs p.0) ∙ ap entries p.1)
+
+outcome-later : (t : Topology) (h later : List Entry) (fs : List FeedRead) (before : List Line) (last : ℕ) (q : Question) (o : Outcome) → IsPrefix h later →
+    IsOutcome t h fs before last q o → IsOutcome t later fs before last q o
+outcome-later t h later fs before last q (Unknown u) p is = is
+outcome-later t h later fs before last q (Answered n answer) p is =
+    let same : take n h ≡ take n later = take-prefix n h later is.2 p in (
+      is.0,
+      is.1,
+      (let within : n ≤ length h = is.2 in let more : length h ≤ length later = longer-prefix h later p in omega (arith, within, more)),
+      subst (λ (es : List Entry). HoldsWhatWasTaken fs before es) same is.3,
+      subst (λ (es : List Entry). IsAnswer t es q answer) same is.4,
+    )
+
+tells-later : (t : Topology) (h later : List Entry) (fs : List FeedRead) (before : List Line) (last : ℕ) (lines : List Line) (tolds : List Told) → IsPrefix h later →
+    Tells t h fs before last lines tolds → Tells t later fs before last lines tolds
+tells-later t h later fs before last [] [] p told = tt
+tells-later t h later fs before last [] (o ∷ os) p told = told
+tells-later t h later fs before last (line.Take l r count ∷ lines) tolds p told = tells-later t h later fs (before ++ line.Take l r count ∷ []) last lines tolds p told
+tells-later t h later fs before last (line.Ask l q ∷ lines) [] p told = told
+tells-later t h later fs before last (line.Ask l q ∷ lines) (o ∷ os) p told = (
+  told.0,
+  told.1,
+  outcome-later t h later fs before last q o.outcome p told.2,
+  tells-later t h later fs (before ++ line.Ask l q ∷ []) (pin_after last o.outcome) lines os p told.3,
+)
+
+own-outcome-later : (t : Topology) (seen later : List Posted) (n : ℕ) (start : List Entry) (fs : List FeedRead) (before : List Line) (last : ℕ) (q : Question) (o : Outcome) → IsPrefix seen later →
+    IsOwnOutcome t seen n start fs before last q o → IsOwnOutcome t later n start fs before last q o
+own-outcome-later t seen later n start fs before last q (Unknown u) p is = is
+own-outcome-later t seen later n start fs before last q (Answered m answer) p is =
+    let same : take m seen ≡ take m later = take-prefix m seen later is.2 p in (
+      is.0,
+      is.1,
+      (let within : m ≤ length seen = is.2 in let more : length seen ≤ length later = longer-prefix seen later p in omega (arith, within, more)),
+      subst (λ (ps : List Posted). own_of n ps ≡ start ++ taken_along fs [] before) same is.3,
+      subst (λ (ps : List Posted). IsAnswer t (entries ps) q answer) same is.4,
+    )
+
+tells-own-later : (t : Topology) (seen later : List Posted) (n : ℕ) (start : List Entry) (fs : List FeedRead) (before : List Line) (last : ℕ) (lines : List Line) (tolds : List Told) → IsPrefix seen later →
+    TellsOwn t seen n start fs before last lines tolds → TellsOwn t later n start fs before last lines tolds
+tells-own-later t seen later n start fs before last [] [] p told = tt
+tells-own-later t seen later n start fs before last [] (o ∷ os) p told = told
+tells-own-later t seen later n start fs before last (line.Take l r count ∷ lines) tolds p told = tells-own-later t seen later n start fs (before ++ line.Take l r count ∷ []) last lines tolds p told
+tells-own-later t seen later n start fs before last (line.Ask l q ∷ lines) [] p told = told
+tells-own-later t seen later n start fs before last (line.Ask l q ∷ lines) (o ∷ os) p told = (
+  told.0,
+  told.1,
+  own-outcome-later t seen later n start fs before last q o.outcome p told.2,
+  tells-own-later t seen later n start fs (before ++ line.Ask l q ∷ []) (pin_after last o.outcome) lines os p told.3,
+)
+
+-- ---- what a job came to
+
+kept-later : (limit : ℕ) (seen later : List Posted) (kept : Option ℕ) (f : FeedRead) → IsPrefix seen later → IsKeptSo limit seen kept f → IsKeptSo limit later kept f
+kept-later limit seen later None f p is = is
+kept-later limit seen later (Some n) f p is =
+    let b : IsBroken limit seen f.steps n = is.1 in (
+      is.0,
+      record {
+        before = b.before;
+        last = b.last;
+        steps_are = b.steps_are;
+        at_least = b.at_least;
+        fewer = b.fewer;
+        full = (let full : limit ≤ length seen = b.full in let more : length seen ≤ length later = longer-prefix seen later p in omega (arith, full, more));
+      },
+    )
+
+read-later : {S : Type 0} (t : Topology) (left : S → Option (List ℕ)) (faults place : S → ℕ) (limit : ℕ) (seen later : List Posted) (start : Reader S) (source : S) (told : FeedTold) (f : FeedRead) → IsPrefix seen later →
+    IsReadBy t left faults place limit seen start source told f → IsReadBy t left faults place limit later start source told f
+read-later t left faults place limit seen later start source told f p is = record {
+  reader = is.reader;
+  kept = is.kept;
+  source_is = is.source_is;
+  reads = is.reads;
+  fits = is.fits;
+  unended = is.unended;
+  end_is = is.end_is;
+  kept_is = kept-later limit seen later is.kept f p is.kept_is;
+  feed_no = is.feed_no;
+  router = is.router;
+  told_is = is.told_is;
+}
+
+reads-later : {S : Type 0} (t : Topology) (left : S → Option (List ℕ)) (faults place : S → ℕ) (limit : ℕ) (seen later : List Posted) (starts : List (Reader S)) (backs : List (S × FeedTold)) (fs : List FeedRead) → IsPrefix seen later →
+    AreReadBy t left faults place limit seen starts backs fs → AreReadBy t left faults place limit later starts backs fs
+reads-later t left faults place limit seen later [] [] [] p is = tt
+reads-later t left faults place limit seen later [] [] (f ∷ fs) p is = is
+reads-later t left faults place limit seen later [] (b ∷ bs) fs p is = is
+reads-later t left faults place limit seen later (r ∷ rs) [] fs p is = is
+reads-later t left faults place limit seen later (r ∷ rs) (b ∷ bs) [] p is = is
+reads-later t left faults place limit seen later (r ∷ rs) (b ∷ bs) (f ∷ fs) p is =
+    (read-later t left faults place limit seen later r b.0 b.1 f p is.0, reads-later t left faults place limit seen later rs bs fs p is.1)
+
+run-later : {S : Type 0} (t : Topology) (left : S → Option (List ℕ)) (faults place : S → ℕ) (limit n : ℕ) (start : List Entry) (seen later : List Posted) (task : Task S) (wanted : Bool) (told : List Told) (backs : List (S × FeedTold)) →
+    IsPrefix seen later → posted_by n later ≡ posted_by n seen →
+    HasRunUnless t left faults place limit wanted n start seen task told backs → HasRunUnless t left faults place limit wanted n start later task told backs
+run-later t left faults place limit n start seen later task true told backs p same run = tt
+run-later t left faults place limit n start seen later task false told backs p same run = record {
+  feeds = run.feeds;
+  read = reads-later t left faults place limit seen later task.feeds backs run.feeds p run.read;
+  order = ap entries same ∙ run.order;
+  tells = tells-own-later t seen later n start run.feeds [] 0 task.lines told p run.tells;
+}
+
+-- what a job came to, it came to where more is seen and nothing more of its number
+ends-later : {S : Type 0} (t : Topology) (left : S → Option (List ℕ)) (faults place : S → ℕ) (limit n : ℕ) (start : List Entry) (seen later : List Posted) (task : Task S) (wanted : Bool) (told : List Told) (backs : List (S × FeedTold)) →
+    IsPrefix seen later → posted_by n later ≡ posted_by n seen →
+    Ends t left faults place limit n start seen task wanted told backs → Ends t left faults place limit n start later task wanted told backs
+ends-later t left faults place limit n start seen later task wanted told backs p same ends = record {
+  done = run-later t left faults place limit n start seen later task wanted told backs p same ends.done;
+  front = (let f : TellsFront t (entries seen) task.lines told = ends.front in
+      (f.0, f.1, f.2, tells-later t (entries seen) (entries later) [] [] 0 f.0 told (entries-prefix seen later p) f.3));
+  back = ends.back;
+}
+
+-- ---- no job, and one
+
+pub none-end : {S : Type 0} (t : Topology) (left : S → Option (List ℕ)) (faults place : S → ℕ) (limit : ℕ) (lock : Lock) (seat : Caller) → IsSeatOf lock seat → AllEnd {S = S} t left faults place limit lock seat [] seat []
+none-end {S = S} t left faults place limit lock seat is = record {
+  is_seat = is;
+  keeps = λ n has. has;
+  seen = prefix_self seat.seen;
+  runs = [];
+  tasks_are = refl;
+  dones_are = refl;
+  each = All-nil (CameTo t left faults place limit seat.seen seat.seen);
+  within = All-nil (λ (run : Run S). (seat.number ≤ run.number) × (run.number < seat.number + seat.span));
+  differ = refl;
+  uses = All-nil (λ (run : Run S). Contains seat.used run.number);
+  others = λ n has. inr refl;
+}
+
+number-cases : (old new : Caller) (n : ℕ) (b : Bool) → (n == old.number) ≡ b → SawMore old new → Contains old.used n → Contains (old.number ∷ []) n ⊎ (posted_by n new.seen ≡ posted_by n old.seen)
+number-cases old new n true is saw has = inl (let e : n ≡ old.number = (grind (arith, nat_tests, is)) in (0, omega arith, sym e))
+number-cases old new n false is saw has = inr (saw.others n has (λ e. let x : (n == old.number) ≡ true = (grind (arith, nat_tests, e)) in cc))
+
+pub one-end : {S : Type 0} (t : Topology) (left : S → Option (List ℕ)) (faults place : S → ℕ) (limit : ℕ) (lock : Lock) (old new : Caller) (task : Task S) (done : JobDone S) →
+    IsSeatOf lock old → Contains old.used old.number → 0 < old.span → SawMore old new → done.number ≡ task.number →
+    Ends t left faults place limit old.number (own_of old.number old.seen) new.seen task done.wanted_memory done.told done.feeds.items →
+    AllEnd t left faults place limit lock old (task ∷ []) new (done ∷ [])
+one-end {S = S} t left faults place limit lock old new task done is uses some saw number ends =
+    let run : Run S = record { number = old.number; task = task; done = done } in
+    record {
+      is_seat = saw-seat lock old new saw is;
+      keeps = λ n has. subst (λ (s : Caller). HasNumber s n) (sym saw.same) has;
+      seen = saw.seen;
+      runs = run ∷ [];
+      tasks_are = refl;
+      dones_are = refl;
+      each = All-cons (CameTo t left faults place limit old.seen new.seen) run [] (record { number = number; ends = ends }) (All-nil (CameTo t left faults place limit old.seen new.seen));
+      within = All-cons (λ (run : Run S). (old.number ≤ run.number) × (run.number < old.number + old.span)) run [] (omega arith, omega (arith, some))
+          (All-nil (λ (run : Run S). (old.number ≤ run.number) × (run.number < old.number + old.span)));
+      differ = refl;
+      uses = All-cons (λ (run : Run S). Contains new.used run.number) run [] (subst (λ (s : Caller). Contains s.used old.number) (sym saw.same) uses) (All-nil (λ (run : Run S). Contains new.used run.number));
+      others = λ n has. number-cases old new n (n == old.number) refl saw (subst (λ (s : Caller). Contains s.used n) saw.same has);
+    }
+
+-- ---- one job more
+
+-- a seat that kept all numbers of its span but the last
+abbrev pub lower_seat : Caller → Caller
+lower_seat seat = record seat { span = seat.span - 1 }
+
+-- both parts of a seat that was split are the lock's
+pub lower-is : (lock : Lock) (old new : Caller) → new ≡ lower_seat old → IsSeatOf lock old → IsSeatOf lock new
+lower-is lock old new low is = subst (λ (s : Caller). IsSeatOf lock s) (sym low) is
+
+pub lower-span : (old new : Caller) → new ≡ lower_seat old → new.span ≡ old.span - 1
+lower-span old new low = ap (λ (s : Caller). s.span) low
+
+pub upper-is : (lock : Lock) (old new : Caller) → new ≡ upper_seat 1 old → IsSeatOf lock old → IsSeatOf lock new
+upper-is lock old new upper is = subst (λ (s : Caller). IsSeatOf lock s) (sym upper) is
+
+has-last : (seat : Caller) (n : ℕ) → (0 < seat.span) → (seat.number ≤ n) × (n < seat.number + seat.span) → ((seat.number ≤ n) × (n < seat.number + (seat.span - 1))) ⊎ (n ≡ seat.number + (seat.span - 1))
+has-last seat n some h = last-by (nat_lt n (seat.number + (seat.span - 1))) refl
+  where
+    last-by : (b : Bool) → nat_lt n (seat.number + (seat.span - 1)) ≡ b → ((seat.number ≤ n) × (n < seat.number + (seat.span - 1))) ⊎ (n ≡ seat.number + (seat.span - 1))
+    last-by true e = inl (h.0, (grind (arith, nat_tests, e)))
+    last-by false e = inr (let less : n < seat.number + seat.span = h.1 in let more : seat.number + (seat.span - 1) ≤ n = (grind (arith, nat_tests, e)) in omega (arith, less, more, some))
+
+has-lower : (seat : Caller) (n : ℕ) → 0 < seat.span → HasNumber seat n → HasNumber (lower_seat seat) n ⊎ (n ≡ seat.number + (seat.span - 1))
+has-lower seat n some (inl used) = inl (inl used)
+has-lower seat n some (inr span) = ⊎_elim (λ (h : (seat.number ≤ n) × (n < seat.number + (seat.span - 1))). inl (inr h)) (λ (e : n ≡ seat.number + (seat.span - 1)). inr e) (has-last seat n some span)
+
+-- a seat that took another in
+pub record TookIn (mid other new : Caller) : Type 0 where
+  pub both : new ≡ record mid { used = mid.used ++ numbers other; seen = longer mid.seen other.seen }
+  pub mine : IsPrefix mid.seen new.seen
+  pub theirs : IsPrefix other.seen new.seen
+  pub own : KeepsOwn mid new
+  pub brought : HasSameOf (numbers other) other.seen new.seen
+
+number-joins : (mid other new : Caller) (n : ℕ) → TookIn mid other new → HasNumber mid n → HasNumber new n
+number-joins mid other new n took (inl used) = inl (subst (λ (s : Caller). Contains s.used n) (sym took.both) (Contains-append_left mid.used (numbers other) n used))
+number-joins mid other new n took (inr span) = inr (subst (λ (s : Caller). (s.number ≤ n) × (n < s.number + s.span)) (sym took.both) span)
+
+number-comes : (mid other new : Caller) (n : ℕ) → TookIn mid other new → Contains (numbers other) n → Contains new.used n
+number-comes mid other new n took has = subst (λ (s : Caller). Contains s.used n) (sym took.both) (Contains-append_right mid.used (numbers other) n has)
+
+-- the one number of a seat that has seen more
+numbers-one : (seat other : Caller) → SawMore (upper_seat 1 seat) other → numbers other ≡ (seat.number + (seat.span - 1)) ∷ (seat.number + (seat.span - 1)) ∷ []
+numbers-one seat other saw = ap numbers saw.same
+
+first-of : (m n : ℕ) → Contains (m ∷ m ∷ []) n → n ≡ m
+first-of m n c = at c.0 c.1 c.2
+  where
+    at : (k : ℕ) → k < 2 → get_or (m ∷ m ∷ []) k n ≡ n → n ≡ m
+    at zero less e = sym e
+    at (suc zero) less e = sym e
+    at (suc (suc k)) less e = absurd (omega (arith, less))
+
+came-later : {S : Type 0} (t : Topology) (left : S → Option (List ℕ)) (faults place : S → ℕ) (limit : ℕ) (before seen later : List Posted) (run : Run S) → IsPrefix seen later →
+    posted_by run.number later ≡ posted_by run.number seen → CameTo t left faults place limit before seen run → CameTo t left faults place limit before later run
+came-later t left faults place limit before seen later run p same came = record {
+  number = came.number;
+  ends = ends-later t left faults place limit run.number (own_of run.number before) seen later run.task run.done.wanted_memory run.done.told run.done.feeds.items p same came.ends;
+}
+
+pub push-end : {S : Type 0} (t : Topology) (left : S → Option (List ℕ)) (faults place : S → ℕ) (limit : ℕ) (lock : Lock) (old mid other new : Caller) (tasks : List (Task S)) (task : Task S) (dones : List (JobDone S)) (done : JobDone S) →
+    0 < old.span → AllEnd t left faults place limit lock (lower_seat old) tasks mid dones → SawMore (upper_seat 1 old) other → done.number ≡ task.number →
+    Ends t left faults place limit (old.number + (old.span - 1)) (own_of (old.number + (old.span - 1)) old.seen) other.seen task done.wanted_memory done.told done.feeds.items →
+    TookIn mid other new → AllEnd t left faults place limit lock old (tasks ++ task ∷ []) new (dones ++ done ∷ [])
+push-end {S = S} t left faults place limit lock old mid other new tasks task dones done some all saw number ends took =
+    let n : ℕ = old.number + (old.span - 1) in
+    let run : Run S = record { number = n; task = task; done = done } in
+    let own : Contains (numbers other) n = subst (λ (ns : List ℕ). Contains ns n) (sym (numbers-one old other saw)) (0, omega arith, refl) in
+    let here : Contains new.used n = number-comes mid other new n took own in
+    let P : Run S → Type 0 = λ run. (old.number ≤ run.number) × (run.number < old.number + old.span) in
+    let differs : list_any (λ m. same_no m n) (numbers_of_runs all.runs) ≡ false =
+    list_any_none (λ m. same_no m n) (numbers_of_runs all.runs)
+    (All-map (λ m. same_no m n ≡ false) (λ (run : Run S). run.number) all.runs
+    (λ k d less. let below : (get_or all.runs k d).number < n = (all.within k d less).1 in (grind (arith, nat_tests, below)))) in
+    record {
+      is_seat = subst (λ (s : Caller). IsSeatOf lock s) (sym took.both) all.is_seat;
+      keeps = λ m has. ⊎_elim (λ (h : HasNumber (lower_seat old) m). number-joins mid other new m took (all.keeps m h))
+          (λ (e : m ≡ n). inl (subst (λ (k : ℕ). Contains new.used k) (sym e) here)) (has-lower old m some has);
+      seen = prefix_trans old.seen mid.seen new.seen all.seen took.mine;
+      runs = all.runs ++ run ∷ [];
+      tasks_are = ap (λ ts. ts ++ task ∷ []) all.tasks_are ∙ sym (map-append (λ (run : Run S). run.task) all.runs (run ∷ []));
+      dones_are = ap (λ ds. ds ++ done ∷ []) all.dones_are ∙ sym (map-append (λ (run : Run S). run.done) all.runs (run ∷ []));
+      each = All-append (CameTo t left faults place limit old.seen new.seen) all.runs (run ∷ [])
+          (λ k d less. came-later t left faults place limit old.seen mid.seen new.seen (get_or all.runs k d) took.mine (took.own (get_or all.runs k d).number (all.uses k d less)) (all.each k d less))
+          (All-cons (CameTo t left faults place limit old.seen new.seen) run []
+          (came-later t left faults place limit old.seen other.seen new.seen run took.theirs (took.brought n own) (record { number = number; ends = ends }))
+          (All-nil (CameTo t left faults place limit old.seen new.seen)));
+      within = All-append P all.runs (run ∷ [])
+          (λ k d less. ((all.within k d less).0, (let below : (get_or all.runs k d).number < n = (all.within k d less).1 in omega (arith, below))))
+          (All-cons P run [] (omega arith, omega (arith, some)) (All-nil P));
+      differ = ap (all_differ same_no) (map-append (λ (run : Run S). run.number) all.runs (run ∷ [])) ∙ all_differ-push same_no (numbers_of_runs all.runs) n all.differ differs;
+      uses = All-append (λ (run : Run S). Contains new.used run.number) all.runs (run ∷ [])
+          (λ k d less. subst (λ (s : Caller). Contains s.used (get_or all.runs k d).number) (sym took.both) (Contains-append_left mid.used (numbers other) (get_or all.runs k d).number (all.uses k d less)))
+          (All-cons (λ (run : Run S). Contains new.used run.number) run [] here (All-nil (λ (run : Run S). Contains new.used run.number)));
+      others = λ m has.
+          let whole : Contains (numbers_of_runs all.runs ++ n ∷ []) m → Contains (numbers_of_runs (all.runs ++ run ∷ [])) m =
+          subst (λ (ns : List ℕ). Contains ns m) (sym (map-append (λ (run : Run S). run.number) all.runs (run ∷ []))) in
+          ⊎_elim
+          (λ (kept : Contains mid.used m). ⊎_elim
+          (λ (run-has : Contains (numbers_of_runs all.runs) m). inl (whole (Contains-append_left (numbers_of_runs all.runs) (n ∷ []) m run-has)))
+          (λ (same : posted_by m mid.seen ≡ posted_by m old.seen). inr (took.own m kept ∙ same))
+          (all.others m kept))
+          (λ (came : Contains (numbers other) m).
+          inl (subst (λ (k : ℕ). Contains (numbers_of_runs (all.runs ++ run ∷ [])) k) (sym (first-of n m (subst (λ (ns : List ℕ). Contains ns m) (numbers-one old other saw) came)))
+          (subst (λ (ns : List ℕ). Contains ns n) (sym (map-append (λ (run : Run S). run.number) all.runs (run ∷ []))) (Contains-push (numbers_of_runs all.runs) n))))
+          (Contains-append_cases mid.used (numbers other) m (subst (λ (s : Caller). Contains s.used m) took.both has));
+    }
+
+-- ---- the same of lists that are equal
+
+pub none-ends : {S : Type 0} (t : Topology) (left : S → Option (List ℕ)) (faults place : S → ℕ) (limit : ℕ) (lock : Lock) (seat : Caller) (tasks : List (Task S)) (dones : List (JobDone S)) →
+    tasks ≡ [] → dones ≡ [] → IsSeatOf lock seat → AllEnd t left faults place limit lock seat tasks seat dones
+none-ends {S = S} t left faults place limit lock seat tasks dones no-tasks no-dones is =
+    subst (λ (ts : List (Task S)). AllEnd t left faults place limit lock seat ts seat dones) (sym no-tasks)
+    (subst (λ (ds : List (JobDone S)). AllEnd t left faults place limit lock seat [] seat ds) (sym no-dones) (none-end t left faults place limit lock seat is))
+
+same-lists : {S : Type 0} (t : Topology) (left : S → Option (List ℕ)) (faults place : S → ℕ) (limit : ℕ) (lock : Lock) (old new : Caller) (tasks tasks' : List (Task S)) (dones dones' : List (JobDone S)) →
+    tasks' ≡ tasks → dones' ≡ dones → AllEnd t left faults place limit lock old tasks new dones → AllEnd t left faults place limit lock old tasks' new dones'
+same-lists {S = S} t left faults place limit lock old new tasks tasks' dones dones' ts ds all =
+    subst (λ (ts : List (Task S)). AllEnd t left faults place limit lock old ts new dones') (sym ts)
+    (subst (λ (ds : List (JobDone S)). AllEnd t left faults place limit lock old tasks new ds) (sym ds) all)
+
+pub one-ends : {S : Type 0} (t : Topology) (left : S → Option (List ℕ)) (faults place : S → ℕ) (limit : ℕ) (lock : Lock) (old new : Caller) (tasks rest : List (Task S)) (task : Task S) (dones room : List (JobDone S)) (done : JobDone S) →
+    tasks ≡ rest ++ task ∷ [] → rest ≡ [] → dones ≡ room ++ done ∷ [] → room ≡ [] → length tasks ≤ old.span →
+    IsSeatOf lock old → Contains old.used old.number → SawMore old new → done.number ≡ task.number →
+    Ends t left faults place limit old.number (own_of old.number old.seen) new.seen task done.wanted_memory done.told done.feeds.items →
+    AllEnd t left faults place limit lock old tasks new dones
+one-ends t left faults place limit lock old new tasks rest task dones room done parts no-rest adds empty few is uses saw number ends =
+    let len : length tasks ≡ 1 = ap length (parts ∙ ap (λ ts. ts ++ task ∷ []) no-rest) in
+    same-lists t left faults place limit lock old new (task ∷ []) tasks (done ∷ []) dones
+    (parts ∙ ap (λ ts. ts ++ task ∷ []) no-rest) (adds ∙ ap (λ ds. ds ++ done ∷ []) empty)
+    (one-end t left faults place limit lock old new task done is uses (omega (arith, len, few)) saw number ends)
+
+pub push-ends : {S : Type 0} (t : Topology) (left : S → Option (List ℕ)) (faults place : S → ℕ) (limit : ℕ) (lock : Lock) (old low upper mid other new : Caller) (tasks front : List (Task S)) (task : Task S) (dones before : List (JobDone S)) (done : JobDone S) →
+    tasks ≡ front ++ task ∷ [] → dones ≡ before ++ done ∷ [] → length tasks ≤ old.span → low ≡ lower_seat old → upper ≡ upper_seat 1 old →
+    AllEnd t left faults place limit lock low front mid before → SawMore upper other → done.number ≡ task.number →
+    Ends t left faults place limit upper.number (own_of upper.number upper.seen) other.seen task done.wanted_memory done.told done.feeds.items →
+    TookIn mid other new → AllEnd t left faults place limit lock old tasks new dones
+push-ends {S = S} t left faults place limit lock old low upper mid other new tasks front task dones before done parts adds few is-low is-upper all saw number ends took =
+    let len : length tasks ≡ length front + 1 = ap length parts ∙ length-append front (task ∷ []) in
+    same-lists t left faults place limit lock old new (front ++ task ∷ []) tasks (before ++ done ∷ []) dones parts adds
+    (push-end t left faults place limit lock old mid other new front task before done (omega (arith, len, few))
+    (subst (λ (s : Caller). AllEnd t left faults place limit lock s front mid before) is-low all)
+    (subst (λ (s : Caller). SawMore s other) is-upper saw) number
+    (subst (λ (s : Caller). Ends t left faults place limit s.number (own_of s.number s.seen) other.seen task done.wanted_memory done.told done.feeds.items) is-upper ends)
+    took)
+
+-- ---- the last of a list
+
+pub record Popped {X : Type 0} (P : X → Type 0) (xs front : List X) (last : X) : Type 0 where
+  pub shorter : length front < length xs
+  pub rest : All P front
+  pub last_is : P last
+
+-- what holds of each holds of the last and of those before it
+pub popped : {X : Type 0} (P : X → Type 0) (xs front : List X) (last : X) → xs ≡ front ++ last ∷ [] → All P xs → Popped P xs front last
+popped {X = X} P xs front last parts a =
+    let both : All P (front ++ last ∷ []) = subst (λ (ys : List X). All P ys) parts a in
+    let len : length xs ≡ length front + 1 = ap length parts ∙ length-append front (last ∷ []) in
+    record {
+      shorter = omega (arith, len);
+      rest = all-front front both;
+      last_is = at-last front both;
+    }
+  where
+    all-front : (ys : List X) → All P (ys ++ last ∷ []) → All P ys
+    all-front [] b = All-nil P
+    all-front (y ∷ ys) b = All-cons P y ys (All-head P y (ys ++ last ∷ []) b) (all-front ys (All-tail P y (ys ++ last ∷ []) b))
+
+    at-last : (ys : List X) → All P (ys ++ last ∷ []) → P last
+    at-last [] b = All-head P last [] b
+    at-last (y ∷ ys) b = at-last ys (All-tail P y (ys ++ last ∷ []) b)

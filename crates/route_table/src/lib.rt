@@ -5,5 +5,7 @@
 mod slots;
 mod table;
 mod targets;
+#[cfg(test)]
+mod tests;
 
 pub use table::RouteTable;

@@ -188,7 +188,7 @@ fn push_slot(routes: &mut Vec<Route>, slot: &PrefixRoutes) -> Result<(), OutOfMe
 }
 
 /// The prefix of this length that covers an address.
-fn prefix_around(a: u32, len: u8) -> Prefix
+pub fn prefix_around(a: u32, len: u8) -> Prefix
     requires { len ≤ 32 }
     ensures len { result.len ≡ len }
     ensures covers { IsTrue (covers result a) }

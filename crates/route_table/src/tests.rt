@@ -1,0 +1,241 @@
+//! Tables whose answers were worked out by hand, or are compared with a plain list.
+
+use super::RouteTable;
+use crate::table::prefix_around;
+use dn_model::{DropKind, Prefix, Route, Target};
+use std::alloc::Global;
+use std::process::Abort;
+
+/// A table crosses to another thread.
+fn crosses<T: Send + Sync>(_value: &T) {}
+
+/// 10.0.0.0/8.
+fn ten() -> Prefix {
+    Prefix::new(0x0A00_0000, 8)
+}
+
+/// 10.0.0.0/16.
+fn ten_zero() -> Prefix {
+    Prefix::new(0x0A00_0000, 16)
+}
+
+/// 10.1.0.0/16.
+fn ten_one() -> Prefix {
+    Prefix::new(0x0A01_0000, 16)
+}
+
+fn route(prefix: Prefix, metric: u32, target: Target) -> Route {
+    Route {
+        prefix,
+        metric,
+        target,
+    }
+}
+
+fn set(rt: &impl Abort, alloc: Global, table: &mut RouteTable, new: Route) {
+    table
+        .set(alloc, new.prefix, new.metric, new.target)
+        .expect(rt, "memory");
+}
+
+fn clear(
+    rt: &impl Abort,
+    alloc: Global,
+    table: &mut RouteTable,
+    prefix: Prefix,
+    metric: Option<u32>,
+) {
+    table.clear(alloc, prefix, metric).expect(rt, "memory");
+}
+
+fn copied(rt: &impl Abort, table: &RouteTable) -> RouteTable {
+    table.copy().expect(rt, "memory")
+}
+
+/// 10.0.0.0/8 with metric 20, and 10.1.0.0/16 with metric 5 and then with metric 20.
+fn set_three(rt: &impl Abort, alloc: Global, table: &mut RouteTable) {
+    set(rt, alloc, table, route(ten(), 20, Target::Local));
+    set(rt, alloc, table, route(ten_one(), 5, Target::Exit(1)));
+    let dropped = Target::Dropped(DropKind::Blackhole);
+    set(rt, alloc, table, route(ten_one(), 20, dropped));
+}
+
+/// What the table does with an address.
+fn compare_target(rt: &impl Abort, table: &RouteTable, a: u32, want: Option<Target>) {
+    let target = match table.best(a) {
+        Some(route) => Some(route.target),
+        None => None,
+    };
+    assert_eq!(rt; target, want);
+}
+
+/// The least metric of a prefix.
+fn compare_least(rt: &impl Abort, table: &RouteTable, prefix: Prefix, want: Option<u32>) {
+    let least = match table.least_of(prefix) {
+        Some(route) => Some(route.metric),
+        None => None,
+    };
+    assert_eq!(rt; least, want);
+}
+
+#[test]
+fn the_longest_prefix_wins_and_then_the_least_metric(rt: HostRuntime) {
+    let mut table = RouteTable::new();
+    compare_target(&rt, &table, 0x0A01_0007, None);
+    set_three(&rt, rt.alloc(), &mut table);
+    crosses(&table);
+    compare_target(&rt, &table, 0x0A01_0007, Some(Target::Exit(1)));
+    compare_target(&rt, &table, 0x0A02_0007, Some(Target::Local));
+    compare_target(&rt, &table, 0x0B00_0000, None);
+}
+
+/// All routes of a table are these.
+fn compare_routes(rt: &impl Abort, alloc: Global, table: &RouteTable, want: &[Route]) {
+    let routes = table.routes(alloc).expect(rt, "memory");
+    assert_eq!(rt; routes.as_slice(), want);
+}
+
+#[test]
+fn a_clear_without_a_metric_takes_all_routes_of_its_prefix(rt: HostRuntime) {
+    let mut table = RouteTable::new();
+    set_three(&rt, rt.alloc(), &mut table);
+    let before = copied(&rt, &table);
+    clear(&rt, rt.alloc(), &mut table, ten_one(), Some(5));
+    let dropped = Target::Dropped(DropKind::Blackhole);
+    compare_target(&rt, &table, 0x0A01_0007, Some(dropped));
+    clear(&rt, rt.alloc(), &mut table, ten_one(), None);
+    compare_routes(&rt, rt.alloc(), &table, &[route(ten(), 20, Target::Local)]);
+    compare_target(&rt, &before, 0x0A01_0007, Some(Target::Exit(1)));
+}
+
+/// Prefixes with one first address are told apart, and of each the metrics.
+#[test]
+fn several_metrics_of_a_prefix(rt: HostRuntime) {
+    let mut table = RouteTable::new();
+    for metric in 0..5u32 {
+        let metric = (metric * 3) % 5 + 10;
+        set(
+            &rt,
+            rt.alloc(),
+            &mut table,
+            route(ten(), metric, Target::Exit(metric)),
+        );
+    }
+    compare_least(&rt, &table, ten(), Some(10));
+    compare_least(&rt, &table, ten_zero(), None);
+    set(
+        &rt,
+        rt.alloc(),
+        &mut table,
+        route(ten_zero(), 7, Target::Local),
+    );
+    set(&rt, rt.alloc(), &mut table, route(ten(), 10, Target::Local));
+    compare_target(&rt, &table, 0x0AFF_0000, Some(Target::Local));
+    clear(&rt, rt.alloc(), &mut table, ten(), Some(9));
+    clear(&rt, rt.alloc(), &mut table, ten(), Some(12));
+    clear(&rt, rt.alloc(), &mut table, ten(), Some(10));
+    compare_least(&rt, &table, ten(), Some(11));
+    clear(&rt, rt.alloc(), &mut table, ten(), None);
+    compare_least(&rt, &table, ten(), None);
+    compare_routes(
+        &rt,
+        rt.alloc(),
+        &table,
+        &[route(ten_zero(), 7, Target::Local)],
+    );
+    set(
+        &rt,
+        rt.alloc(),
+        &mut table,
+        route(ten(), 8, Target::Exit(3)),
+    );
+    compare_target(&rt, &table, 0x0AFF_0000, Some(Target::Exit(3)));
+}
+
+/// One of some hundred prefixes of several lengths, many within others.
+fn some_prefix(k: u32) -> Prefix {
+    let len = (k % 17) as u8 + 8;
+    prefix_around(k.wrapping_mul(0x01F3_5A00), len)
+}
+
+/// A route is set in a plain list.
+fn set_plainly(rt: &impl Abort, plain: &mut Vec<Route>, new: Route) {
+    plain.retain(|old| old.prefix != new.prefix || old.metric != new.metric);
+    plain.push(new).expect(rt, "memory");
+}
+
+/// A route is cleared in a plain list, or without a metric all of a prefix.
+fn clear_plainly(plain: &mut Vec<Route>, prefix: Prefix, metric: Option<u32>) {
+    match metric {
+        Some(metric) => plain.retain(|old| old.prefix != prefix || old.metric != metric),
+        None => plain.retain(|old| old.prefix != prefix),
+    }
+}
+
+/// A route is set in both, or one is cleared, or all of a prefix.
+fn update_both(
+    rt: &impl Abort,
+    alloc: Global,
+    table: &mut RouteTable,
+    plain: &mut Vec<Route>,
+    draw: u64,
+) {
+    let prefix = some_prefix(((draw >> 33) % 300) as u32);
+    let metric = ((draw >> 20) % 4) as u32;
+    let kind = (draw >> 12) % 8;
+    if kind < 5 {
+        let new = route(prefix, metric, Target::Exit(((draw >> 15) % 3) as u32));
+        set(rt, alloc, table, new);
+        set_plainly(rt, plain, new);
+        return;
+    }
+    let cleared = if kind < 7 { Some(metric) } else { None };
+    clear(rt, alloc, table, prefix, cleared);
+    clear_plainly(plain, prefix, cleared);
+}
+
+/// Many updates of both.
+fn update_often(
+    rt: &impl Abort,
+    alloc: Global,
+    table: &mut RouteTable,
+    plain: &mut Vec<Route>,
+    seed: u64,
+) {
+    let mut draw = seed;
+    for _ in 0..2000u32 {
+        draw = draw
+            .wrapping_mul(6364136223846793005)
+            .wrapping_add(1442695040888963407);
+        update_both(rt, alloc, table, plain, draw);
+    }
+}
+
+/// The table has the routes of a plain list, and no others.
+fn compare_plainly(rt: &impl Abort, alloc: Global, table: &RouteTable, plain: &[Route]) {
+    let routes = table.routes(alloc).expect(rt, "memory");
+    assert_eq!(rt; routes.as_slice().len(), plain.len());
+    for route in routes.as_slice() {
+        assert!(rt; plain.contains(route));
+    }
+    for k in 0..300 {
+        let prefix = some_prefix(k);
+        let of_prefix = plain.iter().filter(|route| route.prefix == prefix);
+        let least = of_prefix.map(|route| route.metric).min();
+        compare_least(rt, table, prefix, least);
+    }
+}
+
+/// Some hundred prefixes stand in several pages. A copy that is held while they change keeps what it had.
+#[test]
+fn a_copy_is_held_across_many_updates(rt: HostRuntime) {
+    let mut table = RouteTable::new();
+    let mut plain = Vec::new(rt.alloc());
+    update_often(&rt, rt.alloc(), &mut table, &mut plain, 1);
+    compare_plainly(&rt, rt.alloc(), &table, &plain);
+    let held = copied(&rt, &table);
+    let old = plain.clone().expect(&rt, "memory");
+    update_often(&rt, rt.alloc(), &mut table, &mut plain, 2);
+    compare_plainly(&rt, rt.alloc(), &table, &plain);
+    compare_plainly(&rt, rt.alloc(), &held, &old);
+}

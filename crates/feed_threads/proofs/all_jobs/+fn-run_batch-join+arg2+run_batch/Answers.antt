@@ -1,5 +1,14 @@
 use denote.Param.{param}
-use denote.Param.Send.{IsSend, IsSync, sendable}
+use denote.Exit.{yes}
+use denote.RattleType.{RattleType}
+use denote.Struct.Field.{shr_ref_field}
+use denote.Struct.Tuple.{TupleAt}
+use mir.Syntax.{named}
+use denote.Param.Send.{IsSend, IsSync, sendable, param_send, arg_send, shr_send}
+use Rattle.std.proofs.Crossing as heap
+use Rattle.std.specs.Prelude.{codes}
+use Rattle.std.specs.contracts.alloc.Global as Global
+use Rattle.feed_threads.proofs.all_jobs.+fn-run_batch-join+arg2+run_batch.Lts-run_batch.{arg-7-1}
 use Rattle.dn_model.specs.contracts.topology.Topology as Topology
 use Rattle.version_lock.specs.contracts.lock.VersionLock as VersionLock
 use Rattle.version_lock.specs.contracts.seat.Seat as Seat
@@ -51,10 +60,23 @@ seat-sends = seat.the_send
 topology-syncs : IsSync Topology.the_row
 topology-syncs = topology.the_sync
 
+-- what a closure has of seven things may cross where each of them may
+closure-sends : (ν : List ℕ) (a b c d e f h : RattleType) → IsSend a → IsSend b → IsSend c → IsSend d → IsSend e → IsSend f → IsSend h → IsSend (TupleAt ν (a ∷ b ∷ c ∷ d ∷ e ∷ f ∷ h ∷ []))
+closure-sends ν a b c d e f h sa sb sc sd se sf sh = search sendable depth 40
+
 pub join-before-requires-send-F : goal.join-before-requires-send-F
 join-before-requires-send-F g t c κs within =
+    let runtime : IsSync (param 2 g.row.R) = search (c.requires.runtime, sendable) in
+    let gate : IsSync (param 1 g.row.G) = search (c.requires.gate, sendable) in
     let jobs : IsSend (Batch.the_row (param 0 g.row.S) g.S.Source) = search (batch.the_send, sendable, crosses) depth 40 in
-    search (jobs, c.requires.runtime, c.requires.gate, lock-syncs, seat-sends, topology-syncs, sendable, crosses) depth 40
+    let ref-runtime : RattleType = (shr_ref_field (record { mir = named 6; lft = κs.1.1.1.1.1.1.0 }) (param 2 g.row.R) tt).row in
+    let ref-lock : RattleType = (shr_ref_field (record { mir = named 7; lft = κs.1.1.1.1.1.1.1.0 }) (VersionLock.the_row Store.the_row Snapshot.the_row ghosts) tt).row in
+    let ref-gate : RattleType = (shr_ref_field (record { mir = named 8; lft = κs.1.1.1.1.1.1.1.1.0 }) (param 1 g.row.G) tt).row in
+    let ref-topology : RattleType = (shr_ref_field (record { mir = named 9; lft = κs.1.1.1.1.1.1.1.1.1.0 }) Topology.the_row tt).row in
+    let all : IsSend (TupleAt (codes "feed_threads::all_jobs::fn::run_batch::join+arg2+Self") (ref-runtime ∷ Global.the_row ∷ ref-lock ∷ Seat.the_row ∷ ref-gate ∷ ref-topology ∷ Batch.the_row (param 0 g.row.S) g.S.Source ∷ [])) =
+    closure-sends _ ref-runtime Global.the_row ref-lock Seat.the_row ref-gate ref-topology (Batch.the_row (param 0 g.row.S) g.S.Source)
+    (shr_send _ _ _ runtime) heap.send (shr_send _ _ _ lock-syncs) seat-sends (shr_send _ _ _ gate) (shr_send _ _ _ topology-syncs) jobs in
+    param_send 1 (arg-7-1 g.row.S g.row.G g.row.R g.S.laws g.G.laws g.R.laws g.S.Source g.S.Source-dict g.G.Gate g.G.Gate-dict g.R.Threads g.R.Threads-dict g.R.Wait g.R.Wait-dict g.S.Destruct-dict κs) (arg_send _ yes _ all)
 
 pub join-requires-send-B : goal.join-requires-send-B
 join-requires-send-B g t c κs = search (Store-send, sendable, crosses) depth 40

@@ -7,3 +7,4 @@ pub mod MemberLemmas
 pub mod GraphLemmas
 pub mod RowLemmas
 pub mod SetLemmas
+pub mod Swapped

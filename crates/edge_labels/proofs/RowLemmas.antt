@@ -2,10 +2,10 @@
 use Rattle.std.proofs.Common.{◌≡◌, ◌≢◌, ℕ, zero, suc, ◌+◌, ◌-◌, ◌*◌, ◌/◌, ◌%◌, ◌<◌, ◌≤◌, ◌||◌, ◌&&◌, not, eqb, ltb, Bool, true, false, List, [], ◌∷◌, ◌++◌, length, map, take, drop, get_or, set, refl, ap, sym, ◌∙◌, arith, length-append, append_assoc}
 use Rattle.std.specs.List.{list_any, range_with_len}
 use Rattle.std.proofs.lemmas.Bool.Decides.{nat_tests}
-use Rattle.std.proofs.lemmas.List.{drop-append-le, drop-set-add, drop-set-lt, drop_at, get_or-append-add, get_or-drop, get_or-map, get_or-set_other, get_or-set_same, get_or-take, get_or_append_left, length-drop, length-take-le, take-append-le, take-set-le, take_all, take_more}
+use Rattle.std.proofs.lemmas.List.{drop-append-le, drop-set-add, drop-set-lt, drop_at, get_or-append-add, get_or-drop, get_or-map, get_or-set_other, get_or-set_same, get_or-take, get_or_append_left, length-drop, length-take-le, take-append-le, take-set-le, take-take, take_all, take_more, drop-drop}
 use Rattle.std.proofs.lemmas.List.Folds.{list_any-append}
 use Rattle.std.proofs.lemmas.Nat.{div-mul-add, mod-mul-add, mul-le}
-use Rattle.std.proofs.Math.Seq.{take-set-lt}
+use Rattle.std.proofs.Math.Seq.{take-add, take-set-lt}
 use Rattle.edge_labels.specs.Atoms.{has_atom}
 use Rattle.edge_labels.specs.Rows.{AreJoined, AreRowJoined, code_at, codes_of}
 
@@ -74,18 +74,18 @@ code-kept n atoms b q codes row long l m = get_or_append_left codes row 0 (b * n
 pub code-added : (n atoms q : ℕ) (codes row : List ℕ) → length codes ≡ atoms * n → code_at n (codes ++ row) atoms q ≡ get_or row q 0
 code-added n atoms q codes row long = let at : atoms * n + q ≡ length codes + q = omega arith in ap (λ i. get_or (codes ++ row) i 0) at ∙ get_or-append-add codes row q 0
 
-pub row-next : (codes : List ℕ) (from r code : ℕ) → from + r < length codes → code ≡ get_or codes (from + r) 0 → take r (drop from codes) ++ code ∷ [] ≡ take (r + 1) (drop from codes)
-row-next codes from r code lt at =
-    ap (λ x. take r (drop from codes) ++ x ∷ []) (at ∙ sym (get_or-drop from codes r 0))
-    ∙ sym (take_more (drop from codes) r 0 (omega (arith, length-drop from codes)))
-
-pub copied-more : (codes now new : List ℕ) (from r code : ℕ) → from + r < length codes → now ≡ codes ++ take r (drop from codes) → code ≡ get_or now (from + r) 0 → new ≡ now ++ code ∷ [] → new ≡ codes ++ take (r + 1) (drop from codes)
-copied-more codes now new from r code lt inv read push =
-    let at : code ≡ get_or codes (from + r) 0 = read ∙ ap (λ xs. get_or xs (from + r) 0) inv ∙ get_or_append_left codes (take r (drop from codes)) 0 (from + r) lt in
-    push
-    ∙ ap (λ xs. xs ++ code ∷ []) inv
-    ∙ append_assoc codes (take r (drop from codes)) (code ∷ [])
-    ∙ ap (λ xs. codes ++ xs) (row-next codes from r code lt at)
+-- a row goes on with what a page has
+pub row-more : (codes row run : List ℕ) (from more : ℕ) → row ≡ take (length row) (drop from codes) → take (length run) (drop (from + length row) codes) ≡ run → more ≤ length run → row ++ take more run ≡ take (length (row ++ take more run)) (drop from codes)
+row-more codes row run from more so page few =
+    let long : length (row ++ take more run) ≡ length row + more = omega (arith, length-append row (take more run), length-take-le more run few) in
+    let next : take more run ≡ take more (drop (length row) (drop from codes)) =
+    ap (take more) (sym page)
+    ∙ take-take more (length run) (drop (from + length row) codes) few
+    ∙ ap (take more) (sym (drop-drop (length row) from codes)) in
+    ap (λ xs. xs ++ take more run) so
+    ∙ ap (λ xs. take (length row) (drop from codes) ++ xs) next
+    ∙ sym (take-add (length row) more (drop from codes))
+    ∙ ap (λ n. take n (drop from codes)) (sym long)
 
 -- ---- the codes of a row are joined
 

@@ -7,7 +7,7 @@ ghost use Rattle.edge_labels.specs.Rows.{AreFirst};
 use crate::atom_set::AtomSet;
 use crate::code_book::CodeBook;
 use crate::codes::Edge;
-use crate::sets::{copy_row, join, join_row, leave, reach, read, set_of};
+use crate::sets::{codes_from, join, join_row, leave, push_row, reach, read, set_of, swap};
 use dn_model::{AtomId, OutOfMemory, RouterId, Target};
 use std::alloc::Global;
 use std::marker::Model;
@@ -113,16 +113,15 @@ impl LabelGraph {
             none,
         } = self;
         let place = place_of(routers, r, atom);
-        let old = read(&codes, place);
         let edge = Edge {
             router: r.0 as u32,
             target: after,
         };
         let (book, new) = book.code_of(alloc, edge)?;
         reach(alloc, &mut sets, book.len())?;
+        let old = swap(alloc, &mut codes, place, new)?;
         leave(alloc, &mut sets, old, atom)?;
         join(alloc, &mut sets, new, atom)?;
-        codes.put(alloc, place, new)?;
         Ok(LabelGraph {
             routers,
             atoms,
@@ -154,8 +153,9 @@ impl LabelGraph {
             none,
         } = self;
         let from = row_of(routers, old_atom);
-        join_row(alloc, &mut sets, &codes, from, routers, new_atom)?;
-        copy_row(alloc, &mut codes, from, routers)?;
+        let row = codes_from(alloc, &codes, from, routers)?;
+        join_row(alloc, &mut sets, &row, new_atom)?;
+        push_row(alloc, &mut codes, &row)?;
         Ok(LabelGraph {
             routers,
             atoms: atoms + 1,

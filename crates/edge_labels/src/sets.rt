@@ -1,6 +1,6 @@
 //! Sets of atoms by code.
 
-ghost use Rattle.std.specs.Prelude.{◌≡◌, ◌+◌, ◌<◌, ◌≤◌, ◌++◌, ◌^◌, ℕ, List, length, take, drop, All, OnOk, slice_index_or};
+ghost use Rattle.std.specs.Prelude.{◌≡◌, ◌+◌, ◌<◌, ◌≤◌, ◌++◌, ◌^◌, ℕ, List, length, take, drop, All, IfOk, OnOk, set, slice_index_or};
 ghost use Rattle.edge_labels.specs.Rows.{AreJoined, AreLeft, AreReached, AreRowJoined};
 
 use crate::atom_set::AtomSet;
@@ -62,43 +62,64 @@ pub fn leave(
     Ok(())
 }
 
+/// So many codes from a place on. It goes down to each page of them once.
+pub fn codes_from(
+    alloc: Global,
+    codes: &Pages<u32>,
+    from: u64,
+    count: u32,
+) -> Result<Vec<u32>, OutOfMemory>
+    requires inside { from + count ≤ length codes.now }
+    requires fits { from + count < 2 ^ 64 }
+    ensures { IfOk result (λ row. row.items ≡ take count (drop from codes.now)) }
+{
+    let count = count as usize;
+    let mut row = Vec::with_capacity(alloc, count)?;
+    'pages: while row.len() < count {
+        let run = codes.run_from(from + row.len() as u64);
+        let more = run.len().min(count - row.len());
+        row.extend_from_slice(&run[..more])?;
+    }
+    Ok(row)
+}
+
 /// Adds an atom to the set of each code of a row.
 pub fn join_row(
     alloc: Global,
     sets: &mut Pages<AtomSet>,
-    codes: &Pages<u32>,
-    from: u64,
-    routers: u32,
+    row: &[u32],
     atom: AtomId,
 ) -> Result<(), OutOfMemory>
-    requires inside { from + routers ≤ length codes.now }
-    requires fits { from + routers < 2 ^ 64 }
-    requires known { All (λ code. code < length sets.old) codes.now }
-    ensures { OnOk result (AreRowJoined sets.old sets.new (take routers (drop from codes.now)) atom.0) }
+    requires { All (λ code. code < length sets.old) row.now }
+    ensures { OnOk result (AreRowJoined sets.old sets.new row.now atom.0) }
 {
-    for r in 0..routers {
-        let code = read(codes, from + r as u64);
-        join(alloc, sets, code, atom)?;
+    for code in row {
+        join(alloc, sets, *code, atom)?;
     }
     Ok(())
 }
 
-/// Adds a copy of a row of codes at the end.
-pub fn copy_row(
-    alloc: Global,
-    codes: &mut Pages<u32>,
-    from: u64,
-    routers: u32,
-) -> Result<(), OutOfMemory>
-    requires inside { from + routers ≤ length codes.old }
-    requires fits { from + routers < 2 ^ 64 }
-    ensures { OnOk result (codes.new ≡ codes.old ++ take routers (drop from codes.old)) }
+/// Adds a row of codes at the end.
+pub fn push_row(alloc: Global, codes: &mut Pages<u32>, row: &[u32]) -> Result<(), OutOfMemory>
+    ensures { OnOk result (codes.new ≡ codes.old ++ row.now) }
 {
-    for r in 0..routers {
-        let code = read(codes, from + r as u64);
-        codes.push(alloc, code)?;
+    for code in row {
+        codes.push(alloc, *code)?;
     }
     Ok(())
+}
+
+/// Puts a code in the place of another, which it answers.
+pub fn swap(alloc: Global, codes: &mut Pages<u32>, i: u64, code: u32) -> Result<u32, OutOfMemory>
+    requires { i < length codes.old }
+    ensures old { IfOk result (λ old. (d : ℕ) → old ≡ slice_index_or codes.old i d) }
+    ensures new { OnOk result (codes.new ≡ set codes.old i code) }
+{
+    codes.change(alloc, i, |element: &mut u32| {
+        let old = *element;
+        *element = code;
+        old
+    })
 }
 
 /// Adds an empty set, if there are not so many.

@@ -1,6 +1,6 @@
-use Rattle.std.proofs.Common.{take, drop}
+use Rattle.std.proofs.Common.{take}
 use Rattle.edge_labels.specs.Rows.{AreRowJoined}
 use Rattle.edge_labels.proofs.sets.join_row.Given as goal
 
-abbrev pub invariant-loop-r : goal.invariant-loop-r
-invariant-loop-r l = AreRowJoined l.fn.sets l.sets (take l.r (drop l.from l.codes)) l.atom.0
+abbrev pub invariant-loop-code : goal.invariant-loop-code
+invariant-loop-code l = AreRowJoined l.fn.sets l.sets (take l.code-index l.row) l.atom.0

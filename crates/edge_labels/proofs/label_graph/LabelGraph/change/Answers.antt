@@ -7,8 +7,8 @@ use Rattle.edge_labels.proofs.label_graph.LabelGraph.change.Goals as goal
 pub place_of-place-requires : goal.place_of-place-requires
 place_of-place-requires c = omega (arith, routers-of c.self.inside.routers c.self.inside.atoms c.self.inside.codes c.self.inside.book c.args.self c.self.view_is)
 
-pub read-old-requires : goal.read-old-requires
-read-old-requires c =
+pub swap-requires : goal.swap-requires
+swap-requires c =
     let s = c.self.inside in
     let la : c.args.atom.0 < c.self.inside.atoms = omega (arith, atoms-of s.routers s.atoms s.codes s.book c.args.self c.self.view_is) in
     let lr : c.args.r.0 < c.self.inside.routers = omega (arith, routers-of s.routers s.atoms s.codes s.book c.args.self c.self.view_is) in
@@ -17,29 +17,22 @@ read-old-requires c =
 pub leave-requires : goal.leave-requires
 leave-requires c =
     let s = c.self.inside in
-    let known = code-known s.routers s.atoms c.args.r.0 c.args.atom.0 c.place_of-place.result c.read-old.result s.codes s.book s.sets s.none c.args.self c.self.view_is c.self.invariant c.requires.router c.requires.atom c.place_of-place.ensures (c.read-old.ensures 0) in
+    let known = code-known s.routers s.atoms c.args.r.0 c.args.atom.0 c.place_of-place.result c.in_ok-old.old s.codes s.book s.sets s.none c.args.self c.self.view_is c.self.invariant c.requires.router c.requires.atom c.place_of-place.ensures (c.in_ok-old.ensures.old 0) in
     omega (arith, known.0, c.in_ok-reach.ensures.long, c.len.ensures, c.in_ok-book.ensures.many)
-
-pub put-requires-clause-inside : goal.put-requires-clause-inside
-put-requires-clause-inside c =
-    let s = c.self.inside in
-    let la : c.args.atom.0 < c.self.inside.atoms = omega (arith, atoms-of s.routers s.atoms s.codes s.book c.args.self c.self.view_is) in
-    let lr : c.args.r.0 < c.self.inside.routers = omega (arith, routers-of s.routers s.atoms s.codes s.book c.args.self c.self.view_is) in
-    omega (arith, row-fits c.args.atom.0 s.atoms s.routers la, c.self.invariant.long, c.place_of-place.ensures)
 
 pub invariant_of-result : goal.invariant_of-result
 invariant_of-result c =
     let s = c.self.inside in
     let la : c.args.atom.0 < c.self.inside.atoms = omega (arith, atoms-of s.routers s.atoms s.codes s.book c.args.self c.self.view_is) in
     let lr : c.args.r.0 < c.self.inside.routers = omega (arith, routers-of s.routers s.atoms s.codes s.book c.args.self c.self.view_is) in
-    let known = code-known s.routers s.atoms c.args.r.0 c.args.atom.0 c.place_of-place.result c.read-old.result s.codes s.book s.sets s.none c.args.self c.self.view_is c.self.invariant c.requires.router c.requires.atom c.place_of-place.ensures (c.read-old.ensures 0) in
-    moved-kept s.routers s.atoms c.args.r.0 c.args.atom.0 c.read-old.result c.in_ok-book.new s.codes c.put.new.self s.book c.in_ok-book.book s.sets c.reach.new.sets c.leave.new.sets c.join.new.sets s.none c.args.after
-    c.self.invariant c.in_ok-book.ensures (subst (AreReached s.sets c.reach.new.sets) c.len.ensures c.in_ok-reach.ensures) known.2 c.in_ok-leave.ensures c.in_ok-join.ensures (c.in_ok-put.ensures ∙ ap (λ i. set s.codes i c.in_ok-book.new) c.place_of-place.ensures) lr la
+    let known = code-known s.routers s.atoms c.args.r.0 c.args.atom.0 c.place_of-place.result c.in_ok-old.old s.codes s.book s.sets s.none c.args.self c.self.view_is c.self.invariant c.requires.router c.requires.atom c.place_of-place.ensures (c.in_ok-old.ensures.old 0) in
+    moved-kept s.routers s.atoms c.args.r.0 c.args.atom.0 c.in_ok-old.old c.in_ok-book.new s.codes c.swap.new.codes s.book c.in_ok-book.book s.sets c.reach.new.sets c.leave.new.sets c.join.new.sets s.none c.args.after
+    c.self.invariant c.in_ok-book.ensures (subst (AreReached s.sets c.reach.new.sets) c.len.ensures c.in_ok-reach.ensures) known.2 c.in_ok-leave.ensures c.in_ok-join.ensures (c.in_ok-old.ensures.new ∙ ap (λ i. set s.codes i c.in_ok-book.new) c.place_of-place.ensures) lr la
 
 pub returns : goal.returns
 returns c =
     let s = c.self.inside in
     let la : c.args.atom.0 < c.self.inside.atoms = omega (arith, atoms-of s.routers s.atoms s.codes s.book c.args.self c.self.view_is) in
     let lr : c.args.r.0 < c.self.inside.routers = omega (arith, routers-of s.routers s.atoms s.codes s.book c.args.self c.self.view_is) in
-    moved-labels s.routers s.atoms c.args.r.0 c.args.atom.0 c.in_ok-book.new s.codes c.put.new.self s.book c.in_ok-book.book s.sets s.none c.args.after c.args.self c.self.view_is
-    c.self.invariant c.in_ok-book.ensures (c.in_ok-put.ensures ∙ ap (λ i. set s.codes i c.in_ok-book.new) c.place_of-place.ensures) lr la
+    moved-labels s.routers s.atoms c.args.r.0 c.args.atom.0 c.in_ok-book.new s.codes c.swap.new.codes s.book c.in_ok-book.book s.sets s.none c.args.after c.args.self c.self.view_is
+    c.self.invariant c.in_ok-book.ensures (c.in_ok-old.ensures.new ∙ ap (λ i. set s.codes i c.in_ok-book.new) c.place_of-place.ensures) lr la

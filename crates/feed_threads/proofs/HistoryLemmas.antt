@@ -318,6 +318,8 @@ lawful {X = X} number job told seen xs t limit feeds shared within kept tells to
   };
   order = All-map (KeepsOrder (entries seen)) job xs (λ k d less. keeps-order number job seen xs shared (get_or xs k d) (Contains-get_or xs k d less));
   tells = zip-map (TellsJob t (entries seen)) job told xs
-      (λ k d less. ((tells k d less).0,
-      tells-all number job seen xs t (get_or xs k d) [] 0 (job (get_or xs k d)).lines (told (get_or xs k d)).told shared (Contains-get_or xs k d less) (tells k d less).1));
+      (λ k d less. (
+        (tells k d less).0,
+        tells-all number job seen xs t (get_or xs k d) [] 0 (job (get_or xs k d)).lines (told (get_or xs k d)).told shared (Contains-get_or xs k d less) (tells k d less).1,
+      ));
 }

@@ -10,13 +10,13 @@ ghost use Rattle.feed_threads.specs.Seats.{own_of, SawMore};
 
 use crate::job::{Job, JobDone, JobList};
 use crate::one_job::run_job;
-use version_store::Store;
 use dn_io::{Gate, Source};
 use dn_model::Topology;
 use std::alloc::Global;
 use std::sync::Wait;
 use std::thread::{Threads, join};
 use version_lock::{Seat, VersionLock};
+use version_store::Store;
 
 /// Runs a job with a seat, and gives the seat back.
 fn run_seated<S: Source, G: Gate, R: Wait>(

@@ -70,6 +70,14 @@ impl Store {
         })
     }
 
+    /// How many entries were posted: as many as the limit at most.
+    pub fn len(&self) -> u64
+        ensures value { result ≡ length self.now.history }
+        ensures few { length self.now.history ≤ self.now.basis.limit }
+    {
+        self.history.len()
+    }
+
     /// The entries of the history, in order, each with the seat that posted it. It fails for want of memory alone.
     pub fn history(&self, alloc: Global) -> Result<List<Posted>, OutOfMemory>
         ensures entries { IfOk result (λ history. history ≡ self.now.history) }

@@ -184,9 +184,9 @@ fn update_both(
     let metric = ((draw >> 20) % 4) as u32;
     let kind = (draw >> 12) % 8;
     if kind < 5 {
-        let new = route(prefix, metric, Target::Exit(((draw >> 15) % 3) as u32));
-        set(rt, alloc, table, new);
-        set_plainly(rt, plain, new);
+        let exit = ((draw >> 15) % 3) as u32;
+        set(rt, alloc, table, route(prefix, metric, Target::Exit(exit)));
+        set_plainly(rt, plain, route(prefix, metric, Target::Exit(exit)));
         return;
     }
     let cleared = if kind < 7 { Some(metric) } else { None };

@@ -1,9 +1,9 @@
 -- One bit of words of 64 bits.
-use Rattle.std.proofs.Common.{◌≡◌, ◌≢◌, ℕ, ◌+◌, ◌-◌, ◌*◌, ◌/◌, ◌%◌, ◌^◌, ◌<◌, ◌≤◌, ◌||◌, ◌&&◌, not, cond, eqb, ltb, max, min, Bool, true, false, List, length, map, get_or, set, refl, ap, sym, ◌∙◌, arith, bit_and, bit_or, bit_xor, w64, get_or-set_other, get_or-set_same}
-use Rattle.std.specs.Int.{bit_at, bit_not}
+use Rattle.std.proofs.Common.{◌≡◌, ◌≢◌, ℕ, ◌+◌, ◌-◌, ◌*◌, ◌/◌, ◌%◌, ◌^◌, ◌<◌, ◌≤◌, ◌||◌, ◌&&◌, not, cond, eqb, ltb, max, min, Bool, true, false, List, length, get_or, set, refl, ap, sym, ◌∙◌, arith, bit_and, bit_or, bit_xor, w64, get_or-set_other, get_or-set_same}
+use Rattle.std.specs.Int.{bit_at}
 use Rattle.std.specs.Simd.Lanes.{zip2}
 use Rattle.std.proofs.lemmas.Bool.Decides.{nat_tests}
-use Rattle.std.proofs.lemmas.List.{get_or_past, get_or-map, length-map}
+use Rattle.std.proofs.lemmas.List.{get_or_past}
 use Rattle.std.proofs.lemmas.Nat.Bits.{bit_at-lt, bit_at-zero, bit_at_and, bit_at_clear_other, bit_at_clear_same, bit_at_or, bit_at_xor, bit_at_set_other, bit_at_set_same}
 use Rattle.std.proofs.lemmas.Simd.{get_or-zip2, length-zip2}
 

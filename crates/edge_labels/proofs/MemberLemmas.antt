@@ -1,5 +1,5 @@
 -- The numbers of bits.
-use Rattle.std.proofs.Common.{◌≡◌, ℕ, zero, suc, ◌+◌, ◌-◌, ◌*◌, ◌/◌, ◌%◌, ◌<◌, ◌≤◌, ◌||◌, ◌&&◌, not, eqb, ltb, max, Bool, true, false, cond, List, [], ◌∷◌, ◌++◌, length, map, get_or, refl, ap, sym, ◌∙◌, arith, add-zero, zero-add, count_by, append-nil, append_assoc}
+use Rattle.std.proofs.Common.{◌≡◌, ℕ, zero, suc, ◌+◌, ◌-◌, ◌*◌, ◌/◌, ◌%◌, ◌<◌, ◌≤◌, ◌||◌, ◌&&◌, not, eqb, ltb, Bool, true, false, cond, List, [], ◌∷◌, ◌++◌, length, get_or, refl, ap, sym, ◌∙◌, arith, add-zero, zero-add, count_by, append-nil, append_assoc}
 use Rattle.std.specs.List.{filter, list_any, range_with_len}
 use Rattle.std.specs.List.Sorted.{IsStrictlyIncreasing}
 use Rattle.std.proofs.lemmas.Bool.Decides.{nat_tests}
@@ -10,7 +10,7 @@ use Rattle.std.proofs.lemmas.List.Kept.{IsStrictlyIncreasing-filter}
 use Rattle.std.proofs.lemmas.List.Sums.{length-filter, sum_by-append}
 use Rattle.dn_model.specs.declared.ids.AtomId.{AtomId}
 use Rattle.edge_labels.specs.declared.chunk.Chunk.{Chunk}
-use Rattle.edge_labels.specs.Atoms.{AreAtoms, has_atom, numbers}
+use Rattle.edge_labels.specs.Atoms.{has_atom, numbers}
 use Rattle.edge_labels.specs.Bits.{chunk_bit, count_below, empty_chunk, has_bit, members, numbers_from}
 use Rattle.edge_labels.proofs.BitsLemmas.{bit-past}
 use Rattle.edge_labels.proofs.CountLemmas.{count-along, range-cat}

@@ -1,6 +1,6 @@
 -- How labels are kept: for each atom's number a row of codes, one for each router, and for each code the set of the atoms
 -- that have it.
-use Rattle.std.specs.Prelude.{ℕ, Bool, List, [], length, map, take, drop, nat_lt, slice_index, slice_index_or, ◌≡◌, ◌==◌, ◌&&◌, ◌||◌, not, ◌+◌, ◌*◌, ◌<◌, ◌≤◌, ◌^◌}
+use Rattle.std.specs.Prelude.{ℕ, List, [], length, map, take, drop, nat_lt, slice_index, slice_index_or, ◌≡◌, ◌==◌, ◌&&◌, ◌||◌, not, ◌+◌, ◌*◌, ◌<◌, ◌≤◌, ◌^◌}
 use Rattle.std.specs.List.{list_any, range_with_len}
 use Rattle.dn_model.specs.declared.target.Target.{Target}
 use Rattle.dn_model.specs.declared.target.Target.TheVariants.{NoRoute}

@@ -1,9 +1,9 @@
 -- What jobs with a seat came to holds of what is seen later too, and of one job more.
-use Rattle.std.proofs.Common.{◌≡◌, ℕ, zero, suc, ◌+◌, ◌-◌, ◌<◌, ◌≤◌, ◌≢◌, ◌⊎◌, inl, inr, ⊎_elim, Bool, true, false, ◌==◌, not, List, [], ◌∷◌, ◌++◌, length, get_or, map, take, filter, All, Option, None, Some, refl, ap, sym, ◌∙◌, arith, subst, append_assoc}
+use Rattle.std.proofs.Common.{◌≡◌, ℕ, zero, suc, ◌+◌, ◌-◌, ◌<◌, ◌≤◌, ◌⊎◌, inl, inr, ⊎_elim, Bool, true, false, ◌==◌, List, [], ◌∷◌, ◌++◌, length, get_or, take, All, Option, None, Some, refl, ap, sym, ◌∙◌, arith, subst}
 use Rattle.std.specs.List.{list_any, Contains}
 use Rattle.std.specs.Prelude.{nat_lt}
 use Rattle.std.proofs.lemmas.Bool.Decides.{nat_tests}
-use Rattle.std.proofs.lemmas.List.{map-append, length-append, length-map, take-append-le}
+use Rattle.std.proofs.lemmas.List.{map-append, length-append, take-append-le}
 use Rattle.std.proofs.lemmas.List.Folds.{list_any_none}
 use Rattle.std.proofs.lemmas.List.Elements.{All-nil, All-cons, All-head, All-tail, All-append, All-map, Contains-append_left, Contains-append_right, Contains-append_cases, Contains-push}
 use mathlib.Core.List.{IsPrefix}
@@ -25,13 +25,13 @@ use Rattle.dn_formats.specs.declared.told.Outcome.TheVariants.{Answered, Unknown
 use Rattle.dn_formats.specs.declared.told.Told.{Told}
 use Rattle.route_feed.specs.FeedReader.{Reader}
 use Rattle.version_lock.proofs.Histories.{prefix_self, prefix_trans}
-use Rattle.version_lock.specs.Callers.{Caller, HasNumber, IsSameSeat, IsSeatOf, KeepsOwn, Lock, numbers, upper_seat}
+use Rattle.version_lock.specs.Callers.{Caller, HasNumber, IsSeatOf, KeepsOwn, Lock, numbers, upper_seat}
 use Rattle.version_lock.specs.History.{posted_by, HasSameOf}
 use Rattle.version_lock.specs.Rule.{longer}
 use Rattle.feed_threads.specs.declared.job.JobDone.{JobDone}
 use Rattle.feed_threads.specs.AllJobs.{AllEnd, CameTo, Run, numbers_of_runs, same_no}
 use Rattle.feed_threads.specs.Feeds.{IsBroken}
-use Rattle.feed_threads.specs.Jobs.{AreReadBy, Ends, HasRun, HasRunUnless, IsKeptSo, IsReadBy, Task}
+use Rattle.feed_threads.specs.Jobs.{AreReadBy, Ends, HasRunUnless, IsKeptSo, IsReadBy, Task}
 use Rattle.feed_threads.specs.Seats.{own_of, SawMore}
 use Rattle.feed_threads.specs.Tells.{IsOwnOutcome, TellsOwn}
 use Rattle.feed_threads.proofs.SeatLemmas.{saw-seat}

@@ -1,5 +1,5 @@
 -- What of a job's entries is one of its feeds'.
-use Rattle.std.proofs.Common.{◌≡◌, ℕ, zero, suc, ◌+◌, ◌<◌, ◌≤◌, ◌⊎◌, inl, inr, ⊎_elim, Bool, true, false, ◌==◌, ◌&&◌, ◌||◌, not, IsTrue, cond, List, [], ◌∷◌, ◌++◌, length, get_or, map, filter, take, drop, All, Option, None, Some, refl, ap, sym, ◌∙◌, arith, subst, append_assoc, eq-eqb}
+use Rattle.std.proofs.Common.{◌≡◌, ℕ, zero, suc, ◌+◌, ◌<◌, ◌≤◌, ◌⊎◌, inl, inr, ⊎_elim, Bool, true, false, ◌==◌, ◌&&◌, ◌||◌, not, cond, List, [], ◌∷◌, ◌++◌, length, get_or, filter, take, drop, All, Option, None, Some, refl, ap, sym, ◌∙◌, arith, subst, append_assoc, eq-eqb}
 use Rattle.std.specs.List.{list_any, flat_map, Contains}
 use Rattle.std.proofs.Math.Bool.{or-false}
 use Rattle.std.proofs.Math.Seq.{take-nil, drop-append_seam}
@@ -14,7 +14,7 @@ use Rattle.dn_model.specs.declared.entry.Entry.{Entry}
 use Rattle.dn_model.specs.declared.entry.Op.{Op}
 use Rattle.dn_model.specs.declared.ids.RouterId.{RouterId}
 use Rattle.dn_formats.specs.Lawful.{Job, asked, asked_by, both_counts, front_of, taken, takes, takes_feed, kept_by, taken_by, taken_along, first_taken, left_by, entries_of_job, is_from, is_from_some}
-use Rattle.dn_formats.specs.Steps.{FrameStep, FeedRead, ops_of, updates, kept_of, entries_by, entries_of}
+use Rattle.dn_formats.specs.Steps.{FrameStep, FeedRead, ops_of, updates, kept_of, entries_of}
 use Rattle.dn_formats.specs.declared.script.Line.{Line}
 
 -- ---- lists of which one begins with the other

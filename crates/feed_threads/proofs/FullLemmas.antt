@@ -1,6 +1,5 @@
 -- No feed meets a full history where all feeds together have fewer updates than it takes.
-use Rattle.std.proofs.Common.{◌≡◌, ℕ, zero, suc, ◌+◌, ◌*◌, ◌<◌, ◌≤◌, Bool, true, false, ◌||◌, not, IsTrue, cond, List, [], ◌∷◌, ◌++◌, length, get_or, map, filter, take, All, refl, ap, sym, ◌∙◌, arith, subst, length-take}
-use Rattle.std.specs.List.{list_any}
+use Rattle.std.proofs.Common.{◌≡◌, ℕ, ◌+◌, ◌*◌, ◌<◌, ◌≤◌, Bool, true, false, ◌||◌, not, cond, List, [], ◌∷◌, length, get_or, filter, All, refl, ap, sym, ◌∙◌, arith, subst, length-take}
 use Rattle.std.proofs.lemmas.List.{length-map}
 use Rattle.std.proofs.lemmas.List.Filters.{length-filter_both}
 use Rattle.std.proofs.lemmas.List.Sums.{length-filter, count_by-le-length}
@@ -8,8 +7,8 @@ use Rattle.std.proofs.lemmas.List.Elements.{All-nil, All-cons, All-head, All-tai
 use Rattle.dn_model.specs.declared.entry.Entry.{Entry}
 use Rattle.dn_model.specs.declared.entry.Op.{Op}
 use Rattle.dn_model.specs.declared.topology.Topology.{Topology}
-use Rattle.dn_formats.specs.Lawful.{IsBrokenOff, IsKept, IsKeptAt, IsLawful, Job, is_from, is_from_some}
-use Rattle.dn_formats.specs.Steps.{FeedRead, entries_of, kept_of, updates}
+use Rattle.dn_formats.specs.Lawful.{IsBrokenOff, IsKeptAt, IsLawful, Job, is_from, is_from_some}
+use Rattle.dn_formats.specs.Steps.{FeedRead, kept_of, updates}
 use Rattle.dn_formats.specs.declared.told.FeedEnd.{FeedEnd}
 use Rattle.dn_formats.specs.declared.told.FeedEnd.TheVariants as ends
 use Rattle.dn_formats.specs.declared.told.JobTold.{JobTold}

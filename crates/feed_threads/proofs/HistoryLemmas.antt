@@ -1,5 +1,5 @@
 -- What jobs wrote into one history is a shuffle of their feeds, in which each job keeps its order.
-use Rattle.std.proofs.Common.{◌≡◌, ℕ, suc, ◌<◌, ◌≤◌, ◌⊎◌, ⊎_elim, Bool, true, false, ◌==◌, ◌||◌, IsTrue, cond, List, [], ◌∷◌, ◌++◌, length, get_or, map, filter, take, All, refl, ap, sym, ◌∙◌, arith, subst, eq-eqb, eqb-true}
+use Rattle.std.proofs.Common.{◌≡◌, ℕ, suc, ◌<◌, ◌≤◌, ⊎_elim, Bool, true, false, ◌==◌, ◌||◌, IsTrue, cond, List, [], ◌∷◌, ◌++◌, length, get_or, map, filter, take, All, refl, ap, sym, ◌∙◌, arith, subst, eq-eqb, eqb-true}
 use Rattle.std.specs.List.{AllZip, list_any, flat_map, Contains}
 use Rattle.std.proofs.Math.Bool.{or-true}
 use Rattle.std.proofs.lemmas.List.{take-map, length-map}
@@ -12,7 +12,7 @@ use Rattle.dn_model.specs.Topology.{all_differ}
 use Rattle.dn_model.specs.declared.entry.Entry.{Entry}
 use Rattle.dn_model.specs.declared.entry.Posted.{Posted}
 use Rattle.dn_model.specs.declared.topology.Topology.{Topology}
-use Rattle.dn_formats.specs.Lawful.{Job, IsKept, IsLawful, IsOutcome, HoldsWhatWasTaken, KeepsOrder, Tells, TellsJob, kept_by, taken_along, pin_after, entries_of_job, is_from, is_from_some}
+use Rattle.dn_formats.specs.Lawful.{Job, IsKept, IsLawful, IsOutcome, HoldsWhatWasTaken, KeepsOrder, Tells, TellsJob, taken_along, pin_after, entries_of_job, is_from, is_from_some}
 use Rattle.dn_formats.specs.Steps.{FeedRead, kept_of, entries_of}
 use Rattle.dn_formats.specs.declared.script.Line.{Line}
 use Rattle.dn_formats.specs.declared.script.Line.TheVariants as line

@@ -1,5 +1,5 @@
 -- From what jobs with the first seat came to, to the law of histories.
-use Rattle.std.proofs.Common.{◌≡◌, ℕ, ◌<◌, ◌≤◌, ◌⊎◌, inl, inr, ⊎_elim, Bool, true, false, ◌==◌, ◌&&◌, ◌||◌, not, IsTrue, cond, List, [], ◌∷◌, ◌++◌, length, get_or, map, All, Option, None, Some, refl, ap, sym, ◌∙◌, arith, subst, eq-eqb}
+use Rattle.std.proofs.Common.{◌≡◌, ℕ, ◌<◌, ◌≤◌, ◌⊎◌, inl, inr, ⊎_elim, Bool, true, false, ◌==◌, ◌&&◌, ◌||◌, not, cond, List, [], ◌∷◌, ◌++◌, length, get_or, map, All, Option, None, Some, refl, ap, sym, ◌∙◌, arith, subst, eq-eqb}
 use Rattle.std.specs.List.{AllZip, list_any, flat_map, Contains}
 use Rattle.std.proofs.lemmas.List.{length-map}
 use Rattle.std.proofs.lemmas.List.Elements.{All-nil, All-cons, All-head, All-tail}
@@ -20,7 +20,7 @@ use Rattle.version_lock.specs.History.{posted_by}
 use Rattle.version_lock.specs.declared.book.Basis.{Basis}
 use Rattle.version_lock.specs.declared.view.Setup.{Setup}
 use Rattle.feed_threads.specs.declared.job.JobDone.{JobDone}
-use Rattle.feed_threads.specs.AllJobs.{AllEnd, AllRan, AreDoneAs, AreLawful, AreNumberedApart, CameTo, HaveSame, IsBackFrom, Run, feeds_of_jobs, numbers_of_runs, same_feed, told_by}
+use Rattle.feed_threads.specs.AllJobs.{AllEnd, AllRan, AreDoneAs, AreLawful, AreNumberedApart, CameTo, IsBackFrom, Run, feeds_of_jobs, numbers_of_runs, same_feed, told_by}
 use Rattle.feed_threads.specs.Feeds.{CountsBy, IsBroken, end_with}
 use Rattle.feed_threads.specs.Jobs.{AreReadBy, HasRun, HasRunUnless, IsKeptSo, IsReadBy, Task}
 use Rattle.feed_threads.specs.Seats.{own_of}

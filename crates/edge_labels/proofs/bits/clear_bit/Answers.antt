@@ -1,4 +1,4 @@
-use Rattle.std.proofs.Common.{◌≡◌, ℕ, ◌≤◌, ◌/◌, ◌&&◌, not, length, Bool, refl, arith, rules}
+use Rattle.std.proofs.Common.{◌&&◌, not, Bool, refl, arith, rules}
 use Rattle.edge_labels.proofs.BitsLemmas.{changed-bits, cleared-past}
 use Rattle.edge_labels.proofs.bits.clear_bit.Goals as goal
 

@@ -1,4 +1,4 @@
-use Rattle.std.proofs.Common.{◌≡◌, ◌+◌, ◌∙◌, ℕ, Bool, length, get_or, ap, refl, arith, rules}
+use Rattle.std.proofs.Common.{◌+◌, ◌∙◌, get_or, ap, arith}
 use Rattle.edge_labels.specs.Bits.{chunk_bit, empty_chunk, holds}
 use Rattle.edge_labels.proofs.BitsLemmas.{combined-all, combined-more, pushed-length}
 use Rattle.edge_labels.proofs.bits.combine.Goals as goal

@@ -1,5 +1,5 @@
-use Rattle.std.proofs.Common.{◌≡◌, ◌+◌, ◌*◌, ◌∙◌, ℕ, length, sym, ap, arith}
-use Rattle.edge_labels.specs.Bits.{chunk_bit, count_below, empty_chunk, has_bit}
+use Rattle.std.proofs.Common.{◌≡◌, ◌+◌, ◌*◌, ◌∙◌, length, sym, ap, arith}
+use Rattle.edge_labels.specs.Bits.{chunk_bit, count_below, has_bit}
 use Rattle.edge_labels.proofs.CountLemmas.{none-below}
 use Rattle.edge_labels.proofs.MemberLemmas.{count-all, count-more}
 use Rattle.edge_labels.proofs.bits.count.Goals as goal

@@ -1,4 +1,4 @@
-use Rattle.std.proofs.Common.{◌≡◌, ◌+◌, ◌*◌, ◌++◌, ◌∙◌, length, sym, ap, refl, arith}
+use Rattle.std.proofs.Common.{◌≡◌, ◌*◌, ◌++◌, ◌∙◌, length, sym, ap, arith}
 use Rattle.edge_labels.specs.Atoms.{numbers}
 use Rattle.edge_labels.specs.Bits.{numbers_from}
 use Rattle.edge_labels.proofs.MemberLemmas.{below-all, below-more, below-none, members_below}

@@ -1,4 +1,4 @@
-use Rattle.std.proofs.Common.{◌≡◌, ◌+◌, ◌++◌, ◌∙◌, sym, ap, append-nil, refl, arith}
+use Rattle.std.proofs.Common.{◌+◌, ◌++◌, ◌∙◌, sym, ap, append-nil, refl}
 use Rattle.edge_labels.specs.Atoms.{numbers}
 use Rattle.edge_labels.proofs.MemberLemmas.{numbers-none, pushed-no, pushed-yes}
 use Rattle.edge_labels.proofs.bits.push_chunk.Goals as goal

@@ -1,6 +1,4 @@
-use Rattle.std.proofs.Common.{◌≡◌, ◌+◌, ◌∷◌, [], ◌++◌, ◌∙◌, length, ap, arith}
-use Rattle.std.proofs.lemmas.List.{length_push}
-use Rattle.edge_labels.specs.Bits.{has_bit}
+use Rattle.std.proofs.Common.{◌+◌, ◌∙◌, ap, arith}
 use Rattle.edge_labels.proofs.BitsLemmas.{longer}
 use Rattle.edge_labels.proofs.bits.reach.Goals as goal
 

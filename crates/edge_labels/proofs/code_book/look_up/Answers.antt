@@ -1,4 +1,4 @@
-use Rattle.std.proofs.Common.{rules, ◌∙◌}
+use Rattle.std.proofs.Common.{◌∙◌}
 use Rattle.edge_labels.specs.Codes.{code_in}
 use Rattle.edge_labels.proofs.code_book.look_up.Goals as goal
 

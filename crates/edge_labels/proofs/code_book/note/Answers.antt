@@ -1,4 +1,3 @@
-use Rattle.std.proofs.Common.{rules}
 use Rattle.edge_labels.specs.Codes.{code_in}
 use Rattle.edge_labels.proofs.code_book.note.Goals as goal
 

@@ -1,4 +1,4 @@
-use Rattle.std.proofs.Common.{◌∙◌, ℕ, eqb, refl}
+use Rattle.std.proofs.Common.{◌∙◌}
 use Rattle.edge_labels.proofs.GraphLemmas.{first-more, first-none, zero-alone}
 use Rattle.edge_labels.proofs.label_graph.first_codes.Goals as goal
 

@@ -18,7 +18,7 @@ use Rattle.version_store.specs.contracts.store.StoreBook.TheImpl.{ghosts}
 use Rattle.feed_threads.specs.contracts.all_jobs.Batch as Batch
 use Rattle.std.proofs.Crossing.{crosses}
 use Rattle.version_store.proofs.Crossing.{Store-send}
-use Rattle.std.proofs.Common.{rules, ◌≡◌, ◌≤◌, All, [], length, vec_capacity, ℕ, ◌+◌, ◌-◌, ◌*◌, ◌<◌, List, ◌∷◌, ◌++◌, arith, ap, sym, subst}
+use Rattle.std.proofs.Common.{rules, ◌≡◌, ◌≤◌, All, [], length, vec_capacity, ℕ, ◌-◌, ◌<◌, List, ◌∷◌, arith}
 use Rattle.std.proofs.lemmas.List.{nil_from_length}
 use Rattle.std.proofs.lemmas.Bool.Decides.{nat_tests}
 use Rattle.version_lock.specs.Callers.{IsSeatOf}

@@ -1,4 +1,4 @@
-use Rattle.std.proofs.Common.{◌≡◌, ◌∙◌, ◌+◌, length, take, drop, sym, subst}
+use Rattle.std.proofs.Common.{◌≡◌, ◌+◌, length, take, drop, sym, subst}
 use Rattle.std.proofs.lemmas.List.{get_or_default, take_rest}
 use Rattle.version_pages.proofs.Runs.{run-first, run-rest}
 use Rattle.net_engine.proofs.relabel.next.Goals as goal

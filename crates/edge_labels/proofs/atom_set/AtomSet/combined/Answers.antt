@@ -1,4 +1,3 @@
-use Rattle.std.proofs.Common.{arith}
 use Rattle.edge_labels.specs.Bits.{holds}
 use Rattle.edge_labels.proofs.SetLemmas.{sets-combined}
 use Rattle.edge_labels.proofs.atom_set.AtomSet.combined.Goals as goal

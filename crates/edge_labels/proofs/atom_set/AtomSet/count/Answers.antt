@@ -1,4 +1,3 @@
-use Rattle.std.proofs.Common.{arith}
 use Rattle.edge_labels.proofs.SetLemmas.{ascending-now}
 use Rattle.edge_labels.proofs.atom_set.AtomSet.count.Goals as goal
 

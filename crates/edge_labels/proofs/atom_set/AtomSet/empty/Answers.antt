@@ -1,4 +1,3 @@
-use Rattle.std.proofs.Common.{arith}
 use Rattle.edge_labels.proofs.SetLemmas.{no-members}
 use Rattle.edge_labels.proofs.atom_set.AtomSet.empty.Goals as goal
 

@@ -1,4 +1,4 @@
-use Rattle.std.proofs.Common.{ℕ, Bool, eqb, not, ◌&&◌, ◌||◌}
+use Rattle.std.proofs.Common.{ℕ, Bool, eqb, not, ◌&&◌}
 use Rattle.edge_labels.proofs.SetLemmas.{on-err, set-changed, set-same}
 use Rattle.edge_labels.proofs.atom_set.AtomSet.remove.Goals as goal
 

@@ -1,9 +1,9 @@
-use Rattle.std.proofs.Common.{◌≡◌, ◌<◌, ℕ, Some, cond, length, ap, sym, subst, ◌∙◌}
+use Rattle.std.proofs.Common.{Some, cond, ap, ◌∙◌}
 use Rattle.std.specs.Arc.{arc_value}
 use Rattle.std.specs.BTreeMap.{is_at}
-use Rattle.edge_labels.specs.Codes.{code_in, edge_at}
+use Rattle.edge_labels.specs.Codes.{code_in}
 use Rattle.edge_labels.specs.contracts.codes.EdgeOrd.TheImpl.{cmp-value}
-use Rattle.edge_labels.proofs.EdgeOrder.{indexed-more, coded-new, fresh-inside}
+use Rattle.edge_labels.proofs.EdgeOrder.{indexed-more, fresh-inside}
 use Rattle.edge_labels.proofs.code_book.CodeBook.add.Goals as goal
 
 pub invariant_of-result : goal.invariant_of-result

@@ -1,4 +1,4 @@
-use Rattle.std.proofs.Common.{◌≡◌, ◌+◌, ◌*◌, ◌<◌, ℕ, length, set, subst, ap, sym, ◌∙◌, arith}
+use Rattle.std.proofs.Common.{◌<◌, set, subst, ap, ◌∙◌, arith}
 use Rattle.edge_labels.specs.Rows.{AreReached}
 use Rattle.edge_labels.proofs.RowLemmas.{row-fits}
 use Rattle.edge_labels.proofs.GraphLemmas.{atoms-of, code-known, moved-kept, moved-labels, routers-of}

@@ -1,4 +1,3 @@
-use Rattle.std.proofs.Common.{ap, ◌∙◌}
 use Rattle.edge_labels.proofs.GraphLemmas.{first-kept, first-seen}
 use Rattle.edge_labels.proofs.label_graph.LabelGraph.new.Goals as goal
 

@@ -1,8 +1,6 @@
-use Rattle.std.proofs.Common.{◌≡◌, ◌+◌, ◌*◌, ◌<◌, ℕ, length, subst, sym, ap, ◌∙◌, arith}
-use Rattle.edge_labels.specs.Codes.{edge_at}
-use Rattle.edge_labels.specs.Rows.{IsCodeOf, code_at}
+use Rattle.std.proofs.Common.{◌<◌, ap, ◌∙◌, arith}
 use Rattle.edge_labels.proofs.RowLemmas.{row-fits}
-use Rattle.edge_labels.proofs.GraphLemmas.{atoms-of, code-known, routers-of, target-now}
+use Rattle.edge_labels.proofs.GraphLemmas.{atoms-of, code-known, routers-of}
 use Rattle.edge_labels.proofs.label_graph.LabelGraph.target.Goals as goal
 
 pub place_of-requires : goal.place_of-requires

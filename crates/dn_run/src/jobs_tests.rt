@@ -109,7 +109,7 @@ fn pins_of(alloc: Global, tolds: &[Told]) -> Result<Vec<u32>, OutOfMemory> {
 fn run_three(
     alloc: Global,
     counts: [u8; 3],
-    script: Option<&Script>,
+    scripts: Vec<Script>,
 ) -> Result<JobsDone, OutOfMemory> {
     let topology = three_routers(alloc)?;
     let [first, second, third] = counts;

@@ -273,6 +273,15 @@ module _ {S : Type 0} where
   last-same place pushed readers all sources reader source same pop push =
       last-pushed place readers sources reader source (ap (map place) (sym pop) ∙ same ∙ ap (map (λ r. place r.source)) push)
 
+  -- of the readers with one more some source comes back
+  pub some-back : (place : S → ℕ) (pushed readers : List (Reader S)) (all : List S) (reader : Reader S) →
+      map place all ≡ map (λ r. place r.source) pushed → pushed ≡ readers ++ reader ∷ [] → all ≡ [] → ⊥
+  some-back place pushed readers all reader same push none =
+      let many = places-length place pushed all same in
+      let len = ap length push ∙ length-append readers (reader ∷ []) in
+      let zero-of = ap length none in
+      absurd (omega (arith, many, len, zero-of))
+
   -- the source that is given back has the place of the one that was opened
   pub place-kept : (place : S → ℕ) (pushed readers : List (Reader S)) (all sources : List S) (reader : Reader S) (back source : S) (number : ℕ) (router : RouterId) (at : ℕ) →
       map place all ≡ map (λ r. place r.source) pushed → all ≡ sources ++ back ∷ [] → pushed ≡ readers ++ reader ∷ [] → reader ≡ made source number router → place source ≡ at → place back ≡ at

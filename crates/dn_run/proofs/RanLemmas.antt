@@ -63,6 +63,15 @@ some-rose t left faults (start ∷ starts) (source ∷ sources) (told ∷ tolds)
     let here : is_faulted told.end ≡ not (faults source == 0) = ap (λ (x : FeedTold). is_faulted x.end) by.0.told_is ∙ fault-counts (Some f.end) (faults source) by.0.counts in
     rw (here, some-rose t left faults starts sources tolds fs by.1) refl
 
+-- what was read and is told of a feed, whose bytes may not be told
+record ReadTold (t : Topology) (file : Option (List ℕ)) (source-faults : ℕ) (source-left : Option (List ℕ)) (told : FeedTold) (f : FeedRead) : Type 0 where
+  pub read : IsReadOf t file (back_with source-faults source-left) f
+  pub told_is : IsToldOf file f told
+
+-- the report of what the jobs came to
+abbrev IsReportOf : Topology → JobsDone → Ruling → Type 0
+IsReportOf t jobs ruling = (ruling.verdict ≡ verdict_of jobs.feeds.items) × (ruling.text.items ≡ report t jobs.feeds.items (entries jobs.history) jobs.jobs.items)
+
 module _ {S : Type 0} where
   -- ---- one feed
 
@@ -101,11 +110,6 @@ module _ {S : Type 0} where
   by-end t reader bytes faults left f ends.Full router limit is has counts = absurd has
   by-end t reader bytes faults left f ends.Faulted router limit is has counts = faulted t reader bytes faults left f router limit is has counts
 
-  -- what was read and is told of a feed, whose bytes may not be told
-  record ReadTold (t : Topology) (file : Option (List ℕ)) (source-faults : ℕ) (source-left : Option (List ℕ)) (told : FeedTold) (f : FeedRead) : Type 0 where
-    pub read : IsReadOf t file (back_with source-faults source-left) f
-    pub told_is : IsToldOf file f told
-
   one-told : (t : Topology) (faults : S → ℕ) (left : S → Option (List ℕ)) (start : Reader S) (source : S) (told : FeedTold) (f : FeedRead) (file : Option (List ℕ)) →
       IsReadBy t left faults start source told f → start.limit ≡ feed_limit → IfSome file (λ bytes. left start.source ≡ Some bytes) →
       ReadTold t file (faults source) (left source) told f
@@ -140,16 +144,13 @@ module _ {S : Type 0} where
 
   -- ---- what the jobs came to, and its report
 
-  abbrev IsReportOf : Topology → JobsDone → Ruling → Type 0
-  IsReportOf t jobs ruling = (ruling.verdict ≡ verdict_of jobs.feeds.items) × (ruling.text.items ≡ report t jobs.feeds.items (entries jobs.history) jobs.jobs.items)
-
   pub ran : (done : Result JobsDone OutOfMemory) (result : Result Ruling OutOfMemory) (t : Topology) (faults : S → ℕ) (left : S → Option (List ℕ)) (starts : List (Reader S)) (sources : List S) (scripts : List (List Line)) →
       AreNumbered 1 starts → All (λ r. r.limit ≡ feed_limit) starts →
       IfOk done (λ jobs. HasRun t left faults starts sources jobs.feeds.items jobs.history scripts jobs.jobs.items) →
       MatchResult done (λ jobs. IfOk result (IsReportOf t jobs)) (λ e. IsErr result) →
       IfOk result (λ x. (files : List (Option (List ℕ))) → AreLeft left starts files → IsRunOf t (routers_of_readers starts) scripts (opened faults left files sources) x.verdict x.text.items)
   ran done (Err e) t faults left starts sources scripts numbered limits has says = tt
-  ran (Err e) (Ok x) t faults left starts sources scripts numbered limits has says = absurd says
+  ran (Err e) (Ok x) t faults left starts sources scripts numbered limits has says = let none : false ≡ true = says in absurd (cc)
   ran (Ok jobs) (Ok x) t faults left starts sources scripts numbered limits has says = λ files lefts. record {
     feeds = has.feeds;
     tolds = jobs.feeds.items;
@@ -168,6 +169,6 @@ module _ {S : Type 0} where
       MatchResult done (λ jobs. IfOk result (IsReportOf t jobs)) (λ e. IsErr result) →
       IfOk result (λ x. some_rose faults sources ≡ is_fault x.verdict)
   rose done (Err e) t faults left starts sources scripts has says = tt
-  rose (Err e) (Ok x) t faults left starts sources scripts has says = absurd says
+  rose (Err e) (Ok x) t faults left starts sources scripts has says = let none : false ≡ true = says in absurd (cc)
   rose (Ok jobs) (Ok x) t faults left starts sources scripts has says =
       sym (ap is_fault says.0 ∙ fault-of jobs.feeds.items ∙ some-rose t left faults starts sources jobs.feeds.items has.feeds has.read)

@@ -122,9 +122,10 @@ pub fn from_feeds<W: World, G: Gate, R: Threads + Wait + Sync>(
             let (ruling, mut sources) = from_feeds(
                 rt, alloc, topology, others, scripts, later, readers, room, world, gate,
             );
-            if let Some(source) = sources.pop() {
-                world.give_back(source);
-            }
+            let Some(source) = sources.pop() else {
+                return (ruling, sources);
+            };
+            world.give_back(source);
             (ruling, sources)
         }
         Err(WorldRefused::Failed) => {

@@ -24,13 +24,13 @@ give_back-requires g t c =
     (c.len.result + 1) c.in-Some.router _ c.from_feeds-ruling.ensures.same c.in-Some-pop.ensures.items c.push_reserved.ensures.items c.new-reader.ensures.start c.in-Ok.ensures.place in
     out-still _ _ _ c.from_feeds-ruling.ensures.opens.more c.as_str.result.now _ c.in-Ok.ensures.handed_out c.from_feeds-ruling.ensures.opens.appended at
 
-pub returns-in-Some-pop-clause-same : goal.returns-in-Some-pop-clause-same
-returns-in-Some-pop-clause-same g t c =
+pub returns-in-Ok-clause-same : goal.returns-in-Ok-clause-same
+returns-in-Ok-clause-same g t c =
     (last-same g.W.Src.Source.place c.push_reserved.new.self.items c.args.readers.items c.from_feeds-ruling.result.1.items c.pop.new.self.items c.new-reader.result c.in-Some-pop.source
     c.from_feeds-ruling.ensures.same c.in-Some-pop.ensures.items c.push_reserved.ensures.items).front
 
-pub returns-in-Some-pop-clause-opens : goal.returns-in-Some-pop-clause-opens
-returns-in-Some-pop-clause-opens g t c =
+pub returns-in-Ok-clause-opens : goal.returns-in-Ok-clause-opens
+returns-in-Ok-clause-opens g t c =
     opens-given (ending_of c.from_feeds-ruling.result.0) (arc_value c.args.topology.now) g.W.Src.Source.faults g.W.Src.Source.left g.W.Src.Source.place _ _
     c.args.routers.now c.in-Some.others.now c.in-Some.router (scripts_of c.args.scripts.items) c.args.readers.items c.push_reserved.new.self.items c.from_feeds-ruling.result.1.items c.pop.new.self.items
     c.new-reader.result c.in-Ok.source c.in-Some-pop.source (c.len.result + 1) c.in-Some.feed.now.part
@@ -58,8 +58,8 @@ returns-in-Err-Failed-clause-opens g t c =
     (scripts_of c.args.scripts.items) c.args.readers.items c.in-Some.feed.now.part (record { router = c.in-Some.feed.now.router; file = string_bytes c.in-Some.feed.now.file }) (map feed_texts c.in-Some.later.now) _ _
     c.requires.open.fresh (rw (c.in-Err-Failed.field-0-is, c.as_str.ensures.value) at c.in-Err-Failed.ensures.refused) c.refusal-ruling.ensures)))
 
-pub returns-in-Err-OutOfMemory-clause-same : goal.returns-in-Err-OutOfMemory-clause-same
-returns-in-Err-OutOfMemory-clause-same g t c = places-of g.W.Src.Source.place c.args.readers.items c.into_sources-2.result.items c.into_sources-2.ensures
+pub returns-clause-same : goal.returns-clause-same
+returns-clause-same g t c = places-of g.W.Src.Source.place c.args.readers.items c.into_sources-in-Err-OutOfMemory.result.items c.into_sources-in-Err-OutOfMemory.ensures
 
-pub returns-in-Err-OutOfMemory-clause-opens : goal.returns-in-Err-OutOfMemory-clause-opens
-returns-in-Err-OutOfMemory-clause-opens g t c = rw (rw c.in-Err-OutOfMemory.field-0-is at c.in-Err-OutOfMemory.ensures.refused) (opens-stops _ _ _ _ _ _ _ _ _ _)
+pub returns-clause-opens : goal.returns-clause-opens
+returns-clause-opens g t c = rw (rw c.in-Err-OutOfMemory.field-0-is at c.in-Err-OutOfMemory.ensures.refused) (opens-stops _ _ _ _ _ _ _ _ _ _)

@@ -14,7 +14,7 @@ use Rattle.dn_formats.specs.declared.told.FeedEnd.{FeedEnd}
 use Rattle.dn_formats.specs.declared.told.FeedEnd.TheVariants as ends
 use Rattle.dn_formats.specs.declared.told.FeedTold.{FeedTold}
 use Rattle.dn_run.specs.Feeds.{opened, AreLeft, some_rose}
-use Rattle.dn_run.specs.Jobs.{AreNumbered, IsReadBy, AreReadBy, HasRun, routers_of_readers}
+use Rattle.dn_run.specs.Jobs.{AreNumbered, IsReadAs, AreReadAs, HasRun, routers_of_readers}
 use Rattle.dn_run.specs.Network.{StandsBy, CountsBy}
 use Rattle.dn_run.specs.Run.{IsReadOf, IsReadOfBytes, IsToldOf, AreReadOf, IsReadToEnd, IsRunOf, verdict_of, is_faulted, some_faulted, all_well, feed_limit}
 use Rattle.dn_run.specs.Stage.{is_fault}
@@ -51,7 +51,7 @@ fault-counts (Some ends.Faulted) n is = some-rise n is
 
 -- each feed's end goes with its source's count of faults
 some-rose : {S : Type 0} (t : Topology) (left : S → Option (List ℕ)) (faults : S → ℕ) (starts : List (Reader S)) (sources : List S) (tolds : List FeedTold) (fs : List FeedRead) →
-    AreReadBy t left faults starts sources tolds fs → some_faulted tolds ≡ some_rose faults sources
+    AreReadAs t left faults starts sources tolds fs → some_faulted tolds ≡ some_rose faults sources
 some-rose t left faults [] [] [] [] by = refl
 some-rose t left faults [] [] [] (f ∷ fs) by = absurd by
 some-rose t left faults [] [] (told ∷ tolds) fs by = absurd by
@@ -111,7 +111,7 @@ module _ {S : Type 0} where
   by-end t reader bytes faults left f ends.Faulted router limit is has counts = faulted t reader bytes faults left f router limit is has counts
 
   one-told : (t : Topology) (faults : S → ℕ) (left : S → Option (List ℕ)) (start : Reader S) (source : S) (told : FeedTold) (f : FeedRead) (file : Option (List ℕ)) →
-      IsReadBy t left faults start source told f → start.limit ≡ feed_limit → IfSome file (λ bytes. left start.source ≡ Some bytes) →
+      IsReadAs t left faults start source told f → start.limit ≡ feed_limit → IfSome file (λ bytes. left start.source ≡ Some bytes) →
       ReadTold t file (faults source) (left source) told f
   one-told t faults left start source told f None by limit is = record {
     read = (fault-counts (Some f.end) (faults source) by.counts, λ full. subst (λ e. CountsBy (Some e) (faults source)) full by.counts);
@@ -125,7 +125,7 @@ module _ {S : Type 0} where
   -- ---- all feeds
 
   all-read : (t : Topology) (faults : S → ℕ) (left : S → Option (List ℕ)) (n : ℕ) (starts : List (Reader S)) (sources : List S) (tolds : List FeedTold) (files : List (Option (List ℕ))) (feeds : List FeedRead) →
-      AreNumbered n starts → All (λ r. r.limit ≡ feed_limit) starts → AreReadBy t left faults starts sources tolds feeds → AreLeft left starts files →
+      AreNumbered n starts → All (λ r. r.limit ≡ feed_limit) starts → AreReadAs t left faults starts sources tolds feeds → AreLeft left starts files →
       AreReadOf t n (routers_of_readers starts) (opened faults left files sources) feeds tolds
   all-read t faults left n [] [] [] [] [] numbered limits by are = tt
   all-read t faults left n [] [] [] (file ∷ files) [] numbered limits by are = absurd are

@@ -49,7 +49,7 @@ AreFewJobs scripts routers = length scripts + length (untaken scripts routers) �
 
 -- A feed was read to this end by a reader that began as `start`, and its source came back: its count of faults goes with
 -- the end, and this is told of the feed. Where the source told its bytes, these steps are what they come to.
-pub record IsReadBy {S : Type 0} (t : Topology) (left : S → Option (List ℕ)) (faults : S → ℕ) (start : Reader S) (source : S) (told : FeedTold) (f : FeedRead) : Type 0 where
+pub record IsReadAs {S : Type 0} (t : Topology) (left : S → Option (List ℕ)) (faults : S → ℕ) (start : Reader S) (source : S) (told : FeedTold) (f : FeedRead) : Type 0 where
   pub reader : Reader S
   pub source_is : reader.source ≡ source
   pub reader_router : reader.told.router ≡ start.told.router
@@ -61,15 +61,15 @@ pub record IsReadBy {S : Type 0} (t : Topology) (left : S → Option (List ℕ))
   pub stands : (bytes : List ℕ) → left start.source ≡ Some bytes → StandsBy (Some f.end) t reader (left source) bytes f.steps
 
 -- the same of all feeds, in order
-abbrev pub AreReadBy : {S : Type 0} → Topology → (S → Option (List ℕ)) → (S → ℕ) → List (Reader S) → List S → List FeedTold → List FeedRead → Type 0
-AreReadBy t left faults [] [] [] [] = Unit {0}
-AreReadBy t left faults (start ∷ starts) (source ∷ sources) (told ∷ tolds) (f ∷ fs) =
-    IsReadBy t left faults start source told f × AreReadBy t left faults starts sources tolds fs
-AreReadBy t left faults starts sources tolds fs = ⊥
+abbrev pub AreReadAs : {S : Type 0} → Topology → (S → Option (List ℕ)) → (S → ℕ) → List (Reader S) → List S → List FeedTold → List FeedRead → Type 0
+AreReadAs t left faults [] [] [] [] = Unit {0}
+AreReadAs t left faults (start ∷ starts) (source ∷ sources) (told ∷ tolds) (f ∷ fs) =
+    IsReadAs t left faults start source told f × AreReadAs t left faults starts sources tolds fs
+AreReadAs t left faults starts sources tolds fs = ⊥
 
 -- The jobs were run, and the feeds read to their ends: the history is a lawful one of what these gave, and so is what is
 -- told of each job.
 pub record HasRun {S : Type 0} (t : Topology) (left : S → Option (List ℕ)) (faults : S → ℕ) (starts : List (Reader S)) (sources : List S) (tolds : List FeedTold) (history : List Posted) (scripts : List (List Line)) (jobs : List JobTold) : Type 0 where
   pub feeds : List FeedRead
-  pub read : AreReadBy t left faults starts sources tolds feeds
+  pub read : AreReadAs t left faults starts sources tolds feeds
   pub lawful : IsLawful t history_limit feeds (jobs_of scripts feeds) (entries history) jobs

@@ -19,13 +19,6 @@ StandsBy (Some ends.TooLong) t reader left bytes steps = HasEnded t reader left 
 StandsBy (Some ends.Full) t reader left bytes steps = ⊥
 StandsBy (Some ends.Faulted) t reader left bytes steps = HasFaulted t reader left bytes steps
 
--- how many steps a count takes: so many, or fewer where the feed has ended; without a count all, so that it has ended
-abbrev pub IsCount : Option ℕ → ℕ → Option FeedEnd → Type 0
-IsCount (Some n) len None = len ≡ n
-IsCount (Some n) len (Some end) = len ≤ n
-IsCount None len None = ⊥
-IsCount None len (Some end) = Unit {0}
-
 -- the source's count of faults: 0, save where the feed's end tells of one
 abbrev pub CountsBy : Option FeedEnd → ℕ → Type 0
 CountsBy None faults = faults ≡ 0
@@ -35,12 +28,3 @@ CountsBy (Some (ends.Lost o cause)) faults = faults ≡ 0
 CountsBy (Some ends.TooLong) faults = faults ≡ 0
 CountsBy (Some ends.Full) faults = ⊥
 CountsBy (Some ends.Faulted) faults = 0 < faults
-
-abbrev pub CountsFaults : {S : Type 0} → Reader S → ℕ → Type 0
-CountsFaults reader faults = CountsBy reader.told.end faults
-
--- the feed has ended where there is no more
-abbrev pub EndsUnless : Bool → Option FeedEnd → Type 0
-EndsUnless true end = Unit {0}
-EndsUnless false None = ⊥
-EndsUnless false (Some e) = Unit {0}

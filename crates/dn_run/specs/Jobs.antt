@@ -3,6 +3,7 @@ use Rattle.std.specs.Prelude.{◌≡◌, ℕ, suc, ◌+◌, ◌<◌, ◌≤◌, 
 use Rattle.dn_formats.specs.Lawful.{IsLawful, jobs_of}
 use Rattle.dn_formats.specs.Steps.{FeedRead, told_of}
 use Rattle.dn_model.specs.declared.entry.Posted.{Posted}
+use Rattle.dn_model.specs.Entry.{entries}
 use Rattle.dn_model.specs.Topology.{all_differ}
 use Rattle.dn_model.specs.declared.ids.RouterId.{RouterId}
 use Rattle.dn_formats.specs.declared.script.Line.{Line}
@@ -11,7 +12,7 @@ use Rattle.dn_model.specs.declared.topology.Topology.{Topology}
 use Rattle.dn_formats.specs.declared.told.FeedTold.{FeedTold}
 use Rattle.dn_formats.specs.declared.told.JobTold.{JobTold}
 use Rattle.route_feed.specs.FeedReader.{Reader, told_so_far}
-use Rattle.dn_run.specs.Network.{entries, StandsBy, CountsBy}
+use Rattle.feed_threads.specs.Feeds.{CountsBy, StandsBy}
 use Rattle.dn_run.specs.Run.{history_limit, most_jobs, untaken}
 
 -- the lines of scripts

@@ -1,18 +1,33 @@
 //! The jobs of a run, side by side: one for each script, and one for each feed that no script takes.
 
-ghost use Rattle.std.specs.Prelude.{◌≡◌, ◌≤◌, [], length, map, All, IfOk};
+ghost use Rattle.std.specs.Prelude.{◌≡◌, ◌≤◌, ◌<◌, ◌^◌, ◌+◌, ◌++◌, ◌∷◌, ◌||◌, [], length, map, All, IfOk};
 ghost use Rattle.std.specs.Prelude.{vec_capacity};
 ghost use Rattle.std.specs.Arc.{arc_value};
+ghost use Rattle.std.specs.List.{flat_map, list_any};
+ghost use Rattle.std.specs.List.Sorted.{IsPermutation};
+ghost use Rattle.feed_threads.specs.AllJobs.{AreNumberedApart, told_by};
+ghost use Rattle.feed_threads.specs.Jobs.{AreApart, IsFresh as IsUnread};
+ghost use Rattle.dn_run.specs.Deal.{TakeApart, readers_of};
 ghost use Rattle.dn_run.specs.Feeds.{sources_of};
 ghost use Rattle.dn_run.specs.Jobs.{AreFewJobs, AreNumbered, HasRun, HaveRoutersApart, IsFresh, routers_of_readers, scripts_of};
+ghost use Rattle.dn_run.specs.Ran.{ListRan, RanAs, back_tag, reader_tag};
+ghost use Rattle.dn_run.specs.Run.{history_limit};
 
+use crate::backs::{append, in_order, part_backs};
+use crate::deal::{Undealt, deal};
+use crate::untaken::MOST_JOBS;
 use dn_formats::{FeedTold, JobTold, Script};
 use dn_io::{Gate, Source};
 use dn_model::{List, OutOfMemory, Posted, Topology};
+use feed_threads::{JobDone, JobList, run_history};
 use route_feed::FeedReader;
 use std::alloc::Global;
 use std::sync::{Arc, Wait};
 use std::thread::Threads;
+use version_store::Store;
+
+/// A history has at most so many entries: a position in it has 32 bits.
+const HISTORY_LIMIT: u32 = 4294967295;
 
 /// What the jobs of a run came to: the history that they made, what is told of each feed, and what is told of each job.
 #[derive(Drop)]
@@ -34,6 +49,188 @@ pub fn into_sources<S: Source>(readers: Vec<FeedReader<S>>, room: Vec<S>) -> Vec
         sources.push_reserved(source);
     }
     sources
+}
+
+/// The memory that a run's jobs need to come back: for their sources, for what is told of the feeds, and of the jobs.
+#[derive(Drop)]
+struct Rooms<S: Source> {
+    backs: Vec<(S, FeedTold)>,
+    feeds: Vec<FeedTold>,
+    jobs: Vec<JobTold>,
+}
+
+impl<S: Source> Rooms<S> {
+    /// Room for so many feeds, and for as many jobs as a run may have.
+    fn new(alloc: Global, feeds: usize) -> Result<Rooms<S>, OutOfMemory>
+        ensures empty { IfOk result (λ r. (r.backs.items ≡ []) × (r.feeds.items ≡ []) × (r.jobs.items ≡ [])) }
+        ensures room { IfOk result (λ r. (feeds ≤ vec_capacity r.backs) × (feeds ≤ vec_capacity r.feeds) × (64 ≤ vec_capacity r.jobs)) }
+    {
+        Ok(Rooms {
+            backs: Vec::with_capacity(alloc, feeds)?,
+            feeds: Vec::with_capacity(alloc, feeds)?,
+            jobs: Vec::with_capacity(alloc, MOST_JOBS)?,
+        })
+    }
+}
+
+/// What jobs came to: their sources, one job after another, what is told of each, and whether one wanted memory.
+#[derive(Drop)]
+struct Gathered<S: Source> {
+    backs: Vec<(S, FeedTold)>,
+    jobs: Vec<JobTold>,
+    wanted_memory: bool,
+}
+
+impl<S: Source> Gathered<S> {
+    /// With what one more job came to.
+    fn with(self, done: JobDone<S>) -> Gathered<S>
+        requires backs { length self.backs.items + length done.feeds.items ≤ vec_capacity self.backs }
+        requires jobs { length self.jobs.items < vec_capacity self.jobs }
+        ensures backs { result.backs.items ≡ self.backs.items ++ done.feeds.items }
+        ensures jobs { result.jobs.items ≡ self.jobs.items ++ told_by done ∷ [] }
+        ensures wanted { result.wanted_memory ≡ (self.wanted_memory || done.wanted_memory) }
+        ensures backs_room { vec_capacity result.backs ≡ vec_capacity self.backs }
+        ensures jobs_room { vec_capacity result.jobs ≡ vec_capacity self.jobs }
+    {
+        let Gathered {
+            backs,
+            jobs,
+            wanted_memory,
+        } = self;
+        let wanted_memory = wanted_memory || done.wanted_memory;
+        let JobDone {
+            number,
+            told,
+            feeds,
+            ..
+        } = done;
+        let mut jobs = jobs;
+        jobs.push_reserved(JobTold { number, told });
+        Gathered {
+            backs: append(backs, feeds),
+            jobs,
+            wanted_memory,
+        }
+    }
+}
+
+/// What jobs came to, into its room.
+fn gather<S: Source>(
+    dones: Vec<JobDone<S>>,
+    backs: Vec<(S, FeedTold)>,
+    jobs: Vec<JobTold>,
+) -> Gathered<S>
+    requires empty { (backs.items ≡ []) × (jobs.items ≡ []) }
+    requires backs { length (flat_map (λ done. done.feeds.items) dones.items) ≤ vec_capacity backs }
+    requires jobs { length dones.items ≤ vec_capacity jobs }
+    ensures backs { result.backs.items ≡ flat_map (λ done. done.feeds.items) dones.items }
+    ensures jobs { result.jobs.items ≡ map told_by dones.items }
+    ensures wanted { result.wanted_memory ≡ list_any (λ done. done.wanted_memory) dones.items }
+{
+    let mut gathered = Gathered {
+        backs,
+        jobs,
+        wanted_memory: false,
+    };
+    for done in dones {
+        gathered = gathered.with(done);
+    }
+    gathered
+}
+
+/// An empty store over a run's topology.
+fn new_store(alloc: Global, topology: &Arc<Topology, Global>) -> Result<Store, OutOfMemory>
+    ensures basis { IfOk result (λ store. store.basis ≡ record { topology = arc_value topology.now; limit = history_limit }) }
+    ensures empty { IfOk result (λ store. store.history ≡ []) }
+{
+    Store::new(alloc, Arc::try_clone(topology)?, HISTORY_LIMIT)
+}
+
+/// The sources of jobs that aren't run.
+fn give_back_jobs<S: Source>(
+    alloc: Global,
+    list: JobList<S>,
+    backs: Vec<(S, FeedTold)>,
+) -> Vec<(S, FeedTold)>
+    requires empty { backs.items ≡ [] }
+    requires room { length (readers_of list) ≤ vec_capacity backs }
+    ensures tags { map (back_tag S.place) result.items ≡ map (reader_tag S.place) (readers_of list) }
+{
+    Undealt {
+        jobs: list.into_jobs(),
+        some: Vec::new(alloc),
+        others: Vec::new(alloc),
+    }
+    .give_back(backs)
+}
+
+/// Runs jobs over an empty history. In any case their sources come back, in the order of the jobs.
+fn run_list<S: Source, G: Gate, R: Threads + Wait + Sync>(
+    rt: &R,
+    alloc: Global,
+    topology: &Arc<Topology, Global>,
+    list: JobList<S>,
+    rooms: (Vec<(S, FeedTold)>, Vec<JobTold>),
+    gate: &G,
+) -> (Result<(List<Posted>, Vec<JobTold>), OutOfMemory>, Vec<(S, FeedTold)>)
+    requires few { length list ≤ 64 }
+    requires fresh { All (λ job. All (IsUnread (arc_value topology.now) S.faults) job.feeds) list }
+    requires apart { All (λ job. AreApart job.feeds) list }
+    requires numbers { AreNumberedApart list }
+    requires empty { (rooms.0.items ≡ []) × (rooms.1.items ≡ []) }
+    requires backs { length (readers_of list) ≤ vec_capacity rooms.0 }
+    requires jobs { length list ≤ vec_capacity rooms.1 }
+    ensures ran { IfOk result.0 (λ made. ListRan (arc_value topology.now) S.left S.faults S.place list result.1.items made.0 made.1.items) }
+    ensures tags { map (back_tag S.place) result.1.items ≡ map (reader_tag S.place) (readers_of list) }
+{
+    let (backs, jobs) = rooms;
+    let Ok(store) = new_store(alloc, topology) else {
+        return (Err(OutOfMemory), give_back_jobs(alloc, list, backs));
+    };
+    let (store, dones) = match run_history(rt, alloc, store, gate, topology, list) {
+        Ok(ran) => ran,
+        Err(list) => return (Err(OutOfMemory), give_back_jobs(alloc, list, backs)),
+    };
+    let Gathered {
+        backs,
+        jobs,
+        wanted_memory,
+    } = gather(dones, backs, jobs);
+    if wanted_memory {
+        return (Err(OutOfMemory), backs);
+    }
+    match store.history(alloc) {
+        Ok(history) => (Ok((history, jobs)), backs),
+        Err(e) => (Err(e), backs),
+    }
+}
+
+/// Deals readers to jobs and runs these. In any case all sources come back, in some order.
+fn run_dealt<S: Source, G: Gate, R: Threads + Wait + Sync>(
+    rt: &R,
+    alloc: Global,
+    topology: &Arc<Topology, Global>,
+    scripts: Vec<Script>,
+    readers: Vec<FeedReader<S>>,
+    rooms: (Vec<(S, FeedTold)>, Vec<JobTold>),
+    gate: &G,
+) -> (Result<(List<Posted>, Vec<JobTold>), OutOfMemory>, Vec<(S, FeedTold)>)
+    requires fresh { All (IsFresh (arc_value topology.now) S.faults) readers.items }
+    requires numbered { AreNumbered 1 readers.items }
+    requires apart { HaveRoutersApart readers.items }
+    requires few { length readers.items ≤ 64 }
+    requires jobs { AreFewJobs (scripts_of scripts.items) (routers_of_readers readers.items) }
+    requires apart_scripts { TakeApart (scripts_of scripts.items) }
+    requires empty { (rooms.0.items ≡ []) × (rooms.1.items ≡ []) }
+    requires room { (length readers.items ≤ vec_capacity rooms.0) × (64 ≤ vec_capacity rooms.1) }
+    ensures ran { IfOk result.0 (λ made. RanAs (arc_value topology.now) S.left S.faults readers.items result.1.items made.0 (scripts_of scripts.items) made.1.items) }
+    ensures tags { IsPermutation (map (reader_tag S.place) readers.items) (map (back_tag S.place) result.1.items) }
+    ensures count { length result.1.items ≡ length readers.items }
+{
+    match deal(alloc, scripts, readers) {
+        Ok(list) => run_list(rt, alloc, topology, list, rooms, gate),
+        Err(undealt) => (Err(OutOfMemory), undealt.give_back(rooms.0)),
+    }
 }
 
 /// Runs the jobs of a run side by side: the scripts' in order, and then one for each feed that no script takes. Jobs
@@ -59,9 +256,26 @@ pub fn run_jobs<S: Source, G: Gate, R: Threads + Wait + Sync>(
     requires apart { HaveRoutersApart readers.items }
     requires few { length readers.items ≤ 64 }
     requires jobs { AreFewJobs (scripts_of scripts.items) (routers_of_readers readers.items) }
+    requires apart_scripts { TakeApart (scripts_of scripts.items) }
     requires room { (room.items ≡ []) × (length readers.items ≤ vec_capacity room) }
     ensures ran { IfOk result.0 (λ done. HasRun (arc_value topology.now) S.left S.faults readers.items result.1.items done.feeds.items done.history (scripts_of scripts.items) done.jobs.items) }
     ensures same { map S.place result.1.items ≡ map (λ r. S.place r.source) readers.items }
 {
-    (Err(OutOfMemory), into_sources(readers, room))
+    let Ok(rooms) = Rooms::new(alloc, readers.len()) else {
+        return (Err(OutOfMemory), into_sources(readers, room));
+    };
+    let Rooms { backs, feeds, jobs } = rooms;
+    let (made, backs) = run_dealt(rt, alloc, topology, scripts, readers, (backs, jobs), gate);
+    let (sources, feeds) = part_backs(in_order(backs), room, feeds);
+    match made {
+        Ok((history, jobs)) => (
+            Ok(JobsDone {
+                history,
+                feeds,
+                jobs,
+            }),
+            sources,
+        ),
+        Err(e) => (Err(e), sources),
+    }
 }

@@ -1,6 +1,8 @@
 //! The whole run of the program: words, topology, scripts, feeds, jobs, report.
 #![tactic(auto)]
 
+mod backs;
+mod deal;
 mod feeds;
 mod files;
 mod input;

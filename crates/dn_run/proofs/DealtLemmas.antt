@@ -52,6 +52,12 @@ module _ {S : Type 0} (place : S → ℕ) where
   tags-count readers backs moves =
       sym (length-map backs (back_tag place)) ∙ length_permutation (map (reader_tag place) readers) (map (back_tag place) backs) moves ∙ length-map readers (reader_tag place)
 
+  -- put in the order of the feeds, the sources have the places of the readers'
+  pub sources-in-order : (readers : List (Reader S)) (backs sorted : List (S × FeedTold)) (sources : List S) → AreNumbered 1 readers →
+      IsPermutation (map (reader_tag place) readers) (map (back_tag place) backs) → IsPermutation backs sorted → IsNonDecreasingBy (λ b. b.1.feed_no) sorted → sources ≡ map (λ b. b.0) sorted →
+      map place sources ≡ map (λ r. place r.source) readers
+  sources-in-order readers backs sorted sources numbered moves sorts up is = ap (map place) is ∙ places-in-order place readers backs sorted numbered moves sorts up
+
 -- ---- what was made
 
 module _ {S : Type 0} (t : Topology) (left : S → Option (List ℕ)) (faults place : S → ℕ) where

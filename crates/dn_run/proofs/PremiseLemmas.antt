@@ -3,7 +3,7 @@ use Rattle.std.proofs.Common.{◌≡◌, ℕ, suc, ◌+◌, ◌==◌, ◌≤◌,
 use Rattle.std.specs.List.{list_any}
 use Rattle.std.proofs.lemmas.List.{length-append, map-append}
 use Rattle.std.proofs.lemmas.List.Elements.{All-cons, All-head, All-tail, All-nil}
-use Rattle.std.proofs.lemmas.List.Sorted.{All-permutation, IsPermutation-map}
+use Rattle.std.proofs.lemmas.List.Sorted.{All-permutation, IsPermutation-map, length_permutation}
 use Rattle.dn_formats.specs.declared.script.Line.{Line}
 use Rattle.dn_model.specs.Topology.{all_differ}
 use Rattle.dn_model.specs.declared.ids.RouterId.{RouterId}
@@ -133,3 +133,7 @@ module _ {S : Type 0} where
       let b = own-count (suc (length scripts)) (left_over scripts readers) in
       let c = few-left scripts readers few in
       omega (arith, sum, a, b, c)
+
+  -- every reader has one job
+  pub readers-count : (scripts : List (List Line)) (readers : List (Reader S)) → length (readers_of (tasks_of scripts readers)) ≡ length readers
+  readers-count scripts readers = length_permutation readers (readers_of (tasks_of scripts readers)) (readers-dealt scripts readers)

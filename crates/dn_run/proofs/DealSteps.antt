@@ -112,6 +112,12 @@ module _ {S : Type 0} where
       let next : length (script_tasks 1 scripts readers) + 1 ≡ suc (length scripts) = omega (arith, count) in
       is ∙ ap₂ (λ js ls. js ++ own_tasks (length js + 1) ls) jobs_are left_are ∙ ap (λ n. script_tasks 1 scripts readers ++ own_tasks n (left_over scripts readers)) next
 
+  -- how many jobs there will be
+  pub dealt-count : (scripts : List (List Line)) (readers left : List (Reader S)) (jobs : List (Task S)) → jobs ≡ script_tasks 1 scripts readers → left ≡ left_over scripts readers →
+      length jobs + length left ≡ length scripts + length (left_over scripts readers)
+  dealt-count scripts readers left jobs jobs_are left_are =
+      ap₂ (λ js ls. length js + length ls) jobs_are left_are ∙ ap (λ n. n + length (left_over scripts readers)) (script-count 1 scripts readers)
+
   -- the readers are those of the jobs of scripts and those that are left
   pub half-dealt : (scripts : List (List Line)) (readers left given : List (Reader S)) (jobs : List (Task S)) → jobs ≡ script_tasks 1 scripts readers → left ≡ left_over scripts readers →
       given ≡ readers_of jobs ++ left → IsPermutation readers given

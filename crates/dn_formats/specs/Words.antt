@@ -41,7 +41,7 @@ abbrev pub most_feeds : ℕ
 most_feeds = 64
 
 abbrev pub most_scripts : ℕ
-most_scripts = 1
+most_scripts = 64
 
 -- parts with their numbers
 unfoldable pub numbered_from : ℕ → List (List ℕ) → List (ℕ × List ℕ)

@@ -1,5 +1,5 @@
 -- What each step of a run is due by, once its file was read, refused or failed.
-use Rattle.std.proofs.Common.{◌≡◌, ℕ, ◌+◌, Bool, true, false, nat_lt, Result, Err, MatchResult, List, [], ◌∷◌, ◌++◌, length, Option, refl, ap, sym, ◌∙◌, subst}
+use Rattle.std.proofs.Common.{◌≡◌, ℕ, ◌+◌, Bool, true, false, nat_lt, Result, Err, MatchResult, List, [], ◌∷◌, ◌++◌, length, map, Option, refl, ap, sym, ◌∙◌, subst}
 use Rattle.std.specs.Bool.{MatchBool}
 use Rattle.dn_io.specs.Calls.{Call, CallState, Back, call_of, state_failed}
 use Rattle.dn_io.specs.Files.{Files}
@@ -19,13 +19,13 @@ use Rattle.dn_run.specs.Loaded.{SaysTopology, SaysScript}
 use Rattle.dn_run.specs.Opened.{text_limit, FailsWhereTold, OnBytes}
 use Rattle.dn_run.specs.Run.{IsErrorLine, IsLine, FromFeeds, FromJobs, FromScripts, FromRouters, FromTopology, OnFile, feed_files, untaken, most_jobs, taken_by_scripts, routers_of}
 use Rattle.dn_run.specs.Stage.{Stage}
-use Rattle.dn_run.specs.Stops.{from_feeds}
-use Rattle.dn_run.specs.Tracks.{tags_of}
+use Rattle.dn_run.specs.Stops.{AreTaken, from_feeds}
 use Rattle.dn_run.specs.declared.load.Loaded.TheVariants as loaded
 use Rattle.dn_run.specs.declared.status.Verdict.{Verdict}
 use Rattle.dn_run.specs.declared.status.Verdict.TheVariants.{BadWords, BadTopology, BadScript, ReadFault}
 use Rattle.route_feed.specs.FeedReader.{Reader}
 use Rattle.dn_run.proofs.ProgramLemmas.{or-go, or-map, on-bytes-map, on-fault}
+use Rattle.dn_run.proofs.TakenLemmas.{script_of-same}
 
 pub match-true : (b : Bool) (P Q : Type 0) → b ≡ true → P → MatchBool b P Q
 match-true b P Q is p = subst (λ c. MatchBool c P Q) (sym is) p
@@ -46,10 +46,6 @@ pub too-many : (files : Option Files) (t : Topology) (routers : List RouterId) (
 too-many files t routers scripts feeds ending many line =
     match-true (nat_lt most_jobs (length scripts + length (untaken scripts routers))) _ _ many (refl, line)
 
-no-readers : {S : Type 0} (place : S → ℕ) (readers : List (Reader S)) → tags_of place readers ≡ tags_of place [] → readers ≡ []
-no-readers place [] same = refl
-no-readers place (r ∷ rs) same = absurd (cc)
-
 module _ {S : Type 0} where
   opens-first : (ending : Ending) (t : Topology) (faults : S → ℕ) (left : S → Option (List ℕ)) (files : Option Files) (routers : List RouterId) (scripts : List (List Line))
       (feeds : List (ℕ × FeedWords)) (old new : List Call) → Opens t faults left files routers scripts [] [] feeds old new ending →
@@ -63,57 +59,66 @@ module _ {S : Type 0} where
     due_is = opens.due_is [] tt;
   }
 
+  no-sources : (place : S → ℕ) (sources : List S) → map place sources ≡ map (λ (r : Reader S). place r.source) [] → sources ≡ []
+  no-sources place [] same = refl
+  no-sources place (s ∷ ss) same = absurd (cc)
+
   pub stage-opens : (ending : Ending) (t : Topology) (place faults : S → ℕ) (left : S → Option (List ℕ)) (files : Option Files)
-      (routers : List RouterId) (scripts : List (List Line)) (olds news : List (Reader S)) (feeds : List (ℕ × FeedWords)) (old new : List Call) →
-      olds ≡ [] → tags_of place news ≡ tags_of place olds → Opens t faults left files routers scripts olds news feeds old new ending →
+      (routers : List RouterId) (scripts : List (List Line)) (readers : List (Reader S)) (sources : List S) (feeds : List (ℕ × FeedWords)) (old new : List Call) →
+      readers ≡ [] → map place sources ≡ map (λ r. place r.source) readers → Opens t faults left files routers scripts readers sources feeds old new ending →
       Stage old new (feed_files feeds) ending (from_feeds files t routers scripts feeds ending)
-  stage-opens ending t place faults left files routers scripts olds news feeds old new none same opens =
-      let gone : news ≡ [] = no-readers place news (same ∙ ap (tags_of place) none) in
+  stage-opens ending t place faults left files routers scripts readers sources feeds old new none same opens =
+      let gone : sources ≡ [] = no-sources place sources (same ∙ ap (map (λ (r : Reader S). place r.source)) none) in
       opens-first ending t faults left files routers scripts feeds old new
-      (subst (λ (ns : List (Reader S)). Opens t faults left files routers scripts [] ns feeds old new ending) gone
-      (subst (λ (os : List (Reader S)). Opens t faults left files routers scripts os news feeds old new ending) none opens))
+      (subst (λ (ss : List S). Opens t faults left files routers scripts [] ss feeds old new ending) gone
+      (subst (λ (rs : List (Reader S)). Opens t faults left files routers scripts rs sources feeds old new ending) none opens))
 
--- ---- the script
+-- ---- a script
 
-script-made : (files : Option Files) (t : Topology) (routers : List RouterId) (part : ℕ) (file : List ℕ) (feeds : List (ℕ × FeedWords)) (script : Script) (left : Option (List ℕ)) (more : List Call) (ending : Ending) →
-    OnBytes files file left (λ bytes. SaysScript t routers [] part bytes (loaded.Read script)) → FromJobs files t routers (script.lines ∷ []) feeds more ending →
-    OnFile files file (Back false left) (IsErrorLine ending more ReadFault (errors.ReadPart part)) (λ bytes.
-    MatchResult (script_of t.routers routers (taken_by_scripts []) bytes) (λ lines. FromScripts files t routers ([] ++ lines ∷ []) [] feeds more ending)
-    (λ fault. IsErrorLine ending more BadScript (errors.Script part fault.line fault.cause)))
-script-made files t routers part file feeds script left more ending says after =
-    on-bytes-map files file left (λ bytes. SaysScript t routers [] part bytes (loaded.Read script))
-    (λ bytes. MatchResult (script_of t.routers routers (taken_by_scripts []) bytes) (λ lines. FromScripts files t routers ([] ++ lines ∷ []) [] feeds more ending)
-    (λ fault. IsErrorLine ending more BadScript (errors.Script part fault.line fault.cause)))
-    (λ bytes is. subst (λ (r : Result (List Line) ScriptFault). MatchResult r (λ lines. FromScripts files t routers ([] ++ lines ∷ []) [] feeds more ending)
-    (λ fault. IsErrorLine ending more BadScript (errors.Script part fault.line fault.cause)))
-    (sym is) after) says
+-- what is made of a script's bytes, after these were read and before those are
+abbrev Meant : Topology → List RouterId → List (List Line) → ℕ → (List (List Line) → Type 0) → (ErrorLine → Type 0) → List ℕ → Type 0
+Meant t routers read part next refused bytes =
+    MatchResult (script_of t.routers routers (taken_by_scripts read) bytes) (λ lines. next (read ++ lines ∷ [])) (λ fault. refused (errors.Script part fault.line fault.cause))
 
-pub script-read : (files : Option Files) (t : Topology) (routers : List RouterId) (part : ℕ) (file : List ℕ) (feeds : List (ℕ × FeedWords)) (script : Script) (left : Option (List ℕ)) (more : List Call) (ending : Ending) →
-    OnBytes files file left (λ bytes. SaysScript t routers [] part bytes (loaded.Read script)) → OrStops ending more (FromJobs files t routers (script.lines ∷ []) feeds more ending) →
-    FromScripts files t routers [] ((part, file) ∷ []) feeds (call_of file (Back false left) ∷ more) ending
-script-read files t routers part file feeds script left more ending says after =
-    (refl, or-map ending more (FromJobs files t routers (script.lines ∷ []) feeds more ending) _ (script-made files t routers part file feeds script left more ending says) after)
+meant-read : (files : Option Files) (t : Topology) (routers taken : List RouterId) (read : List (List Line)) (part : ℕ) (file : List ℕ) (script : Script) (left : Option (List ℕ)) (next : List (List Line) → Type 0) (refused : ErrorLine → Type 0) →
+    AreTaken taken read → OnBytes files file left (λ bytes. SaysScript t routers taken part bytes (loaded.Read script)) → next (read ++ script.lines ∷ []) →
+    OnBytes files file left (Meant t routers read part next refused)
+meant-read files t routers taken read part file script left next refused are says after =
+    on-bytes-map files file left (λ bytes. SaysScript t routers taken part bytes (loaded.Read script)) (Meant t routers read part next refused)
+    (λ bytes is. subst (λ (r : Result (List Line) ScriptFault). MatchResult r (λ lines. next (read ++ lines ∷ [])) (λ fault. refused (errors.Script part fault.line fault.cause)))
+    (sym (script_of-same t.routers routers taken (taken_by_scripts read) bytes are ∙ is)) after) says
 
-pub script-refused : (files : Option Files) (t : Topology) (routers : List RouterId) (part : ℕ) (file : List ℕ) (feeds : List (ℕ × FeedWords)) (line : ErrorLine) (left : Option (List ℕ)) (ending : Ending) →
-    OnBytes files file left (λ bytes. SaysScript t routers [] part bytes (loaded.Refused line)) → IsLine ending BadScript line →
-    FromScripts files t routers [] ((part, file) ∷ []) feeds (call_of file (Back false left) ∷ []) ending
-script-refused files t routers part file feeds line left ending says prints = (
+meant-refused : (files : Option Files) (t : Topology) (routers taken : List RouterId) (read : List (List Line)) (part : ℕ) (file : List ℕ) (line : ErrorLine) (left : Option (List ℕ)) (next : List (List Line) → Type 0) (refused : ErrorLine → Type 0) →
+    AreTaken taken read → OnBytes files file left (λ bytes. SaysScript t routers taken part bytes (loaded.Refused line)) → refused line →
+    OnBytes files file left (Meant t routers read part next refused)
+meant-refused files t routers taken read part file line left next refused are says is =
+    on-bytes-map files file left (λ bytes. SaysScript t routers taken part bytes (loaded.Refused line)) (Meant t routers read part next refused)
+    (λ bytes p. subst (λ (r : Result (List Line) ScriptFault). MatchResult r (λ lines. next (read ++ lines ∷ [])) (λ fault. refused (errors.Script part fault.line fault.cause)))
+    (sym (script_of-same t.routers routers taken (taken_by_scripts read) bytes are ∙ p.1)) (subst refused p.2 is)) says
+
+pub script-read : (files : Option Files) (t : Topology) (routers taken : List RouterId) (read : List (List Line)) (part : ℕ) (file : List ℕ) (scripts : List (ℕ × List ℕ)) (feeds : List (ℕ × FeedWords)) (script : Script) (left : Option (List ℕ)) (more : List Call) (ending : Ending) →
+    AreTaken taken read → OnBytes files file left (λ bytes. SaysScript t routers taken part bytes (loaded.Read script)) →
+    OrStops ending more (FromScripts files t routers (read ++ script.lines ∷ []) scripts feeds more ending) →
+    FromScripts files t routers read ((part, file) ∷ scripts) feeds (call_of file (Back false left) ∷ more) ending
+script-read files t routers taken read part file scripts feeds script left more ending are says after = (
   refl,
-  or-go ending [] _ (
-      on-bytes-map files file left (λ bytes. SaysScript t routers [] part bytes (loaded.Refused line))
-      (λ bytes. MatchResult (script_of t.routers routers (taken_by_scripts []) bytes) (λ lines. FromScripts files t routers ([] ++ lines ∷ []) [] feeds [] ending)
-      (λ fault. IsErrorLine ending [] BadScript (errors.Script part fault.line fault.cause)))
-      (λ bytes p. subst (λ (r : Result (List Line) ScriptFault). MatchResult r (λ lines. FromScripts files t routers ([] ++ lines ∷ []) [] feeds [] ending)
-      (λ fault. IsErrorLine ending [] BadScript (errors.Script part fault.line fault.cause)))
-      (sym p.1) (refl, same-line ending line (errors.Script part p.0.line p.0.cause) BadScript p.2 prints))
-      says
-      ),
+  or-map ending more (FromScripts files t routers (read ++ script.lines ∷ []) scripts feeds more ending) _
+  (meant-read files t routers taken read part file script left (λ scripts-read. FromScripts files t routers scripts-read scripts feeds more ending) (IsErrorLine ending more BadScript) are says) after,
 )
 
-pub script-failed : (files : Option Files) (t : Topology) (routers : List RouterId) (part : ℕ) (file : List ℕ) (feeds : List (ℕ × FeedWords)) (state : CallState) (ending : Ending) →
+pub script-refused : (files : Option Files) (t : Topology) (routers taken : List RouterId) (read : List (List Line)) (part : ℕ) (file : List ℕ) (scripts : List (ℕ × List ℕ)) (feeds : List (ℕ × FeedWords)) (line : ErrorLine) (left : Option (List ℕ)) (ending : Ending) →
+    AreTaken taken read → OnBytes files file left (λ bytes. SaysScript t routers taken part bytes (loaded.Refused line)) → IsLine ending BadScript line →
+    FromScripts files t routers read ((part, file) ∷ scripts) feeds (call_of file (Back false left) ∷ []) ending
+script-refused files t routers taken read part file scripts feeds line left ending are says prints = (
+  refl,
+  or-go ending [] _
+  (meant-refused files t routers taken read part file line left (λ scripts-read. FromScripts files t routers scripts-read scripts feeds [] ending) (IsErrorLine ending [] BadScript) are says (refl, prints)),
+)
+
+pub script-failed : (files : Option Files) (t : Topology) (routers : List RouterId) (read : List (List Line)) (part : ℕ) (file : List ℕ) (scripts : List (ℕ × List ℕ)) (feeds : List (ℕ × FeedWords)) (state : CallState) (ending : Ending) →
     state_failed state ≡ true → FailsWhereTold files file text_limit state → IsLine ending ReadFault (errors.ReadPart part) →
-    FromScripts files t routers [] ((part, file) ∷ []) feeds (call_of file state ∷ []) ending
-script-failed files t routers part file feeds state ending failed fails line =
+    FromScripts files t routers read ((part, file) ∷ scripts) feeds (call_of file state ∷ []) ending
+script-failed files t routers read part file scripts feeds state ending failed fails line =
     (refl, or-go ending [] _ (on-fault files file state _ _ failed fails (refl, line)))
 
 -- ---- the topology

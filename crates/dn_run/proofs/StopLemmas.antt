@@ -1,4 +1,5 @@
 -- How the steps before the jobs follow one another, and how one of them ends the run.
+use Rattle.std.proofs.lemmas.Bool.Decides.{nat_tests}
 use Rattle.std.proofs.Common.{◌≡◌, ℕ, ◌+◌, ◌<◌, ◌≤◌, get_or, arith, Bool, true, false, nat_lt, Result, Ok, Err, IfOk, IfErr, MatchResult, List, [], ◌∷◌, ◌++◌, length, Option, None, Some, MatchOption, refl, ap, sym, ◌∙◌, inl, inr, subst}
 use Rattle.std.specs.Result.{IsErrAnd}
 use Rattle.dn_io.specs.Calls.{Call, CallState, Back, call_of}
@@ -13,13 +14,14 @@ use Rattle.dn_formats.specs.declared.error_line.ErrorLine.{ErrorLine}
 use Rattle.dn_formats.specs.declared.error_line.ErrorLine.TheVariants as errors
 use Rattle.dn_run.specs.CommandLine.{RunWords, command_of}
 use Rattle.dn_run.specs.Ending.{Ending, Stopped}
+use Rattle.dn_run.specs.Jobs.{AreFewJobs}
 use Rattle.dn_run.specs.Loaded.{LoadsTopology, LoadsScript}
 use Rattle.dn_run.specs.Opened.{MayCallOne}
 use Rattle.dn_run.specs.PartsRead.{ArePartsRefused}
 use Rattle.dn_run.specs.RoutersFound.{AreRoutersRefused}
 use Rattle.dn_run.specs.Run.{IsErrorLine, IsLine, FromFeeds, FromJobs, FromScripts, FromRouters, FromTopology, FromParts, FromWords, feed_files, names_due, names_of_command, names_of_parts, names_of_words, untaken, most_jobs, routers_of, script_files}
 use Rattle.dn_run.specs.Stage.{Stage, is_fault, may_end_early}
-use Rattle.dn_run.specs.Stops.{Due, EndsWith, GoesOn, Reaches, Stops, StopsAs, from_words, from_feeds, from_jobs, from_scripts, stop_of_words, stop_of_parts, stop_of_routers}
+use Rattle.dn_run.specs.Stops.{AreTaken, Due, EndsWith, GoesOn, Reaches, ScriptEnds, ScriptGoesOn, ScriptsEnd, ScriptsGoOn, Stops, StopsAs, names_left, from_words, from_feeds, from_jobs, from_scripts, stop_of_words, stop_of_parts, stop_of_routers}
 use Rattle.dn_run.specs.WordsRefused.{AreRefused}
 use Rattle.dn_run.specs.declared.load.Loaded.{Loaded}
 use Rattle.dn_run.specs.declared.load.Loaded.TheVariants.{Read, Refused, Failed}
@@ -37,12 +39,6 @@ use Rattle.dn_run.proofs.ProgramLemmas.{or-map, stage-line, stage-may, stage-non
 use Rattle.dn_run.proofs.StepLemmas.{match-false, routers-refused, script-failed, script-read, script-refused, too-many, topology-failed, topology-read, topology-refused}
 
 -- ---- steps
-
--- a list of one
-pub one-item : {A : Type 0} (xs : List A) (x : A) → 1 ≤ length xs → length xs < 2 → x ≡ get_or xs 0 x → xs ≡ x ∷ []
-one-item [] x least below is = absurd (omega arith)
-one-item (y ∷ []) x least below is = ap (λ z. z ∷ []) (sym is)
-one-item (y ∷ z ∷ zs) x least below is = absurd (omega arith)
 
 -- the exit of a `?`
 pub at-exit : {A : Type 0} (P Q : Stop → Type 0) (result : Result A Stop) → IsErrAnd result Q → ((e : Stop) → Q e → P e) → IfErr result P
@@ -181,7 +177,7 @@ reaches-routers words files command said is are new t loads =
 -- ---- the routers
 
 routers-read : (files : Option Files) (calls : List Call) (names : List (List ℕ)) (said : PartsSaid) (t : Topology) (routers : List RouterId) → routers_of t said.feeds ≡ Ok routers →
-    GoesOn calls names (from_routers said files t) calls names (from_scripts files t routers said.scripts said.feeds)
+    GoesOn calls names (from_routers said files t) calls names (from_scripts files t routers [] said.scripts said.feeds)
 routers-read files calls names said t routers is = λ ending last stage.
     subst (λ (r : Result (List RouterId) ErrorLine). Stage calls last names ending
     (λ calls. MatchResult r (λ routers. FromScripts files t routers [] said.scripts said.feeds calls ending) (λ error. IsErrorLine ending calls BadWords error))) (sym is) stage
@@ -198,53 +194,82 @@ stops-routers words files new names said t e reaches refused =
     ends (stop_of_routers e) [] new new (names_of_words words) names (from_words words files) (from_routers said files t) reaches (routers-stop files new names said t e refused)
 
 pub reaches-scripts : (words : List (List ℕ)) (files : Option Files) (new : List Call) (names : List (List ℕ)) (said : PartsSaid) (t : Topology) (routers : List RouterId) →
-    Reaches words files new names (from_routers said files t) → routers_of t said.feeds ≡ Ok routers → Reaches words files new names (from_scripts files t routers said.scripts said.feeds)
+    Reaches words files new names (from_routers said files t) → routers_of t said.feeds ≡ Ok routers → Reaches words files new names (from_scripts files t routers [] said.scripts said.feeds)
 reaches-scripts words files new names said t routers reaches is =
-    goes [] new new (names_of_words words) names names (from_words words files) (from_routers said files t) (from_scripts files t routers said.scripts said.feeds)
+    goes [] new new (names_of_words words) names names (from_words words files) (from_routers said files t) (from_scripts files t routers [] said.scripts said.feeds)
     reaches (routers-read files new names said t routers is)
 
--- ---- the script
+-- ---- a script
 
-pub script-read-on : (files : Option Files) (t : Topology) (routers : List RouterId) (part : ℕ) (file : List ℕ) (feeds : List (ℕ × FeedWords)) (old new : List Call) (script : Script) →
-    LoadsScript t routers [] part files old file new (Read script) →
-    GoesOn old (file ∷ feed_files feeds) (from_scripts files t routers ((part, file) ∷ []) feeds) new (feed_files feeds) (from_jobs files t routers (script.lines ∷ []) feeds)
-script-read-on files t routers part file feeds old new script loads = λ ending last stage.
-    stage-read ending (from_jobs files t routers (script.lines ∷ []) feeds ending) (from_scripts files t routers ((part, file) ∷ []) feeds ending) old new last file (feed_files feeds) loads.0 loads.1
-    (λ more. script-read files t routers part file feeds script loads.0 more ending loads.2) stage
+abbrev Before : Option Files → Topology → List RouterId → List (List script_line) → ℕ → List ℕ → List (ℕ × List ℕ) → List (ℕ × FeedWords) → Due
+Before files t routers read part file scripts feeds = from_scripts files t routers read ((part, file) ∷ scripts) feeds
 
-pub script-stop : (files : Option Files) (t : Topology) (routers : List RouterId) (part : ℕ) (file : List ℕ) (feeds : List (ℕ × FeedWords)) (old new : List Call) (x : Loaded Script) (stop : Stop) →
-    LoadsScript t routers [] part files old file new x → StopsAs BadScript (errors.ReadPart part) x stop →
-    EndsWith old (file ∷ feed_files feeds) (from_scripts files t routers ((part, file) ∷ []) feeds) new stop
-script-stop files t routers part file feeds old new (Read script) stop loads same = absurd same
-script-stop files t routers part file feeds old new (Refused error) stop loads same =
-    subst (λ (s : Stop). EndsWith old (file ∷ feed_files feeds) (from_scripts files t routers ((part, file) ∷ []) feeds) new s) (sym same)
-    (λ ending line. stage-line ending BadScript error (from_scripts files t routers ((part, file) ∷ []) feeds ending) old new file (feed_files feeds) (Back false loads.0) loads.1 refl refl refl line
-    (script-refused files t routers part file feeds error loads.0 ending loads.2 line))
-script-stop files t routers part file feeds old new Failed stop loads same =
-    subst (λ (s : Stop). EndsWith old (file ∷ feed_files feeds) (from_scripts files t routers ((part, file) ∷ []) feeds) new s) (sym same)
-    (λ ending line. stage-line ending ReadFault (errors.ReadPart part) (from_scripts files t routers ((part, file) ∷ []) feeds ending) old new file (feed_files feeds) loads.0 loads.1 loads.3 loads.2 refl line
-    (script-failed files t routers part file feeds loads.0 ending loads.2 loads.4 line))
+pub script-read-on : (files : Option Files) (t : Topology) (routers taken : List RouterId) (part : ℕ) (file : List ℕ) (old new : List Call) (script : Script) →
+    LoadsScript t routers taken part files old file new (Read script) → ScriptGoesOn files t routers taken old (part, file) new script.lines
+script-read-on files t routers taken part file old new script loads = λ read scripts feeds are ending last stage.
+    stage-read ending (from_scripts files t routers (read ++ script.lines ∷ []) scripts feeds ending) (Before files t routers read part file scripts feeds ending) old new last file (names_left scripts feeds) loads.0 loads.1
+    (λ more. script-read files t routers taken read part file scripts feeds script loads.0 more ending are loads.2) stage
 
-pub script-memory : (files : Option Files) (t : Topology) (routers : List RouterId) (part : ℕ) (file : List ℕ) (feeds : List (ℕ × FeedWords)) (old new : List Call) → MayCallOne old file new →
-    EndsWith old (file ∷ feed_files feeds) (from_scripts files t routers ((part, file) ∷ []) feeds) new OutOfMemory
-script-memory files t routers part file feeds old new may =
-    stage-may (from_scripts files t routers ((part, file) ∷ []) feeds Stopped) old new file (feed_files feeds) may (λ state. (refl, inl refl))
+pub script-stop : (files : Option Files) (t : Topology) (routers taken : List RouterId) (part : ℕ) (file : List ℕ) (old new : List Call) (x : Loaded Script) (stop : Stop) →
+    LoadsScript t routers taken part files old file new x → StopsAs BadScript (errors.ReadPart part) x stop → ScriptEnds files t routers taken old (part, file) new stop
+script-stop files t routers taken part file old new (Read script) stop loads same = absurd same
+script-stop files t routers taken part file old new (Refused error) stop loads same =
+    subst (λ (s : Stop). ScriptEnds files t routers taken old (part, file) new s) (sym same)
+    (λ read scripts feeds are ending line. stage-line ending BadScript error (Before files t routers read part file scripts feeds ending) old new file (names_left scripts feeds) (Back false loads.0) loads.1 refl refl refl line
+    (script-refused files t routers taken read part file scripts feeds error loads.0 ending are loads.2 line))
+script-stop files t routers taken part file old new Failed stop loads same =
+    subst (λ (s : Stop). ScriptEnds files t routers taken old (part, file) new s) (sym same)
+    (λ read scripts feeds are ending line. stage-line ending ReadFault (errors.ReadPart part) (Before files t routers read part file scripts feeds ending) old new file (names_left scripts feeds) loads.0 loads.1 loads.3 loads.2 refl line
+    (script-failed files t routers read part file scripts feeds loads.0 ending loads.2 loads.4 line))
 
-pub part-reads : {E : Type 0} (result : Result Script E) (files : Option Files) (t : Topology) (routers : List RouterId) (part : ℕ) (file : List ℕ) (old new : List Call) (x : Loaded Script) →
-    LoadsScript t routers [] part files old file new x → IfOk result (λ script. x ≡ Read script) →
-    IfOk result (λ script. (feeds : List (ℕ × FeedWords)) →
-    GoesOn old (file ∷ feed_files feeds) (from_scripts files t routers ((part, file) ∷ []) feeds) new (feed_files feeds) (from_jobs files t routers (script.lines ∷ []) feeds))
-part-reads (Err e) files t routers part file old new x loads is = tt
-part-reads (Ok script) files t routers part file old new x loads is =
-    λ feeds. script-read-on files t routers part file feeds old new script (subst (λ (y : Loaded Script). LoadsScript t routers [] part files old file new y) is loads)
+pub script-memory : (files : Option Files) (t : Topology) (routers taken : List RouterId) (part : ℕ) (file : List ℕ) (old new : List Call) → MayCallOne old file new →
+    ScriptEnds files t routers taken old (part, file) new OutOfMemory
+script-memory files t routers taken part file old new may = λ read scripts feeds are.
+    stage-may (Before files t routers read part file scripts feeds Stopped) old new file (names_left scripts feeds) may (λ state. (refl, inl refl))
 
-pub part-stops : {A : Type 0} (result : Result A Stop) (files : Option Files) (t : Topology) (routers : List RouterId) (part : ℕ) (file : List ℕ) (old new : List Call) (x : Loaded Script) →
-    LoadsScript t routers [] part files old file new x → IfErr result (StopsAs BadScript (errors.ReadPart part) x) →
-    IfErr result (λ stop. (feeds : List (ℕ × FeedWords)) → EndsWith old (file ∷ feed_files feeds) (from_scripts files t routers ((part, file) ∷ []) feeds) new stop)
-part-stops (Ok x) files t routers part file old new loaded loads is = tt
-part-stops (Err stop) files t routers part file old new loaded loads is = λ feeds. script-stop files t routers part file feeds old new loaded stop loads is
+pub part-reads : {E : Type 0} (result : Result Script E) (files : Option Files) (t : Topology) (routers taken : List RouterId) (part : ℕ) (file : List ℕ) (old new : List Call) (x : Loaded Script) →
+    LoadsScript t routers taken part files old file new x → IfOk result (λ script. x ≡ Read script) →
+    IfOk result (λ script. ScriptGoesOn files t routers taken old (part, file) new script.lines)
+part-reads (Err e) files t routers taken part file old new x loads is = tt
+part-reads (Ok script) files t routers taken part file old new x loads is =
+    script-read-on files t routers taken part file old new script (subst (λ (y : Loaded Script). LoadsScript t routers taken part files old file new y) is loads)
+
+pub part-stops : {A : Type 0} (result : Result A Stop) (files : Option Files) (t : Topology) (routers taken : List RouterId) (part : ℕ) (file : List ℕ) (old new : List Call) (x : Loaded Script) →
+    LoadsScript t routers taken part files old file new x → IfErr result (StopsAs BadScript (errors.ReadPart part) x) →
+    IfErr result (ScriptEnds files t routers taken old (part, file) new)
+part-stops (Ok x) files t routers taken part file old new loaded loads is = tt
+part-stops (Err stop) files t routers taken part file old new loaded loads is = script-stop files t routers taken part file old new loaded stop loads is
+
+-- ---- the scripts
+
+pub scripts-on : (files : Option Files) (t : Topology) (routers taken : List RouterId) (old mid new : List Call) (all rest : List (ℕ × List ℕ)) (part : ℕ × List ℕ) (read : List (List script_line)) (lines : List script_line) →
+    ScriptsGoOn files t routers old all mid read (part ∷ rest) → AreTaken taken read → ScriptGoesOn files t routers taken mid part new lines →
+    ScriptsGoOn files t routers old all new (read ++ lines ∷ []) rest
+scripts-on files t routers taken old mid new all rest part read lines so are on = λ feeds.
+    goes old mid new (names_left all feeds) (names_left (part ∷ rest) feeds) (names_left rest feeds) (from_scripts files t routers [] all feeds)
+    (from_scripts files t routers read (part ∷ rest) feeds) (from_scripts files t routers (read ++ lines ∷ []) rest feeds) (so feeds) (on read rest feeds are)
+
+pub scripts-end : (files : Option Files) (t : Topology) (routers taken : List RouterId) (old mid new : List Call) (all rest : List (ℕ × List ℕ)) (part : ℕ × List ℕ) (read : List (List script_line)) (stop : Stop) →
+    ScriptsGoOn files t routers old all mid read (part ∷ rest) → AreTaken taken read → ScriptEnds files t routers taken mid part new stop →
+    ScriptsEnd files t routers old all new stop
+scripts-end files t routers taken old mid new all rest part read stop so are on = λ feeds.
+    ends stop old mid new (names_left all feeds) (names_left (part ∷ rest) feeds) (from_scripts files t routers [] all feeds)
+    (from_scripts files t routers read (part ∷ rest) feeds) (so feeds) (on read rest feeds are)
+
+-- memory was wanted after a script was read
+pub scripts-memory : (files : Option Files) (t : Topology) (routers : List RouterId) (old new : List Call) (all rest : List (ℕ × List ℕ)) (read : List (List script_line)) →
+    ScriptsGoOn files t routers old all new read rest → ScriptsEnd files t routers old all new OutOfMemory
+scripts-memory files t routers old new all rest read so = λ feeds.
+    ends OutOfMemory old new new (names_left all feeds) (names_left rest feeds) (from_scripts files t routers [] all feeds)
+    (from_scripts files t routers read rest feeds) (so feeds) (ends-memory new (names_left rest feeds) (from_scripts files t routers read rest feeds))
+
+pub scripts-start : (files : Option Files) (t : Topology) (routers : List RouterId) (old : List Call) (all : List (ℕ × List ℕ)) → ScriptsGoOn files t routers old all old [] all
+scripts-start files t routers old all = λ feeds ending last stage. stage
 
 -- ---- the jobs
+
+pub few-jobs : (scripts : List (List script_line)) (routers : List RouterId) → nat_lt most_jobs (length scripts + length (untaken scripts routers)) ≡ false → AreFewJobs scripts routers
+few-jobs scripts routers few = grind (arith, nat_tests, few)
 
 jobs-few : (files : Option Files) (t : Topology) (routers : List RouterId) (scripts : List (List script_line)) (feeds : List (ℕ × FeedWords)) (calls : List Call) →
     nat_lt most_jobs (length scripts + length (untaken scripts routers)) ≡ false →
@@ -261,16 +286,16 @@ jobs-many files t routers scripts feeds calls many =
     (λ ending line. too-many files t routers scripts feeds ending many line)
 
 reaches-jobs : (words : List (List ℕ)) (files : Option Files) (mid new : List Call) (t : Topology) (routers : List RouterId) (said : PartsSaid) (scripts : List (List script_line)) →
-    Reaches words files mid (script_files said.scripts ++ feed_files said.feeds) (from_scripts files t routers said.scripts said.feeds) →
-    GoesOn mid (script_files said.scripts ++ feed_files said.feeds) (from_scripts files t routers said.scripts said.feeds) new (feed_files said.feeds) (from_jobs files t routers scripts said.feeds) →
+    Reaches words files mid (script_files said.scripts ++ feed_files said.feeds) (from_scripts files t routers [] said.scripts said.feeds) →
+    GoesOn mid (script_files said.scripts ++ feed_files said.feeds) (from_scripts files t routers [] said.scripts said.feeds) new (feed_files said.feeds) (from_jobs files t routers scripts said.feeds) →
     Reaches words files new (feed_files said.feeds) (from_jobs files t routers scripts said.feeds)
 reaches-jobs words files mid new t routers said scripts reaches on =
     goes [] mid new (names_of_words words) (script_files said.scripts ++ feed_files said.feeds) (feed_files said.feeds) (from_words words files)
-    (from_scripts files t routers said.scripts said.feeds) (from_jobs files t routers scripts said.feeds) reaches on
+    (from_scripts files t routers [] said.scripts said.feeds) (from_jobs files t routers scripts said.feeds) reaches on
 
 pub reaches-feeds : (words : List (List ℕ)) (files : Option Files) (mid new : List Call) (t : Topology) (routers : List RouterId) (said : PartsSaid) (scripts : List (List script_line)) →
-    Reaches words files mid (script_files said.scripts ++ feed_files said.feeds) (from_scripts files t routers said.scripts said.feeds) →
-    GoesOn mid (script_files said.scripts ++ feed_files said.feeds) (from_scripts files t routers said.scripts said.feeds) new (feed_files said.feeds) (from_jobs files t routers scripts said.feeds) →
+    Reaches words files mid (script_files said.scripts ++ feed_files said.feeds) (from_scripts files t routers [] said.scripts said.feeds) →
+    GoesOn mid (script_files said.scripts ++ feed_files said.feeds) (from_scripts files t routers [] said.scripts said.feeds) new (feed_files said.feeds) (from_jobs files t routers scripts said.feeds) →
     nat_lt most_jobs (length scripts + length (untaken scripts routers)) ≡ false → Reaches words files new (feed_files said.feeds) (from_feeds files t routers scripts said.feeds)
 reaches-feeds words files mid new t routers said scripts reaches on few =
     goes [] new new (names_of_words words) (feed_files said.feeds) (feed_files said.feeds) (from_words words files)
@@ -278,15 +303,15 @@ reaches-feeds words files mid new t routers said scripts reaches on few =
     (reaches-jobs words files mid new t routers said scripts reaches on) (jobs-few files t routers scripts said.feeds new few)
 
 pub stops-jobs : (words : List (List ℕ)) (files : Option Files) (mid new : List Call) (t : Topology) (routers : List RouterId) (said : PartsSaid) (scripts : List (List script_line)) →
-    Reaches words files mid (script_files said.scripts ++ feed_files said.feeds) (from_scripts files t routers said.scripts said.feeds) →
-    GoesOn mid (script_files said.scripts ++ feed_files said.feeds) (from_scripts files t routers said.scripts said.feeds) new (feed_files said.feeds) (from_jobs files t routers scripts said.feeds) →
+    Reaches words files mid (script_files said.scripts ++ feed_files said.feeds) (from_scripts files t routers [] said.scripts said.feeds) →
+    GoesOn mid (script_files said.scripts ++ feed_files said.feeds) (from_scripts files t routers [] said.scripts said.feeds) new (feed_files said.feeds) (from_jobs files t routers scripts said.feeds) →
     nat_lt most_jobs (length scripts + length (untaken scripts routers)) ≡ true → Stops words files new (Line BadWords errors.TooManyJobs)
 stops-jobs words files mid new t routers said scripts reaches on many =
     ends (Line BadWords errors.TooManyJobs) [] new new (names_of_words words) (feed_files said.feeds) (from_words words files)
     (from_jobs files t routers scripts said.feeds) (reaches-jobs words files mid new t routers said scripts reaches on) (jobs-many files t routers scripts said.feeds new many)
 
 pub stops-scripts : (words : List (List ℕ)) (files : Option Files) (mid new : List Call) (t : Topology) (routers : List RouterId) (said : PartsSaid) (stop : Stop) →
-    Reaches words files mid (script_files said.scripts ++ feed_files said.feeds) (from_scripts files t routers said.scripts said.feeds) →
-    EndsWith mid (script_files said.scripts ++ feed_files said.feeds) (from_scripts files t routers said.scripts said.feeds) new stop → Stops words files new stop
+    Reaches words files mid (script_files said.scripts ++ feed_files said.feeds) (from_scripts files t routers [] said.scripts said.feeds) →
+    EndsWith mid (script_files said.scripts ++ feed_files said.feeds) (from_scripts files t routers [] said.scripts said.feeds) new stop → Stops words files new stop
 stops-scripts words files mid new t routers said stop reaches ending =
-    ends stop [] mid new (names_of_words words) (script_files said.scripts ++ feed_files said.feeds) (from_words words files) (from_scripts files t routers said.scripts said.feeds) reaches ending
+    ends stop [] mid new (names_of_words words) (script_files said.scripts ++ feed_files said.feeds) (from_words words files) (from_scripts files t routers [] said.scripts said.feeds) reaches ending

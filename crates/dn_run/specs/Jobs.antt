@@ -1,22 +1,23 @@
 -- What the jobs of a run came to.
-use Rattle.std.specs.Prelude.{◌≡◌, ℕ, suc, ◌<◌, ◌≤◌, ◌^◌, ◌==◌, Bool, IsTrue, map, List, [], ◌∷◌, length, Option, None, Some}
-use Rattle.dn_formats.specs.Lawful.{IsWhole, IsLawful, jobs_of}
-use Rattle.dn_formats.specs.Steps.{FeedRead}
+use Rattle.std.specs.Prelude.{◌≡◌, ℕ, suc, ◌+◌, ◌<◌, ◌≤◌, ◌^◌, ◌==◌, Bool, IsTrue, map, List, [], ◌∷◌, length, Option, Some}
+use Rattle.dn_formats.specs.Lawful.{IsLawful, jobs_of}
+use Rattle.dn_formats.specs.Steps.{FeedRead, told_of}
 use Rattle.dn_model.specs.declared.entry.Posted.{Posted}
+use Rattle.dn_model.specs.Entry.{entries}
 use Rattle.dn_model.specs.Topology.{all_differ}
 use Rattle.dn_model.specs.declared.ids.RouterId.{RouterId}
 use Rattle.dn_formats.specs.declared.script.Line.{Line}
 use Rattle.dn_formats.specs.declared.script.Script.{Script}
 use Rattle.dn_model.specs.declared.topology.Topology.{Topology}
+use Rattle.dn_formats.specs.declared.told.FeedTold.{FeedTold}
 use Rattle.dn_formats.specs.declared.told.JobTold.{JobTold}
 use Rattle.route_feed.specs.FeedReader.{Reader, told_so_far}
-use Rattle.dn_run.specs.Network.{entries, StandsBy}
-use Rattle.dn_run.specs.Run.{history_limit}
+use Rattle.feed_threads.specs.Feeds.{CountsBy, StandsBy}
+use Rattle.dn_run.specs.Run.{history_limit, most_jobs, untaken}
 
--- the scripts of a run that has one, or none
-abbrev pub scripts_of : Option Script → List (List Line)
-scripts_of None = []
-scripts_of (Some script) = script.lines ∷ []
+-- the lines of scripts
+abbrev pub scripts_of : List Script → List (List Line)
+scripts_of scripts = map (λ script. script.lines) scripts
 
 -- a reader that has read nothing yet, of a router's feed
 pub record IsFresh {S : Type 0} (t : Topology) (faults : S → ℕ) (r : Reader S) : Type 0 where
@@ -39,24 +40,37 @@ same_router q r = q.0 == r.0
 abbrev pub HaveRoutersApart : {S : Type 0} → List (Reader S) → Type 0
 HaveRoutersApart readers = IsTrue (all_differ same_router (map (λ r. r.told.router) readers))
 
--- A feed was read to this end, and the history took all its updates: where the source told its bytes, these steps are what
--- they come to.
-pub record IsReadBy {S : Type 0} (t : Topology) (left : S → Option (List ℕ)) (old new : Reader S) (f : FeedRead) : Type 0 where
-  pub feed_no : f.feed_no ≡ new.told.feed_no
-  pub router : f.router ≡ new.told.router
-  pub kept : IsWhole f
-  pub end_is : new.told.end ≡ Some f.end
-  pub stands : (bytes : List ℕ) → left old.source ≡ Some bytes → StandsBy (Some f.end) t new (left new.source) bytes f.steps
+-- the routers of readers' feeds
+abbrev pub routers_of_readers : {S : Type 0} → List (Reader S) → List RouterId
+routers_of_readers readers = map (λ r. r.told.router) readers
+
+-- scripts over feeds of these routers are no more jobs than a run has
+abbrev pub AreFewJobs : List (List Line) → List RouterId → Type 0
+AreFewJobs scripts routers = length scripts + length (untaken scripts routers) ≤ most_jobs
+
+-- A feed was read to this end by a reader that began as `start`, and its source came back: its count of faults goes with
+-- the end, and this is told of the feed. Where the source told its bytes, these steps are what they come to.
+pub record IsReadAs {S : Type 0} (t : Topology) (left : S → Option (List ℕ)) (faults : S → ℕ) (start : Reader S) (source : S) (told : FeedTold) (f : FeedRead) : Type 0 where
+  pub reader : Reader S
+  pub source_is : reader.source ≡ source
+  pub reader_router : reader.told.router ≡ start.told.router
+  pub limit : reader.limit ≡ start.limit
+  pub feed_no : f.feed_no ≡ start.told.feed_no
+  pub router : f.router ≡ start.told.router
+  pub told_is : told ≡ told_of f
+  pub counts : CountsBy (Some f.end) (faults source)
+  pub stands : (bytes : List ℕ) → left start.source ≡ Some bytes → StandsBy (Some f.end) t reader (left source) bytes f.steps
 
 -- the same of all feeds, in order
-abbrev pub AreReadBy : {S : Type 0} → Topology → (S → Option (List ℕ)) → List (Reader S) → List (Reader S) → List FeedRead → Type 0
-AreReadBy t left [] [] [] = Unit {0}
-AreReadBy t left (old ∷ olds) (new ∷ news) (f ∷ fs) = IsReadBy t left old new f × AreReadBy t left olds news fs
-AreReadBy t left olds news fs = ⊥
+abbrev pub AreReadAs : {S : Type 0} → Topology → (S → Option (List ℕ)) → (S → ℕ) → List (Reader S) → List S → List FeedTold → List FeedRead → Type 0
+AreReadAs t left faults [] [] [] [] = Unit {0}
+AreReadAs t left faults (start ∷ starts) (source ∷ sources) (told ∷ tolds) (f ∷ fs) =
+    IsReadAs t left faults start source told f × AreReadAs t left faults starts sources tolds fs
+AreReadAs t left faults starts sources tolds fs = ⊥
 
 -- The jobs were run, and the feeds read to their ends: the history is a lawful one of what these gave, and so is what is
 -- told of each job.
-pub record HasRun {S : Type 0} (t : Topology) (left : S → Option (List ℕ)) (olds news : List (Reader S)) (history : List Posted) (scripts : List (List Line)) (told : List JobTold) : Type 0 where
+pub record HasRun {S : Type 0} (t : Topology) (left : S → Option (List ℕ)) (faults : S → ℕ) (starts : List (Reader S)) (sources : List S) (tolds : List FeedTold) (history : List Posted) (scripts : List (List Line)) (jobs : List JobTold) : Type 0 where
   pub feeds : List FeedRead
-  pub read : AreReadBy t left olds news feeds
-  pub lawful : IsLawful t history_limit feeds (jobs_of scripts feeds) (entries history) told
+  pub read : AreReadAs t left faults starts sources tolds feeds
+  pub lawful : IsLawful t history_limit feeds (jobs_of scripts feeds) (entries history) jobs

@@ -1,5 +1,6 @@
 -- What ends a run before its jobs, and how far its steps came.
-use Rattle.std.specs.Prelude.{◌≡◌, ◌<◌, ◌≤◌, ℕ, List, [], length, map, All, IsTrue, Option}
+use Rattle.std.specs.Prelude.{◌≡◌, ◌<◌, ◌≤◌, ◌==◌, ℕ, List, [], ◌∷◌, ◌++◌, length, map, All, IsTrue, Option}
+use Rattle.std.specs.List.{list_any}
 use Rattle.std.specs.Arc.{arc_value}
 use Rattle.dn_io.specs.Calls.{Call}
 use Rattle.dn_io.specs.Files.{Files}
@@ -11,9 +12,9 @@ use Rattle.dn_model.specs.Topology.{all_differ}
 use Rattle.dn_model.specs.declared.ids.RouterId.{RouterId}
 use Rattle.dn_model.specs.declared.topology.Topology.{Topology}
 use Rattle.dn_run.specs.Ending.{Ending, Stopped}
-use Rattle.dn_run.specs.Jobs.{scripts_of, same_router}
+use Rattle.dn_run.specs.Jobs.{scripts_of, same_router, AreFewJobs}
 use Rattle.dn_run.specs.PartsRead.{feed_texts}
-use Rattle.dn_run.specs.Run.{FromFeeds, FromJobs, FromScripts, FromWords, IsLine, names_of_words, feed_files}
+use Rattle.dn_run.specs.Run.{FromFeeds, FromJobs, FromScripts, FromWords, IsLine, names_of_words, feed_files, script_files, taken_by_scripts}
 use Rattle.dn_run.specs.Stage.{Stage}
 use Rattle.dn_run.specs.declared.input.Input.{Input}
 use Rattle.dn_run.specs.declared.load.Loaded.{Loaded}
@@ -72,24 +73,57 @@ Stops words files calls stop = EndsWith [] (names_of_words words) (from_words wo
 abbrev pub from_feeds : Option Files → Topology → List RouterId → List (List script_line) → List (ℕ × FeedWords) → Due
 from_feeds files t routers scripts feeds ending calls = FromFeeds files t routers scripts [] feeds calls ending
 
--- what is due before the scripts are read
-abbrev pub from_scripts : Option Files → Topology → List RouterId → List (ℕ × List ℕ) → List (ℕ × FeedWords) → Due
-from_scripts files t routers scripts feeds ending calls = FromScripts files t routers [] scripts feeds calls ending
+-- what is due before these scripts are read, after those
+abbrev pub from_scripts : Option Files → Topology → List RouterId → List (List script_line) → List (ℕ × List ℕ) → List (ℕ × FeedWords) → Due
+from_scripts files t routers read scripts feeds ending calls = FromScripts files t routers read scripts feeds calls ending
 
--- what is due once they were
+-- the names of these scripts' and these feeds' files
+abbrev pub names_left : List (ℕ × List ℕ) → List (ℕ × FeedWords) → List (List ℕ)
+names_left scripts feeds = script_files scripts ++ feed_files feeds
+
+-- these routers are those from which scripts take, in any order
+abbrev pub AreTaken : List RouterId → List (List script_line) → Type 0
+AreTaken taken scripts = (r : RouterId) → list_any (λ q. q.0 == r.0) taken ≡ list_any (λ q. q.0 == r.0) (taken_by_scripts scripts)
+
+-- the script of this part was read, after scripts that take from these routers
+abbrev pub ScriptGoesOn : Option Files → Topology → List RouterId → List RouterId → List Call → ℕ × List ℕ → List Call → List script_line → Type 0
+ScriptGoesOn files t routers taken old part new lines =
+    (read : List (List script_line)) (scripts : List (ℕ × List ℕ)) (feeds : List (ℕ × FeedWords)) → AreTaken taken read →
+    GoesOn old (part.1 ∷ names_left scripts feeds) (from_scripts files t routers read (part ∷ scripts) feeds)
+    new (names_left scripts feeds) (from_scripts files t routers (read ++ lines ∷ []) scripts feeds)
+
+-- the run ends with the script of this part, after scripts that take from these routers
+abbrev pub ScriptEnds : Option Files → Topology → List RouterId → List RouterId → List Call → ℕ × List ℕ → List Call → Stop → Type 0
+ScriptEnds files t routers taken old part new stop =
+    (read : List (List script_line)) (scripts : List (ℕ × List ℕ)) (feeds : List (ℕ × FeedWords)) → AreTaken taken read →
+    EndsWith old (part.1 ∷ names_left scripts feeds) (from_scripts files t routers read (part ∷ scripts) feeds) new stop
+
+-- these scripts were read, and then whatever comes of the rest of all comes of all
+abbrev pub ScriptsGoOn : Option Files → Topology → List RouterId → List Call → List (ℕ × List ℕ) → List Call → List (List script_line) → List (ℕ × List ℕ) → Type 0
+ScriptsGoOn files t routers old all new read rest =
+    (feeds : List (ℕ × FeedWords)) → GoesOn old (names_left all feeds) (from_scripts files t routers [] all feeds)
+    new (names_left rest feeds) (from_scripts files t routers read rest feeds)
+
+-- the run ends with one of these scripts
+abbrev pub ScriptsEnd : Option Files → Topology → List RouterId → List Call → List (ℕ × List ℕ) → List Call → Stop → Type 0
+ScriptsEnd files t routers old all new stop =
+    (feeds : List (ℕ × FeedWords)) → EndsWith old (names_left all feeds) (from_scripts files t routers [] all feeds) new stop
+
+-- what is due once all were
 abbrev pub from_jobs : Option Files → Topology → List RouterId → List (List script_line) → List (ℕ × FeedWords) → Due
 from_jobs files t routers scripts feeds ending calls = FromJobs files t routers scripts feeds calls ending
 
--- The input of a run that came as far as these calls: its feeds, no more than may be, with their routers, which the topology
--- has and which differ.
+-- The input of a run that came as far as these calls: its feeds, and its jobs, no more than may be, and the routers of the
+-- feeds, which the topology has and which differ.
 pub record Starts (words : List (List ℕ)) (files : Option Files) (calls : List Call) (input : Input) : Type 0 where
   pub reaches : Reaches words files calls (feed_files (map feed_texts input.feeds.items))
-      (from_feeds files (arc_value input.topology) input.routers.items (scripts_of input.script) (map feed_texts input.feeds.items))
+      (from_feeds files (arc_value input.topology) input.routers.items (scripts_of input.scripts.items) (map feed_texts input.feeds.items))
   pub as_many : length input.routers.items ≡ length input.feeds.items
   pub few : length input.feeds.items ≤ 64
+  pub few_jobs : AreFewJobs (scripts_of input.scripts.items) input.routers.items
   pub known : All (λ r. r.0 < length (arc_value input.topology).routers) input.routers.items
   pub apart : IsTrue (all_differ same_router input.routers.items)
-  pub room : length calls ≤ 2
+  pub room : length calls ≤ 65
 
 -- what became of a file ends a run with this verdict, where its text is refused, or with this line, where it failed
 abbrev pub StopsAs : {T : Type 0} → Verdict → ErrorLine → Loaded T → Stop → Type 0

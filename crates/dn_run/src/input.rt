@@ -1,31 +1,31 @@
 //! What the words and the files of a run say, before its feeds are opened.
 
-ghost use Rattle.std.specs.Prelude.{◌≡◌, ◌<◌, ◌≤◌, ◌+◌, ◌++◌, ◌∷◌, ◌^◌, ℕ, List, [], length, map, IfOk, IfErr};
+ghost use Rattle.std.specs.Prelude.{◌≡◌, ◌<◌, ◌≤◌, ◌==◌, ◌||◌, ◌+◌, ◌++◌, ◌∷◌, ◌^◌, [], length, map, IfOk, IfErr, OnOk};
+ghost use Rattle.std.specs.List.{flat_map, list_any};
 ghost use Rattle.std.specs.String.{string_bytes};
-ghost use Rattle.dn_formats.specs.Words.{FeedWords};
 ghost use Rattle.dn_run.specs.Jobs.{scripts_of};
 ghost use Rattle.dn_run.specs.PartsRead.{script_texts};
-ghost use Rattle.dn_run.specs.Run.{feed_files, script_files};
-ghost use Rattle.dn_run.specs.Stops.{EndsWith, GoesOn, Starts, Stops, StopsAs, from_jobs, from_scripts};
+ghost use Rattle.dn_run.specs.Run.{taken_by_line};
+ghost use Rattle.dn_run.specs.Stops.{AreTaken, ScriptEnds, ScriptGoesOn, ScriptsEnd, ScriptsGoOn, Starts, Stops, StopsAs};
 
 use crate::load::{Loaded, load_script, load_topology};
 use crate::parts::{FeedPart, ScriptPart, read_parts};
-use crate::routers::find_routers;
+use crate::routers::{find_routers, is_among};
 use crate::status::Verdict;
 use crate::stop::Stop;
 use crate::untaken::has_too_many_jobs;
 use crate::words::read_words;
-use dn_formats::{ErrorLine, Script};
+use dn_formats::{ErrorLine, Line, Script};
 use dn_io::World;
-use dn_model::{RouterId, Topology};
+use dn_model::{OutOfMemory, RouterId, Topology};
 use std::alloc::Global;
 use std::sync::Arc;
 
-/// What a run is over: its topology, its script, if it has one, and its feeds with their routers, none of them open.
+/// What a run is over: its topology, its scripts, and its feeds with their routers, none of them open.
 #[derive(Drop)]
 pub struct Input {
     pub topology: Arc<Topology, Global>,
-    pub script: Option<Script>,
+    pub scripts: Vec<Script>,
     pub feeds: Vec<FeedPart>,
     pub routers: Vec<RouterId>,
 }
@@ -44,59 +44,99 @@ impl<T: Drop> Loaded<T> {
     }
 }
 
-/// Reads the script of this part, in a run with feeds of these routers.
+/// Scripts that were read, and the routers from which they take, each once.
+#[derive(Drop)]
+struct ScriptsRead {
+    scripts: Vec<Script>,
+    taken: Vec<RouterId>,
+}
+
+/// Adds the router from which a line takes, if it takes from one that isn't there.
+fn add_taken(taken: &mut Vec<RouterId>, line: &Line) -> Result<(), OutOfMemory>
+    ensures { OnOk result ((r : RouterId) → list_any (λ q. q.0 == r.0) taken.new.items ≡ (list_any (λ q. q.0 == r.0) taken.old.items || list_any (λ q. q.0 == r.0) (taken_by_line line.now))) }
+{
+    match line {
+        Line::Take { router, .. } => {
+            if !is_among(taken.as_slice(), *router) {
+                taken.push(*router)?;
+            }
+            Ok(())
+        }
+        Line::Ask { .. } => Ok(()),
+    }
+}
+
+/// Adds the routers from which lines take.
+fn add_all_taken(taken: &mut Vec<RouterId>, lines: &[Line]) -> Result<(), OutOfMemory>
+    ensures { OnOk result ((r : RouterId) → list_any (λ q. q.0 == r.0) taken.new.items ≡ (list_any (λ q. q.0 == r.0) taken.old.items || list_any (λ q. q.0 == r.0) (flat_map taken_by_line lines.now))) }
+{
+    for line in lines {
+        add_taken(taken, line)?;
+    }
+    Ok(())
+}
+
+impl ScriptsRead {
+    /// Adds a script.
+    fn add(&mut self, script: Script) -> Result<(), OutOfMemory>
+        requires { AreTaken self.old.taken.items (scripts_of self.old.scripts.items) }
+        ensures taken { OnOk result (AreTaken self.new.taken.items (scripts_of self.new.scripts.items)) }
+        ensures added { OnOk result (scripts_of self.new.scripts.items ≡ scripts_of self.old.scripts.items ++ script.lines ∷ []) }
+        ensures len { OnOk result (length self.new.scripts.items ≡ length self.old.scripts.items + 1) }
+    {
+        add_all_taken(&mut self.taken, script.lines.as_slice())?;
+        self.scripts.push(script)?;
+        Ok(())
+    }
+}
+
+/// Reads the script of this part, in a run with feeds of these routers, some of which earlier scripts take.
 fn read_part<W: World>(
     alloc: Global,
     part: &ScriptPart,
     topology: &Topology,
     routers: &[RouterId],
+    taken: &[RouterId],
     world: &mut W,
 ) -> Result<Script, Stop>
     requires room { length (W.calls world.old) < 2 ^ 32 }
-    ensures ok { IfOk result (λ script. (feeds : List (ℕ × FeedWords)) →
-        GoesOn (W.calls world.old) (string_bytes part.now.file ∷ feed_files feeds) (from_scripts (W.files world.old) topology.now routers.now (script_texts part.now ∷ []) feeds)
-        (W.calls world.new) (feed_files feeds) (from_jobs (W.files world.old) topology.now routers.now (script.lines ∷ []) feeds)) }
-    ensures stops { IfErr result (λ stop. (feeds : List (ℕ × FeedWords)) →
-        EndsWith (W.calls world.old) (string_bytes part.now.file ∷ feed_files feeds) (from_scripts (W.files world.old) topology.now routers.now (script_texts part.now ∷ []) feeds)
-        (W.calls world.new) stop) }
+    ensures ok { IfOk result (λ script. ScriptGoesOn (W.files world.old) topology.now routers.now taken.now (W.calls world.old) (script_texts part.now) (W.calls world.new) script.lines) }
+    ensures stops { IfErr result (ScriptEnds (W.files world.old) topology.now routers.now taken.now (W.calls world.old) (script_texts part.now) (W.calls world.new)) }
     ensures few { IfOk result (λ script. length (W.calls world.new) ≤ length (W.calls world.old) + 1) }
     ensures same_files { W.files world.new ≡ W.files world.old }
 {
     let name = part.file.as_str();
-    let loaded = load_script(alloc, name, part.part, topology, routers, &[], world)?;
+    let loaded = load_script(alloc, name, part.part, topology, routers, taken, world)?;
     loaded.or_stop(Verdict::BadScript, ErrorLine::ReadPart { part: part.part })
 }
 
-/// Reads the script, where there is one.
+/// Reads the scripts of these parts in order. The first that is refused or fails ends the run.
 fn read_scripts<W: World>(
     alloc: Global,
     parts: &[ScriptPart],
     topology: &Topology,
     routers: &[RouterId],
     world: &mut W,
-) -> Result<Option<Script>, Stop>
-    requires room { length (W.calls world.old) < 2 ^ 32 }
-    requires one { length parts.now ≤ 1 }
-    ensures ok { IfOk result (λ script. (feeds : List (ℕ × FeedWords)) →
-        GoesOn (W.calls world.old) (script_files (map script_texts parts.now) ++ feed_files feeds) (from_scripts (W.files world.old) topology.now routers.now (map script_texts parts.now) feeds)
-        (W.calls world.new) (feed_files feeds) (from_jobs (W.files world.old) topology.now routers.now (scripts_of script) feeds)) }
-    ensures stops { IfErr result (λ stop. (feeds : List (ℕ × FeedWords)) →
-        EndsWith (W.calls world.old) (script_files (map script_texts parts.now) ++ feed_files feeds) (from_scripts (W.files world.old) topology.now routers.now (map script_texts parts.now) feeds)
-        (W.calls world.new) stop) }
-    ensures few { IfOk result (λ script. length (W.calls world.new) ≤ length (W.calls world.old) + 1) }
+) -> Result<Vec<Script>, Stop>
+    requires room { length (W.calls world.old) + length parts.now < 2 ^ 32 }
+    ensures ok { IfOk result (λ scripts. ScriptsGoOn (W.files world.old) topology.now routers.now (W.calls world.old) (map script_texts parts.now) (W.calls world.new) (scripts_of scripts.items) []) }
+    ensures stops { IfErr result (ScriptsEnd (W.files world.old) topology.now routers.now (W.calls world.old) (map script_texts parts.now) (W.calls world.new)) }
+    ensures few { IfOk result (λ scripts. length (W.calls world.new) ≤ length (W.calls world.old) + length parts.now) }
+    ensures len { IfOk result (λ scripts. length scripts.items ≡ length parts.now) }
     ensures same_files { W.files world.new ≡ W.files world.old }
 {
-    match parts {
-        [] => Ok(None),
-        [part] => match read_part(alloc, part, topology, routers, world) {
-            Ok(script) => Ok(Some(script)),
-            Err(stop) => Err(stop),
-        },
-        _ => unreachable!(),
+    let mut read = ScriptsRead {
+        scripts: Vec::new(alloc),
+        taken: Vec::new(alloc),
+    };
+    for part in parts {
+        let script = read_part(alloc, part, topology, routers, read.taken.as_slice(), world)?;
+        read.add(script)?;
     }
+    Ok(read.scripts)
 }
 
-/// Reads the words, their parts, the topology and the script, looks up the feeds' routers, and counts the jobs. The first
+/// Reads the words, their parts, the topology and the scripts, looks up the feeds' routers, and counts the jobs. The first
 /// that is refused or fails ends the run.
 pub fn read_input<W: World>(alloc: Global, words: &[String], world: &mut W) -> Result<Input, Stop>
     requires fresh { W.calls world.old ≡ [] }
@@ -112,19 +152,19 @@ pub fn read_input<W: World>(alloc: Global, words: &[String], world: &mut W) -> R
     )?;
     let topology = Arc::new(alloc, topology)?;
     let routers = find_routers(alloc, &topology, parts.feeds.as_slice())?;
-    let script = read_scripts(
+    let scripts = read_scripts(
         alloc,
         parts.scripts.as_slice(),
         &topology,
         routers.as_slice(),
         world,
     )?;
-    if has_too_many_jobs(routers.as_slice(), script.as_ref()) {
+    if has_too_many_jobs(routers.as_slice(), scripts.as_slice()) {
         return Err(Stop::Line(Verdict::BadWords, ErrorLine::TooManyJobs));
     }
     Ok(Input {
         topology,
-        script,
+        scripts,
         feeds: parts.feeds,
         routers,
     })

@@ -1,191 +1,281 @@
-//! The jobs of a run, one after another: the script's, and one for each feed that it doesn't take.
+//! The jobs of a run, side by side: one for each script, and one for each feed that no script takes.
 
-ghost use Rattle.std.specs.Prelude.{◌≡◌, ◌<◌, ◌≤◌, ◌+◌, ◌++◌, ◌∷◌, [], List, length, All, IfOk, OnOk, IsSome};
+ghost use Rattle.std.specs.Prelude.{◌≡◌, ◌≤◌, ◌<◌, ◌^◌, ◌+◌, ◌++◌, ◌∷◌, ◌||◌, [], length, map, All, IfOk};
+ghost use Rattle.std.specs.Prelude.{vec_capacity};
 ghost use Rattle.std.specs.Arc.{arc_value};
-ghost use Rattle.std.specs.Option.{option_copied};
-ghost use Rattle.dn_formats.specs.declared.told.JobTold.{JobTold};
-ghost use Rattle.route_feed.specs.FeedReader.{Reader};
-ghost use Rattle.dn_run.specs.Jobs.{scripts_of, IsFresh, AreNumbered, HaveRoutersApart, HasRun};
-ghost use Rattle.dn_run.specs.Latest.{After, IsOf};
-ghost use Rattle.dn_run.specs.Network.{entries, CountsFaults};
-ghost use Rattle.dn_run.specs.Tracks.{Ready, tags_of, Tracks, Owns};
+ghost use Rattle.std.specs.List.{flat_map, list_any};
+ghost use Rattle.std.specs.List.Sorted.{IsPermutation};
+ghost use Rattle.feed_threads.specs.AllJobs.{AreNumberedApart, told_by};
+ghost use Rattle.feed_threads.specs.Jobs.{AreApart, IsFresh as IsUnread};
+ghost use Rattle.dn_run.specs.Deal.{TakeApart, readers_of};
+ghost use Rattle.dn_run.specs.Feeds.{sources_of};
+ghost use Rattle.dn_run.specs.Jobs.{AreFewJobs, AreNumbered, HasRun, HaveRoutersApart, IsFresh, routers_of_readers, scripts_of};
+ghost use Rattle.dn_run.specs.Ran.{ListRan, RanAs, back_tag, reader_tag};
+ghost use Rattle.dn_run.specs.Run.{history_limit};
 
-use crate::job::{do_script, take_at};
-use crate::latest::Latest;
-use crate::take::Book;
-use crate::untaken::is_own_feed;
-use dn_formats::{JobTold, Script, Told};
+use crate::backs::{append, in_order, part_backs};
+use crate::deal::{Undealt, deal};
+use crate::untaken::MOST_JOBS;
+use dn_formats::{FeedTold, JobTold, Script};
 use dn_io::{Gate, Source};
-use dn_model::{List, OutOfMemory, Posted, RouterId, Topology};
+use dn_model::{List, OutOfMemory, Posted, Topology};
+use feed_threads::{JobDone, JobList, run_history};
 use route_feed::FeedReader;
 use std::alloc::Global;
-use std::sync::Arc;
+use std::sync::{Arc, Wait};
+use std::thread::Threads;
+use version_store::Store;
 
-/// What the jobs of a run came to: the history that they made, and what is told of each.
+/// A history has at most so many entries: a position in it has 32 bits.
+const HISTORY_LIMIT: u32 = 4294967295;
+
+/// What the jobs of a run came to: the history that they made, what is told of each feed, and what is told of each job.
 #[derive(Drop)]
 pub struct JobsDone {
     pub history: List<Posted>,
+    pub feeds: Vec<FeedTold>,
     pub jobs: Vec<JobTold>,
 }
 
-/// What is told of the first job.
-fn first_job(alloc: Global, told: List<Told>) -> Result<Vec<JobTold>, OutOfMemory>
-    ensures { IfOk result (λ jobs. jobs.items ≡ record { number = 1; told = told } ∷ []) }
+/// The sources of readers, into room that they have, in order.
+pub fn into_sources<S: Source>(readers: Vec<FeedReader<S>>, room: Vec<S>) -> Vec<S>
+    requires empty { room.items ≡ [] }
+    requires room { length readers.items ≤ vec_capacity room }
+    ensures { result.items ≡ sources_of readers.items }
 {
-    let mut jobs = Vec::new(alloc);
-    jobs.push(JobTold { number: 1, told })?;
-    Ok(jobs)
+    let mut sources = room;
+    for reader in readers {
+        let (source, _told) = reader.into_parts();
+        sources.push_reserved(source);
+    }
+    sources
 }
 
-/// Runs the script's job, where there is a script, and tells of it.
-fn run_script<S: Source, G: Gate>(
-    alloc: Global,
-    topology: &Topology,
-    script: Option<&Script>,
-    readers: &mut Vec<FeedReader<S>>,
-    book: &mut Book,
-    gate: &G,
-) -> Result<Vec<JobTold>, OutOfMemory>
-    requires { Ready topology.now readers.old.items book.old }
-    ensures ready { OnOk result (Ready topology.now readers.new.items book.new) }
-    ensures few { IfOk result (λ jobs. length jobs.items ≤ 1) }
-    ensures owns { IfOk result (λ jobs. (olds : List (Reader S)) →
-        Tracks topology.now S.left S.faults olds readers.old.items (entries book.old.history) [] [] →
-        Owns topology.now S.left S.faults olds readers.new.items (entries book.new.history) (scripts_of (option_copied script.entry)) jobs.items jobs.items 0) }
-    ensures same { tags_of S.place readers.new.items ≡ tags_of S.place readers.old.items }
-{
-    match script {
-        Some(script) => {
-            let lines = script.lines.as_slice();
-            let told = do_script(alloc, topology, readers, book, lines, gate, 1)?;
-            first_job(alloc, told)
+/// The memory that a run's jobs need to come back: for their sources, for what is told of the feeds, and of the jobs.
+#[derive(Drop)]
+struct Rooms<S: Source> {
+    backs: Vec<(S, FeedTold)>,
+    feeds: Vec<FeedTold>,
+    jobs: Vec<JobTold>,
+}
+
+impl<S: Source> Rooms<S> {
+    /// Room for so many feeds, and for as many jobs as a run may have.
+    fn new(alloc: Global, feeds: usize) -> Result<Rooms<S>, OutOfMemory>
+        ensures empty { IfOk result (λ r. (r.backs.items ≡ []) × (r.feeds.items ≡ []) × (r.jobs.items ≡ [])) }
+        ensures room { IfOk result (λ r. (feeds ≤ vec_capacity r.backs) × (feeds ≤ vec_capacity r.feeds) × (64 ≤ vec_capacity r.jobs)) }
+    {
+        Ok(Rooms {
+            backs: Vec::with_capacity(alloc, feeds)?,
+            feeds: Vec::with_capacity(alloc, feeds)?,
+            jobs: Vec::with_capacity(alloc, MOST_JOBS)?,
+        })
+    }
+}
+
+/// What jobs came to: their sources, one job after another, what is told of each, and whether one wanted memory.
+#[derive(Drop)]
+struct Gathered<S: Source> {
+    backs: Vec<(S, FeedTold)>,
+    jobs: Vec<JobTold>,
+    wanted_memory: bool,
+}
+
+impl<S: Source> Gathered<S> {
+    /// With what one more job came to.
+    fn with(self, done: JobDone<S>) -> Gathered<S>
+        requires backs { length self.backs.items + length done.feeds.items ≤ vec_capacity self.backs }
+        requires jobs { length self.jobs.items < vec_capacity self.jobs }
+        ensures backs { result.backs.items ≡ self.backs.items ++ done.feeds.items }
+        ensures jobs { result.jobs.items ≡ self.jobs.items ++ told_by done ∷ [] }
+        ensures wanted { result.wanted_memory ≡ (self.wanted_memory || done.wanted_memory) }
+        ensures backs_room { vec_capacity result.backs ≡ vec_capacity self.backs }
+        ensures jobs_room { vec_capacity result.jobs ≡ vec_capacity self.jobs }
+    {
+        let Gathered {
+            backs,
+            jobs,
+            wanted_memory,
+        } = self;
+        let wanted_memory = wanted_memory || done.wanted_memory;
+        let JobDone {
+            number,
+            told,
+            feeds,
+            ..
+        } = done;
+        let mut jobs = jobs;
+        jobs.push_reserved(JobTold { number, told });
+        Gathered {
+            backs: append(backs, feeds),
+            jobs,
+            wanted_memory,
         }
-        None => Ok(Vec::new(alloc)),
     }
 }
 
-/// Adds a job that has no script, so that nothing is told of it.
-fn add_job(alloc: Global, jobs: &mut Vec<JobTold>, number: u32) -> Result<(), OutOfMemory>
-    ensures items { OnOk result (jobs.new.items ≡ jobs.old.items ++ record { number = number; told = [] } ∷ []) }
-    ensures len { OnOk result (length jobs.new.items ≡ length jobs.old.items + 1) }
+/// What jobs came to, into its room.
+fn gather<S: Source>(
+    dones: Vec<JobDone<S>>,
+    backs: Vec<(S, FeedTold)>,
+    jobs: Vec<JobTold>,
+) -> Gathered<S>
+    requires empty { (backs.items ≡ []) × (jobs.items ≡ []) }
+    requires backs { length (flat_map (λ done. done.feeds.items) dones.items) ≤ vec_capacity backs }
+    requires jobs { length dones.items ≤ vec_capacity jobs }
+    ensures backs { result.backs.items ≡ flat_map (λ done. done.feeds.items) dones.items }
+    ensures jobs { result.jobs.items ≡ map told_by dones.items }
+    ensures wanted { result.wanted_memory ≡ list_any (λ done. done.wanted_memory) dones.items }
 {
-    jobs.push(JobTold {
-        number,
-        told: List::new(alloc),
-    })?;
-    Ok(())
-}
-
-/// Runs the job of the feed at a place, where no script takes it, and tells of it.
-fn run_own<S: Source, G: Gate>(
-    alloc: Global,
-    topology: &Topology,
-    script: Option<&Script>,
-    readers: &mut Vec<FeedReader<S>>,
-    book: &mut Book,
-    jobs: &mut Vec<JobTold>,
-    at: usize,
-    gate: &G,
-) -> Result<(), OutOfMemory>
-    requires ready { Ready topology.now readers.old.items book.old }
-    requires place { at < length readers.old.items }
-    requires few { length jobs.old.items ≤ at + 1 }
-    ensures ready { OnOk result (Ready topology.now readers.new.items book.new) }
-    ensures few { OnOk result (length jobs.new.items ≤ at + 2) }
-    ensures owns { OnOk result ((olds : List (Reader S)) (tolds : List JobTold) →
-        Owns topology.now S.left S.faults olds readers.old.items (entries book.old.history) (scripts_of (option_copied script.entry)) tolds jobs.old.items at →
-        Owns topology.now S.left S.faults olds readers.new.items (entries book.new.history) (scripts_of (option_copied script.entry)) tolds jobs.new.items (at + 1)) }
-    ensures same { tags_of S.place readers.new.items ≡ tags_of S.place readers.old.items }
-{
-    if !is_own_feed(script, readers[at].told().router) {
-        return Ok(());
-    }
-    let number = jobs.len() as u32 + 1;
-    take_at(alloc, topology, readers, book, at, None, gate, number)?;
-    add_job(alloc, jobs, number)
-}
-
-/// Runs the jobs of the feeds that no script takes, in order, and tells of each.
-fn run_owns<S: Source, G: Gate>(
-    alloc: Global,
-    topology: &Topology,
-    script: Option<&Script>,
-    readers: &mut Vec<FeedReader<S>>,
-    book: &mut Book,
-    jobs: &mut Vec<JobTold>,
-    gate: &G,
-) -> Result<(), OutOfMemory>
-    requires ready { Ready topology.now readers.old.items book.old }
-    requires few { length jobs.old.items ≤ 1 }
-    ensures ready { OnOk result (Ready topology.now readers.new.items book.new) }
-    ensures owns { OnOk result ((olds : List (Reader S)) (tolds : List JobTold) →
-        Owns topology.now S.left S.faults olds readers.old.items (entries book.old.history) (scripts_of (option_copied script.entry)) tolds jobs.old.items 0 →
-        Owns topology.now S.left S.faults olds readers.new.items (entries book.new.history) (scripts_of (option_copied script.entry)) tolds jobs.new.items (length readers.old.items)) }
-    ensures same { tags_of S.place readers.new.items ≡ tags_of S.place readers.old.items }
-{
-    for at in 0..readers.len() {
-        run_own(alloc, topology, script, readers, book, jobs, at, gate)?;
-    }
-    Ok(())
-}
-
-/// Runs the jobs over a book of no update, one after another, and tells of each.
-fn run_all<S: Source, G: Gate>(
-    alloc: Global,
-    topology: &Topology,
-    script: Option<&Script>,
-    readers: &mut Vec<FeedReader<S>>,
-    mut book: Book,
-    gate: &G,
-) -> Result<JobsDone, OutOfMemory>
-    requires fresh { All (IsFresh topology.now S.faults) readers.old.items }
-    requires numbered { AreNumbered 1 readers.old.items }
-    requires apart { HaveRoutersApart readers.old.items }
-    requires few { length readers.old.items ≤ 64 }
-    requires none { book.history ≡ [] }
-    requires version { IsOf topology.now book.latest.version }
-    requires after { After book.latest [] }
-    ensures ran { IfOk result (λ done. HasRun topology.now S.left readers.old.items readers.new.items done.history (scripts_of (option_copied script.entry)) done.jobs.items) }
-    ensures counts { OnOk result (All (λ r. CountsFaults r (S.faults r.source)) readers.new.items) }
-    ensures ended { OnOk result (All (λ r. IsSome r.told.end) readers.new.items) }
-    ensures same { tags_of S.place readers.new.items ≡ tags_of S.place readers.old.items }
-{
-    let mut jobs = run_script(alloc, topology, script, readers, &mut book, gate)?;
-    run_owns(alloc, topology, script, readers, &mut book, &mut jobs, gate)?;
-    Ok(JobsDone {
-        history: book.history,
+    let mut gathered = Gathered {
+        backs,
         jobs,
-    })
+        wanted_memory: false,
+    };
+    for done in dones {
+        gathered = gathered.with(done);
+    }
+    gathered
 }
 
-/// Runs the jobs of a run, one after another, over the readers of its feeds: first the script's, where there is one, and
-/// then one for each feed that it doesn't take. Jobs count from 1. Each feed is read to its end.
+/// An empty store over a run's topology.
+fn new_store(alloc: Global, topology: &Arc<Topology, Global>) -> Result<Store, OutOfMemory>
+    ensures basis { IfOk result (λ store. store.basis ≡ record { topology = arc_value topology.now; limit = history_limit }) }
+    ensures empty { IfOk result (λ store. store.history ≡ []) }
+{
+    Store::new(alloc, Arc::try_clone(topology)?, HISTORY_LIMIT)
+}
+
+/// The sources of jobs that aren't run.
+fn give_back_jobs<S: Source>(
+    alloc: Global,
+    list: JobList<S>,
+    backs: Vec<(S, FeedTold)>,
+) -> Vec<(S, FeedTold)>
+    requires empty { backs.items ≡ [] }
+    requires room { length (readers_of list) ≤ vec_capacity backs }
+    ensures tags { map (back_tag S.place) result.items ≡ map (reader_tag S.place) (readers_of list) }
+{
+    Undealt {
+        jobs: list.into_jobs(),
+        some: Vec::new(alloc),
+        others: Vec::new(alloc),
+    }
+    .give_back(backs)
+}
+
+/// Runs jobs over an empty history. In any case their sources come back, in the order of the jobs.
+fn run_list<S: Source, G: Gate, R: Threads + Wait + Sync>(
+    rt: &R,
+    alloc: Global,
+    topology: &Arc<Topology, Global>,
+    list: JobList<S>,
+    rooms: (Vec<(S, FeedTold)>, Vec<JobTold>),
+    gate: &G,
+) -> (Result<(List<Posted>, Vec<JobTold>), OutOfMemory>, Vec<(S, FeedTold)>)
+    requires few { length list ≤ 64 }
+    requires fresh { All (λ job. All (IsUnread (arc_value topology.now) S.faults) job.feeds) list }
+    requires apart { All (λ job. AreApart job.feeds) list }
+    requires numbers { AreNumberedApart list }
+    requires empty { (rooms.0.items ≡ []) × (rooms.1.items ≡ []) }
+    requires backs { length (readers_of list) ≤ vec_capacity rooms.0 }
+    requires jobs { length list ≤ vec_capacity rooms.1 }
+    ensures ran { IfOk result.0 (λ made. ListRan (arc_value topology.now) S.left S.faults S.place list result.1.items made.0 made.1.items) }
+    ensures tags { map (back_tag S.place) result.1.items ≡ map (reader_tag S.place) (readers_of list) }
+{
+    let (backs, jobs) = rooms;
+    let Ok(store) = new_store(alloc, topology) else {
+        return (Err(OutOfMemory), give_back_jobs(alloc, list, backs));
+    };
+    let (store, dones) = match run_history(rt, alloc, store, gate, topology, list) {
+        Ok(ran) => ran,
+        Err(list) => return (Err(OutOfMemory), give_back_jobs(alloc, list, backs)),
+    };
+    let Gathered {
+        backs,
+        jobs,
+        wanted_memory,
+    } = gather(dones, backs, jobs);
+    if wanted_memory {
+        return (Err(OutOfMemory), backs);
+    }
+    match store.history(alloc) {
+        Ok(history) => (Ok((history, jobs)), backs),
+        Err(e) => (Err(e), backs),
+    }
+}
+
+/// Deals readers to jobs and runs these. In any case all sources come back, in some order.
+fn run_dealt<S: Source, G: Gate, R: Threads + Wait + Sync>(
+    rt: &R,
+    alloc: Global,
+    topology: &Arc<Topology, Global>,
+    scripts: Vec<Script>,
+    readers: Vec<FeedReader<S>>,
+    rooms: (Vec<(S, FeedTold)>, Vec<JobTold>),
+    gate: &G,
+) -> (Result<(List<Posted>, Vec<JobTold>), OutOfMemory>, Vec<(S, FeedTold)>)
+    requires fresh { All (IsFresh (arc_value topology.now) S.faults) readers.items }
+    requires numbered { AreNumbered 1 readers.items }
+    requires apart { HaveRoutersApart readers.items }
+    requires few { length readers.items ≤ 64 }
+    requires jobs { AreFewJobs (scripts_of scripts.items) (routers_of_readers readers.items) }
+    requires apart_scripts { TakeApart (scripts_of scripts.items) }
+    requires empty { (rooms.0.items ≡ []) × (rooms.1.items ≡ []) }
+    requires room { (length readers.items ≤ vec_capacity rooms.0) × (64 ≤ vec_capacity rooms.1) }
+    ensures ran { IfOk result.0 (λ made. RanAs (arc_value topology.now) S.left S.faults readers.items result.1.items made.0 (scripts_of scripts.items) made.1.items) }
+    ensures tags { IsPermutation (map (reader_tag S.place) readers.items) (map (back_tag S.place) result.1.items) }
+    ensures count { length result.1.items ≡ length readers.items }
+{
+    match deal(alloc, scripts, readers) {
+        Ok(list) => run_list(rt, alloc, topology, list, rooms, gate),
+        Err(undealt) => (Err(OutOfMemory), undealt.give_back(rooms.0)),
+    }
+}
+
+/// Runs the jobs of a run side by side: the scripts' in order, and then one for each feed that no script takes. Jobs
+/// count from 1. Each feed is read to its end, and in any case its source comes back, in the order of the readers.
 ///
 /// A script's job does its lines in order, and then takes the rest of each feed that they name, in the order in which
-/// they first take it. A line that takes frames of a router without a feed does nothing.
+/// they first take it.
 ///
 /// # Errors
 ///
-/// `OutOfMemory`; the readers then stand where the jobs left them.
-pub fn run_jobs<S: Source, G: Gate>(
+/// `OutOfMemory`, where a job wanted memory, or where it was wanting before any job began.
+pub fn run_jobs<S: Source, G: Gate, R: Threads + Wait + Sync>(
+    rt: &R,
     alloc: Global,
     topology: &Arc<Topology, Global>,
-    script: Option<&Script>,
-    readers: &mut Vec<FeedReader<S>>,
+    scripts: Vec<Script>,
+    readers: Vec<FeedReader<S>>,
+    room: Vec<S>,
     gate: &G,
-) -> Result<JobsDone, OutOfMemory>
-    requires fresh { All (IsFresh (arc_value topology.now) S.faults) readers.old.items }
-    requires numbered { AreNumbered 1 readers.old.items }
-    requires apart { HaveRoutersApart readers.old.items }
-    requires few { length readers.old.items ≤ 64 }
-    ensures ran { IfOk result (λ done. HasRun (arc_value topology.now) S.left readers.old.items readers.new.items done.history (scripts_of (option_copied script.entry)) done.jobs.items) }
-    ensures counts { OnOk result (All (λ r. CountsFaults r (S.faults r.source)) readers.new.items) }
-    ensures ended { OnOk result (All (λ r. IsSome r.told.end) readers.new.items) }
-    ensures same { tags_of S.place readers.new.items ≡ tags_of S.place readers.old.items }
+) -> (Result<JobsDone, OutOfMemory>, Vec<S>)
+    requires fresh { All (IsFresh (arc_value topology.now) S.faults) readers.items }
+    requires numbered { AreNumbered 1 readers.items }
+    requires apart { HaveRoutersApart readers.items }
+    requires few { length readers.items ≤ 64 }
+    requires jobs { AreFewJobs (scripts_of scripts.items) (routers_of_readers readers.items) }
+    requires apart_scripts { TakeApart (scripts_of scripts.items) }
+    requires room { (room.items ≡ []) × (length readers.items ≤ vec_capacity room) }
+    ensures ran { IfOk result.0 (λ done. HasRun (arc_value topology.now) S.left S.faults readers.items result.1.items done.feeds.items done.history (scripts_of scripts.items) done.jobs.items) }
+    ensures same { map S.place result.1.items ≡ map (λ r. S.place r.source) readers.items }
 {
-    let book = Book {
-        latest: Latest::new(alloc, topology.clone()?)?,
-        history: List::new(alloc),
+    let Ok(rooms) = Rooms::new(alloc, readers.len()) else {
+        return (Err(OutOfMemory), into_sources(readers, room));
     };
-    run_all(alloc, topology, script, readers, book, gate)
+    let Rooms { backs, feeds, jobs } = rooms;
+    let (made, backs) = run_dealt(rt, alloc, topology, scripts, readers, (backs, jobs), gate);
+    let (sources, feeds) = part_backs(in_order(backs), room, feeds);
+    match made {
+        Ok((history, jobs)) => (
+            Ok(JobsDone {
+                history,
+                feeds,
+                jobs,
+            }),
+            sources,
+        ),
+        Err(e) => (Err(e), sources),
+    }
 }

@@ -1,19 +1,18 @@
-//! Jobs over several feeds in memory, against histories and pins worked out by hand.
+//! Jobs side by side over several feeds in memory: what every interleaving has to show.
 
 ghost use Rattle.std.specs.Prelude.{◌≡◌, ◌≤◌, ◌∷◌, [], IfOk, length};
 ghost use Rattle.std.specs.Prelude.{All};
 ghost use Rattle.std.specs.Arc.{arc_value};
-ghost use Rattle.std.specs.Option.{option_copied};
-ghost use Rattle.dn_run.specs.Jobs.{scripts_of};
 
 use crate::jobs::{JobsDone, run_jobs};
-use dn_formats::{Line, Outcome, Script, Told};
+use dn_formats::{Line, Outcome, Script};
 use dn_io::{MemSource, NoGate};
 use dn_model::{Ask, List, Name, OutOfMemory, Posted, Query, RouterId, TopoEnd, Topology};
 use route_feed::FeedReader;
 use std::alloc::Global;
 use std::process::Abort;
-use std::sync::Arc;
+use std::sync::{Arc, Wait};
+use std::thread::Threads;
 
 /// An edge at a router's interface 2.
 fn edge(router: u16) -> TopoEnd
@@ -85,35 +84,18 @@ fn path_line(alloc: Global, line: u32) -> Result<Line, OutOfMemory> {
     })
 }
 
-/// The numbers of the feeds that a history's entries came from.
-fn feeds_of(alloc: Global, history: &[Posted]) -> Result<Vec<u32>, OutOfMemory> {
-    let mut feeds = Vec::new(alloc);
-    for posted in history {
-        feeds.push(posted.entry.feed_no)?;
-    }
-    Ok(feeds)
-}
-
-/// The pins of what was told.
-fn pins_of(alloc: Global, tolds: &[Told]) -> Result<Vec<u32>, OutOfMemory> {
-    let mut pins = Vec::new(alloc);
-    for told in tolds {
-        if let Outcome::Answered { number, .. } = told.outcome {
-            pins.push(number)?;
-        }
-    }
-    Ok(pins)
-}
-
-/// What the jobs of these lines come to over feeds of `r1`, `r2` and `r3` with so many updates.
-fn run_three(
+/// What the jobs of these scripts come to over feeds of `r1`, `r2` and `r3` with so many updates.
+fn run_three<R: Threads + Wait + Sync>(
+    rt: &R,
     alloc: Global,
     counts: [u8; 3],
-    script: Option<&Script>,
-) -> Result<JobsDone, OutOfMemory> {
+    scripts: Vec<Script>,
+) -> Result<JobsDone, OutOfMemory>
+    requires { length scripts.items ≤ 2 }
+{
     let topology = three_routers(alloc)?;
     let [first, second, third] = counts;
-    let mut readers = Vec::from_array(
+    let readers = Vec::from_array(
         alloc,
         [
             FeedReader::new(alloc, source(alloc, first)?, RouterId(0), 1, 1000),
@@ -121,7 +103,9 @@ fn run_three(
             FeedReader::new(alloc, source(alloc, third)?, RouterId(2), 3, 1000),
         ],
     )?;
-    run_jobs(alloc, &topology, script, &mut readers, &NoGate)
+    let room = Vec::with_capacity(alloc, 3)?;
+    let (done, _sources) = run_jobs(rt, alloc, &topology, scripts, readers, room, &NoGate);
+    done
 }
 
 /// A script that takes one frame of r1 and all of r3, and asks after each.
@@ -141,34 +125,69 @@ fn asking_script(alloc: Global) -> Result<Script, OutOfMemory> {
     Ok(Script { lines })
 }
 
-/// The history's entries came from these feeds.
-fn compare_feeds(rt: &impl Abort, alloc: Global, done: &JobsDone, want: &[u32]) {
-    let feeds = feeds_of(alloc, done.history.as_slice()).expect(rt, "memory");
-    assert_eq!(rt; feeds.as_slice(), want);
+/// How many of these entries came from a feed.
+fn count_of(history: &[Posted], feed_no: u32) -> usize {
+    let mut count = 0;
+    for posted in history {
+        if posted.entry.feed_no == feed_no {
+            count += 1;
+        }
+    }
+    count
 }
 
-/// The first job has these pins, and there are so many jobs, whose last one has this number.
-fn compare_jobs(rt: &impl Abort, alloc: Global, done: &JobsDone, pins: &[u32], count: usize) {
+/// The entries of the feeds 1 and 3 stand in this order in the history.
+fn compare_order(rt: &impl Abort, history: &[Posted], want: &[u32]) {
+    let mut at = 0;
+    for posted in history {
+        if posted.entry.feed_no != 2 {
+            assert!(rt; at < want.len());
+            assert_eq!(rt; posted.entry.feed_no, want[at]);
+            at += 1;
+        }
+    }
+    assert_eq!(rt; at, want.len());
+}
+
+/// At this query of the first job its pin holds so many entries of the feeds 1 and 3.
+fn compare_pin(rt: &impl Abort, done: &JobsDone, query: usize, first: usize, third: usize) {
+    assert!(rt; !done.jobs.is_empty() && query < done.jobs[0].told.len());
+    let Outcome::Answered { number, .. } = done.jobs[0].told.as_slice()[query].outcome else {
+        panic!(rt; "an answer");
+    };
+    let history = done.history.as_slice();
+    assert!(rt; number as usize <= history.len());
+    let seen = &history[..number as usize];
+    assert_eq!(rt; count_of(seen, 1), first);
+    assert_eq!(rt; count_of(seen, 3), third);
+}
+
+/// There are so many jobs, whose last one has this number, and so many entries of the feed 2.
+fn compare_jobs(rt: &impl Abort, done: &JobsDone, count: usize, second: usize) {
     assert!(rt; 0 < count && done.jobs.len() == count);
-    let found = pins_of(alloc, done.jobs[0].told.as_slice()).expect(rt, "memory");
-    assert_eq!(rt; found.as_slice(), pins);
     assert_eq!(rt; done.jobs[count - 1].number as usize, count);
+    assert_eq!(rt; count_of(done.history.as_slice(), 2), second);
+    assert_eq!(rt; done.feeds.len(), 3);
 }
 
 #[test]
 fn a_script_over_two_of_three_feeds(rt: HostRuntime) {
     let alloc = rt.alloc();
     let script = taking_script(alloc).expect(&rt, "memory");
-    let done = run_three(alloc, [2, 1, 2], Some(&script)).expect(&rt, "memory");
-    compare_feeds(&rt, alloc, &done, &[1, 3, 3, 1, 2]);
-    compare_jobs(&rt, alloc, &done, &[1, 3], 2);
+    let scripts = Vec::from_array(alloc, [script]).expect(&rt, "memory");
+    let done = run_three(&rt, alloc, [2, 1, 2], scripts).expect(&rt, "memory");
+    compare_order(&rt, done.history.as_slice(), &[1, 3, 3, 1]);
+    compare_pin(&rt, &done, 0, 1, 0);
+    compare_pin(&rt, &done, 1, 1, 2);
+    compare_jobs(&rt, &done, 2, 1);
 }
 
 #[test]
 fn a_script_that_takes_no_feed(rt: HostRuntime) {
     let alloc = rt.alloc();
     let script = asking_script(alloc).expect(&rt, "memory");
-    let done = run_three(alloc, [2, 1, 0], Some(&script)).expect(&rt, "memory");
-    compare_feeds(&rt, alloc, &done, &[1, 1, 2]);
-    compare_jobs(&rt, alloc, &done, &[0], 4);
+    let scripts = Vec::from_array(alloc, [script]).expect(&rt, "memory");
+    let done = run_three(&rt, alloc, [2, 1, 0], scripts).expect(&rt, "memory");
+    assert_eq!(rt; done.history.len(), 3);
+    compare_jobs(&rt, &done, 4, 1);
 }

@@ -1,16 +1,14 @@
 //! The whole run of the program: words, topology, scripts, feeds, jobs, report.
 #![tactic(auto)]
 
-mod answerer;
-mod ask;
+mod backs;
+mod deal;
 mod feeds;
 mod files;
 mod input;
-mod job;
 mod jobs;
 #[cfg(test)]
 mod jobs_tests;
-mod latest;
 mod laws;
 mod load;
 mod parts;
@@ -21,10 +19,11 @@ mod routers;
 mod ruling;
 #[cfg(test)]
 mod run_tests;
+#[cfg(test)]
+mod script_tests;
 mod status;
 mod stop;
 mod sure;
-mod take;
 mod untaken;
 mod words;
 

@@ -13,7 +13,7 @@ use std::alloc::{AllocError, AllocFailed, Global};
 const FEEDS: usize = 64;
 
 /// The most scripts of a run.
-const SCRIPTS: usize = 1;
+const SCRIPTS: usize = 64;
 
 /// A feed of a run: the number of its part, from 1, its router's name and its file.
 #[derive(Drop)]
@@ -98,7 +98,7 @@ impl RunParts {
     /// The number of the part after those that were read.
     fn next_part(&self) -> u32
         requires feeds { length self.now.feeds.items ≤ 64 }
-        requires scripts { length self.now.scripts.items ≤ 1 }
+        requires scripts { length self.now.scripts.items ≤ 64 }
         ensures { result ≡ next_number (parts_texts self.now) }
     {
         (self.feeds.len() + self.scripts.len() + 1) as u32
@@ -107,10 +107,10 @@ impl RunParts {
     /// Adds the feed that a part `ROUTER=FILE` is.
     fn add_feed(&mut self, alloc: Global, text: &str) -> Result<(), PartsRefused>
         requires feeds { length self.old.feeds.items ≤ 64 }
-        requires scripts { length self.old.scripts.items ≤ 1 }
+        requires scripts { length self.old.scripts.items ≤ 64 }
         ensures ok { OnOk result (with_part (parts_texts self.old) (option_map feed_part (feed_of_part text.now)) ≡ Ok (parts_texts self.new)) }
         ensures refused { IfErr result (λ e. ArePartsRefused e (with_part (parts_texts self.old) (option_map feed_part (feed_of_part text.now)))) }
-        ensures few { OnOk result ((length self.new.feeds.items ≤ 64) × (length self.new.scripts.items ≤ 1)) }
+        ensures few { OnOk result ((length self.new.feeds.items ≤ 64) × (length self.new.scripts.items ≤ 64)) }
     {
         let part = self.next_part();
         let Some(feed) = read_feed(alloc, part, text)? else {
@@ -126,10 +126,10 @@ impl RunParts {
     /// Adds the script of a file.
     fn add_script(&mut self, alloc: Global, file: &str) -> Result<(), PartsRefused>
         requires feeds { length self.old.feeds.items ≤ 64 }
-        requires scripts { length self.old.scripts.items ≤ 1 }
+        requires scripts { length self.old.scripts.items ≤ 64 }
         ensures ok { OnOk result (with_part (parts_texts self.old) (script_named file.now) ≡ Ok (parts_texts self.new)) }
         ensures refused { IfErr result (λ e. ArePartsRefused e (with_part (parts_texts self.old) (script_named file.now))) }
-        ensures few { OnOk result ((length self.new.feeds.items ≤ 64) × (length self.new.scripts.items ≤ 1)) }
+        ensures few { OnOk result ((length self.new.feeds.items ≤ 64) × (length self.new.scripts.items ≤ 64)) }
     {
         let part = self.next_part();
         if file.is_empty() {
@@ -146,10 +146,10 @@ impl RunParts {
     /// Adds what one part more is.
     fn add(&mut self, alloc: Global, text: &str) -> Result<(), PartsRefused>
         requires feeds { length self.old.feeds.items ≤ 64 }
-        requires scripts { length self.old.scripts.items ≤ 1 }
+        requires scripts { length self.old.scripts.items ≤ 64 }
         ensures ok { OnOk result (with_part (parts_texts self.old) (part_of text.now) ≡ Ok (parts_texts self.new)) }
         ensures refused { IfErr result (λ e. ArePartsRefused e (with_part (parts_texts self.old) (part_of text.now))) }
-        ensures few { OnOk result ((length self.new.feeds.items ≤ 64) × (length self.new.scripts.items ≤ 1)) }
+        ensures few { OnOk result ((length self.new.feeds.items ≤ 64) × (length self.new.scripts.items ≤ 64)) }
     {
         match text.strip_prefix('@') {
             Some(file) => self.add_script(alloc, file),
@@ -163,7 +163,7 @@ impl RunParts {
 pub fn read_parts(alloc: Global, parts: &[String]) -> Result<RunParts, PartsRefused>
     ensures ok { IfOk result (λ p. parts_of (map string_bytes parts.now) ≡ Ok (parts_texts p)) }
     ensures refused { IfErr result (λ e. ArePartsRefused e (parts_of (map string_bytes parts.now))) }
-    ensures few { IfOk result (λ p. (length p.feeds.items ≤ 64) × (length p.scripts.items ≤ 1)) }
+    ensures few { IfOk result (λ p. (length p.feeds.items ≤ 64) × (length p.scripts.items ≤ 64)) }
 {
     let mut said = RunParts {
         feeds: Vec::new(alloc),

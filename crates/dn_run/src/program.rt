@@ -6,7 +6,7 @@ ghost use Rattle.std.specs.String.{string_bytes};
 ghost use Rattle.dn_io.specs.Calls.{names_of};
 ghost use Rattle.dn_model.specs.Topology.{all_differ};
 ghost use Rattle.dn_run.specs.Ending.{ending_of};
-ghost use Rattle.dn_run.specs.Jobs.{scripts_of, same_router};
+ghost use Rattle.dn_run.specs.Jobs.{AreFewJobs, scripts_of, same_router};
 ghost use Rattle.dn_run.specs.PartsRead.{feed_texts};
 ghost use Rattle.dn_run.specs.Run.{IsDue, IsWritten, IsFinished, status_of, names_of_words, feed_files};
 ghost use Rattle.dn_run.specs.Stage.{Stage, AsksFor, AnswersCalls, CountsWrites};
@@ -21,37 +21,52 @@ use dn_io::{Gate, Sink, World};
 use dn_model::OutOfMemory;
 use run_report::write_report;
 use std::alloc::Global;
+use std::sync::Wait;
+use std::thread::Threads;
 
 /// Opens the feeds of an input, and runs the jobs over them.
-fn run_input<W: World, G: Gate>(
+fn run_input<W: World, G: Gate, R: Threads + Wait + Sync>(
+    rt: &R,
     alloc: Global,
-    input: &Input,
+    input: Input,
     world: &mut W,
     gate: &G,
 ) -> Result<Ruling, OutOfMemory>
-    requires as_many { length input.now.routers.items ≡ length input.now.feeds.items }
-    requires few { length input.now.feeds.items ≤ 64 }
-    requires known { All (λ r. r.0 < length (arc_value input.now.topology).routers) input.now.routers.items }
-    requires apart { IsTrue (all_differ same_router input.now.routers.items) }
-    requires room { length (W.calls world.old) ≤ 2 }
-    ensures { Stage (W.calls world.old) (W.calls world.new) (feed_files (map feed_texts input.now.feeds.items)) (ending_of result)
-        (feeds_due (W.files world.old) (arc_value input.now.topology) input.now.routers.items (scripts_of input.now.script) (map feed_texts input.now.feeds.items) (ending_of result)) }
+    requires as_many { length input.routers.items ≡ length input.feeds.items }
+    requires few { length input.feeds.items ≤ 64 }
+    requires jobs { AreFewJobs (scripts_of input.scripts.items) input.routers.items }
+    requires known { All (λ r. r.0 < length (arc_value input.topology).routers) input.routers.items }
+    requires apart { IsTrue (all_differ same_router input.routers.items) }
+    requires room { length (W.calls world.old) ≤ 65 }
+    ensures { Stage (W.calls world.old) (W.calls world.new) (feed_files (map feed_texts input.feeds.items)) (ending_of result)
+        (feeds_due (W.files world.old) (arc_value input.topology) input.routers.items (scripts_of input.scripts.items) (map feed_texts input.feeds.items) (ending_of result)) }
 {
-    let mut readers = Vec::new(alloc);
-    from_feeds(
+    let Input {
+        topology,
+        scripts,
+        feeds,
+        routers,
+    } = input;
+    let readers = Vec::with_capacity(alloc, feeds.len())?;
+    let room = Vec::with_capacity(alloc, feeds.len())?;
+    let (ruling, _none) = from_feeds(
+        rt,
         alloc,
-        &input.topology,
-        input.routers.as_slice(),
-        input.script.as_ref(),
-        input.feeds.as_slice(),
-        &mut readers,
+        &topology,
+        routers.as_slice(),
+        scripts,
+        feeds.as_slice(),
+        readers,
+        room,
         world,
         gate,
-    )
+    );
+    ruling
 }
 
 /// What a run of these words comes to.
-fn rule<W: World, G: Gate>(
+fn rule<W: World, G: Gate, R: Threads + Wait + Sync>(
+    rt: &R,
     alloc: Global,
     words: &[String],
     world: &mut W,
@@ -62,7 +77,7 @@ fn rule<W: World, G: Gate>(
         (words_due (map string_bytes words.now) (W.files world.old) (ending_of result)) }
 {
     match read_input(alloc, words, world) {
-        Ok(input) => run_input(alloc, &input, world, gate),
+        Ok(input) => run_input(rt, alloc, input, world, gate),
         Err(Stop::Line(verdict, line)) => refusal(alloc, verdict, line),
         Err(Stop::OutOfMemory) => Err(OutOfMemory),
     }
@@ -98,7 +113,8 @@ fn status_of(verdict: Verdict) -> Status
 /// Reads the files from the world, and writes one report, or one error line, to the sink.
 ///
 /// The world was asked for no name yet, and no write of the sink has failed yet.
-pub fn run<W: World, K: Sink, G: Gate>(
+pub fn run<W: World, K: Sink, G: Gate, R: Threads + Wait + Sync>(
+    rt: &R,
     alloc: Global,
     words: &[String],
     world: &mut W,
@@ -117,7 +133,7 @@ pub fn run<W: World, K: Sink, G: Gate>(
     ensures writes { CountsWrites result (K.faults sink.old) (K.faults sink.new) }
     ensures nothing { result ≡ Status.OutOfMemory → K.written sink.new ≡ K.written sink.old }
 {
-    match rule(alloc, words, world, gate) {
+    match rule(rt, alloc, words, world, gate) {
         Ok(ruling) => finish(sink, &ruling),
         Err(OutOfMemory) => Status::OutOfMemory,
     }

@@ -6,6 +6,8 @@ use crate::status::Status;
 use dn_io::{MemSink, MemWorld, NoGate};
 use std::alloc::{AllocError, Global};
 use std::process::Abort;
+use std::sync::Wait;
+use std::thread::Threads;
 
 /// The ring, but link `a` is unnumbered.
 const UNNUMBERED: &str =
@@ -28,7 +30,8 @@ const CLEAR: [u8; 40] = [
 
 /// What is printed of a script's queries over this topology and the feeds of r1, r2 and r3: the report from the line
 /// after `job 1` to the line before `done`. Nothing where the run didn't end well.
-fn answers_over(
+fn answers_over<R: Threads + Wait + Sync>(
+    rt: &R,
     alloc: Global,
     topology: &str,
     feeds: [&[u8]; 3],
@@ -53,7 +56,7 @@ fn answers_over(
     )?;
     let mut world = MemWorld::new(alloc, files, Vec::new(alloc));
     let mut sink = MemSink::new(alloc, 4096, Vec::new(alloc));
-    let status = run(alloc, words.as_slice(), &mut world, &mut sink, &NoGate);
+    let status = run(rt, alloc, words.as_slice(), &mut world, &mut sink, &NoGate);
     if status != Status::Done {
         return Ok(Vec::new(alloc));
     }
@@ -71,20 +74,25 @@ fn between<'a>(text: &'a [u8], head: &[u8], tail: &[u8]) -> &'a [u8] {
 }
 
 /// A script's queries over this topology and the feeds of r1, r2 and r3 are answered by these lines.
-fn compare(
-    rt: &impl Abort,
+fn compare<R: Abort + Threads + Wait + Sync>(
+    rt: &R,
     alloc: Global,
     topology: &str,
     feeds: [&[u8]; 3],
     script: &str,
     lines: &str,
 ) {
-    let got = answers_over(alloc, topology, feeds, script).expect(rt, "memory");
+    let got = answers_over(rt, alloc, topology, feeds, script).expect(rt, "memory");
     assert_eq!(rt; got.as_slice(), lines.as_bytes(), "{lines}");
 }
 
 /// A query over three feeds, with which 10.0.0.0/8 goes from r1 by r2 to r3 and leaves there, is answered by these lines.
-fn compare_query(rt: &impl Abort, alloc: Global, query: &str, lines: &str) {
+fn compare_query<R: Abort + Threads + Wait + Sync>(
+    rt: &R,
+    alloc: Global,
+    query: &str,
+    lines: &str,
+) {
     let (first, second, third) = (set_frame(0, 8, 2), set_frame(0, 8, 3), set_frame(0, 8, 1));
     let script = format!(in alloc; "{TAKES}{query}\n").expect(rt, "memory");
     let want = format!(in alloc; "line 4 at 3 {query}\n{lines}").expect(rt, "memory");

@@ -46,7 +46,7 @@ impl From<ErrorLine> for RoutersRefused {
 }
 
 /// Whether a router is among these.
-fn is_among(routers: &[RouterId], router: RouterId) -> bool
+pub fn is_among(routers: &[RouterId], router: RouterId) -> bool
     ensures { result ≡ list_any (λ q. q.0 == router.0) routers.now }
 {
     routers.iter().any(|other| other.0 == router.0)

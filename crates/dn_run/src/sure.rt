@@ -11,12 +11,15 @@ use crate::program::run;
 use crate::status::Status;
 use dn_io::{Gate, SureSink, SureWorld};
 use std::alloc::Global;
+use std::sync::Wait;
+use std::thread::Threads;
 
 /// Runs the program over files in memory and a sink, neither of which ever fails, and tells its status. No such run ends
 /// with a fault of reading or of writing; all else is as `run` promises. The sink keeps nothing of what is written.
 ///
 /// The world was asked for no name yet.
-pub fn run_surely<G: Gate>(
+pub fn run_surely<G: Gate, R: Threads + Wait + Sync>(
+    rt: &R,
     alloc: Global,
     words: &[String],
     world: &mut SureWorld,
@@ -30,7 +33,7 @@ pub fn run_surely<G: Gate>(
     ensures files { AnswersCalls result world.new.calls }
 {
     let mut sink = SureSink;
-    let status = run(alloc, words, world, &mut sink, gate);
+    let status = run(rt, alloc, words, world, &mut sink, gate);
     let _calls = world.calls();
     status
 }

@@ -2,7 +2,6 @@
 
 ghost use Rattle.std.specs.Prelude.{◌≡◌, ◌+◌, ◌≤◌, nat_lt, not, length, filter, map};
 ghost use Rattle.std.specs.List.{list_any};
-ghost use Rattle.std.specs.Option.{option_copied};
 ghost use Rattle.dn_formats.specs.Lawful.{takes};
 ghost use Rattle.dn_run.specs.Jobs.{scripts_of};
 ghost use Rattle.dn_run.specs.Run.{most_jobs, untaken, takes_router};
@@ -11,7 +10,7 @@ use dn_formats::{Line, Script};
 use dn_model::RouterId;
 
 /// A run has at most this many jobs.
-const MOST_JOBS: usize = 64;
+pub const MOST_JOBS: usize = 64;
 
 /// Whether a line takes frames of this router's feed.
 fn is_take_of(line: &Line, router: RouterId) -> bool
@@ -24,31 +23,31 @@ fn is_take_of(line: &Line, router: RouterId) -> bool
 }
 
 /// Whether some line of a script takes frames of this router's feed.
-fn takes_feed(lines: &[Line], router: RouterId) -> bool
+pub fn takes_feed(lines: &[Line], router: RouterId) -> bool
     ensures { result ≡ takes_router router lines.now }
 {
     lines.iter().any(|line| is_take_of(line, router))
 }
 
 /// Whether no script takes this router's feed, so that it is a job of its own.
-pub fn is_own_feed(script: Option<&Script>, router: RouterId) -> bool
-    ensures { result ≡ not (list_any (takes_router router) (scripts_of (option_copied script.entry))) }
+pub fn is_own_feed(scripts: &[Script], router: RouterId) -> bool
+    ensures { result ≡ not (list_any (takes_router router) (scripts_of scripts.now)) }
 {
-    match script {
-        Some(script) => !takes_feed(script.lines.as_slice(), router),
-        None => true,
-    }
+    !scripts
+        .iter()
+        .any(|script| takes_feed(script.lines.as_slice(), router))
 }
 
-/// Whether the script, if there is one, and the feeds of these routers that it doesn't take are more jobs than a run has.
-pub fn has_too_many_jobs(routers: &[RouterId], script: Option<&Script>) -> bool
-    requires { length routers.now ≤ 64 }
-    ensures { result ≡ nat_lt most_jobs (length (scripts_of (option_copied script.entry)) + length (untaken (scripts_of (option_copied script.entry)) routers.now)) }
+/// Whether these scripts, and the feeds of these routers that none of them takes, are more jobs than a run has.
+pub fn has_too_many_jobs(routers: &[RouterId], scripts: &[Script]) -> bool
+    requires feeds { length routers.now ≤ 64 }
+    requires scripts { length scripts.now ≤ 64 }
+    ensures { result ≡ nat_lt most_jobs (length (scripts_of scripts.now) + length (untaken (scripts_of scripts.now) routers.now)) }
 {
-    let mut jobs: usize = if script.is_some() { 1 } else { 0 };
+    let mut jobs = scripts.len();
     let mut rest = routers;
     while let [router, after @ ..] = rest {
-        if is_own_feed(script, *router) {
+        if is_own_feed(scripts, *router) {
             jobs += 1;
         }
         rest = after;

@@ -2,7 +2,7 @@
 use Rattle.std.proofs.Common.{◌≡◌, List, [], ◌∷◌, map, refl, ap, sym, ◌∙◌}
 use Rattle.route_feed.specs.FeedReader.{Reader}
 use Rattle.feed_threads.specs.Feeds.{Feed}
-use Rattle.feed_threads.specs.Jobs.{unread}
+use Rattle.feed_threads.specs.Jobs.{back_of, unread}
 
 readers-again : {S : Type 0} (readers : List (Reader S)) → map (λ (f : Feed S). f.reader) (map unread readers) ≡ readers
 readers-again [] = refl
@@ -18,3 +18,11 @@ unread-again (r ∷ rs) = ap (λ xs. unread r ∷ xs) (unread-again rs)
 
 pub unread-all : {S : Type 0} (feeds : List (Feed S)) (readers : List (Reader S)) → feeds ≡ map unread readers → feeds ≡ map (λ (f : Feed S). unread f.reader) feeds
 unread-all feeds readers is = is ∙ unread-again readers ∙ ap (λ (xs : List (Feed _)). map (λ (f : Feed _). unread f.reader) xs) (sym is)
+
+backs-again : {S : Type 0} (feeds : List (Feed S)) → map back_of (map (λ (f : Feed S). unread f.reader) feeds) ≡ map (λ r. (r.source, r.told)) (map (λ (f : Feed S). f.reader) feeds)
+backs-again [] = refl
+backs-again (f ∷ fs) = ap (λ xs. (f.reader.source, f.reader.told) ∷ xs) (backs-again fs)
+
+-- feeds that nothing was read of give back what their readers have
+pub unread-backs : {S : Type 0} (feeds : List (Feed S)) (readers : List (Reader S)) → feeds ≡ map (λ (f : Feed S). unread f.reader) feeds → map (λ (f : Feed S). f.reader) feeds ≡ readers → map back_of feeds ≡ map (λ r. (r.source, r.told)) readers
+unread-backs feeds readers same are = ap (map back_of) same ∙ backs-again feeds ∙ ap (map (λ (r : Reader _). (r.source, r.told))) are

@@ -11,6 +11,7 @@ mod lines;
 mod one_job;
 mod places;
 mod take;
+mod unrun;
 
 pub use all_jobs::run_jobs;
 pub use history::run_history;

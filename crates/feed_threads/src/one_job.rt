@@ -20,7 +20,10 @@ use version_lock::{Seat, VersionLock};
 use version_store::Store;
 
 /// The sources of feeds and what is told of each, in order.
-fn give_back<S: Source>(feeds: Vec<Feed<S>>, room: Vec<(S, FeedTold)>) -> Vec<(S, FeedTold)>
+pub(crate) fn give_back<S: Source>(
+    feeds: Vec<Feed<S>>,
+    room: Vec<(S, FeedTold)>,
+) -> Vec<(S, FeedTold)>
     requires empty { room.items ≡ [] }
     requires room { length feeds.items ≤ vec_capacity room }
     ensures { result.items ≡ map back_of feeds.items }

@@ -33,10 +33,15 @@ fn names_the_first_bad_part(rt: HostRuntime) {
 }
 
 #[test]
-fn takes_one_script(rt: HostRuntime) {
-    let refused = read(rt.alloc(), &["@a", "r1=f", "@b", "x"]).err();
-    let line = ErrorLine::TooManyParts { part: 3 };
-    assert_eq!(rt; refused, Some(PartsRefused::Line(line)));
+fn takes_sixty_four_scripts(rt: HostRuntime) {
+    let alloc = rt.alloc();
+    let mut parts = ["@s"; 66];
+    parts[3] = "r=f";
+    let taken = read(alloc, &parts[..65]).expect(&rt, "parts");
+    assert_eq!(rt; taken.scripts.len(), 64);
+    assert_eq!(rt; taken.scripts[63].part, 65);
+    let line = ErrorLine::TooManyParts { part: 66 };
+    assert_eq!(rt; read(alloc, &parts).err(), Some(PartsRefused::Line(line)));
 }
 
 #[test]

@@ -9,7 +9,7 @@ use Rattle.dn_model.specs.declared.topology.Topology.{Topology}
 use Rattle.dn_run.specs.Stops.{Reaches, from_feeds, Stops, stop_of_words, stop_of_parts, stop_of_routers}
 use Rattle.dn_run.specs.WordsRefused.{command_texts}
 use Rattle.dn_run.specs.declared.stop.Stop.{Stop}
-use Rattle.dn_run.proofs.StopLemmas.{at-exit, words-stop, stops-parts, stops-topology, stops-topology-memory, loaded-one, reaches-routers, stops-routers, reaches-scripts, stops-scripts, stops-jobs, reaches-feeds}
+use Rattle.dn_run.proofs.StopLemmas.{at-exit, words-stop, stops-parts, stops-topology, stops-topology-memory, loaded-one, reaches-routers, stops-routers, reaches-scripts, stops-scripts, stops-jobs, reaches-feeds, few-jobs}
 use Rattle.dn_run.proofs.input.read_input.Goals as goal
 
 pub returns-in_err-command-clause-stops : goal.returns-in_err-command-clause-stops
@@ -59,19 +59,19 @@ returns-in_err-routers-clause-stops g c =
     (stops-routers (map string_bytes c.args.words.now) (g.W.World.files c.args.world.now) (g.W.World.calls c.load_topology.new.world) _ (parts_texts c.in_ok-parts.parts) c.in_ok-topology.topology
     c.in_err-routers.field-0.0 reaches refused))
 
-pub returns-in_err-script-clause-stops : goal.returns-in_err-script-clause-stops
-returns-in_err-script-clause-stops g c =
+pub returns-in_err-scripts-clause-stops : goal.returns-in_err-scripts-clause-stops
+returns-in_err-scripts-clause-stops g c =
     let parts = rw c.as_slice.ensures.value at c.in_ok-parts.ensures.ok in
     let loads = rw (c.requires.fresh, c.as_str.ensures.value, c.in_ok-topology.ensures.ok) at c.in_ok-load_topology.ensures.loads in
     let routers = rw (c.as_slice-2.ensures.value, c.deref.ensures, c.in_ok-topology-2.ensures.ok) at c.in_ok-routers.ensures.ok in
     let reaches = reaches-scripts (map string_bytes c.args.words.now) (g.W.World.files c.args.world.now) (g.W.World.calls c.load_topology.new.world) _ (parts_texts c.in_ok-parts.parts) c.in_ok-topology.topology c.in_ok-routers.routers.items
     (reaches-routers (map string_bytes c.args.words.now) (g.W.World.files c.args.world.now) (command_texts c.in_ok-command.command) (parts_texts c.in_ok-parts.parts)
     c.in_ok-command.ensures.ok parts (g.W.World.calls c.load_topology.new.world) c.in_ok-topology.topology loads) routers in
-    let stops = rw (c.as_slice-3.ensures.value, c.deref-2.ensures, c.in_ok-topology-2.ensures.ok, c.as_slice-4.ensures.value, c.load_topology.ensures.same_files) at c.in_err-script.ensures.stops in
-    at-exit (Stops (map string_bytes c.args.words.now) (g.W.World.files c.args.world.now) (g.W.World.calls c.read_scripts.new.world)) _ c.from_residual-in_err-script.result c.from_residual-in_err-script.ensures.1
+    let stops = rw (c.as_slice-3.ensures.value, c.deref-2.ensures, c.in_ok-topology-2.ensures.ok, c.as_slice-4.ensures.value, c.load_topology.ensures.same_files) at c.in_err-scripts.ensures.stops in
+    at-exit (Stops (map string_bytes c.args.words.now) (g.W.World.files c.args.world.now) (g.W.World.calls c.read_scripts.new.world)) _ c.from_residual-in_err-scripts.result c.from_residual-in_err-scripts.ensures.1
     (λ e is. subst (λ (s : Stop). Stops (map string_bytes c.args.words.now) (g.W.World.files c.args.world.now) (g.W.World.calls c.read_scripts.new.world) s) (sym is)
     (stops-scripts (map string_bytes c.args.words.now) (g.W.World.files c.args.world.now) (g.W.World.calls c.load_topology.new.world) (g.W.World.calls c.read_scripts.new.world) c.in_ok-topology.topology c.in_ok-routers.routers.items
-    (parts_texts c.in_ok-parts.parts) c.in_err-script.field-0.0 reaches (stops (parts_texts c.in_ok-parts.parts).feeds)))
+    (parts_texts c.in_ok-parts.parts) c.in_err-scripts.field-0.0 reaches (stops (parts_texts c.in_ok-parts.parts).feeds)))
 
 pub returns-then-has_too_many_jobs-clause-stops : goal.returns-then-has_too_many_jobs-clause-stops
 returns-then-has_too_many_jobs-clause-stops g c =
@@ -81,10 +81,10 @@ returns-then-has_too_many_jobs-clause-stops g c =
     let reaches = reaches-scripts (map string_bytes c.args.words.now) (g.W.World.files c.args.world.now) (g.W.World.calls c.load_topology.new.world) _ (parts_texts c.in_ok-parts.parts) c.in_ok-topology.topology c.in_ok-routers.routers.items
     (reaches-routers (map string_bytes c.args.words.now) (g.W.World.files c.args.world.now) (command_texts c.in_ok-command.command) (parts_texts c.in_ok-parts.parts)
     c.in_ok-command.ensures.ok parts (g.W.World.calls c.load_topology.new.world) c.in_ok-topology.topology loads) routers in
-    let on = rw (c.as_slice-3.ensures.value, c.deref-2.ensures, c.in_ok-topology-2.ensures.ok, c.as_slice-4.ensures.value, c.load_topology.ensures.same_files) at c.in_ok-script.ensures.ok in
-    let many = rw (c.as_slice-5.ensures.value, c.as_ref.ensures.value) at c.has_too_many_jobs.ensures in
+    let on = rw (c.as_slice-3.ensures.value, c.deref-2.ensures, c.in_ok-topology-2.ensures.ok, c.as_slice-4.ensures.value, c.load_topology.ensures.same_files) at c.in_ok-scripts.ensures.ok in
+    let many = rw (c.as_slice-5.ensures.value, c.as_slice-6.ensures.value) at c.has_too_many_jobs.ensures in
     stops-jobs (map string_bytes c.args.words.now) (g.W.World.files c.args.world.now) (g.W.World.calls c.load_topology.new.world) (g.W.World.calls c.read_scripts.new.world) c.in_ok-topology.topology c.in_ok-routers.routers.items
-    (parts_texts c.in_ok-parts.parts) (scripts_of c.in_ok-script.script) reaches (on (parts_texts c.in_ok-parts.parts).feeds) (sym many ∙ c.if-has_too_many_jobs.true)
+    (parts_texts c.in_ok-parts.parts) (scripts_of c.in_ok-scripts.scripts.items) reaches (on (parts_texts c.in_ok-parts.parts).feeds) (sym many ∙ c.if-has_too_many_jobs.true)
 
 pub returns-clause-ok : goal.returns-clause-ok
 returns-clause-ok g c =
@@ -94,17 +94,22 @@ returns-clause-ok g c =
     let reaches = reaches-scripts (map string_bytes c.args.words.now) (g.W.World.files c.args.world.now) (g.W.World.calls c.load_topology.new.world) _ (parts_texts c.in_ok-parts.parts) c.in_ok-topology.topology c.in_ok-routers.routers.items
     (reaches-routers (map string_bytes c.args.words.now) (g.W.World.files c.args.world.now) (command_texts c.in_ok-command.command) (parts_texts c.in_ok-parts.parts)
     c.in_ok-command.ensures.ok parts (g.W.World.calls c.load_topology.new.world) c.in_ok-topology.topology loads) routers in
-    let on = rw (c.as_slice-3.ensures.value, c.deref-2.ensures, c.in_ok-topology-2.ensures.ok, c.as_slice-4.ensures.value, c.load_topology.ensures.same_files) at c.in_ok-script.ensures.ok in
-    let many = rw (c.as_slice-5.ensures.value, c.as_ref.ensures.value) at c.has_too_many_jobs.ensures in
+    let on = rw (c.as_slice-3.ensures.value, c.deref-2.ensures, c.in_ok-topology-2.ensures.ok, c.as_slice-4.ensures.value, c.load_topology.ensures.same_files) at c.in_ok-scripts.ensures.ok in
+    let many = rw (c.as_slice-5.ensures.value, c.as_slice-6.ensures.value) at c.has_too_many_jobs.ensures in
     let one = ap length loads.1 in
     record {
       reaches = subst (λ (t : Topology). Reaches (map string_bytes c.args.words.now) (g.W.World.files c.args.world.now) (g.W.World.calls c.read_scripts.new.world) (feed_files (parts_texts c.in_ok-parts.parts).feeds)
-          (from_feeds (g.W.World.files c.args.world.now) t c.in_ok-routers.routers.items (scripts_of c.in_ok-script.script) (parts_texts c.in_ok-parts.parts).feeds)) (sym c.in_ok-topology-2.ensures.ok)
+          (from_feeds (g.W.World.files c.args.world.now) t c.in_ok-routers.routers.items (scripts_of c.in_ok-scripts.scripts.items) (parts_texts c.in_ok-parts.parts).feeds)) (sym c.in_ok-topology-2.ensures.ok)
           (reaches-feeds (map string_bytes c.args.words.now) (g.W.World.files c.args.world.now) (g.W.World.calls c.load_topology.new.world) (g.W.World.calls c.read_scripts.new.world) c.in_ok-topology.topology c.in_ok-routers.routers.items
-          (parts_texts c.in_ok-parts.parts) (scripts_of c.in_ok-script.script) reaches (on (parts_texts c.in_ok-parts.parts).feeds) (sym many ∙ c.if-has_too_many_jobs.false));
+          (parts_texts c.in_ok-parts.parts) (scripts_of c.in_ok-scripts.scripts.items) reaches (on (parts_texts c.in_ok-parts.parts).feeds) (sym many ∙ c.if-has_too_many_jobs.false));
       as_many = rw c.as_slice-2.ensures.value at c.in_ok-routers.ensures.len;
       few = c.in_ok-parts.ensures.few.0;
+      few_jobs = few-jobs (scripts_of c.in_ok-scripts.scripts.items) c.in_ok-routers.routers.items (sym many ∙ c.if-has_too_many_jobs.false);
       known = rw c.deref.ensures at c.in_ok-routers.ensures.within;
       apart = c.in_ok-routers.ensures.apart;
-      room = omega (arith, one, c.in_ok-script.ensures.few);
+      room = (
+          let parts-few = c.in_ok-parts.ensures.few.1 in
+          let read = rw c.as_slice-3.ensures.value at c.in_ok-scripts.ensures.few in
+          omega (arith, one, parts-few, read)
+          );
     }

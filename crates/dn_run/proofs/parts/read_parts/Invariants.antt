@@ -9,4 +9,4 @@ use Rattle.dn_run.proofs.parts.read_parts.Given as goal
 abbrev pub invariant-loop-part : goal.invariant-loop-part
 invariant-loop-part l =
     (with_parts (parts_texts l.said) (drop l.part-index (map string_bytes l.parts)) ≡ parts_of (map string_bytes l.parts))
-    × (length l.said.feeds.items ≤ 64) × (length l.said.scripts.items ≤ 1)
+    × (length l.said.feeds.items ≤ 64) × (length l.said.scripts.items ≤ 64)

@@ -1,5 +1,4 @@
 use Rattle.std.proofs.Common.{◌≡◌, ◌+◌, ◌≤◌, length}
-use Rattle.std.specs.Option.{option_copied}
 use Rattle.dn_run.specs.Jobs.{scripts_of}
 use Rattle.dn_run.specs.Run.{untaken}
 use Rattle.dn_run.proofs.untaken.has_too_many_jobs.Given as goal
@@ -7,9 +6,8 @@ use Rattle.dn_run.proofs.untaken.has_too_many_jobs.Given as goal
 -- the jobs so far and those of the routers that are left are all
 abbrev pub invariant-loop-rest : goal.invariant-loop-rest
 invariant-loop-rest l = record {
-  whole : l.jobs + length (untaken (scripts_of (option_copied l.script)) l.rest)
-      ≡ length (scripts_of (option_copied l.script)) + length (untaken (scripts_of (option_copied l.script)) l.routers);
-  within : l.jobs + length l.rest ≤ 65;
+  whole : l.jobs + length (untaken (scripts_of l.scripts) l.rest) ≡ length (scripts_of l.scripts) + length (untaken (scripts_of l.scripts) l.routers);
+  within : l.jobs + length l.rest ≤ 128;
 }
 
 abbrev pub decreases-loop-rest : goal.decreases-loop-rest

@@ -1,0 +1,157 @@
+//! Whole runs of several scripts, whose jobs run side by side, against the reports that their interleavings allow.
+
+use crate::program::run;
+use crate::run_tests::{RING, file, set_frame};
+use crate::status::Status;
+use dn_io::{MemFile, MemSink, MemWorld, NoGate};
+use std::alloc::{AllocError, Global};
+use std::process::Abort;
+use std::sync::Wait;
+use std::thread::Threads;
+
+/// The scripts of a run, in the files `s1` and `s2`.
+type Scripts<'a> = [&'a str; 2];
+
+/// The ring, these scripts, and feeds `f1` and `f2` of one update each.
+fn files(alloc: Global, scripts: Scripts<'_>) -> Result<Vec<MemFile>, AllocError> {
+    let [first, second] = scripts;
+    let topology = file(alloc, "topology", RING.as_bytes(), 4096, &[])?;
+    let first = file(alloc, "s1", first.as_bytes(), 4096, &[])?;
+    let second = file(alloc, "s2", second.as_bytes(), 4096, &[])?;
+    let over_a = file(alloc, "f1", &set_frame(0, 8, 2), 4096, &[])?;
+    let over_b = file(alloc, "f2", &set_frame(0, 8, 3), 4096, &[])?;
+    Vec::from_array(alloc, [topology, first, second, over_a, over_b])
+}
+
+/// The status and the text of a run with these parts, over these scripts.
+fn come<R: Threads + Wait + Sync>(
+    rt: &R,
+    alloc: Global,
+    parts: &[&str],
+    scripts: Scripts<'_>,
+) -> Result<(Status, Vec<u8>), AllocError> {
+    let mut words = Vec::new(alloc);
+    for word in ["deltanet", "run", "topology"] {
+        words.push(String::from_str(alloc, word)?)?;
+    }
+    for part in parts {
+        words.push(String::from_str(alloc, part)?)?;
+    }
+    let mut world = MemWorld::new(alloc, files(alloc, scripts)?, Vec::new(alloc));
+    let mut sink = MemSink::new(alloc, 4096, Vec::new(alloc));
+    let status = run(rt, alloc, words.as_slice(), &mut world, &mut sink, &NoGate);
+    Ok((status, Vec::from_slice(alloc, sink.written())?))
+}
+
+/// A run with these parts, over these scripts, comes to this status and text.
+fn compare<R: Abort + Threads + Wait + Sync>(
+    rt: &R,
+    alloc: Global,
+    parts: &[&str],
+    scripts: Scripts<'_>,
+    status: Status,
+    text: &str,
+) {
+    let (came, written) = come(rt, alloc, parts, scripts).expect(rt, "memory");
+    assert_eq!(rt; came, status, "{text}");
+    assert_eq!(rt; written.as_slice(), text.as_bytes(), "{text}");
+}
+
+/// What both feeds of two scripts tell.
+const FEEDS: &str =
+    "feed 1 r1 updates 1 skipped 0 refused 0 end\nfeed 2 r2 updates 1 skipped 0 refused 0 end\nhistory 2\n";
+
+const FROM_R1: &str = "feed 1 r1 set 10.0.0.0/8 metric 20 to r2 by a\n";
+
+const FROM_R2: &str = "feed 2 r2 set 10.0.0.0/8 metric 20 to r3 by b\n";
+
+/// The text of a run of two scripts, each of which takes its feed and asks after it, by who was first and both pins.
+fn text_of(alloc: Global, is_first: bool, pins: [u32; 2]) -> Result<String, AllocError> {
+    let (one, two) = if is_first {
+        (FROM_R1, FROM_R2)
+    } else {
+        (FROM_R2, FROM_R1)
+    };
+    let [first, second] = pins;
+    format!(in alloc;
+        "{FEEDS}1 {one}2 {two}job 1\nline 2 at {first} loops\nnone\njob 2\nline 2 at {second} loops\nnone\ndone\n"
+    )
+}
+
+/// Whether this is a text that some interleaving of the two jobs allows.
+fn is_allowed(alloc: Global, written: &[u8]) -> Result<bool, AllocError> {
+    for (is_first, pins) in [
+        (true, [1, 2]),
+        (true, [2, 2]),
+        (false, [2, 1]),
+        (false, [2, 2]),
+    ] {
+        if text_of(alloc, is_first, pins)?.as_bytes() == written {
+            return Ok(true);
+        }
+    }
+    Ok(false)
+}
+
+#[test]
+fn two_scripts_take_a_feed_each(rt: HostRuntime) {
+    let alloc = rt.alloc();
+    let scripts = ["take r1 all\nloops\n", "take r2 all\nloops\n"];
+    let parts = ["@s1", "r1=f1", "r2=f2", "@s2"];
+    let (status, written) = come(&rt, alloc, &parts, scripts).expect(&rt, "memory");
+    assert_eq!(rt; status, Status::Done);
+    let allowed = is_allowed(alloc, written.as_slice()).expect(&rt, "memory");
+    assert!(rt; allowed);
+}
+
+const SCRIPT_AND_FEED: &str =
+    "feed 1 r2 updates 0 skipped 0 refused 0 end\nfeed 2 r1 updates 1 skipped 0 refused 0 end\nhistory 1\n1 feed 2 r1 set 10.0.0.0/8 metric 20 to r2 by a\njob 1\nline 2 at 1 path r1 10.0.0.0\nhops r1 r2\nend noroute\njob 2\njob 3\ndone\n";
+
+#[test]
+fn scripts_count_before_feeds(rt: HostRuntime) {
+    let scripts = ["take r1 1\npath r1 10.0.0.0\n", ""];
+    let parts = ["r2=s2", "@s1", "r1=f1", "@s2"];
+    compare(
+        &rt,
+        rt.alloc(),
+        &parts,
+        scripts,
+        Status::Done,
+        SCRIPT_AND_FEED,
+    );
+}
+
+#[test]
+fn a_feed_is_taken_by_one_script(rt: HostRuntime) {
+    let alloc = rt.alloc();
+    let twice = "error script 4 line 2 3 TakenTwice\n";
+    let scripts = ["take r1 1\n", "take r2 1\ntake r1 all\n"];
+    let parts = ["r1=f1", "@s1", "r2=f2", "@s2"];
+    compare(&rt, alloc, &parts, scripts, Status::BadScript, twice);
+    let own = "error script 2 line 1 3 TakenTwice\n";
+    let scripts = ["take r1 1\ntake r1 all\n", "take r1 1\n"];
+    let parts = ["@s1", "@s2", "r1=f1"];
+    compare(&rt, alloc, &parts, scripts, Status::BadScript, own);
+}
+
+#[test]
+fn jobs_are_too_many(rt: HostRuntime) {
+    let alloc = rt.alloc();
+    let mut parts = ["@s1"; 65];
+    parts[10] = "r1=f1";
+    let many = "error jobs TooMany\n";
+    compare(&rt, alloc, &parts, ["", ""], Status::BadWords, many);
+    let one_more = "error part 66 TooMany\n";
+    let mut parts = ["@s1"; 66];
+    parts[10] = "r1=f1";
+    compare(&rt, alloc, &parts, ["", ""], Status::BadWords, one_more);
+}
+
+#[test]
+fn sixty_four_scripts_are_as_many_jobs(rt: HostRuntime) {
+    let alloc = rt.alloc();
+    let parts = ["@s1"; 64];
+    let (status, written) = come(&rt, alloc, &parts, ["", ""]).expect(&rt, "memory");
+    assert_eq!(rt; status, Status::Done);
+    assert!(rt; written.as_slice().ends_with(b"job 63\njob 64\ndone\n"));
+}

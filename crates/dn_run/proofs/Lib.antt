@@ -1,3 +1,4 @@
+pub mod ApartLemmas
 pub mod AskedLemmas
 pub mod CallsLemmas
 pub mod CommandLineLemmas

@@ -15,8 +15,9 @@ use Rattle.dn_formats.specs.declared.script.Line.TheVariants.{Take, Ask}
 use Rattle.dn_model.specs.Name.{is_name_text}
 use Rattle.dn_model.specs.Query.{Question}
 use Rattle.dn_model.specs.declared.ids.RouterId.{RouterId}
-use Rattle.dn_run.specs.Deal.{TakeApart}
+use Rattle.dn_run.specs.Jobs.{TakeApart}
 use Rattle.dn_run.specs.Run.{taken_by_line, takes_router}
+use Rattle.dn_run.specs.Stops.{AreTaken, TakeNoneOf}
 
 -- whether a router is among these
 abbrev among : List RouterId → RouterId → Bool
@@ -149,3 +150,7 @@ pub scripts-among : (r : RouterId) (scripts : List (List Line)) → among (flat_
 scripts-among r [] = refl
 scripts-among r (lines ∷ scripts) =
     list_any-append (λ q. q.0 == r.0) (flat_map taken_by_line lines) (flat_map (flat_map taken_by_line) scripts) ∙ rw (lines-among r lines, scripts-among r scripts) refl
+
+pub apart-added : (taken : List RouterId) (read new : List (List Line)) (lines : List Line) → AreTaken taken read → TakeApart read → TakeNoneOf taken lines → new ≡ read ++ lines ∷ [] → TakeApart new
+apart-added taken read new lines are apart none added =
+    subst TakeApart (sym added) (apart-push read lines apart (λ r is. sym (are r ∙ scripts-among r read) ∙ none r is))

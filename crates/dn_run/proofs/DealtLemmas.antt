@@ -13,7 +13,7 @@ use Rattle.route_feed.specs.FeedReader.{Reader}
 use Rattle.feed_threads.specs.AllJobs.{AllRan, IsBackFrom, told_by}
 use Rattle.feed_threads.specs.Jobs.{Task}
 use Rattle.feed_threads.specs.declared.job.JobDone.{JobDone}
-use Rattle.dn_run.specs.Deal.{TakeApart, readers_of, tasks_of, unread_back}
+use Rattle.dn_run.specs.Deal.{readers_of, tasks_of, unread_back}
 use Rattle.dn_run.specs.Jobs.{AreNumbered, HasRun, IsFresh}
 use Rattle.dn_run.specs.Ran.{ListRan, RanAs, back_tag, reader_tag}
 use Rattle.dn_run.specs.Run.{history_limit}

@@ -20,7 +20,7 @@ use Rattle.dn_model.specs.declared.ids.RouterId.{RouterId}
 use Rattle.dn_model.specs.declared.topology.Topology.{Topology}
 use Rattle.route_feed.specs.FeedReader.{Reader}
 use Rattle.feed_threads.specs.AllJobs.{AreDoneAs, AreLawful, HaveSame, feeds_of_jobs, told_by}
-use Rattle.dn_run.specs.Deal.{TakeApart, readers_of, tasks_of}
+use Rattle.dn_run.specs.Deal.{readers_of, tasks_of}
 use Rattle.feed_threads.specs.Jobs.{AreReadBy, IsKeptSo, IsReadBy, Task}
 use Rattle.feed_threads.specs.declared.job.JobDone.{JobDone}
 use Rattle.feed_threads.specs.Feeds.{CountsBy, StandsBy, end_with}

@@ -20,4 +20,5 @@ pub mod RoutersLemmas
 pub mod StepLemmas
 pub mod StopLemmas
 pub mod TakenLemmas
+pub mod UntakenLemmas
 pub mod VerdictLemmas

@@ -117,7 +117,7 @@ read_in_order earlier (part ∷ more) n e =
 pub parts_start : (texts : List (List ℕ)) → with_parts (record { feeds = []; scripts = [] }) texts ≡ parts_of texts
 parts_start texts = sym (read_in_order [] texts 1 refl)
 
-pub part_here : {A : Type 0} (text : A → List ℕ) (xs : List A) (i : ℕ) (x : A) → i < length xs → x ≡ get_or xs i x → drop i (map text xs) ≡ text x ∷ drop (i + 1) (map text xs)
+pub part_here : {A B : Type 0} (text : A → B) (xs : List A) (i : ℕ) (x : A) → i < length xs → x ≡ get_or xs i x → drop i (map text xs) ≡ text x ∷ drop (i + 1) (map text xs)
 part_here text xs i x within is = drop_more (map text xs) i (text x) (omega (arith, within, length-map xs text)) ∙ ap (λ t. t ∷ drop (i + 1) (map text xs)) (get_or-map text xs i x ∙ ap text (sym is))
 
 pub parts_step : {A : Type 0} (text : A → List ℕ) (xs : List A) (i : ℕ) (x : A) (said next : PartsSaid) → i < length xs → x ≡ get_or xs i x

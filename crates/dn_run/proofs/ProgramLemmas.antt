@@ -47,6 +47,15 @@ on-bytes-map None name left P Q f says = (says.0, says.1, f says.0 says.2)
 on-bytes-map (Some fs) name left P Q f says =
     some-and (λ bytes. IsReadUpTo bytes (text_limit + 1) left × P bytes) (λ bytes. IsReadUpTo bytes (text_limit + 1) left × Q bytes) (bytes_of fs name) (λ bytes p. (p.0, f bytes p.1)) says
 
+-- what comes of a file's bytes, whichever they are
+pub on-bytes-out : (files : Option Files) (name : List ℕ) (left : Option (List ℕ)) (good : List ℕ → Type 0) (Q : Type 0) → ((bytes : List ℕ) → good bytes → Q) → OnBytes files name left good → Q
+on-bytes-out None name left good Q f says = f says.0 says.2
+on-bytes-out (Some fs) name left good Q f says = of-some (bytes_of fs name) says
+  where
+    of-some : (o : Option (List ℕ)) → IsSomeAnd o (λ bytes. IsReadUpTo bytes (text_limit + 1) left × good bytes) → Q
+    of-some None is = absurd is
+    of-some (Some bytes) is = f bytes is.1
+
 -- what follows a fault of a file
 pub on-fault : (files : Option Files) (name : List ℕ) (state : CallState) (fault : Type 0) (good : List ℕ → Type 0) → state_failed state ≡ true → FailsWhereTold files name text_limit state →
     fault → OnFile files name state fault good

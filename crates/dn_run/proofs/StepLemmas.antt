@@ -103,7 +103,7 @@ pub script-read : (files : Option Files) (t : Topology) (routers taken : List Ro
 script-read files t routers taken read part file scripts feeds script left more ending are says after = (
   refl,
   or-map ending more (FromScripts files t routers (read ++ script.lines ∷ []) scripts feeds more ending) _
-  (meant-read files t routers taken read part file script left (λ scripts-read. FromScripts files t routers scripts-read scripts feeds more ending) (IsErrorLine ending more BadScript) are says) after,
+      (meant-read files t routers taken read part file script left (λ scripts-read. FromScripts files t routers scripts-read scripts feeds more ending) (IsErrorLine ending more BadScript) are says) after,
 )
 
 pub script-refused : (files : Option Files) (t : Topology) (routers taken : List RouterId) (read : List (List Line)) (part : ℕ) (file : List ℕ) (scripts : List (ℕ × List ℕ)) (feeds : List (ℕ × FeedWords)) (line : ErrorLine) (left : Option (List ℕ)) (ending : Ending) →
@@ -112,7 +112,7 @@ pub script-refused : (files : Option Files) (t : Topology) (routers taken : List
 script-refused files t routers taken read part file scripts feeds line left ending are says prints = (
   refl,
   or-go ending [] _
-  (meant-refused files t routers taken read part file line left (λ scripts-read. FromScripts files t routers scripts-read scripts feeds [] ending) (IsErrorLine ending [] BadScript) are says (refl, prints)),
+      (meant-refused files t routers taken read part file line left (λ scripts-read. FromScripts files t routers scripts-read scripts feeds [] ending) (IsErrorLine ending [] BadScript) are says (refl, prints)),
 )
 
 pub script-failed : (files : Option Files) (t : Topology) (routers : List RouterId) (read : List (List Line)) (part : ℕ) (file : List ℕ) (scripts : List (ℕ × List ℕ)) (feeds : List (ℕ × FeedWords)) (state : CallState) (ending : Ending) →

@@ -4,6 +4,7 @@ use Rattle.std.proofs.Common.{◌≡◌, ℕ, ◌+◌, ◌<◌, ◌≤◌, get_o
 use Rattle.std.specs.Result.{IsErrAnd}
 use Rattle.dn_io.specs.Calls.{Call, CallState, Back, call_of}
 use Rattle.dn_io.specs.Files.{Files}
+use Rattle.dn_formats.specs.ScriptText.{script_of}
 use Rattle.dn_formats.specs.TopologyText.{topology_of}
 use Rattle.dn_formats.specs.Words.{FeedWords, PartsSaid, parts_of}
 use Rattle.dn_model.specs.declared.ids.RouterId.{RouterId}
@@ -21,7 +22,7 @@ use Rattle.dn_run.specs.PartsRead.{ArePartsRefused}
 use Rattle.dn_run.specs.RoutersFound.{AreRoutersRefused}
 use Rattle.dn_run.specs.Run.{IsErrorLine, IsLine, FromFeeds, FromJobs, FromScripts, FromRouters, FromTopology, FromParts, FromWords, feed_files, names_due, names_of_command, names_of_parts, names_of_words, untaken, most_jobs, routers_of, script_files}
 use Rattle.dn_run.specs.Stage.{Stage, is_fault, may_end_early}
-use Rattle.dn_run.specs.Stops.{AreTaken, Due, EndsWith, GoesOn, Reaches, ScriptEnds, ScriptGoesOn, ScriptsEnd, ScriptsGoOn, Stops, StopsAs, names_left, from_words, from_feeds, from_jobs, from_scripts, stop_of_words, stop_of_parts, stop_of_routers}
+use Rattle.dn_run.specs.Stops.{AreTaken, Due, EndsWith, GoesOn, Reaches, ScriptEnds, ScriptGoesOn, ScriptsEnd, ScriptsGoOn, Stops, StopsAs, TakeNoneOf, names_left, from_words, from_feeds, from_jobs, from_scripts, stop_of_words, stop_of_parts, stop_of_routers}
 use Rattle.dn_run.specs.WordsRefused.{AreRefused}
 use Rattle.dn_run.specs.declared.load.Loaded.{Loaded}
 use Rattle.dn_run.specs.declared.load.Loaded.TheVariants.{Read, Refused, Failed}
@@ -35,7 +36,8 @@ use Rattle.dn_run.specs.declared.stop.Stop.{Stop}
 use Rattle.dn_run.specs.declared.stop.Stop.TheVariants.{Line, OutOfMemory}
 use Rattle.dn_run.specs.declared.words.WordsRefused.{WordsRefused}
 use Rattle.dn_run.specs.declared.words.WordsRefused.TheVariants as words_refused
-use Rattle.dn_run.proofs.ProgramLemmas.{or-map, stage-line, stage-may, stage-none, stage-read, stage-stops}
+use Rattle.dn_run.proofs.ApartLemmas.{clear}
+use Rattle.dn_run.proofs.ProgramLemmas.{on-bytes-out, or-map, stage-line, stage-may, stage-none, stage-read, stage-stops}
 use Rattle.dn_run.proofs.StepLemmas.{match-false, routers-refused, script-failed, script-read, script-refused, too-many, topology-failed, topology-read, topology-refused}
 
 -- ---- steps
@@ -239,6 +241,19 @@ pub part-stops : {A : Type 0} (result : Result A Stop) (files : Option Files) (t
     IfErr result (ScriptEnds files t routers taken old (part, file) new)
 part-stops (Ok x) files t routers taken part file old new loaded loads is = tt
 part-stops (Err stop) files t routers taken part file old new loaded loads is = script-stop files t routers taken part file old new loaded stop loads is
+
+-- a script that was read takes from none of the routers that were taken before
+pub loads-clear : (files : Option Files) (t : Topology) (routers taken : List RouterId) (part : ℕ) (file : List ℕ) (old new : List Call) (script : Script) →
+    LoadsScript t routers taken part files old file new (Read script) → TakeNoneOf taken script.lines
+loads-clear files t routers taken part file old new script loads =
+    on-bytes-out files file loads.0 (λ bytes. script_of t.routers routers taken bytes ≡ Ok script.lines) (TakeNoneOf taken script.lines)
+    (λ bytes is. clear t.routers routers taken bytes script.lines is) loads.2
+
+pub part-clear : {E : Type 0} (result : Result Script E) (files : Option Files) (t : Topology) (routers taken : List RouterId) (part : ℕ) (file : List ℕ) (old new : List Call) (x : Loaded Script) →
+    LoadsScript t routers taken part files old file new x → IfOk result (λ script. x ≡ Read script) → IfOk result (λ script. TakeNoneOf taken script.lines)
+part-clear (Err e) files t routers taken part file old new x loads is = tt
+part-clear (Ok script) files t routers taken part file old new x loads is =
+    loads-clear files t routers taken part file old new script (subst (λ (y : Loaded Script). LoadsScript t routers taken part files old file new y) is loads)
 
 -- ---- the scripts
 

@@ -44,8 +44,3 @@ readers_of tasks = flat_map (λ task. task.feeds) tasks
 -- what comes back of a feed that was not read
 abbrev pub unread_back : {S : Type 0} → Reader S → S × FeedTold
 unread_back r = (r.source, r.told)
-
--- no two scripts take from one router
-abbrev pub TakeApart : List (List Line) → Type 0
-TakeApart [] = Unit {0}
-TakeApart (lines ∷ scripts) = ((r : RouterId) → takes_router r lines ≡ true → list_any (takes_router r) scripts ≡ false) × TakeApart scripts

@@ -1,9 +1,10 @@
 -- What the jobs of a run came to.
-use Rattle.std.specs.Prelude.{◌≡◌, ℕ, suc, ◌+◌, ◌<◌, ◌≤◌, ◌^◌, ◌==◌, Bool, IsTrue, map, List, [], ◌∷◌, length, Option, Some}
+use Rattle.std.specs.Prelude.{◌≡◌, ℕ, suc, ◌+◌, ◌<◌, ◌≤◌, ◌^◌, ◌==◌, Bool, true, false, IsTrue, map, List, [], ◌∷◌, length, Option, Some}
+use Rattle.std.specs.List.{list_any}
 use Rattle.dn_formats.specs.Lawful.{IsLawful, jobs_of}
 use Rattle.dn_formats.specs.Steps.{FeedRead, told_of}
-use Rattle.dn_model.specs.declared.entry.Posted.{Posted}
 use Rattle.dn_model.specs.Entry.{entries}
+use Rattle.dn_model.specs.declared.entry.Posted.{Posted}
 use Rattle.dn_model.specs.Topology.{all_differ}
 use Rattle.dn_model.specs.declared.ids.RouterId.{RouterId}
 use Rattle.dn_formats.specs.declared.script.Line.{Line}
@@ -13,7 +14,7 @@ use Rattle.dn_formats.specs.declared.told.FeedTold.{FeedTold}
 use Rattle.dn_formats.specs.declared.told.JobTold.{JobTold}
 use Rattle.route_feed.specs.FeedReader.{Reader, told_so_far}
 use Rattle.feed_threads.specs.Feeds.{CountsBy, StandsBy}
-use Rattle.dn_run.specs.Run.{history_limit, most_jobs, untaken}
+use Rattle.dn_run.specs.Run.{history_limit, most_jobs, takes_router, untaken}
 
 -- the lines of scripts
 abbrev pub scripts_of : List Script → List (List Line)
@@ -43,6 +44,11 @@ HaveRoutersApart readers = IsTrue (all_differ same_router (map (λ r. r.told.rou
 -- the routers of readers' feeds
 abbrev pub routers_of_readers : {S : Type 0} → List (Reader S) → List RouterId
 routers_of_readers readers = map (λ r. r.told.router) readers
+
+-- no two scripts take from one router
+abbrev pub TakeApart : List (List Line) → Type 0
+TakeApart [] = Unit {0}
+TakeApart (lines ∷ scripts) = ((r : RouterId) → takes_router r lines ≡ true → list_any (takes_router r) scripts ≡ false) × TakeApart scripts
 
 -- scripts over feeds of these routers are no more jobs than a run has
 abbrev pub AreFewJobs : List (List Line) → List RouterId → Type 0

@@ -1,5 +1,5 @@
 -- What ends a run before its jobs, and how far its steps came.
-use Rattle.std.specs.Prelude.{◌≡◌, ◌<◌, ◌≤◌, ◌==◌, ℕ, List, [], ◌∷◌, ◌++◌, length, map, All, IsTrue, Option}
+use Rattle.std.specs.Prelude.{◌≡◌, ◌<◌, ◌≤◌, ◌==◌, ℕ, true, false, List, [], ◌∷◌, ◌++◌, length, map, All, IsTrue, Option}
 use Rattle.std.specs.List.{list_any}
 use Rattle.std.specs.Arc.{arc_value}
 use Rattle.dn_io.specs.Calls.{Call}
@@ -12,9 +12,9 @@ use Rattle.dn_model.specs.Topology.{all_differ}
 use Rattle.dn_model.specs.declared.ids.RouterId.{RouterId}
 use Rattle.dn_model.specs.declared.topology.Topology.{Topology}
 use Rattle.dn_run.specs.Ending.{Ending, Stopped}
-use Rattle.dn_run.specs.Jobs.{scripts_of, same_router, AreFewJobs}
+use Rattle.dn_run.specs.Jobs.{scripts_of, same_router, AreFewJobs, TakeApart}
 use Rattle.dn_run.specs.PartsRead.{feed_texts}
-use Rattle.dn_run.specs.Run.{FromFeeds, FromJobs, FromScripts, FromWords, IsLine, names_of_words, feed_files, script_files, taken_by_scripts}
+use Rattle.dn_run.specs.Run.{FromFeeds, FromJobs, FromScripts, FromWords, IsLine, names_of_words, feed_files, script_files, taken_by_scripts, takes_router}
 use Rattle.dn_run.specs.Stage.{Stage}
 use Rattle.dn_run.specs.declared.input.Input.{Input}
 use Rattle.dn_run.specs.declared.load.Loaded.{Loaded}
@@ -85,6 +85,10 @@ names_left scripts feeds = script_files scripts ++ feed_files feeds
 abbrev pub AreTaken : List RouterId → List (List script_line) → Type 0
 AreTaken taken scripts = (r : RouterId) → list_any (λ q. q.0 == r.0) taken ≡ list_any (λ q. q.0 == r.0) (taken_by_scripts scripts)
 
+-- these lines take from none of these routers
+abbrev pub TakeNoneOf : List RouterId → List script_line → Type 0
+TakeNoneOf taken lines = (r : RouterId) → takes_router r lines ≡ true → list_any (λ q. q.0 == r.0) taken ≡ false
+
 -- the script of this part was read, after scripts that take from these routers
 abbrev pub ScriptGoesOn : Option Files → Topology → List RouterId → List RouterId → List Call → ℕ × List ℕ → List Call → List script_line → Type 0
 ScriptGoesOn files t routers taken old part new lines =
@@ -113,14 +117,15 @@ ScriptsEnd files t routers old all new stop =
 abbrev pub from_jobs : Option Files → Topology → List RouterId → List (List script_line) → List (ℕ × FeedWords) → Due
 from_jobs files t routers scripts feeds ending calls = FromJobs files t routers scripts feeds calls ending
 
--- The input of a run that came as far as these calls: its feeds, and its jobs, no more than may be, and the routers of the
--- feeds, which the topology has and which differ.
+-- The input of a run that came as far as these calls: its feeds, its scripts, of which no two take from one router, its jobs,
+-- no more than may be, and the routers of the feeds, which the topology has and which differ.
 pub record Starts (words : List (List ℕ)) (files : Option Files) (calls : List Call) (input : Input) : Type 0 where
   pub reaches : Reaches words files calls (feed_files (map feed_texts input.feeds.items))
       (from_feeds files (arc_value input.topology) input.routers.items (scripts_of input.scripts.items) (map feed_texts input.feeds.items))
   pub as_many : length input.routers.items ≡ length input.feeds.items
   pub few : length input.feeds.items ≤ 64
   pub few_jobs : AreFewJobs (scripts_of input.scripts.items) input.routers.items
+  pub apart_scripts : TakeApart (scripts_of input.scripts.items)
   pub known : All (λ r. r.0 < length (arc_value input.topology).routers) input.routers.items
   pub apart : IsTrue (all_differ same_router input.routers.items)
   pub room : length calls ≤ 65

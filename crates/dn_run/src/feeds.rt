@@ -8,7 +8,7 @@ ghost use Rattle.dn_io.specs.Calls.{names_of, back_with, with_state, state_at};
 ghost use Rattle.dn_model.specs.Entry.{entries};
 ghost use Rattle.dn_run.specs.Ending.{ending_of};
 ghost use Rattle.dn_run.specs.Feeds.{AreOpen, AreLeft, Opens, opened, some_rose};
-ghost use Rattle.dn_run.specs.Jobs.{AreFewJobs, routers_of_readers, scripts_of};
+ghost use Rattle.dn_run.specs.Jobs.{AreFewJobs, TakeApart, routers_of_readers, scripts_of};
 ghost use Rattle.dn_run.specs.PartsRead.{feed_texts};
 ghost use Rattle.dn_run.specs.Run.{IsRunOf, verdict_of};
 ghost use Rattle.dn_run.specs.Stage.{is_fault};
@@ -60,6 +60,7 @@ fn run_readers<S: Source, G: Gate, R: Threads + Wait + Sync>(
 ) -> (Result<Ruling, OutOfMemory>, Vec<S>)
     requires open { AreOpen (arc_value topology.now) S.faults readers.items [] }
     requires jobs { AreFewJobs (scripts_of scripts.items) (routers_of_readers readers.items) }
+    requires apart_scripts { TakeApart (scripts_of scripts.items) }
     requires room { (room.items ≡ []) × (length readers.items ≤ vec_capacity room) }
     ensures same { map S.place result.1.items ≡ map (λ r. S.place r.source) readers.items }
     ensures ran { IfOk result.0 (λ ruling. (files : List (Option (List ℕ))) → AreLeft S.left readers.items files →
@@ -103,6 +104,7 @@ pub fn from_feeds<W: World, G: Gate, R: Threads + Wait + Sync>(
     requires as_many { length routers.now ≡ length feeds.now }
     requires open { AreOpen (arc_value topology.now) W.Src.faults readers.items routers.now }
     requires jobs { AreFewJobs (scripts_of scripts.items) (routers_of_readers readers.items ++ routers.now) }
+    requires apart_scripts { TakeApart (scripts_of scripts.items) }
     requires reserved { length readers.items + length feeds.now ≤ vec_capacity readers }
     requires back { (room.items ≡ []) × (length readers.items + length feeds.now ≤ vec_capacity room) }
     ensures same { map W.Src.place result.1.items ≡ map (λ r. W.Src.place r.source) readers.items }

@@ -3,10 +3,10 @@
 ghost use Rattle.std.specs.Prelude.{◌≡◌, ◌<◌, ◌≤◌, ◌==◌, ◌||◌, ◌+◌, ◌++◌, ◌∷◌, ◌^◌, [], length, map, IfOk, IfErr, OnOk};
 ghost use Rattle.std.specs.List.{flat_map, list_any};
 ghost use Rattle.std.specs.String.{string_bytes};
-ghost use Rattle.dn_run.specs.Jobs.{scripts_of};
+ghost use Rattle.dn_run.specs.Jobs.{TakeApart, scripts_of};
 ghost use Rattle.dn_run.specs.PartsRead.{script_texts};
 ghost use Rattle.dn_run.specs.Run.{taken_by_line};
-ghost use Rattle.dn_run.specs.Stops.{AreTaken, ScriptEnds, ScriptGoesOn, ScriptsEnd, ScriptsGoOn, Starts, Stops, StopsAs};
+ghost use Rattle.dn_run.specs.Stops.{AreTaken, ScriptEnds, ScriptGoesOn, ScriptsEnd, ScriptsGoOn, Starts, Stops, StopsAs, TakeNoneOf};
 
 use crate::load::{Loaded, load_script, load_topology};
 use crate::parts::{FeedPart, ScriptPart, read_parts};
@@ -77,10 +77,13 @@ fn add_all_taken(taken: &mut Vec<RouterId>, lines: &[Line]) -> Result<(), OutOfM
 }
 
 impl ScriptsRead {
-    /// Adds a script.
+    /// Adds a script that takes from none of the routers from which those before it take.
     fn add(&mut self, script: Script) -> Result<(), OutOfMemory>
-        requires { AreTaken self.old.taken.items (scripts_of self.old.scripts.items) }
+        requires taken { AreTaken self.old.taken.items (scripts_of self.old.scripts.items) }
+        requires apart { TakeApart (scripts_of self.old.scripts.items) }
+        requires clear { TakeNoneOf self.old.taken.items script.lines }
         ensures taken { OnOk result (AreTaken self.new.taken.items (scripts_of self.new.scripts.items)) }
+        ensures apart { OnOk result (TakeApart (scripts_of self.new.scripts.items)) }
         ensures added { OnOk result (scripts_of self.new.scripts.items ≡ scripts_of self.old.scripts.items ++ script.lines ∷ []) }
         ensures len { OnOk result (length self.new.scripts.items ≡ length self.old.scripts.items + 1) }
     {
@@ -102,6 +105,7 @@ fn read_part<W: World>(
     requires room { length (W.calls world.old) < 2 ^ 32 }
     ensures ok { IfOk result (λ script. ScriptGoesOn (W.files world.old) topology.now routers.now taken.now (W.calls world.old) (script_texts part.now) (W.calls world.new) script.lines) }
     ensures stops { IfErr result (ScriptEnds (W.files world.old) topology.now routers.now taken.now (W.calls world.old) (script_texts part.now) (W.calls world.new)) }
+    ensures clear { IfOk result (λ script. TakeNoneOf taken.now script.lines) }
     ensures few { IfOk result (λ script. length (W.calls world.new) ≤ length (W.calls world.old) + 1) }
     ensures same_files { W.files world.new ≡ W.files world.old }
 {
@@ -123,6 +127,7 @@ fn read_scripts<W: World>(
     ensures stops { IfErr result (ScriptsEnd (W.files world.old) topology.now routers.now (W.calls world.old) (map script_texts parts.now) (W.calls world.new)) }
     ensures few { IfOk result (λ scripts. length (W.calls world.new) ≤ length (W.calls world.old) + length parts.now) }
     ensures len { IfOk result (λ scripts. length scripts.items ≡ length parts.now) }
+    ensures apart { IfOk result (λ scripts. TakeApart (scripts_of scripts.items)) }
     ensures same_files { W.files world.new ≡ W.files world.old }
 {
     let mut read = ScriptsRead {

@@ -7,9 +7,9 @@ ghost use Rattle.std.specs.List.{flat_map, list_any};
 ghost use Rattle.std.specs.List.Sorted.{IsPermutation};
 ghost use Rattle.feed_threads.specs.AllJobs.{AreNumberedApart, told_by};
 ghost use Rattle.feed_threads.specs.Jobs.{AreApart, IsFresh as IsUnread};
-ghost use Rattle.dn_run.specs.Deal.{TakeApart, readers_of};
+ghost use Rattle.dn_run.specs.Deal.{readers_of};
 ghost use Rattle.dn_run.specs.Feeds.{sources_of};
-ghost use Rattle.dn_run.specs.Jobs.{AreFewJobs, AreNumbered, HasRun, HaveRoutersApart, IsFresh, routers_of_readers, scripts_of};
+ghost use Rattle.dn_run.specs.Jobs.{AreFewJobs, AreNumbered, HasRun, HaveRoutersApart, IsFresh, TakeApart, routers_of_readers, scripts_of};
 ghost use Rattle.dn_run.specs.Ran.{ListRan, RanAs, back_tag, reader_tag};
 ghost use Rattle.dn_run.specs.Run.{history_limit};
 

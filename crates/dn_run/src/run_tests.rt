@@ -249,7 +249,14 @@ const CUT_SHORT: &str =
 #[test]
 fn a_feed_is_cut_short(rt: HostRuntime) {
     let frame = set_frame(0, 8, 2);
-    let came = come_to(&rt, rt.alloc(), &USUAL, RING, TAKE_ALL, but_the_last(&frame));
+    let came = come_to(
+        &rt,
+        rt.alloc(),
+        &USUAL,
+        RING,
+        TAKE_ALL,
+        but_the_last(&frame),
+    );
     compare(&rt, came, Status::Refusals, CUT_SHORT);
 }
 

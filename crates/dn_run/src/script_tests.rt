@@ -20,7 +20,8 @@ fn files(alloc: Global, scripts: Scripts<'_>) -> Result<Vec<MemFile>, AllocError
     let second = file(alloc, "s2", second.as_bytes(), 4096, &[])?;
     let over_a = file(alloc, "f1", &set_frame(0, 8, 2), 4096, &[])?;
     let over_b = file(alloc, "f2", &set_frame(0, 8, 3), 4096, &[])?;
-    Vec::from_array(alloc, [topology, first, second, over_a, over_b])
+    let files = Vec::from_array(alloc, [topology, first, second, over_a, over_b])?;
+    Ok(files)
 }
 
 /// The status and the text of a run with these parts, over these scripts.

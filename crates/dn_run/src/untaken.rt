@@ -29,13 +29,25 @@ pub fn takes_feed(lines: &[Line], router: RouterId) -> bool
     lines.iter().any(|line| is_take_of(line, router))
 }
 
+/// Whether some line of this script takes frames of this router's feed.
+fn script_takes(script: &Script, router: RouterId) -> bool
+    ensures { result ≡ takes_router router script.now.lines }
+{
+    takes_feed(script.lines.as_slice(), router)
+}
+
+/// Whether some script takes this router's feed.
+fn is_taken(scripts: &[Script], router: RouterId) -> bool
+    ensures { result ≡ list_any (λ script. takes_router router script.lines) scripts.now }
+{
+    scripts.iter().any(|script| script_takes(script, router))
+}
+
 /// Whether no script takes this router's feed, so that it is a job of its own.
 pub fn is_own_feed(scripts: &[Script], router: RouterId) -> bool
     ensures { result ≡ not (list_any (takes_router router) (scripts_of scripts.now)) }
 {
-    !scripts
-        .iter()
-        .any(|script| takes_feed(script.lines.as_slice(), router))
+    !is_taken(scripts, router)
 }
 
 /// Whether these scripts, and the feeds of these routers that none of them takes, are more jobs than a run has.

@@ -105,6 +105,7 @@ returns-clause-ok g c =
       as_many = rw c.as_slice-2.ensures.value at c.in_ok-routers.ensures.len;
       few = c.in_ok-parts.ensures.few.0;
       few_jobs = few-jobs (scripts_of c.in_ok-scripts.scripts.items) c.in_ok-routers.routers.items (sym many ∙ c.if-has_too_many_jobs.false);
+      apart_scripts = c.in_ok-scripts.ensures.apart;
       known = rw c.deref.ensures at c.in_ok-routers.ensures.within;
       apart = c.in_ok-routers.ensures.apart;
       room = (

@@ -75,6 +75,7 @@ fn members_at_the_ends_of_chunks(rt: HostRuntime) {
     let now = [AtomId(0), AtomId(511), AtomId(1_023)];
     compare(&rt, rt.alloc(), &set, &now);
     compare(&rt, rt.alloc(), &copy, &ends);
+    compare_left(&rt, rt.alloc(), &copy, &set, &[AtomId(512)]);
 }
 
 /// The labels of one router, which has atoms 0 and 1, both with exit 1.

@@ -9,13 +9,13 @@ use label_view::{LabelView, ListView};
 use std::alloc::Global;
 use std::test::Fail;
 
-const R1: RouterId = RouterId(0);
+const FIRST: RouterId = RouterId(0);
 
-const R2: RouterId = RouterId(1);
+const SECOND: RouterId = RouterId(1);
 
-const R3: RouterId = RouterId(2);
+const THIRD: RouterId = RouterId(2);
 
-const R4: RouterId = RouterId(3);
+const FOURTH: RouterId = RouterId(3);
 
 /// Up to 9 r1 sends all to r2, from 10 to 19 and from 20 to 29 r2 sends it back, and from 30 on r1 has no route.
 fn pair(alloc: Global) -> Result<ListView, OutOfMemory> {
@@ -74,9 +74,9 @@ fn four(alloc: Global, low: u64, past: u64, to: [RouterId; 4]) -> Result<Forward
 /// itself; from 20 on r1 and r2 are a cycle, and r3 and r4.
 fn crowd(alloc: Global) -> Result<ListView, OutOfMemory> {
     let mut rows = List::new(alloc);
-    rows.push(four(alloc, 0, 10, [R4, R3, R4, R2])?)?;
-    rows.push(four(alloc, 10, 20, [R3, R2, R4, R3])?)?;
-    rows.push(four(alloc, 20, 4_294_967_296, [R2, R1, R4, R3])?)?;
+    rows.push(four(alloc, 0, 10, [FOURTH, THIRD, FOURTH, SECOND])?)?;
+    rows.push(four(alloc, 10, 20, [THIRD, SECOND, FOURTH, THIRD])?)?;
+    rows.push(four(alloc, 20, 4_294_967_296, [SECOND, FIRST, FOURTH, THIRD])?)?;
     Ok(ListView::new(4, rows))
 }
 
@@ -110,7 +110,7 @@ fn touching_rows_of_one_cycle_are_told_once(rt: HostRuntime) -> Result<(), Fail>
     let view = pair(rt.alloc())?;
     let cycles = loops_by(rt.alloc(), &view)?;
     assert_eq!(rt; cycles.len(), 1);
-    assert!(rt; tells(cycles.as_slice(), 0, &[R1, R2], 10, 20));
+    assert!(rt; tells(cycles.as_slice(), 0, &[FIRST, SECOND], 10, 20));
     let none = cycles_of_atom(rt.alloc(), &view, view.atom_of(30))?;
     assert_eq!(rt; none.len(), 0);
     Ok(())
@@ -121,10 +121,10 @@ fn cycles_come_by_least_address_then_by_first_router(rt: HostRuntime) -> Result<
     let view = crowd(rt.alloc())?;
     let cycles = loops(rt.alloc(), &view)?;
     assert_eq!(rt; cycles.len(), 4);
-    assert!(rt; tells(cycles.as_slice(), 0, &[R2, R3, R4], 0, 10));
-    assert!(rt; tells(cycles.as_slice(), 1, &[R2], 10, 10));
-    assert!(rt; tells(cycles.as_slice(), 2, &[R3, R4], 10, 4_294_967_286));
-    assert!(rt; tells(cycles.as_slice(), 3, &[R1, R2], 20, 4_294_967_276));
+    assert!(rt; tells(cycles.as_slice(), 0, &[SECOND, THIRD, FOURTH], 0, 10));
+    assert!(rt; tells(cycles.as_slice(), 1, &[SECOND], 10, 10));
+    assert!(rt; tells(cycles.as_slice(), 2, &[THIRD, FOURTH], 10, 4_294_967_286));
+    assert!(rt; tells(cycles.as_slice(), 3, &[FIRST, SECOND], 20, 4_294_967_276));
     Ok(())
 }
 
@@ -133,7 +133,7 @@ fn cycles_of_one_row_come_by_first_router(rt: HostRuntime) -> Result<(), Fail> {
     let view = crowd(rt.alloc())?;
     let cycles = cycles_of_atom(rt.alloc(), &view, view.atom_of(15))?;
     assert_eq!(rt; cycles.len(), 2);
-    assert!(rt; stand(cycles.as_slice(), 0, &[R2]));
-    assert!(rt; stand(cycles.as_slice(), 1, &[R3, R4]));
+    assert!(rt; stand(cycles.as_slice(), 0, &[SECOND]));
+    assert!(rt; stand(cycles.as_slice(), 1, &[THIRD, FOURTH]));
     Ok(())
 }

@@ -8,9 +8,9 @@ use label_view::{LabelView, ListView};
 use std::alloc::Global;
 use std::test::Fail;
 
-const R1: RouterId = RouterId(0);
+const FIRST: RouterId = RouterId(0);
 
-const R2: RouterId = RouterId(1);
+const SECOND: RouterId = RouterId(1);
 
 const LAST: u32 = 4_294_967_295;
 
@@ -61,11 +61,11 @@ fn reach_by<V: LabelView>(
 #[test]
 fn a_walk_ends_or_goes_round(rt: HostRuntime) -> Result<(), Fail> {
     let view = pair(rt.alloc())?;
-    let (hops, end) = path(rt.alloc(), &view, R1, 5)?;
-    assert_eq!(rt; hops.as_slice(), &[R1, R2][..]);
+    let (hops, end) = path(rt.alloc(), &view, FIRST, 5)?;
+    assert_eq!(rt; hops.as_slice(), &[FIRST, SECOND][..]);
     assert_eq!(rt; end, PathEnd::At(Target::Local));
-    let (hops, end) = path(rt.alloc(), &view, R1, 15)?;
-    assert_eq!(rt; hops.as_slice(), &[R1, R2, R1][..]);
+    let (hops, end) = path(rt.alloc(), &view, FIRST, 15)?;
+    assert_eq!(rt; hops.as_slice(), &[FIRST, SECOND, FIRST][..]);
     assert_eq!(rt; end, PathEnd::Loop);
     Ok(())
 }
@@ -73,11 +73,11 @@ fn a_walk_ends_or_goes_round(rt: HostRuntime) -> Result<(), Fail> {
 #[test]
 fn touching_rows_that_come_to_a_router_are_one_run(rt: HostRuntime) -> Result<(), Fail> {
     let view = pair(rt.alloc())?;
-    let met = reach_by(rt.alloc(), &view, R1, R2)?;
+    let met = reach_by(rt.alloc(), &view, FIRST, SECOND)?;
     assert_eq!(rt; met.as_slice(), &[Run { lo: 0, hi: 19 }][..]);
-    let back = reach(rt.alloc(), &view, R2, R1)?;
+    let back = reach(rt.alloc(), &view, SECOND, FIRST)?;
     assert_eq!(rt; back.as_slice(), &[Run { lo: 10, hi: 19 }][..]);
-    let all = reach(rt.alloc(), &view, R1, R1)?;
+    let all = reach(rt.alloc(), &view, FIRST, FIRST)?;
     assert_eq!(rt; all.as_slice(), &[Run { lo: 0, hi: LAST }][..]);
     Ok(())
 }
@@ -85,7 +85,7 @@ fn touching_rows_that_come_to_a_router_are_one_run(rt: HostRuntime) -> Result<()
 #[test]
 fn each_end_uses_a_link_for_itself(rt: HostRuntime) -> Result<(), Fail> {
     let view = pair(rt.alloc())?;
-    let (first, second) = uses(rt.alloc(), &view, R1, R2, LinkId(0))?;
+    let (first, second) = uses(rt.alloc(), &view, FIRST, SECOND, LinkId(0))?;
     assert_eq!(rt; first.as_slice(), &[Run { lo: 0, hi: 19 }][..]);
     assert_eq!(rt; second.as_slice(), &[Run { lo: 10, hi: 19 }][..]);
     Ok(())

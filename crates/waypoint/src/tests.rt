@@ -8,9 +8,9 @@ use label_view::ListView;
 use std::alloc::Global;
 use std::test::Fail;
 
-const R1: RouterId = RouterId(0);
+const FIRST: RouterId = RouterId(0);
 
-const R2: RouterId = RouterId(1);
+const SECOND: RouterId = RouterId(1);
 
 const LAST: u32 = 4_294_967_295;
 
@@ -49,9 +49,9 @@ fn pair(alloc: Global) -> Result<ListView, OutOfMemory>
 #[test]
 fn a_waypoint_counts_up_to_the_arrival(rt: HostRuntime) -> Result<(), Fail> {
     let view = pair(rt.alloc())?;
-    let missed = waypoint(rt.alloc(), &view, R1, R2, RouterId(9))?;
+    let missed = waypoint(rt.alloc(), &view, FIRST, SECOND, RouterId(9))?;
     assert_eq!(rt; missed.as_slice(), &[Run { lo: 0, hi: 19 }][..]);
-    let after = waypoint(rt.alloc(), &view, R1, R1, R2)?;
+    let after = waypoint(rt.alloc(), &view, FIRST, FIRST, SECOND)?;
     assert_eq!(rt; after.as_slice(), &[Run { lo: 0, hi: LAST }][..]);
     Ok(())
 }
@@ -59,9 +59,9 @@ fn a_waypoint_counts_up_to_the_arrival(rt: HostRuntime) -> Result<(), Fail> {
 #[test]
 fn either_end_as_waypoint_is_met_by_all(rt: HostRuntime) -> Result<(), Fail> {
     let view = pair(rt.alloc())?;
-    let at_end = waypoint(rt.alloc(), &view, R1, R2, R2)?;
+    let at_end = waypoint(rt.alloc(), &view, FIRST, SECOND, SECOND)?;
     assert_eq!(rt; at_end.len(), 0);
-    let at_start = waypoint(rt.alloc(), &view, R1, R2, R1)?;
+    let at_start = waypoint(rt.alloc(), &view, FIRST, SECOND, FIRST)?;
     assert_eq!(rt; at_start.len(), 0);
     Ok(())
 }

@@ -14,6 +14,7 @@ use Rattle.dn_model.specs.declared.ids.RouterId.{RouterId}
 use Rattle.route_feed.specs.FeedReader.{Reader}
 use Rattle.feed_threads.specs.Jobs.{Task}
 use Rattle.dn_run.specs.Deal.{left_by_lines, left_over, own_tasks, readers_of, script_tasks, takes_reader, tasks_of}
+use Rattle.dn_run.specs.Jobs.{TakeApart}
 use Rattle.dn_run.specs.Run.{takes_router}
 
 none-of : (r : RouterId) (others : List Line) (scripts : List (List Line)) → list_any (takes_router r) (others ∷ scripts) ≡ false → (takes_router r others ≡ false) × (list_any (takes_router r) scripts ≡ false)

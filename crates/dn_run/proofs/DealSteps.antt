@@ -1,19 +1,29 @@
 -- One more reader, or the readers of one more script, dealt to a job.
-use Rattle.std.proofs.Common.{◌≡◌, ℕ, suc, ◌+◌, ◌<◌, not, List, [], ◌∷◌, ◌++◌, length, get_or, take, drop, map, filter, refl, ap, ap₂, sym, ◌∙◌, subst, arith, append_assoc}
+use Rattle.std.proofs.Common.{◌≡◌, ℕ, suc, ◌+◌, ◌<◌, ◌≤◌, Bool, true, false, not, List, [], ◌∷◌, ◌++◌, length, get_or, take, drop, map, filter, refl, ap, ap₂, sym, ◌∙◌, subst, arith, append_assoc}
 use Rattle.std.specs.List.{flat_map}
 use Rattle.std.specs.List.Sorted.{IsPermutation}
-use Rattle.std.proofs.lemmas.List.{append-nil, length-append, map-append}
+use Rattle.std.specs.Prelude.{IfOk, Result, Ok, Err}
+use Rattle.std.proofs.lemmas.List.{append-nil, length-append, length-map, map-append}
 use Rattle.std.proofs.lemmas.Grind.{flat_map-append}
 use Rattle.std.proofs.lemmas.List.Sorted.{IsPermutation-append_right, IsPermutation-filter_both, IsPermutation-trans}
 use Rattle.dn_formats.specs.declared.script.Line.{Line}
+use Rattle.dn_formats.specs.declared.told.FeedTold.{FeedTold}
 use Rattle.route_feed.specs.FeedReader.{Reader}
 use Rattle.feed_threads.specs.Jobs.{Task}
 use Rattle.dn_run.specs.Deal.{left_by_lines, left_over, own_tasks, readers_of, script_tasks, takes_reader, tasks_of, unread_back}
 use Rattle.dn_run.proofs.DealLemmas.{readers-dealt, script-readers}
 
+-- what follows of a value from two facts of it
+pub ok-both : {T E : Type 0} (r : Result T E) (P Q R : T → Type 0) → ((x : T) → P x → Q x → R x) → IfOk r P → IfOk r Q → IfOk r R
+ok-both (Ok x) P Q R f p q = f x p q
+ok-both (Err e) P Q R f p q = tt
+
 module _ {S : Type 0} where
   one-longer : (jobs : List (Task S)) (task : Task S) → length (jobs ++ task ∷ []) + 1 ≡ suc (length jobs + 1)
   one-longer jobs task = let sum = length-append jobs (task ∷ []) in omega (arith, sum)
+
+  pub one-more : (jobs jobs' : List (Task S)) (task : Task S) → jobs' ≡ jobs ++ task ∷ [] → length jobs' ≡ length jobs + 1
+  one-more jobs jobs' task is = ap length is ∙ length-append jobs (task ∷ [])
 
   -- the job of the first of the scripts that are left
   pub script-next : (jobs : List (Task S)) (lines : List Line) (scripts : List (List Line)) (left : List (Reader S)) →
@@ -128,3 +138,69 @@ module _ {S : Type 0} where
   pub all-dealt : (scripts : List (List Line)) (readers : List (Reader S)) (jobs : List (Task S)) → jobs ≡ tasks_of scripts readers → IsPermutation readers (readers_of jobs ++ [])
   all-dealt scripts readers jobs jobs_are =
       subst (λ rs. IsPermutation readers rs) (sym (append-nil (readers_of jobs) ∙ ap readers_of jobs_are)) (readers-dealt scripts readers)
+
+  -- ---- the readers that lines take, and the others
+
+  -- one more that passes a test
+  pub passes : (p : Reader S → Bool) (before after all : List (Reader S)) (r : Reader S) (rest from : List (Reader S)) → from ≡ r ∷ rest → p r ≡ true → after ≡ before ++ r ∷ [] →
+      before ++ filter p from ≡ all → after ++ filter p rest ≡ all
+  passes p before after all r rest from split is put was =
+      let first : filter p (r ∷ rest) ≡ r ∷ filter p rest = rw is refl in
+      ap (λ rs. rs ++ filter p rest) put ∙ append_assoc before (r ∷ []) (filter p rest) ∙ ap (λ rs. before ++ rs) (sym first) ∙ ap (λ rs. before ++ filter p rs) (sym split) ∙ was
+
+  -- one more that fails it
+  pub fails : (p : Reader S → Bool) (before all : List (Reader S)) (r : Reader S) (rest from : List (Reader S)) → from ≡ r ∷ rest → p r ≡ false → before ++ filter p from ≡ all → before ++ filter p rest ≡ all
+  fails p before all r rest from split isnt was =
+      let first : filter p (r ∷ rest) ≡ filter p rest = rw isnt refl in
+      ap (λ rs. before ++ rs) (sym first) ∙ ap (λ rs. before ++ filter p rs) (sym split) ∙ was
+
+  -- no more
+  pub tested : (p : Reader S → Bool) (before all from : List (Reader S)) → from ≡ [] → before ++ filter p from ≡ all → before ≡ all
+  tested p before all from none was = sym (append-nil before) ∙ ap (λ rs. before ++ filter p rs) (sym none) ∙ was
+
+  -- ---- the readers where memory was wanting
+
+  -- a script's job was not made
+  pub script-back : (before jobs : List (Task S)) (some others left : List (Reader S)) (lines : List Line) → jobs ≡ before → some ≡ filter (takes_reader lines) left → others ≡ left_by_lines lines left →
+      IsPermutation (readers_of before ++ left) (readers_of jobs ++ (some ++ others))
+  script-back before jobs some others left lines jobs_are some_are others_are =
+      subst (λ rs. IsPermutation (readers_of before ++ left) rs)
+      (sym (ap₂ (λ js rs. readers_of js ++ rs) jobs_are (ap₂ (λ xs ys. xs ++ ys) some_are others_are))) (parted (readers_of before) lines left)
+
+  -- a reader's own job was not made
+  pub own-back : (before jobs : List (Task S)) (some others mine left : List (Reader S)) (r : Reader S) (left' : List (Reader S)) → left ≡ r ∷ left' → mine ≡ r ∷ [] →
+      jobs ≡ before → some ≡ mine → others ≡ left' → readers_of jobs ++ (some ++ others) ≡ readers_of before ++ left
+  own-back before jobs some others mine left r left' out mine_is jobs_are some_are others_are =
+      ap₂ (λ js rs. readers_of js ++ rs) jobs_are (ap₂ (λ xs ys. xs ++ ys) (some_are ∙ mine_is) others_are ∙ sym out)
+
+  -- the job of a reader that it alone has
+  pub own-given : (jobs jobs' : List (Task S)) (mine : List (Reader S)) (r : Reader S) → mine ≡ r ∷ [] →
+      jobs' ≡ jobs ++ record { number = length jobs + 1; lines = []; feeds = mine } ∷ [] → jobs' ≡ jobs ++ job_of_reader jobs r ∷ []
+  own-given jobs jobs' mine r mine_is is =
+      let job : List (Reader S) → Task S = λ fs. record { number = length jobs + 1; lines = []; feeds = fs } in
+      is ∙ ap (λ fs. jobs ++ job fs ∷ []) mine_is
+
+  -- ---- the sources of jobs that aren't run
+
+  -- the sources of one more job
+  pub job-put : (before backs more all : List (S × FeedTold)) (job : Task S) (jobs : List (Task S)) → backs ≡ before ++ more → more ≡ map unread_back job.feeds →
+      before ++ map unread_back (readers_of (job ∷ jobs)) ≡ all → backs ++ map unread_back (readers_of jobs) ≡ all
+  job-put before backs more all job jobs put is was =
+      ap (λ bs. bs ++ map unread_back (readers_of jobs)) (put ∙ ap (λ bs. before ++ bs) is)
+      ∙ append_assoc before (map unread_back job.feeds) (map unread_back (readers_of jobs))
+      ∙ ap (λ bs. before ++ bs) (sym (map-append unread_back job.feeds (readers_of jobs))) ∙ was
+
+  -- they have their room
+  pub job-fits : (more : List (S × FeedTold)) (job : Task S) (jobs : List (Task S)) (n room : ℕ) → more ≡ map unread_back job.feeds → n + length (readers_of (job ∷ jobs)) ≤ room →
+      (n + length more) + length (readers_of jobs) ≤ room
+  job-fits more job jobs n room is fits =
+      let sum : length (readers_of (job ∷ jobs)) ≡ length job.feeds + length (readers_of jobs) = length-append job.feeds (readers_of jobs) in
+      let len : length more ≡ length job.feeds = ap length is ∙ length-map job.feeds unread_back in
+      omega (arith, sum, len, fits)
+
+  -- the readers of jobs, of some and of others have their room
+  pub three-fit : (jobs some others : List (Reader S)) (room : ℕ) → length (jobs ++ (some ++ others)) ≤ room → length jobs + (length some + length others) ≤ room
+  three-fit jobs some others room fits =
+      let all = length-append jobs (some ++ others) in
+      let rest = length-append some others in
+      omega (arith, all, rest, fits)

@@ -119,6 +119,7 @@ module _ {X : Type 0} (no : X → ℕ) where
       at-next n d x y xs le is =
           let step : no y - n ≡ suc (no y - suc n) = omega (arith, le) in
           rw step is
+
       moved : (n m : ℕ) (d x : X) (all xs : List X) → suc n ≤ m → IsFrom m xs → All (λ y. y ≡ get_or all (no y - suc n) d) xs → All (λ y. y ≡ get_or (x ∷ all) (no y - n) d) xs
       moved n m d x all [] le from each = All-nil (λ y. y ≡ get_or (x ∷ all) (no y - n) d)
       moved n m d x all (y ∷ ys) le from each =

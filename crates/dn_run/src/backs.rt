@@ -10,10 +10,7 @@ use dn_io::Source;
 use route_feed::FeedReader;
 
 /// Sources behind others, for which there is room.
-pub fn append<S: Source>(
-    backs: Vec<(S, FeedTold)>,
-    more: Vec<(S, FeedTold)>,
-) -> Vec<(S, FeedTold)>
+pub fn append<S: Source>(backs: Vec<(S, FeedTold)>, more: Vec<(S, FeedTold)>) -> Vec<(S, FeedTold)>
     requires { length backs.items + length more.items ≤ vec_capacity backs }
     ensures items { result.items ≡ backs.items ++ more.items }
     ensures room { vec_capacity result ≡ vec_capacity backs }
@@ -47,9 +44,11 @@ pub fn in_order<S: Source>(backs: Vec<(S, FeedTold)>) -> Vec<(S, FeedTold)>
     ensures rises { IsNonDecreasingBy (λ b. b.1.feed_no) result.items }
 {
     let mut backs = backs;
-    backs.sort_unstable_by_key(|back| -> u32
-        ensures { result ≡ back.now.1.feed_no }
-    { back.1.feed_no });
+    backs.sort_unstable_by_key(
+        |back| -> u32
+            ensures { result ≡ back.now.1.feed_no }
+        { back.1.feed_no },
+    );
     backs
 }
 

@@ -213,10 +213,7 @@ pub fn deal<S: Source>(
 }
 
 /// The sources of jobs that aren't run behind others, for which there is room.
-fn append_jobs<S: Source>(
-    backs: Vec<(S, FeedTold)>,
-    jobs: Vec<Job<S>>,
-) -> Vec<(S, FeedTold)>
+fn append_jobs<S: Source>(backs: Vec<(S, FeedTold)>, jobs: Vec<Job<S>>) -> Vec<(S, FeedTold)>
     requires { length backs.items + length (readers_of jobs.items) ≤ vec_capacity backs }
     ensures items { result.items ≡ backs.items ++ map unread_back (readers_of jobs.items) }
     ensures room { vec_capacity result ≡ vec_capacity backs }

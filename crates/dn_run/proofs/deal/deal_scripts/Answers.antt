@@ -27,17 +27,17 @@ pub loop-script-preserved : goal.loop-script-preserved
 loop-script-preserved g c =
     let split : c.loop-script.script-iterator.rest.items ≡ c.in-Some.script ∷ c.next.new.self.rest.items = search rules in
     record {
-      jobs = script-step c.loop-script.dealt.jobs.items c.in_ok-dealt.field-0.jobs.items (script_tasks 1 (scripts_of c.args.scripts.items) c.args.dealt.left.items)
-          c.in-Some.script.lines (scripts_of c.next.new.self.rest.items) c.loop-script.dealt.left.items c.in_ok-dealt.field-0.left.items
+      jobs = script-step c.loop-script.dealt.jobs.items c.in_ok-dealt.dealt.jobs.items (script_tasks 1 (scripts_of c.args.scripts.items) c.args.dealt.left.items)
+          c.in-Some.script.lines (scripts_of c.next.new.self.rest.items) c.loop-script.dealt.left.items c.in_ok-dealt.dealt.left.items
           c.in_ok-dealt.ensures.jobs c.in_ok-dealt.ensures.left
           (subst (λ (rest : List Script). c.loop-script.dealt.jobs.items ++ script_tasks (length c.loop-script.dealt.jobs.items + 1) (scripts_of rest) c.loop-script.dealt.left.items
           ≡ script_tasks 1 (scripts_of c.args.scripts.items) c.args.dealt.left.items) split c.loop-script.invariant.jobs);
       left = ap (left_over (scripts_of c.next.new.self.rest.items)) c.in_ok-dealt.ensures.left
           ∙ ap (λ (rest : List Script). left_over (scripts_of rest) c.loop-script.dealt.left.items) (sym split) ∙ c.loop-script.invariant.left;
-      moves = script-moves c.args.dealt.left.items c.loop-script.dealt.left.items c.in_ok-dealt.field-0.left.items c.loop-script.dealt.jobs.items c.in_ok-dealt.field-0.jobs.items
+      moves = script-moves c.args.dealt.left.items c.loop-script.dealt.left.items c.in_ok-dealt.dealt.left.items c.loop-script.dealt.jobs.items c.in_ok-dealt.dealt.jobs.items
           c.in-Some.script.lines c.in_ok-dealt.ensures.jobs c.in_ok-dealt.ensures.left c.loop-script.invariant.moves;
-      few = (let e = one-more c.loop-script.dealt.jobs.items c.in_ok-dealt.field-0.jobs.items _ c.in_ok-dealt.ensures.jobs in let n = ap length split in let m = c.loop-script.invariant.few in omega (arith, e, n, m));
-      room = (let e = one-more c.loop-script.dealt.jobs.items c.in_ok-dealt.field-0.jobs.items _ c.in_ok-dealt.ensures.jobs in let n = ap length split in let m = c.loop-script.invariant.room in let k = c.in_ok-dealt.ensures.room in omega (arith, e, n, m, k));
+      few = (let e = one-more c.loop-script.dealt.jobs.items c.in_ok-dealt.dealt.jobs.items _ c.in_ok-dealt.ensures.jobs in let n = ap length split in let m = c.loop-script.invariant.few in omega (arith, e, n, m));
+      room = (let e = one-more c.loop-script.dealt.jobs.items c.in_ok-dealt.dealt.jobs.items _ c.in_ok-dealt.ensures.jobs in let n = ap length split in let m = c.loop-script.invariant.room in let k = c.in_ok-dealt.ensures.room in omega (arith, e, n, m, k));
       same = c.in_ok-dealt.ensures.room ∙ c.loop-script.invariant.same;
     }
 

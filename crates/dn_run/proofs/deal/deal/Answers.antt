@@ -42,4 +42,4 @@ returns-in-Err-clause-back g c =
     let given = c.in-Err.ensures.back ∙ c.in_ok-jobs.ensures.jobs in
     let whole = all-dealt (scripts_of c.args.scripts.items) c.args.readers.items c.in-Err.jobs.items
     (tasks-are (scripts_of c.args.scripts.items) c.args.readers.items c.in_ok-dealt.dealt.left.items c.in_ok-dealt.dealt.jobs.items c.in-Err.jobs.items c.in_ok-dealt.ensures.jobs c.in_ok-dealt.ensures.left given) in
-    rw (c.new.ensures.items, c.new-2.ensures.items) whole
+    rw (c.new-in-Err.ensures.items, c.new-in-Err-2.ensures.items) whole

@@ -1,5 +1,5 @@
 -- What the jobs of a run came to, as the run's report has it.
-use Rattle.std.proofs.Common.{◌≡◌, ℕ, suc, ◌+◌, ◌<◌, ◌≤◌, Bool, true, false, ◌==◌, not, Result, Ok, Err, IfOk, IsErr, IfSome, MatchResult, List, [], ◌∷◌, length, map, All, Option, None, Some, refl, ap, sym, ◌∙◌, arith, subst, if◌then◌else◌}
+use Rattle.std.proofs.Common.{◌≡◌, ℕ, suc, ◌+◌, ◌<◌, ◌≤◌, Bool, true, false, ◌==◌, not, Result, Ok, Err, IfOk, IsErr, IfSome, MatchResult, List, [], ◌∷◌, length, All, Option, None, Some, refl, ap, sym, ◌∙◌, arith, subst, if◌then◌else◌}
 use Rattle.std.proofs.lemmas.Bool.Decides.{nat_tests}
 use Rattle.std.proofs.lemmas.List.Elements.{All-head, All-tail}
 use Rattle.dn_io.specs.Calls.{Back, back_with}
@@ -7,7 +7,7 @@ use Rattle.dn_io.specs.Told.{with_front}
 use Rattle.dn_formats.specs.Feed.{IsReading, IsFaultedReading}
 use Rattle.dn_model.specs.Entry.{entries}
 use Rattle.dn_formats.specs.Report.{report}
-use Rattle.dn_formats.specs.Steps.{FeedRead, told_of}
+use Rattle.dn_formats.specs.Steps.{FeedRead}
 use Rattle.dn_formats.specs.declared.script.Line.{Line}
 use Rattle.dn_model.specs.declared.topology.Topology.{Topology}
 use Rattle.dn_formats.specs.declared.told.FeedEnd.{FeedEnd}

@@ -1,11 +1,10 @@
 -- How the steps before the jobs follow one another, and how one of them ends the run.
 use Rattle.std.proofs.lemmas.Bool.Decides.{nat_tests}
-use Rattle.std.proofs.Common.{◌≡◌, ℕ, ◌+◌, ◌<◌, ◌≤◌, get_or, arith, Bool, true, false, nat_lt, Result, Ok, Err, IfOk, IfErr, MatchResult, List, [], ◌∷◌, ◌++◌, length, Option, None, Some, MatchOption, refl, ap, sym, ◌∙◌, inl, inr, subst}
+use Rattle.std.proofs.Common.{◌≡◌, ℕ, ◌+◌, arith, true, false, nat_lt, Result, Ok, Err, IfOk, IfErr, MatchResult, List, [], ◌∷◌, ◌++◌, length, Option, Some, MatchOption, refl, sym, inl, inr, subst}
 use Rattle.std.specs.Result.{IsErrAnd}
-use Rattle.dn_io.specs.Calls.{Call, CallState, Back, call_of}
+use Rattle.dn_io.specs.Calls.{Call, Back}
 use Rattle.dn_io.specs.Files.{Files}
 use Rattle.dn_formats.specs.ScriptText.{script_of}
-use Rattle.dn_formats.specs.TopologyText.{topology_of}
 use Rattle.dn_formats.specs.Words.{FeedWords, PartsSaid, parts_of}
 use Rattle.dn_model.specs.declared.ids.RouterId.{RouterId}
 use Rattle.dn_model.specs.declared.topology.Topology.{Topology}
@@ -20,7 +19,7 @@ use Rattle.dn_run.specs.Loaded.{LoadsTopology, LoadsScript}
 use Rattle.dn_run.specs.Opened.{MayCallOne}
 use Rattle.dn_run.specs.PartsRead.{ArePartsRefused}
 use Rattle.dn_run.specs.RoutersFound.{AreRoutersRefused}
-use Rattle.dn_run.specs.Run.{IsErrorLine, IsLine, FromFeeds, FromJobs, FromScripts, FromRouters, FromTopology, FromParts, FromWords, feed_files, names_due, names_of_command, names_of_parts, names_of_words, untaken, most_jobs, routers_of, script_files}
+use Rattle.dn_run.specs.Run.{IsErrorLine, IsLine, FromScripts, FromRouters, FromTopology, FromParts, feed_files, names_due, names_of_command, names_of_parts, names_of_words, untaken, most_jobs, routers_of, script_files}
 use Rattle.dn_run.specs.Stage.{Stage, is_fault, may_end_early}
 use Rattle.dn_run.specs.Stops.{AreTaken, Due, EndsWith, GoesOn, Reaches, ScriptEnds, ScriptGoesOn, ScriptsEnd, ScriptsGoOn, Stops, StopsAs, TakeNoneOf, names_left, from_words, from_feeds, from_jobs, from_scripts, stop_of_words, stop_of_parts, stop_of_routers}
 use Rattle.dn_run.specs.WordsRefused.{AreRefused}

@@ -1,17 +1,13 @@
 -- From which routers scripts take: what a script means depends on which they are, and not on how they are listed.
-use Rattle.std.proofs.Common.{◌≡◌, ℕ, ◌+◌, ◌==◌, ◌||◌, Bool, true, false, nat_lt, Result, Ok, Err, OnOk, List, [], ◌∷◌, ◌++◌, codes, length, map, drop, take, get_or, Option, None, Some, refl, ap, ap₂, sym, ◌∙◌, subst, arith}
-use Rattle.std.specs.Prelude.{if◌then◌else◌}
-use Rattle.std.specs.Str.{bytes_eq}
+use Rattle.std.proofs.Common.{◌≡◌, ℕ, ◌+◌, ◌==◌, ◌||◌, Bool, true, false, List, [], ◌∷◌, ◌++◌, Option, None, Some, refl, ap, ap₂, sym, ◌∙◌, subst, arith}
 use Rattle.std.specs.List.{find, flat_map, list_any}
 use Rattle.std.proofs.lemmas.Bool.Decides.{nat_tests}
 use Rattle.std.proofs.lemmas.List.{append-nil, map-append}
 use Rattle.std.proofs.lemmas.List.Folds.{list_any-append}
 use Rattle.std.proofs.lemmas.Grind.{flat_map-append}
-use Rattle.dn_formats.specs.ScriptText.{ScriptFault, command_meaning, count_of, is_named, line_meaning, lines_meaning, lines_of, numbered, passes, script_of, take_count, take_from, take_meaning, two_of, with_line, words_of}
+use Rattle.dn_formats.specs.ScriptText.{command_meaning, count_of, is_named, line_meaning, lines_meaning, lines_of, numbered, script_of, take_count, take_from, take_meaning, two_of, with_line, words_of}
 use Rattle.dn_formats.specs.declared.script.Line.{Line}
-use Rattle.dn_formats.specs.declared.script.Line.TheVariants as line
 use Rattle.dn_formats.specs.declared.script.Script.{Script}
-use Rattle.dn_model.specs.Name.{is_name_text}
 use Rattle.dn_model.specs.declared.ids.RouterId.{RouterId}
 use Rattle.dn_run.specs.Jobs.{scripts_of}
 use Rattle.dn_run.specs.Run.{taken_by_line, taken_by_scripts}

@@ -21,7 +21,14 @@ fn main(rt: HostRuntime) -> ExitCode {
     let mut world = FileWorld::new(rt.alloc(), &rt);
     let mut sink = OutSink::new(io::writer(&rt));
     let status = match words(&rt) {
-        Ok(words) => run(&rt, rt.alloc(), words.as_slice(), &mut world, &mut sink, &NoGate),
+        Ok(words) => run(
+            &rt,
+            rt.alloc(),
+            words.as_slice(),
+            &mut world,
+            &mut sink,
+            &NoGate,
+        ),
         Err(_) => Status::OutOfMemory,
     };
     ExitCode::from(status as u8)

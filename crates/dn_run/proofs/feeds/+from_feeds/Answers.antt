@@ -1,8 +1,8 @@
 use Rattle.std.specs.Arc.{arc_value}
-use Rattle.std.proofs.Common.{◌∙◌, ◌+◌, ◌∷◌, [], arith, map, refl, ap, sym, subst}
+use Rattle.std.proofs.Common.{◌+◌, ◌∷◌, [], arith, map, refl, ap, sym, subst}
 use Rattle.std.specs.String.{string_bytes}
 use Rattle.dn_run.specs.Ending.{ending_of}
-use Rattle.dn_run.specs.Feeds.{Opens, sources_of}
+use Rattle.dn_run.specs.Feeds.{Opens}
 use Rattle.dn_run.specs.Jobs.{scripts_of}
 use Rattle.dn_run.specs.PartsRead.{feed_texts}
 use Rattle.dn_run.proofs.FeedsLemmas.{few-pushed, last-same, open-pushed, out-still, opens-given, opens-refused, opens-none, opens-stops, place-kept, places-of}

@@ -1,4 +1,4 @@
-use Rattle.std.proofs.Common.{◌+◌, ◌++◌, ◌∷◌, [], ◌∙◌, ap, arith, sym, subst, take}
+use Rattle.std.proofs.Common.{◌++◌, ◌∷◌, [], ◌∙◌, ap, arith, sym, subst, take}
 use Rattle.std.proofs.lemmas.List.{take_more}
 use Rattle.dn_run.proofs.TakenLemmas.{AddsTaken, adds-line}
 use Rattle.dn_run.proofs.input.add_all_taken.Goals as goal

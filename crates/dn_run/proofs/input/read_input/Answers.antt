@@ -1,4 +1,3 @@
-use Rattle.std.specs.Arc.{arc_value}
 use Rattle.std.specs.String.{string_bytes}
 use Rattle.std.proofs.Common.{List, [], map, length, ap, sym, ◌∙◌, subst, arith}
 use Rattle.dn_io.specs.Calls.{Call}
@@ -6,10 +5,10 @@ use Rattle.dn_run.specs.PartsRead.{parts_texts}
 use Rattle.dn_run.specs.Jobs.{scripts_of}
 use Rattle.dn_run.specs.Run.{feed_files}
 use Rattle.dn_model.specs.declared.topology.Topology.{Topology}
-use Rattle.dn_run.specs.Stops.{Reaches, from_feeds, Stops, stop_of_words, stop_of_parts, stop_of_routers}
+use Rattle.dn_run.specs.Stops.{Reaches, from_feeds, Stops, stop_of_words}
 use Rattle.dn_run.specs.WordsRefused.{command_texts}
 use Rattle.dn_run.specs.declared.stop.Stop.{Stop}
-use Rattle.dn_run.proofs.StopLemmas.{at-exit, words-stop, stops-parts, stops-topology, stops-topology-memory, loaded-one, reaches-routers, stops-routers, reaches-scripts, stops-scripts, stops-jobs, reaches-feeds, few-jobs}
+use Rattle.dn_run.proofs.StopLemmas.{at-exit, words-stop, stops-topology, stops-topology-memory, loaded-one, reaches-routers, stops-routers, reaches-scripts, stops-scripts, stops-jobs, reaches-feeds, few-jobs}
 use Rattle.dn_run.proofs.input.read_input.Goals as goal
 
 pub returns-in_err-command-clause-stops : goal.returns-in_err-command-clause-stops

@@ -5,10 +5,10 @@ mod backs;
 mod deal;
 mod feeds;
 mod files;
+#[cfg(test)]
+mod held_gate;
 mod input;
 mod jobs;
-#[cfg(test)]
-mod jobs_tests;
 mod laws;
 mod load;
 mod parts;

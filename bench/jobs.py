@@ -1,10 +1,11 @@
 #!/usr/bin/env python3
-"""Jobs side by side: time of N updates dealt out to 1, 2, 4, 16 and 64 jobs of one feed each, beside one job that takes all
-of the same feeds; and how long a job's updates take while other jobs ask queries.
+"""Jobs side by side: time of N updates dealt out to 1, 2, 4, 16 and 64 jobs of one feed each, beside one job that takes
+all of the same feeds; and how long a job's updates take while other jobs ask queries.
 
 The network is a ring of 64 routers, and each update sets a prefix that no other one sets. For the second part each of two
-scripts takes a share of N prefixes and then asks a hundred queries, while a third job applies N updates more; all feeds are
-named pipes, so that it is seen when a job has taken the last of one. Without asking the same is measured beside it.
+scripts takes half of N prefixes and then asks a hundred queries, while a third job applies N updates more; all feeds are
+named pipes, so that it is seen when a job has taken all of one but its last 64 KiB. Without asking the same is measured
+beside it.
 
 Usage: bench/jobs.py [--product BIN] [--processors P] [RUNS [N]]
        runs of each (1), of which the fastest counts, and N (64000), a multiple of 64, at most 8388608
@@ -121,7 +122,8 @@ def measure_beside(folder, count, asked):
     with open(report, "rb") as it:
         came = it.read()
     head = feed_lines([count, half, half])
-    if status != 0 or applied.thread.is_alive() or not came.startswith(head) or came.count(f" {QUERY}\n".encode()) != 2 * asked:
+    answers = came.count(f" {QUERY}\n".encode())
+    if status != 0 or applied.thread.is_alive() or not came.startswith(head) or answers != 2 * asked:
         sys.exit(f"bench: a wrong report, status {status}; words {' '.join(words)}")
     return applied.seconds
 

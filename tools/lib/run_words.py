@@ -145,7 +145,7 @@ def check_jobs(said: RunWords, taken: set[str]) -> None:
     jobs = len(said.scripts) + len(untaken)
     if jobs > MOST_JOBS:
         place = f"{_counted(len(said.scripts), 'script')} and {_counted(len(untaken), 'feed')} that none of them takes"
-        rule = f"a run has at most {MOST_JOBS} jobs, and these are {jobs}: let a script take one feed more, or leave one out"
+        rule = f"a run has at most {MOST_JOBS} jobs, and these are {jobs}: let a script take one feed more"
         raise Refused("error jobs TooMany", place, rule)
 
 

@@ -1,7 +1,7 @@
 //! Jobs over one history, against what was worked out by hand. In which order the entries of different jobs come is left
 //! open, so what each job made is looked at for itself.
 
-ghost use Rattle.std.specs.Prelude.{◌≡◌, ◌≤◌, ◌<◌, ◌∷◌, ◌+◌, [], IfOk, length, map, All};
+ghost use Rattle.std.specs.Prelude.{◌≡◌, ◌<◌, ◌∷◌, [], IfOk, length, All};
 ghost use Rattle.dn_model.specs.Entry.{IsEntryOf};
 ghost use Rattle.dn_model.specs.declared.topology.Topology.{Topology as TopologyIs};
 ghost use Rattle.feed_threads.specs.AllJobs.{AreNumberedApart};
@@ -125,57 +125,48 @@ fn script(alloc: Global) -> Result<Script, OutOfMemory> {
     Ok(Script { lines })
 }
 
-/// The job of a script over two feeds of three updates each, those of r1 and r2.
-fn script_job(alloc: Global) -> Result<Job<MemSource>, OutOfMemory>
-    ensures fresh { IfOk result (λ job. (t : TopologyIs) → length t.routers ≡ 3 → All (IsFresh t MemSource.Source.faults) job.feeds) }
-    ensures routers { IfOk result (λ job. AreApart job.feeds) }
-    ensures numbers { IfOk result (λ job. map (λ r. r.told.feed_no) job.feeds ≡ 1 ∷ 2 ∷ []) }
-{
-    let mut readers = Vec::new(alloc);
-    readers.push(reader(alloc, 0, 1, 3)?)?;
-    readers.push(reader(alloc, 1, 2, 3)?)?;
-    let script = script(alloc)?;
-    match Job::new(alloc, 1, Some(script), readers) {
-        Ok(job) => Ok(job),
-        Err(_) => Err(OutOfMemory),
-    }
-}
-
-/// The job of one feed without a script.
-fn feed_job(
+/// A job of these readers.
+fn job(
     alloc: Global,
     number: u32,
-    router: u16,
-    feed_no: u32,
-    count: u8,
+    script: Option<Script>,
+    readers: Vec<FeedReader<MemSource>>,
 ) -> Result<Job<MemSource>, OutOfMemory>
-    requires { router < 3 }
-    ensures fresh { IfOk result (λ job. (t : TopologyIs) → length t.routers ≡ 3 → All (IsFresh t MemSource.Source.faults) job.feeds) }
-    ensures routers { IfOk result (λ job. AreApart job.feeds) }
-    ensures numbers { IfOk result (λ job. map (λ r. r.told.feed_no) job.feeds ≡ feed_no ∷ []) }
+    ensures { IfOk result (λ job. job.feeds ≡ readers.items) }
 {
-    let mut readers = Vec::new(alloc);
-    readers.push(reader(alloc, router, feed_no, count)?)?;
-    match Job::new(alloc, number, None, readers) {
+    match Job::new(alloc, number, script, readers) {
         Ok(job) => Ok(job),
         Err(_) => Err(OutOfMemory),
     }
 }
 
-/// A script's job over the feeds 1 and 2, and a job of a third feed with four updates.
+/// These jobs.
+fn job_list(alloc: Global, jobs: Vec<Job<MemSource>>) -> Result<JobList<MemSource>, OutOfMemory>
+    ensures { IfOk result (λ list. list ≡ jobs.items) }
+{
+    match JobList::new(alloc, jobs) {
+        Ok(list) => Ok(list),
+        Err(_) => Err(OutOfMemory),
+    }
+}
+
+/// A script's job over the feeds of r1 and r2, with three updates each, and a job of r3's feed with four.
 fn two_jobs(alloc: Global) -> Result<JobList<MemSource>, OutOfMemory>
     ensures fresh { IfOk result (λ jobs. (t : TopologyIs) → length t.routers ≡ 3 → All (λ job. All (IsFresh t MemSource.Source.faults) job.feeds) jobs) }
     ensures routers { IfOk result (λ jobs. All (λ job. AreApart job.feeds) jobs) }
     ensures numbers { IfOk result (λ jobs. AreNumberedApart jobs) }
     ensures count { IfOk result (λ jobs. length jobs ≡ 2) }
 {
+    let mut taken = Vec::new(alloc);
+    taken.push(reader(alloc, 0, 1, 3)?)?;
+    taken.push(reader(alloc, 1, 2, 3)?)?;
+    let mut alone = Vec::new(alloc);
+    alone.push(reader(alloc, 2, 3, 4)?)?;
+    let script = script(alloc)?;
     let mut jobs = Vec::new(alloc);
-    jobs.push(script_job(alloc)?)?;
-    jobs.push(feed_job(alloc, 2, 2, 3, 4)?)?;
-    match JobList::new(alloc, jobs) {
-        Ok(jobs) => Ok(jobs),
-        Err(_) => Err(OutOfMemory),
-    }
+    jobs.push(job(alloc, 1, Some(script), taken)?)?;
+    jobs.push(job(alloc, 2, None, alone)?)?;
+    job_list(alloc, jobs)
 }
 
 /// One job without a script, of a feed of three updates.
@@ -185,12 +176,11 @@ fn one_job(alloc: Global) -> Result<JobList<MemSource>, OutOfMemory>
     ensures numbers { IfOk result (λ jobs. AreNumberedApart jobs) }
     ensures count { IfOk result (λ jobs. length jobs ≡ 1) }
 {
+    let mut alone = Vec::new(alloc);
+    alone.push(reader(alloc, 0, 1, 3)?)?;
     let mut jobs = Vec::new(alloc);
-    jobs.push(feed_job(alloc, 1, 0, 1, 3)?)?;
-    match JobList::new(alloc, jobs) {
-        Ok(jobs) => Ok(jobs),
-        Err(_) => Err(OutOfMemory),
-    }
+    jobs.push(job(alloc, 1, None, alone)?)?;
+    job_list(alloc, jobs)
 }
 
 /// The store of these jobs, which had this limit, and what the jobs came to.

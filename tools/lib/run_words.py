@@ -11,7 +11,7 @@ from dataclasses import dataclass, field
 from network import is_name
 
 MOST_FEEDS = 64
-MOST_SCRIPTS = 1
+MOST_SCRIPTS = 64
 MOST_JOBS = 64
 
 
@@ -99,14 +99,14 @@ def _add_part(said: RunWords, part: int, word: str) -> None:
     """Adds one part; what is wrong with a part comes before there being too many of its kind."""
     if word.startswith("@"):
         if word == "@":
-            raise _part_refused(part, word, "BadPart", "after @ stands the script's file")
+            raise _part_refused(part, word, "BadPart", "after @ stands a script's file")
         if len(said.scripts) == MOST_SCRIPTS:
-            raise _part_refused(part, word, "TooMany", f"a run has at most {MOST_SCRIPTS} script")
+            raise _part_refused(part, word, "TooMany", f"a run has at most {MOST_SCRIPTS} scripts")
         said.scripts.append(ScriptPart(part, word[1:]))
         return
     router, equals, file = word.partition("=")
     if not equals:
-        raise _part_refused(part, word, "BadPart", "a part is ROUTER=FILE, or @FILE for the script")
+        raise _part_refused(part, word, "BadPart", "a part is ROUTER=FILE, or @FILE for a script")
     if not is_name(router):
         rule = f"before = stands a router's name, 1 to 32 of a to z, 0 to 9, _ and -, and {router!r} isn't one"
         raise _part_refused(part, word, "BadPart", rule)
@@ -144,9 +144,13 @@ def check_jobs(said: RunWords, taken: set[str]) -> None:
     untaken = [feed.router for feed in said.feeds if feed.router not in taken]
     jobs = len(said.scripts) + len(untaken)
     if jobs > MOST_JOBS:
-        place = f"{len(said.scripts)} script and {len(untaken)} feeds that it doesn't take"
-        rule = f"a run has at most {MOST_JOBS} jobs, and these are {jobs}: let the script take one feed more"
+        place = f"{_counted(len(said.scripts), 'script')} and {_counted(len(untaken), 'feed')} that none of them takes"
+        rule = f"a run has at most {MOST_JOBS} jobs, and these are {jobs}: let a script take one feed more"
         raise Refused("error jobs TooMany", place, rule)
+
+
+def _counted(count: int, noun: str) -> str:
+    return f"{count} {noun}" if count == 1 else f"{count} {noun}s"
 
 
 def _listed(names: list[str]) -> str:

@@ -31,7 +31,6 @@ def load_tool() -> object:
 WHY = load_tool()
 
 # The tool has put its folder of modules on the path.
-import run_words
 import script
 
 MANY = "routers = [" + ", ".join(f'"r{number}"' for number in range(1, 65)) + "]\n"
@@ -65,7 +64,8 @@ WORDS: list[tuple[list[str], str, str]] = [
     (["run", "topology.toml", "r1="], "error part 1 BadPart", "part 1: r1="),
     (["run", "topology.toml", "Core=r1.fpm"], "error part 1 BadPart", "part 1: Core=r1.fpm"),
     (["run", "nowhere.toml", "=f"], "error part 1 BadPart", "part 1: =f"),
-    (["run", "topology.toml", "@script", "@script"], "error part 2 TooMany", "part 2: @script"),
+    (["run", "topology.toml", *["@none"] * 65], "error part 65 TooMany", "part 65: @none"),
+    (["run", "topology.toml", *["@none"] * 64, "@"], "error part 65 BadPart", "part 65: @"),
     (["run", "topology.toml", "@script", "@"], "error part 2 BadPart", "part 2: @"),
     (["run", "many.toml", *MANY_FEEDS, "r65=nowhere"], "error part 65 TooMany", "part 65: r65=nowhere"),
     (["run", "many.toml", *MANY_FEEDS, "x"], "error part 65 BadPart", "part 65: x"),
@@ -82,6 +82,13 @@ WORDS: list[tuple[list[str], str, str]] = [
     (["run", "topology.toml", "r1=empty", "r2=r1.fpm"], "", ""),
     (["run", "topology.toml", "r1=r1.fpm", "@script"], "", ""),
     (["run", "topology.toml"], "", ""),
+    (["run", "topology.toml", "r1=r1.fpm", "@none", "@script", "@none"], "", ""),
+    (["run", "topology.toml", *["@none"] * 64], "", ""),
+    (["run", "topology.toml", "@script", "@script"], "error script 1 line 1 2 TakeUnknown", "script:1: take r1 all"),
+    (["run", "topology.toml", "r1=r1.fpm", "@script", "@script"], "error script 3 line 1 3 TakenTwice", "script:1: take"),
+    (["run", "topology.toml", "r1=r1.fpm", "@script", "@nowhere"], "error read part 3", "nowhere: No such file"),
+    (["run", "topology.toml", *["@none"] * 64, "r1=r1.fpm"], "error jobs TooMany", "64 scripts and 1 feed that"),
+    (["run", "topology.toml", *["@none"] * 63, "@script", "r1=r1.fpm"], "", ""),
     (["run", "many.toml", *MANY_FEEDS, "@none"], "error jobs TooMany", "1 script and 64 feeds"),
     (["run", "many.toml", *MANY_FEEDS], "error read part 1", "part 1: r1=nowhere"),
     (["run", "many.toml", *MANY_FEEDS[:63], "@none"], "error read part 1", "part 1: r1=nowhere"),
@@ -242,17 +249,6 @@ class ErrorLines(unittest.TestCase):
                 with self.assertRaises(script.ScriptFault, msg=line) as caught:
                     script.read_script(line, feeds)
                 self.assertEqual("BadLine", caught.exception.cause)
-
-    def test_several_scripts(self) -> None:
-        """With more than one script, a feed is taken by one of them."""
-        self.write("two", b"take r1 1\n")
-        with mock.patch.object(run_words, "MOST_SCRIPTS", 64):
-            lines = WHY.explain(["run", *self.paths("topology.toml"), f"r1={self.paths('r1.fpm')[0]}",
-                                 *("@" + path for path in self.paths("script", "two"))])[1]
-        self.assertEqual("error script 3 line 1 3 TakenTwice", lines[0])
-
-    def paths(self, *names: str) -> list[str]:
-        return [str(Path(self.folder.name) / name) for name in names]
 
     def test_words_that_are_not_text(self) -> None:
         self.assertEqual("error words", self.why(["run", "topology.toml", b"r1=\xff"])[0])

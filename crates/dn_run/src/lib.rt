@@ -5,10 +5,10 @@ mod backs;
 mod deal;
 mod feeds;
 mod files;
+#[cfg(test)]
+mod held_gate;
 mod input;
 mod jobs;
-#[cfg(test)]
-mod jobs_tests;
 mod laws;
 mod load;
 mod parts;
@@ -21,9 +21,15 @@ mod ruling;
 mod run_tests;
 #[cfg(test)]
 mod script_tests;
+#[cfg(test)]
+mod slow_gate;
 mod status;
 mod stop;
 mod sure;
+#[cfg(test)]
+mod trial;
+#[cfg(test)]
+mod trial_tests;
 mod untaken;
 mod words;
 

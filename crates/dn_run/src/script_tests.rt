@@ -1,9 +1,10 @@
 //! Whole runs of several scripts, whose jobs run side by side, against the reports that their interleavings allow.
 
+use crate::held_gate::HeldGate;
 use crate::program::run;
 use crate::run_tests::{RING, file, set_frame};
 use crate::status::Status;
-use dn_io::{MemFile, MemSink, MemWorld, NoGate};
+use dn_io::{Gate, MemFile, MemSink, MemWorld, NoGate};
 use std::alloc::{AllocError, Global};
 use std::process::Abort;
 use std::sync::Wait;
@@ -24,12 +25,13 @@ fn files(alloc: Global, scripts: Scripts<'_>) -> Result<Vec<MemFile>, AllocError
     Ok(files)
 }
 
-/// The status and the text of a run with these parts, over these scripts.
-fn come<R: Threads + Wait + Sync>(
+/// The status and the text of a run with these parts, over these scripts, whose jobs a gate may hold.
+fn come<R: Threads + Wait + Sync, G: Gate>(
     rt: &R,
     alloc: Global,
     parts: &[&str],
     scripts: Scripts<'_>,
+    gate: &G,
 ) -> Result<(Status, Vec<u8>), AllocError> {
     let mut words = Vec::new(alloc);
     for word in ["deltanet", "run", "topology"] {
@@ -40,7 +42,7 @@ fn come<R: Threads + Wait + Sync>(
     }
     let mut world = MemWorld::new(alloc, files(alloc, scripts)?, Vec::new(alloc));
     let mut sink = MemSink::new(alloc, 4096, Vec::new(alloc));
-    let status = run(rt, alloc, words.as_slice(), &mut world, &mut sink, &NoGate);
+    let status = run(rt, alloc, words.as_slice(), &mut world, &mut sink, gate);
     Ok((status, Vec::from_slice(alloc, sink.written())?))
 }
 
@@ -53,7 +55,7 @@ fn compare<R: Abort + Threads + Wait + Sync>(
     status: Status,
     text: &str,
 ) {
-    let (came, written) = come(rt, alloc, parts, scripts).expect(rt, "memory");
+    let (came, written) = come(rt, alloc, parts, scripts, &NoGate).expect(rt, "memory");
     assert_eq!(rt; came, status, "{text}");
     assert_eq!(rt; written.as_slice(), text.as_bytes(), "{text}");
 }
@@ -99,26 +101,47 @@ fn two_scripts_take_a_feed_each(rt: HostRuntime) {
     let alloc = rt.alloc();
     let scripts = ["take r1 all\nloops\n", "take r2 all\nloops\n"];
     let parts = ["@s1", "r1=f1", "r2=f2", "@s2"];
-    let (status, written) = come(&rt, alloc, &parts, scripts).expect(&rt, "memory");
+    let (status, written) = come(&rt, alloc, &parts, scripts, &NoGate).expect(&rt, "memory");
     assert_eq!(rt; status, Status::Done);
     let allowed = is_allowed(alloc, written.as_slice()).expect(&rt, "memory");
     assert!(rt; allowed);
 }
 
-const SCRIPT_AND_FEED: &str =
-    "feed 1 r2 updates 0 skipped 0 refused 0 end\nfeed 2 r1 updates 1 skipped 0 refused 0 end\nhistory 1\n1 feed 2 r1 set 10.0.0.0/8 metric 20 to r2 by a\njob 1\nline 2 at 1 path r1 10.0.0.0\nhops r1 r2\nend noroute\njob 2\njob 3\ndone\n";
+const HELD_PIN: &str =
+    "feed 1 r1 updates 1 skipped 0 refused 0 end\nhistory 1\n1 feed 1 r1 set 10.0.0.0/8 metric 20 to r2 by a\njob 1\nline 1 at 0 path r1 10.1.2.3\nhops r1\nend noroute\nline 2 at 1 path r1 10.1.2.3\nhops r1 r2\nend noroute\njob 2\nline 2 at 1 loops\nnone\ndone\n";
 
+/// Job 1 has a pin before the only update, and its answer after another job had applied it, pinned it and was answered. Its
+/// second pin shows the update, of which nobody told it.
+#[test]
+fn held_pin(rt: HostRuntime) {
+    let alloc = rt.alloc();
+    let scripts = [
+        "path r1 10.1.2.3\npath r1 10.1.2.3\n",
+        "take r1 all\nloops\n",
+    ];
+    let parts = ["r1=f1", "@s1", "@s2"];
+    let gate = HeldGate::new();
+    let (status, written) = come(&rt, alloc, &parts, scripts, &gate).expect(&rt, "memory");
+    assert!(rt; !gate.ran_out(), "a job waited in vain");
+    assert_eq!(rt; status, Status::Done);
+    assert_eq!(rt; written.as_slice(), HELD_PIN.as_bytes());
+}
+
+const SCRIPTS_AND_FEED: &str =
+    "feed 1 r1 updates 1 skipped 0 refused 0 end\nfeed 2 r2 updates 0 skipped 0 refused 0 end\nfeed 3 r3 updates 1 skipped 0 refused 0 end\nhistory 2\n1 feed 1 r1 set 10.0.0.0/8 metric 20 to r2 by a\n2 feed 3 r3 set 10.0.0.0/8 metric 20 to r1 by c\njob 1\nline 2 at 1 path r1 10.0.0.0\nhops r1 r2\nend noroute\njob 2\njob 3\ndone\n";
+
+/// The second feed, which no script takes, and the second script are empty files.
 #[test]
 fn scripts_count_before_feeds(rt: HostRuntime) {
-    let scripts = ["take r1 1\npath r1 10.0.0.0\n", ""];
-    let parts = ["r2=s2", "@s1", "r1=f1", "@s2"];
+    let scripts = ["take r1 1\npath r1 10.0.0.0\ntake r3 1\n", ""];
+    let parts = ["r1=f1", "r2=s2", "r3=f2", "@s1", "@s2"];
     compare(
         &rt,
         rt.alloc(),
         &parts,
         scripts,
         Status::Done,
-        SCRIPT_AND_FEED,
+        SCRIPTS_AND_FEED,
     );
 }
 
@@ -152,7 +175,7 @@ fn jobs_are_too_many(rt: HostRuntime) {
 fn sixty_four_scripts_are_as_many_jobs(rt: HostRuntime) {
     let alloc = rt.alloc();
     let parts = ["@s1"; 64];
-    let (status, written) = come(&rt, alloc, &parts, ["", ""]).expect(&rt, "memory");
+    let (status, written) = come(&rt, alloc, &parts, ["", ""], &NoGate).expect(&rt, "memory");
     assert_eq!(rt; status, Status::Done);
     assert!(rt; written.as_slice().ends_with(b"job 63\njob 64\ndone\n"));
 }

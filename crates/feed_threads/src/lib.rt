@@ -11,6 +11,8 @@ mod lines;
 mod one_job;
 mod places;
 mod take;
+#[cfg(test)]
+mod tests;
 mod unrun;
 
 pub use all_jobs::run_jobs;

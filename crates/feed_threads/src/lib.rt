@@ -11,8 +11,6 @@ mod lines;
 mod one_job;
 mod places;
 mod take;
-#[cfg(test)]
-mod tests;
 mod unrun;
 
 pub use all_jobs::run_jobs;

@@ -7,13 +7,13 @@ ghost use Rattle.dn_model.specs.declared.topology.Topology.{Topology as Topology
 ghost use Rattle.feed_threads.specs.AllJobs.{AreNumberedApart};
 ghost use Rattle.feed_threads.specs.Jobs.{AreApart, IsFresh};
 
-use crate::{Job, JobDone, JobList, run_history};
 use dn_formats::{FeedEnd, Line, Outcome, Script, Told};
 use dn_io::{MemSource, NoGate};
 use dn_model::{
     Ask, Entry, List, Name, Op, OutOfMemory, Posted, Prefix, Query, RouterId, Target, TopoEnd,
     Topology,
 };
+use feed_threads::{Job, JobDone, JobList, run_history};
 use route_feed::FeedReader;
 use std::alloc::Global;
 use std::process::Abort;

@@ -24,7 +24,7 @@ use Rattle.dn_run.specs.Deal.{readers_of, tasks_of}
 use Rattle.feed_threads.specs.Jobs.{AreReadBy, IsKeptSo, IsReadBy, Task}
 use Rattle.feed_threads.specs.declared.job.JobDone.{JobDone}
 use Rattle.feed_threads.specs.Feeds.{CountsBy, StandsBy, end_with}
-use Rattle.dn_run.specs.Jobs.{AreNumbered, IsReadAs}
+use Rattle.dn_run.specs.Jobs.{AreNumbered, IsReadAs, TakeApart}
 use Rattle.dn_run.specs.Ran.{RanAs}
 use Rattle.dn_run.specs.Run.{history_limit}
 use Rattle.dn_run.proofs.DealLemmas.{jobs-are, readers-dealt, task_job}

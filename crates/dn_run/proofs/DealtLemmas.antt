@@ -1,5 +1,5 @@
 -- What the jobs that a run's readers were dealt to come to.
-use Rattle.std.proofs.Common.{◌≡◌, ℕ, suc, ◌≤◌, ◌^◌, Bool, false, List, [], ◌∷◌, ◌++◌, length, map, All, Option, refl, ap, ap₂, sym, ◌∙◌, subst}
+use Rattle.std.proofs.Common.{◌≡◌, ℕ, suc, ◌≤◌, ◌^◌, Bool, false, List, [], ◌∷◌, ◌++◌, length, map, All, Option, Result, Ok, Err, IfOk, refl, ap, ap₂, sym, ◌∙◌, subst}
 use Rattle.std.specs.List.{AllZip, flat_map, list_any}
 use Rattle.std.specs.List.Sorted.{IsNonDecreasingBy, IsPermutation}
 use Rattle.std.proofs.lemmas.List.{append-nil, length-map}
@@ -27,6 +27,10 @@ zip-count R [] [] zip = refl
 zip-count R [] (y ∷ ys) zip = absurd zip
 zip-count R (x ∷ xs) [] zip = absurd zip
 zip-count R (x ∷ xs) (y ∷ ys) zip = ap suc (zip-count R xs ys zip.1)
+
+pub if-ok : {A E : Type 0} (r : Result A E) (P Q : A → Type 0) → ((a : A) → P a → Q a) → IfOk r P → IfOk r Q
+if-ok (Ok a) P Q then has = then a has
+if-ok (Err e) P Q then has = tt
 
 -- ---- sources that came back
 

@@ -18,7 +18,7 @@ part_backs-sources-requires-clause-sources g c κs within =
 pub part_backs-sources-requires-clause-tolds : goal.part_backs-sources-requires-clause-tolds
 part_backs-sources-requires-clause-tolds g c κs within =
     let count = length_permutation c.run_dealt-made.result.1.items c.in_order.result.items c.in_order.ensures.same in
-    omega (arith, count, c.run_dealt-made.ensures.count, c.in-Ok.ensures.room.1.0, c.len.ensures)
+    omega (arith, count, c.run_dealt-made.ensures.count, c.in-Ok.ensures.room.1, c.len.ensures)
 
 pub returns-in-Ok-made-clause-ran : goal.returns-in-Ok-made-clause-ran
 returns-in-Ok-made-clause-ran g c =

@@ -1,5 +1,5 @@
 -- Sources that came back, put in the order of their feeds.
-use Rattle.std.proofs.Common.{◌≡◌, ℕ, zero, suc, ◌+◌, ◌<◌, ◌≤◌, List, [], ◌∷◌, ◌++◌, length, get_or, map, All, Option, None, Some, refl, ap, ap₂, sym, ◌∙◌, subst, arith}
+use Rattle.std.proofs.Common.{◌≡◌, ℕ, zero, suc, ◌<◌, List, [], ◌∷◌, ◌++◌, length, get_or, map, All, Option, None, Some, refl, ap, ap₂, sym, ◌∙◌, subst, arith}
 use Rattle.std.specs.List.{AllZip, flat_map}
 use Rattle.std.specs.List.Sorted.{IsNonDecreasingBy, IsPermutation}
 use Rattle.std.proofs.lemmas.List.{length-map, map-append}
@@ -60,6 +60,7 @@ module _ {S : Type 0} (place : S → ℕ) where
       sources : (bs : List (S × FeedTold)) → map place (map (λ b. b.0) bs) ≡ map (λ (tag : Tag). tag.1) (map (back_tag place) bs)
       sources [] = refl
       sources (b ∷ bs) = ap (λ ps. place b.0 ∷ ps) (sources bs)
+
       starts : (rs : List (Reader S)) → map (λ (tag : Tag). tag.1) (map (reader_tag place) rs) ≡ map (λ r. place r.source) rs
       starts [] = refl
       starts (r ∷ rs) = ap (λ ps. place r.source ∷ ps) (starts rs)

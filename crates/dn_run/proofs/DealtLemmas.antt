@@ -1,5 +1,5 @@
 -- What the jobs that a run's readers were dealt to come to.
-use Rattle.std.proofs.Common.{◌≡◌, ℕ, suc, ◌≤◌, ◌^◌, Bool, false, List, [], ◌∷◌, ◌++◌, length, map, All, Option, Result, Ok, Err, IfOk, refl, ap, ap₂, sym, ◌∙◌, subst}
+use Rattle.std.proofs.Common.{◌≡◌, ℕ, suc, ◌≤◌, Bool, false, List, [], ◌∷◌, ◌++◌, length, map, All, Option, Result, Ok, Err, IfOk, refl, ap, ap₂, sym, ◌∙◌, subst}
 use Rattle.std.specs.List.{AllZip, flat_map, list_any}
 use Rattle.std.specs.List.Sorted.{IsNonDecreasingBy, IsPermutation}
 use Rattle.std.proofs.lemmas.List.{append-nil, length-map}

@@ -172,7 +172,10 @@ fn run_list<S: Source, G: Gate, R: Threads + Wait + Sync>(
     list: JobList<S>,
     rooms: (Vec<(S, FeedTold)>, Vec<JobTold>),
     gate: &G,
-) -> (Result<(List<Posted>, Vec<JobTold>), OutOfMemory>, Vec<(S, FeedTold)>)
+) -> (
+    Result<(List<Posted>, Vec<JobTold>), OutOfMemory>,
+    Vec<(S, FeedTold)>,
+)
     requires few { length list ≤ 64 }
     requires fresh { All (λ job. All (IsUnread (arc_value topology.now) S.faults) job.feeds) list }
     requires apart { All (λ job. AreApart job.feeds) list }
@@ -214,7 +217,10 @@ fn run_dealt<S: Source, G: Gate, R: Threads + Wait + Sync>(
     readers: Vec<FeedReader<S>>,
     rooms: (Vec<(S, FeedTold)>, Vec<JobTold>),
     gate: &G,
-) -> (Result<(List<Posted>, Vec<JobTold>), OutOfMemory>, Vec<(S, FeedTold)>)
+) -> (
+    Result<(List<Posted>, Vec<JobTold>), OutOfMemory>,
+    Vec<(S, FeedTold)>,
+)
     requires fresh { All (IsFresh (arc_value topology.now) S.faults) readers.items }
     requires numbered { AreNumbered 1 readers.items }
     requires apart { HaveRoutersApart readers.items }

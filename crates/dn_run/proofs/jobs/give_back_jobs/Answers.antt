@@ -9,6 +9,6 @@ give_back-requires-clause-room g c κs within =
 pub returns : goal.returns
 returns g c = record {
   tags =
-    given-tags g.S.Source.place c.args.list c.into_jobs.result.items c.new.result.items c.new-2.result.items c.give_back.result.items
-    c.into_jobs.ensures c.new.ensures.items c.new-2.ensures.items c.give_back.ensures;
+      given-tags g.S.Source.place c.args.list c.into_jobs.result.items c.new.result.items c.new-2.result.items c.give_back.result.items
+      c.into_jobs.ensures c.new.ensures.items c.new-2.ensures.items c.give_back.ensures;
 }

@@ -57,8 +57,8 @@ returns-in-Ok-clause-ran g c =
     if-ok c.run_list.result.0 (λ made. ListRan (arc_value c.args.topology.now) g.S.Source.left g.S.Source.faults g.S.Source.place c.in-Ok.list c.run_list.result.1.items made.0 made.1.items)
     (λ made. RanAs (arc_value c.args.topology.now) g.S.Source.left g.S.Source.faults c.args.readers.items c.run_list.result.1.items made.0 (scripts_of c.args.scripts.items) made.1.items)
     (λ made is. ran-of (arc_value c.args.topology.now) g.S.Source.left g.S.Source.faults g.S.Source.place (scripts_of c.args.scripts.items) c.args.readers.items c.run_list.result.1.items made.0 made.1.items
-        c.requires.numbered c.requires.apart_scripts c.requires.few c.requires.fresh
-        (subst (λ (list : List (Task g.row.S.Denot)). ListRan (arc_value c.args.topology.now) g.S.Source.left g.S.Source.faults g.S.Source.place list c.run_list.result.1.items made.0 made.1.items) c.in-Ok.ensures.jobs is))
+    c.requires.numbered c.requires.apart_scripts c.requires.few c.requires.fresh
+    (subst (λ (list : List (Task g.row.S.Denot)). ListRan (arc_value c.args.topology.now) g.S.Source.left g.S.Source.faults g.S.Source.place list c.run_list.result.1.items made.0 made.1.items) c.in-Ok.ensures.jobs is))
     c.run_list.ensures.ran
 
 pub returns-in-Ok-clause-tags : goal.returns-in-Ok-clause-tags

@@ -1,8 +1,8 @@
 -- What the jobs that a run's readers were dealt to come to.
-use Rattle.std.proofs.Common.{◌≡◌, ℕ, suc, ◌≤◌, ◌^◌, Bool, false, List, [], ◌∷◌, ◌++◌, length, map, All, Option, refl, ap, ap₂, sym, ◌∙◌, subst}
+use Rattle.std.proofs.Common.{◌≡◌, ℕ, suc, ◌≤◌, Bool, false, List, [], ◌∷◌, ◌++◌, length, map, All, Option, Result, Ok, Err, IfOk, refl, ap, ap₂, sym, ◌∙◌, subst}
 use Rattle.std.specs.List.{AllZip, flat_map, list_any}
 use Rattle.std.specs.List.Sorted.{IsNonDecreasingBy, IsPermutation}
-use Rattle.std.proofs.lemmas.List.{length-map}
+use Rattle.std.proofs.lemmas.List.{append-nil, length-map}
 use Rattle.std.proofs.lemmas.List.Sorted.{IsPermutation-map, length_permutation}
 use Rattle.dn_formats.specs.declared.script.Line.{Line}
 use Rattle.dn_formats.specs.declared.told.FeedTold.{FeedTold}
@@ -14,7 +14,7 @@ use Rattle.feed_threads.specs.AllJobs.{AllRan, IsBackFrom, told_by}
 use Rattle.feed_threads.specs.Jobs.{Task}
 use Rattle.feed_threads.specs.declared.job.JobDone.{JobDone}
 use Rattle.dn_run.specs.Deal.{readers_of, tasks_of, unread_back}
-use Rattle.dn_run.specs.Jobs.{AreNumbered, HasRun, IsFresh}
+use Rattle.dn_run.specs.Jobs.{AreNumbered, HasRun, IsFresh, TakeApart}
 use Rattle.dn_run.specs.Ran.{ListRan, RanAs, back_tag, reader_tag}
 use Rattle.dn_run.specs.Run.{history_limit}
 use Rattle.dn_run.proofs.BackLemmas.{all-tags, has-run, places-in-order}
@@ -28,12 +28,25 @@ zip-count R [] (y ∷ ys) zip = absurd zip
 zip-count R (x ∷ xs) [] zip = absurd zip
 zip-count R (x ∷ xs) (y ∷ ys) zip = ap suc (zip-count R xs ys zip.1)
 
+pub if-ok : {A E : Type 0} (r : Result A E) (P Q : A → Type 0) → ((a : A) → P a → Q a) → IfOk r P → IfOk r Q
+if-ok (Ok a) P Q then has = then a has
+if-ok (Err e) P Q then has = tt
+
 -- ---- sources that came back
 
 module _ {S : Type 0} (place : S → ℕ) where
   pub unread-tags : (rs : List (Reader S)) → map (back_tag place) (map unread_back rs) ≡ map (reader_tag place) rs
   unread-tags [] = refl
   unread-tags (r ∷ rs) = ap (λ tags. reader_tag place r ∷ tags) (unread-tags rs)
+
+  -- the readers of jobs, and no others
+  pub no-others : (list jobs : List (Task S)) (some others : List (Reader S)) → jobs ≡ list → some ≡ [] → others ≡ [] → readers_of jobs ++ (some ++ others) ≡ readers_of list
+  no-others list jobs some others jobs_are none nothing = ap₂ (λ js rs. readers_of js ++ rs) jobs_are (ap₂ (λ xs ys. xs ++ ys) none nothing) ∙ append-nil (readers_of list)
+
+  pub given-tags : (list jobs : List (Task S)) (some others : List (Reader S)) (backs : List (S × FeedTold)) → jobs ≡ list → some ≡ [] → others ≡ [] →
+      backs ≡ map unread_back (readers_of jobs ++ (some ++ others)) → map (back_tag place) backs ≡ map (reader_tag place) (readers_of list)
+  given-tags list jobs some others backs jobs_are none nothing is =
+      ap (map (back_tag place)) (is ∙ ap (map unread_back) (no-others list jobs some others jobs_are none nothing)) ∙ unread-tags (readers_of list)
 
   -- those of jobs that the readers were dealt to, one job after another
   pub dealt-tags : (scripts : List (List Line)) (readers : List (Reader S)) (backs : List (S × FeedTold)) →
@@ -76,6 +89,27 @@ module _ {S : Type 0} (t : Topology) (left : S → Option (List ℕ)) (faults pl
       ListRan t left faults place tasks backs seen told
   list-ran seen tasks dones backs told ran none backs_are told_are =
       record { dones = dones; backs_are = backs_are; told_are = told_are; lawful = ran.lawful (any-none (λ done. done.wanted_memory) dones none) }
+
+  -- ---- as the call tells it
+
+  module _ (now : Topology) (limit : ℕ) (seen : List Posted) (tasks : List (Task S)) (dones : List (JobDone S)) (now_is : now ≡ t) (limit_is : limit ≡ history_limit) (ran : AllRan now left faults place limit tasks seen dones) where
+    ran-at : AllRan t left faults place history_limit tasks seen dones
+    ran-at = subst (λ l. AllRan t left faults place l tasks seen dones) limit_is (subst (λ u. AllRan u left faults place limit tasks seen dones) now_is ran)
+
+    -- there are as many sources as readers, and as many jobs as were run
+    pub came-sources : length (flat_map (λ done. done.feeds.items) dones) ≡ length (readers_of tasks)
+    came-sources = back-count seen tasks dones ran-at.each
+
+    pub came-jobs : length dones ≡ length tasks
+    came-jobs = zip-count (IsBackFrom t left faults place history_limit seen) tasks dones ran-at.each
+
+    pub came-tags : (backs : List (S × FeedTold)) → backs ≡ flat_map (λ done. done.feeds.items) dones → map (back_tag place) backs ≡ map (reader_tag place) (readers_of tasks)
+    came-tags backs is = list-tags seen tasks dones backs ran-at is
+
+    pub came-ran : (wanted : Bool) (backs : List (S × FeedTold)) (told : List JobTold) (history : List Posted) → wanted ≡ list_any (λ done. done.wanted_memory) dones → wanted ≡ false →
+        backs ≡ flat_map (λ done. done.feeds.items) dones → told ≡ map told_by dones → history ≡ seen → ListRan t left faults place tasks backs history told
+    came-ran wanted backs told history wanted_is none backs_are told_are history_is =
+        subst (λ h. ListRan t left faults place tasks backs h told) (sym history_is) (list-ran seen tasks dones backs told ran-at (sym wanted_is ∙ none) backs_are told_are)
 
   pub ran-of : (scripts : List (List Line)) (readers : List (Reader S)) (backs : List (S × FeedTold)) (history : List Posted) (told : List JobTold) → AreNumbered 1 readers → TakeApart scripts →
       length readers ≤ 64 → All (IsFresh t faults) readers → ListRan t left faults place (tasks_of scripts readers) backs history told → RanAs t left faults readers backs history scripts told

@@ -1,35 +1,33 @@
 -- What jobs came to, as what a run's jobs came to: no history is full, and all feeds stand in their own order.
-use Rattle.std.proofs.Common.{◌≡◌, ℕ, zero, suc, ◌+◌, ◌*◌, ◌<◌, ◌≤◌, ◌^◌, ◌==◌, Bool, true, false, not, ◌||◌, cond, List, [], ◌∷◌, ◌++◌, length, get_or, map, filter, take, All, Option, None, Some, refl, ap, ap₂, sym, ◌∙◌, subst, arith, IsTrue}
-use Rattle.std.specs.List.{AllZip, Contains, flat_map, list_any, sum_by}
+use Rattle.std.proofs.Common.{◌≡◌, ℕ, zero, suc, ◌+◌, ◌*◌, ◌<◌, ◌≤◌, ◌^◌, Bool, true, false, ◌||◌, cond, List, [], ◌∷◌, ◌++◌, length, get_or, map, filter, take, All, Option, None, Some, refl, ap, ap₂, sym, ◌∙◌, subst, arith, IsTrue}
+use Rattle.std.specs.List.{flat_map, list_any, sum_by}
 use Rattle.std.specs.List.Sorted.{IsPermutation}
-use Rattle.std.proofs.lemmas.List.{length-map, map-append}
-use Rattle.std.proofs.lemmas.List.Elements.{All-cons, All-head, All-tail, All-nil}
-use Rattle.std.proofs.lemmas.List.Sorted.{All-permutation, Contains-permutation, IsPermutation-map, IsPermutation-sym}
+use Rattle.std.proofs.lemmas.List.{length-map}
+use Rattle.std.proofs.lemmas.List.Elements.{All-head, All-tail}
+use Rattle.std.proofs.lemmas.List.Sorted.{Contains-permutation, IsPermutation-map, IsPermutation-sym}
 use Rattle.std.proofs.lemmas.List.Sums.{sum_by-cons}
 use Rattle.dn_formats.specs.Lawful.{IsLawful, Job, is_from, is_from_some, jobs_of}
-use Rattle.dn_formats.specs.Steps.{FeedRead, entries_of, kept_of, told_of, updates}
+use Rattle.dn_formats.specs.Steps.{FeedRead, entries_of, kept_of, updates}
 use Rattle.dn_formats.specs.declared.script.Line.{Line}
-use Rattle.dn_formats.specs.declared.told.FeedEnd.{FeedEnd}
 use Rattle.dn_formats.specs.declared.told.FeedEnd.TheVariants as ends
 use Rattle.dn_formats.specs.declared.told.FeedTold.{FeedTold}
 use Rattle.dn_formats.specs.declared.told.JobTold.{JobTold}
 use Rattle.dn_model.specs.Entry.{entries}
 use Rattle.dn_model.specs.declared.entry.Entry.{Entry}
 use Rattle.dn_model.specs.declared.entry.Posted.{Posted}
-use Rattle.dn_model.specs.declared.ids.RouterId.{RouterId}
 use Rattle.dn_model.specs.declared.topology.Topology.{Topology}
 use Rattle.route_feed.specs.FeedReader.{Reader}
 use Rattle.feed_threads.specs.AllJobs.{AreDoneAs, AreLawful, HaveSame, feeds_of_jobs, told_by}
-use Rattle.dn_run.specs.Deal.{readers_of, tasks_of}
+use Rattle.dn_run.specs.Deal.{tasks_of}
 use Rattle.feed_threads.specs.Jobs.{AreReadBy, IsKeptSo, IsReadBy, Task}
 use Rattle.feed_threads.specs.declared.job.JobDone.{JobDone}
 use Rattle.feed_threads.specs.Feeds.{CountsBy, StandsBy, end_with}
-use Rattle.dn_run.specs.Jobs.{AreNumbered, IsReadAs}
+use Rattle.dn_run.specs.Jobs.{AreNumbered, IsReadAs, TakeApart}
 use Rattle.dn_run.specs.Ran.{RanAs}
 use Rattle.dn_run.specs.Run.{history_limit}
 use Rattle.dn_run.proofs.DealLemmas.{jobs-are, readers-dealt, task_job}
 use Rattle.dn_run.proofs.InOrder.{IsFrom}
-use Rattle.dn_run.proofs.MatchLemmas.{AllPieces, AllZip3, Matched, matches}
+use Rattle.dn_run.proofs.MatchLemmas.{AllPieces, AllZip3, matches}
 
 -- ---- a history has no more entries than its feeds have updates
 

@@ -1,12 +1,11 @@
 -- What came back of the readers of jobs, and what was read by each, put beside the readers in the order of the feeds.
-use Rattle.std.proofs.Common.{◌≡◌, ℕ, zero, suc, ◌+◌, ◌<◌, ◌≤◌, ◌==◌, Bool, true, false, not, ◌&&◌, ◌||◌, List, [], ◌∷◌, ◌++◌, length, get_or, map, All, Option, None, Some, refl, ap, ap₂, sym, ◌∙◌, subst, arith, IsTrue}
-use Rattle.std.specs.List.{AllZip, IsDistinct, AllByRecursion, flat_map, list_any}
+use Rattle.std.proofs.Common.{◌≡◌, ℕ, suc, ◌<◌, ◌==◌, Bool, true, false, List, [], ◌∷◌, ◌++◌, length, map, All, refl, ap, sym, subst, arith}
+use Rattle.std.specs.List.{AllZip, IsDistinct, AllByRecursion, flat_map}
 use Rattle.std.specs.List.Sorted.{IsPermutation}
 use Rattle.std.proofs.lemmas.Bool.Decides.{nat_tests}
-use Rattle.std.proofs.lemmas.List.{length-map, map-append}
 use Rattle.std.proofs.lemmas.List.Elements.{All-cons, All-head, All-tail, All-nil}
 use Rattle.std.proofs.lemmas.List.Sorted.{All-permutation, IsPermutation-map, IsPermutation-sym}
-use Rattle.std.proofs.lemmas.Map.Keys.{IsDistinct-IsPermutation, IsDistinct-head, IsDistinct-tail}
+use Rattle.std.proofs.lemmas.Map.Keys.{IsDistinct-IsPermutation}
 use Rattle.dn_run.proofs.DealLemmas.{Differ, matched, other-num, picks, pieces, same-num}
 use Rattle.dn_run.proofs.InOrder.{IsFrom}
 

@@ -1,5 +1,5 @@
 -- The jobs that a run's readers are dealt to are such as may be run.
-use Rattle.std.proofs.Common.{◌≡◌, ℕ, suc, ◌+◌, ◌==◌, ◌≤◌, Bool, true, false, not, ◌&&◌, ◌||◌, cond, List, [], ◌∷◌, ◌++◌, length, get_or, map, filter, All, refl, ap, ap₂, sym, ◌∙◌, subst, arith, IsTrue}
+use Rattle.std.proofs.Common.{◌≡◌, ℕ, suc, ◌+◌, ◌==◌, ◌≤◌, Bool, true, false, not, ◌&&◌, ◌||◌, cond, List, [], ◌∷◌, ◌++◌, length, get_or, map, filter, All, refl, ap, ap₂, ◌∙◌, subst, arith}
 use Rattle.std.specs.List.{list_any}
 use Rattle.std.proofs.lemmas.List.{length-append, map-append}
 use Rattle.std.proofs.lemmas.List.Elements.{All-cons, All-head, All-tail, All-nil}
@@ -13,7 +13,7 @@ use Rattle.feed_threads.specs.AllJobs.{AreNumberedApart}
 use Rattle.feed_threads.specs.Jobs.{AreApart, IsFresh as IsUnread, Task}
 use Rattle.dn_run.specs.Deal.{left_over, own_tasks, readers_of, script_tasks, tasks_of}
 use Rattle.dn_run.specs.Jobs.{AreFewJobs, AreNumbered, HaveRoutersApart, IsFresh, routers_of_readers}
-use Rattle.dn_run.specs.Run.{takes_router, untaken}
+use Rattle.dn_run.specs.Run.{untaken}
 use Rattle.dn_run.proofs.DealLemmas.{Differ, is_left, left-is, readers-dealt}
 use Rattle.dn_run.proofs.DealSteps.{script-count}
 use Rattle.dn_run.proofs.InOrder.{IsFrom}

@@ -1,6 +1,5 @@
 -- One more reader, or the readers of one more script, dealt to a job.
 use Rattle.std.proofs.Common.{◌≡◌, ℕ, suc, ◌+◌, ◌<◌, ◌≤◌, Bool, true, false, not, List, [], ◌∷◌, ◌++◌, length, get_or, take, drop, map, filter, refl, ap, ap₂, sym, ◌∙◌, subst, arith, append_assoc}
-use Rattle.std.specs.List.{flat_map}
 use Rattle.std.specs.List.Sorted.{IsPermutation}
 use Rattle.std.specs.Prelude.{IfOk, Result, Ok, Err}
 use Rattle.std.proofs.lemmas.List.{append-nil, length-append, length-map, map-append}

@@ -1,9 +1,8 @@
 -- How the readers of feeds are dealt out to jobs.
-use Rattle.std.specs.Prelude.{◌≡◌, ℕ, suc, Bool, true, false, not, List, [], ◌∷◌, ◌++◌, ◌+◌, length, map, filter}
-use Rattle.std.specs.List.{flat_map, list_any}
+use Rattle.std.specs.Prelude.{ℕ, suc, Bool, not, List, [], ◌∷◌, ◌++◌, length, filter}
+use Rattle.std.specs.List.{flat_map}
 use Rattle.dn_formats.specs.declared.script.Line.{Line}
 use Rattle.dn_formats.specs.declared.told.FeedTold.{FeedTold}
-use Rattle.dn_model.specs.declared.ids.RouterId.{RouterId}
 use Rattle.feed_threads.specs.Jobs.{Task}
 use Rattle.route_feed.specs.FeedReader.{Reader}
 use Rattle.dn_run.specs.Run.{takes_router}

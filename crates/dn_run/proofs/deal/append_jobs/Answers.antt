@@ -1,4 +1,4 @@
-use Rattle.std.proofs.Common.{rules, ◌≡◌, ◌∷◌, ◌+◌, ◌++◌, ◌≤◌, length, map, ap, sym, ◌∙◌, arith, subst}
+use Rattle.std.proofs.Common.{rules, ◌≡◌, ◌∷◌, ◌+◌, ◌++◌, ◌≤◌, length, map, ◌∙◌, arith, subst}
 use Rattle.std.specs.Prelude.{List, vec_capacity}
 use Rattle.feed_threads.specs.Jobs.{Task}
 use Rattle.std.proofs.lemmas.List.{length-append}

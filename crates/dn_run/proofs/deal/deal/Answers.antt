@@ -1,8 +1,7 @@
-use Rattle.std.proofs.Common.{rules, ◌≡◌, ◌∷◌, ◌+◌, ◌++◌, [], length, ap, sym, ◌∙◌, arith, refl}
+use Rattle.std.proofs.Common.{◌∙◌, arith}
 use Rattle.std.proofs.lemmas.List.{length-map}
 use Rattle.std.proofs.lemmas.Result.{err_from_is_err_and}
 use Rattle.dn_formats.specs.declared.script.Script.{Script}
-use Rattle.dn_run.specs.Deal.{own_tasks, readers_of, tasks_of}
 use Rattle.dn_run.specs.Jobs.{scripts_of}
 use Rattle.dn_run.proofs.DealSteps.{all-dealt, dealt-count, half-dealt, tasks-are}
 use Rattle.dn_run.proofs.deal.deal.Goals as goal

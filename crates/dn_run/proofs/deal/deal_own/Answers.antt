@@ -1,8 +1,6 @@
-use Rattle.std.proofs.Common.{rules, ◌≡◌, ◌∷◌, ◌+◌, ◌++◌, [], List, length, ap, sym, ◌∙◌, arith, refl}
-use Rattle.std.proofs.lemmas.List.{length-append}
+use Rattle.std.proofs.Common.{◌≡◌, ◌∷◌, ◌++◌, [], List, ap, sym, ◌∙◌}
 use Rattle.std.proofs.lemmas.Result.{IfErr-weaker, IfOk-weaker}
 use Rattle.route_feed.specs.FeedReader.{Reader}
-use Rattle.dn_run.specs.Deal.{own_tasks, readers_of}
 use Rattle.dn_run.proofs.DealSteps.{first-out, ok-both, one-more, own-back, own-given, own-moves, own-step}
 use Rattle.dn_run.proofs.deal.deal_own.Goals as goal
 

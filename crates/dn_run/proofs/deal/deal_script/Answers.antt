@@ -1,7 +1,5 @@
-use Rattle.std.proofs.Common.{◌∙◌, ap}
-use Rattle.std.proofs.lemmas.List.Sorted.{IsPermutation-refl}
+use Rattle.std.proofs.Common.{◌∙◌}
 use Rattle.std.proofs.lemmas.Result.{IfErr-weaker}
-use Rattle.dn_run.specs.Deal.{left_by_lines, readers_of, takes_reader}
 use Rattle.dn_run.proofs.DealSteps.{script-back}
 use Rattle.dn_run.proofs.deal.deal_script.Goals as goal
 

@@ -2,7 +2,7 @@ use Rattle.std.proofs.Common.{rules, ◌≡◌, List, ◌∷◌, ◌+◌, ◌++�
 use Rattle.std.proofs.lemmas.List.Sorted.{IsPermutation-refl, IsPermutation-trans}
 use Rattle.std.proofs.lemmas.Result.{err_from_is_err_and}
 use Rattle.dn_formats.specs.declared.script.Script.{Script}
-use Rattle.dn_run.specs.Deal.{left_over, readers_of, script_tasks}
+use Rattle.dn_run.specs.Deal.{left_over, script_tasks}
 use Rattle.dn_run.specs.Jobs.{scripts_of}
 use Rattle.dn_run.proofs.DealSteps.{one-more, script-moves, script-step}
 use Rattle.dn_run.proofs.deal.deal_scripts.Goals as goal

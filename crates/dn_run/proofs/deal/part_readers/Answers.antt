@@ -1,4 +1,4 @@
-use Rattle.std.proofs.Common.{rules, ◌≡◌, ◌∷◌, ◌+◌, ◌≤◌, [], true, false, not, length, ap, sym, arith}
+use Rattle.std.proofs.Common.{rules, ◌≡◌, ◌∷◌, [], true, false, not, length, ap, sym, arith}
 use Rattle.std.proofs.lemmas.List.{length-append, nil_from_length}
 use Rattle.dn_run.specs.Deal.{takes_reader}
 use Rattle.dn_run.proofs.DealSteps.{fails, passes, tested}

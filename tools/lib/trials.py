@@ -116,9 +116,9 @@ def ring_of(count: int) -> str:
 def all_feeds(folder: str) -> Iterator[Trial]:
     write(folder, "topology", ring_of(64))
     for place in range(1, 65):
-        write(folder, f"f{place}", b"".join(frame([set_route(place << 24 | low << 8, 24)]) for low in range(200)))
+        write(folder, f"f{place}", b"".join(frame([set_route(place << 24 | low << 8, 24)]) for low in range(40)))
     feeds = [f"r{place}=f{place}" for place in range(1, 65)]
-    write(folder, "script", "take r1 100\nloops\npath r1 1.0.0.1\ntake r64 all\nblackholes r64\ndelta\n")
+    write(folder, "script", "take r1 20\nloops\npath r1 1.0.0.1\ntake r64 all\nblackholes r64\ndelta\n")
     yield Trial("64 feeds at once", ["topology", *feeds])
     yield Trial("64 feeds and a script that takes two", ["topology", *feeds, "@script"])
     yield Trial("64 feeds, and no thread beside the first", ["topology", *feeds], threads=1, as_nobody=True)
@@ -202,7 +202,12 @@ def large_topologies(folder: str) -> Iterator[Trial]:
     write(folder, "topology", most)
     write(folder, "feed", b"".join(frame([set_route(low << 8, 24, 100)]) for low in range(4_096)))
     write(folder, "script", "take r0 all\nloops\nblackholes r0\nreach r1023 r0\n")
-    yield Trial("queries over 1,024 routers and 4,096 prefixes", ["topology", "r0=feed", "@script"])
+    sets = (f"{low + 1} feed 1 r0 set 0.{low >> 8}.{low & 255}.0/24 metric 20 to r1 by l0" for low in range(4_096))
+    report = lines("feed 1 r0 updates 4096 skipped 0 refused 0 end", "history 4096", *sets, "job 1",
+                   "line 2 at 4096 loops", "none", "line 3 at 4096 blackholes r0", "at r0 noroute",
+                   "0.16.0.0-255.255.255.255", "at r1 noroute", "0.0.0.0-0.15.255.255",
+                   "line 4 at 4096 reach r1023 r0", "none", "done")
+    yield Trial("queries over 1,024 routers and 4,096 prefixes", ["topology", "r0=feed", "@script"], 0, (report,))
 
 
 # ---- files, pipes, output
@@ -254,7 +259,7 @@ def little_memory(folder: str) -> Iterator[Trial]:
     for place in range(1, 9):
         write(folder, f"f{place}", b"".join(frame([set_route(place << 24 | low << 8, 24)]) for low in range(5_000)))
     words = ["topology", *(f"r{place}=f{place}" for place in range(1, 9))]
-    for step in (0, 1, 2, 4, 8, 16, 32, 64, 256):
+    for step in (0, 1, 4, 16, 64, 256, 1_024, 4_096, 16_384):
         yield Trial(f"{step} MiB more than a run without words has", words, memory=step * 2 ** 20)
 
 

@@ -238,7 +238,7 @@ class Programs(unittest.TestCase):
 
     def test_hostile_stops_what_hangs(self) -> None:
         child = HOSTILE.Child(self.program("exec sleep 60"), ".", 0.2)
-        ended, _ = child.run(Trial("hangs", []), None)
+        ended, _ = child.run(Trial("hangs", []))
         self.assertTrue(child.is_late)
         self.assertEqual(-9, ended.status)
 

@@ -109,6 +109,9 @@ class Refused:
     number: int
     cause: str
 
+    def __str__(self) -> str:
+        return f"refused offset {self.offset} message {self.message} cause {self.number} {self.cause}"
+
 
 @dataclass
 class Feed:
@@ -122,6 +125,11 @@ class Feed:
     end: str
     refused: list[Refused] = field(default_factory=list)
 
+    def printed_lines(self) -> list[str]:
+        """The lines that tell of it in a report."""
+        head = f"feed {self.number} {self.router} updates {self.updates} skipped {self.skipped}"
+        return [f"{head} refused {self.refused_count} {self.end}", *map(str, self.refused)]
+
 
 @dataclass
 class Answer:
@@ -132,6 +140,11 @@ class Answer:
     position: int | None
     query: str
     lines: list[str] = field(default_factory=list)
+
+    def printed_lines(self) -> list[str]:
+        """The lines that tell of it in a report."""
+        place = "" if self.position is None else f" at {self.position}"
+        return [f"line {self.line}{place} {self.query}", *self.lines]
 
 
 @dataclass
@@ -147,6 +160,16 @@ class Report:
     def feed_of(self, router: str) -> Feed | None:
         """The router's feed; a router has at most one in a run."""
         return next((feed for feed in self.feeds if feed.router == router), None)
+
+    def printed_lines(self) -> list[str]:
+        """All its lines, as they have to be printed."""
+        lines = [line for feed in self.feeds for line in feed.printed_lines()]
+        lines.append(f"history {len(self.entries)}")
+        lines += [f"{entry.position} feed {entry.feed} {entry.router} {entry}" for entry in self.entries]
+        for job in self.jobs:
+            lines.append(f"job {job}")
+            lines += [line for answer in self.answers if answer.job == job for line in answer.printed_lines()]
+        return [*lines, "done"]
 
     def names(self) -> set[str]:
         """The routers that the report names: those with a feed, and those that some route leads to."""
@@ -194,7 +217,12 @@ def read_report(path: str) -> Report:
     if path == "-":
         return _Reader("standard input", sys.stdin.buffer.read()).report()
     with open(path, "rb") as file:
-        return _Reader(path, file.read()).report()
+        return parse_report(path, file.read())
+
+
+def parse_report(path: str, text: bytes) -> Report:
+    """The report that a text says; the path is named in errors. Raises ReportError."""
+    return _Reader(path, text).report()
 
 
 class _Reader:

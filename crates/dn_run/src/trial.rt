@@ -1,6 +1,6 @@
 //! What a trial of jobs side by side runs: a ring of eight routers, a feed for each, and five scripts, by a seed.
 
-ghost use Rattle.std.specs.Prelude.{◌<◌, IfOk, All};
+ghost use Rattle.std.specs.Prelude.{◌≤◌, IfOk, OnOk, All};
 ghost use Rattle.dn_model.specs.Entry.{IsEntryOf, IsTargetOf};
 
 use crate::run_tests::{file, frame_of};
@@ -165,20 +165,47 @@ pub(crate) fn script_text(alloc: Global, seed: u32, number: usize) -> Result<Str
     Ok(text)
 }
 
+/// Adds a file, each of which gives some bytes at a time.
+fn add_file(files: &mut Vec<MemFile>, file: MemFile) -> Result<(), AllocError>
+    requires files { All (λ file. 1 ≤ file.step) files.old.items }
+    requires file { 1 ≤ file.step }
+    ensures { OnOk result (All (λ file. 1 ≤ file.step) files.new.items) }
+{
+    files.push(file)?;
+    Ok(())
+}
+
+/// The file of the script at this place.
+fn script_file(alloc: Global, seed: u32, number: usize) -> Result<MemFile, AllocError>
+    ensures { IfOk result (λ file. 1 ≤ file.step) }
+{
+    let name = format!(in alloc; "s{number}")?;
+    let text = script_text(alloc, seed, number)?;
+    file(alloc, name.as_str(), text.as_bytes(), 4096, &[])
+}
+
+/// The file of a feed.
+fn feed_file(alloc: Global, seed: u32, feed: u32) -> Result<MemFile, AllocError>
+    ensures { IfOk result (λ file. 1 ≤ file.step) }
+{
+    let name = format!(in alloc; "f{feed}")?;
+    let bytes = feed_bytes(alloc, seed, feed)?;
+    file(alloc, name.as_str(), bytes.as_slice(), 100, &[])
+}
+
 /// The files of a run: the topology, the scripts `s0` and so on, and the feeds `f1` and so on.
-pub(crate) fn files(alloc: Global, seed: u32) -> Result<Vec<MemFile>, AllocError> {
-    let mut files = Vec::new(alloc);
+pub(crate) fn files(alloc: Global, seed: u32) -> Result<Vec<MemFile>, AllocError>
+    ensures { IfOk result (λ files. All (λ file. 1 ≤ file.step) files.items) }
+{
     let ring = ring_text(alloc)?;
-    files.push(file(alloc, "topology", ring.as_bytes(), 4096, &[])?)?;
+    let topology = file(alloc, "topology", ring.as_bytes(), 4096, &[])?;
+    let mut files = Vec::new(alloc);
+    add_file(&mut files, topology)?;
     for number in 0..TAKEN.len() {
-        let name = format!(in alloc; "s{number}")?;
-        let text = script_text(alloc, seed, number)?;
-        files.push(file(alloc, name.as_str(), text.as_bytes(), 4096, &[])?)?;
+        add_file(&mut files, script_file(alloc, seed, number)?)?;
     }
     for feed in 1..FEEDS + 1 {
-        let name = format!(in alloc; "f{feed}")?;
-        let bytes = feed_bytes(alloc, seed, feed)?;
-        files.push(file(alloc, name.as_str(), bytes.as_slice(), 100, &[])?)?;
+        add_file(&mut files, feed_file(alloc, seed, feed)?)?;
     }
     Ok(files)
 }

@@ -65,7 +65,7 @@ impl Chosen {
 }
 
 /// What a run chose, by its report.
-fn chosen(alloc: Global, report: &[u8]) -> Result<Chosen, AllocError> {
+fn choice_of(alloc: Global, report: &[u8]) -> Result<Chosen, AllocError> {
     let mut chosen = Chosen {
         order: Vec::new(alloc),
         pins: Vec::new(alloc),
@@ -309,7 +309,7 @@ fn compare_trial<R: Abort + Threads + Wait + Sync>(rt: &R, alloc: Global, seed: 
             .ok()
             .expect(rt, "a topology"),
         seed,
-        chosen: chosen(alloc, report.as_slice()).expect(rt, "memory"),
+        chosen: choice_of(alloc, report.as_slice()).expect(rt, "memory"),
     };
     let scripts = scripts(rt, alloc, &trial.topology, seed);
     let jobs = trial.jobs(rt, alloc, scripts.as_slice());

@@ -8,7 +8,7 @@ ghost use Rattle.feed_threads.specs.AllJobs.{AreNumberedApart};
 ghost use Rattle.feed_threads.specs.Jobs.{AreApart, IsFresh};
 
 use dn_formats::{FeedEnd, Line, Outcome, Script, Told};
-use dn_io::{MemSource, NoGate};
+use dn_io::{MemSource, NoGate, Source};
 use dn_model::{
     Ask, Entry, List, Name, Op, OutOfMemory, Posted, Prefix, Query, RouterId, Target, TopoEnd,
     Topology,
@@ -85,7 +85,7 @@ fn reader(
     count: u8,
 ) -> Result<FeedReader<MemSource>, OutOfMemory>
     requires { router < 3 }
-    ensures fresh { IfOk result (λ r. (t : TopologyIs) → length t.routers ≡ 3 → IsFresh t MemSource.Source.faults r) }
+    ensures fresh { IfOk result (λ r. (t : TopologyIs) → length t.routers ≡ 3 → IsFresh t ⟦<MemSource as Source>⟧.faults r) }
     ensures told { IfOk result (λ r. (r.told.router ≡ record { 0 = router }) × (r.told.feed_no ≡ feed_no)) }
 {
     let mut bytes = Vec::new(alloc);
@@ -152,7 +152,7 @@ fn job_list(alloc: Global, jobs: Vec<Job<MemSource>>) -> Result<JobList<MemSourc
 
 /// A script's job over the feeds of r1 and r2, with three updates each, and a job of r3's feed with four.
 fn two_jobs(alloc: Global) -> Result<JobList<MemSource>, OutOfMemory>
-    ensures fresh { IfOk result (λ jobs. (t : TopologyIs) → length t.routers ≡ 3 → All (λ job. All (IsFresh t MemSource.Source.faults) job.feeds) jobs) }
+    ensures fresh { IfOk result (λ jobs. (t : TopologyIs) → length t.routers ≡ 3 → All (λ job. All (IsFresh t ⟦<MemSource as Source>⟧.faults) job.feeds) jobs) }
     ensures routers { IfOk result (λ jobs. All (λ job. AreApart job.feeds) jobs) }
     ensures numbers { IfOk result (λ jobs. AreNumberedApart jobs) }
     ensures count { IfOk result (λ jobs. length jobs ≡ 2) }
@@ -171,7 +171,7 @@ fn two_jobs(alloc: Global) -> Result<JobList<MemSource>, OutOfMemory>
 
 /// One job without a script, of a feed of three updates.
 fn one_job(alloc: Global) -> Result<JobList<MemSource>, OutOfMemory>
-    ensures fresh { IfOk result (λ jobs. (t : TopologyIs) → length t.routers ≡ 3 → All (λ job. All (IsFresh t MemSource.Source.faults) job.feeds) jobs) }
+    ensures fresh { IfOk result (λ jobs. (t : TopologyIs) → length t.routers ≡ 3 → All (λ job. All (IsFresh t ⟦<MemSource as Source>⟧.faults) job.feeds) jobs) }
     ensures routers { IfOk result (λ jobs. All (λ job. AreApart job.feeds) jobs) }
     ensures numbers { IfOk result (λ jobs. AreNumberedApart jobs) }
     ensures count { IfOk result (λ jobs. length jobs ≡ 1) }
@@ -190,7 +190,7 @@ fn run_over<R: Threads + Wait + Sync>(
     limit: u32,
     jobs: JobList<MemSource>,
 ) -> Result<(Store, Vec<JobDone<MemSource>>), OutOfMemory>
-    requires fresh { (t : TopologyIs) → length t.routers ≡ 3 → All (λ job. All (IsFresh t MemSource.Source.faults) job.feeds) jobs }
+    requires fresh { (t : TopologyIs) → length t.routers ≡ 3 → All (λ job. All (IsFresh t ⟦<MemSource as Source>⟧.faults) job.feeds) jobs }
     requires routers { All (λ job. AreApart job.feeds) jobs }
     requires numbers { AreNumberedApart jobs }
     requires count { length jobs < 3 }

@@ -1,5 +1,7 @@
 //! Whole runs of several scripts, whose jobs run side by side, against the reports that their interleavings allow.
 
+ghost use Rattle.std.specs.Prelude.{◌≤◌, IfOk, All};
+
 use crate::held_gate::HeldGate;
 use crate::program::run;
 use crate::run_tests::{RING, file, set_frame};
@@ -14,7 +16,9 @@ use std::thread::Threads;
 type Scripts<'a> = [&'a str; 2];
 
 /// The ring, these scripts, and feeds `f1` and `f2` of one update each.
-fn files(alloc: Global, scripts: Scripts<'_>) -> Result<Vec<MemFile>, AllocError> {
+fn files(alloc: Global, scripts: Scripts<'_>) -> Result<Vec<MemFile>, AllocError>
+    ensures { IfOk result (λ files. All (λ file. 1 ≤ file.step) files.items) }
+{
     let [first, second] = scripts;
     let topology = file(alloc, "topology", RING.as_bytes(), 4096, &[])?;
     let first = file(alloc, "s1", first.as_bytes(), 4096, &[])?;

@@ -1,8 +1,9 @@
 //! Jobs over one history, against what was worked out by hand. In which order the entries of different jobs come is left
 //! open, so what each job made is looked at for itself.
 
-ghost use Rattle.std.specs.Prelude.{◌≡◌, ◌<◌, ◌∷◌, [], IfOk, length, All};
+ghost use Rattle.std.specs.Prelude.{◌≡◌, ◌<◌, ◌∷◌, [], IfOk, IsTrue, length, All};
 ghost use Rattle.dn_model.specs.Entry.{IsEntryOf};
+ghost use Rattle.dn_model.specs.Name.{is_name_text};
 ghost use Rattle.dn_model.specs.declared.topology.Topology.{Topology as TopologyIs};
 ghost use Rattle.feed_threads.specs.AllJobs.{AreNumberedApart};
 ghost use Rattle.feed_threads.specs.Jobs.{AreApart, IsFresh};
@@ -106,7 +107,9 @@ fn take_line(line: u32, router: u16, count: u32) -> Line {
 }
 
 /// A line that asks for the path of 10.0.0.1 from a router.
-fn path_line(alloc: Global, line: u32, router: &[u8]) -> Result<Line, OutOfMemory> {
+fn path_line(alloc: Global, line: u32, router: &[u8]) -> Result<Line, OutOfMemory>
+    requires { IsTrue (is_name_text router.now) }
+{
     let router = Name::from_text(alloc, router)?;
     Ok(Line::Ask {
         line,

@@ -9,8 +9,8 @@ ghost use Rattle.dn_model.specs.declared.topology.Topology.{Topology as Topology
 
 use super::{AskRefused, Event, Snapshot, Store};
 use dn_model::{
-    Answer, Ask, Change, DropKind, Entry, LinkId, List, Name, Op, OutOfMemory, PathEnd, Prefix,
-    Query, RouterId, Run, Target, TopoEnd, TopoLink, Topology, plain_answer,
+    Answer, Ask, Change, DropKind, Entry, LinkId, List, Name, Op, OutOfMemory, Prefix, Query,
+    RouterId, Run, Target, TopoEnd, TopoLink, Topology, plain_answer,
 };
 use std::alloc::Global;
 use std::process::Abort;
@@ -28,6 +28,7 @@ fn link(
     second: TopoEnd,
 ) -> Result<TopoLink, OutOfMemory>
     requires { IsTrue (is_name_text name.now) }
+    ensures { IfOk result (λ link. link ≡ record { name = name.now; first = first; second = second; unnumbered = false }) }
 {
     let name = Name::from_text(alloc, name)?;
     Ok(TopoLink {
@@ -39,7 +40,9 @@ fn link(
 }
 
 /// An interface of a router.
-fn end(router: u16, index: u32) -> TopoEnd {
+fn end(router: u16, index: u32) -> TopoEnd
+    ensures { result ≡ record { router = record { 0 = router }; index = index } }
+{
     TopoEnd {
         router: RouterId(router),
         index,
@@ -48,7 +51,7 @@ fn end(router: u16, index: u32) -> TopoEnd {
 
 /// The names of three routers.
 fn routers(alloc: Global) -> Result<List<Name>, OutOfMemory>
-    ensures { IfOk result (λ names. length names ≡ 3) }
+    ensures { IfOk result (λ names. names ≡ codes "r1" ∷ codes "r2" ∷ codes "r3" ∷ []) }
 {
     let mut names = List::new(alloc);
     names.push(Name::from_text(alloc, b"r1")?)?;
@@ -59,7 +62,9 @@ fn routers(alloc: Global) -> Result<List<Name>, OutOfMemory>
 
 /// The link a from r1 to r2, and the link b from r2 to r3.
 fn links(alloc: Global) -> Result<List<TopoLink>, OutOfMemory>
-    ensures { IfOk result (λ links. length links ≡ 2) }
+    ensures { IfOk result (λ links. links
+        ≡ record { name = codes "a"; first = record { router = record { 0 = 0 }; index = 2 }; second = record { router = record { 0 = 1 }; index = 2 }; unnumbered = false }
+        ∷ record { name = codes "b"; first = record { router = record { 0 = 1 }; index = 3 }; second = record { router = record { 0 = 2 }; index = 2 }; unnumbered = false } ∷ []) }
 {
     let mut links = List::new(alloc);
     links.push(link(alloc, b"a", end(0, 2), end(1, 2))?)?;
@@ -168,13 +173,6 @@ fn clearing() -> Entry
     clear(0, ten())
 }
 
-/// The first two updates.
-fn first_two() -> [Entry; 2]
-    ensures { (t : TopologyIs) → length t.routers ≡ 3 → length t.links ≡ 2 → All (IsEntryOf t) result }
-{
-    [to_second(), leaving()]
-}
-
 /// All five updates, in the order in which they are posted.
 fn all_five() -> [Entry; 5]
     ensures { (t : TopologyIs) → length t.routers ≡ 3 → length t.links ≡ 2 → All (IsEntryOf t) result }
@@ -192,8 +190,8 @@ fn post(store: &mut Store, entry: Entry) -> Result<u32, PostRefused>
     store.post(7, &entry)
 }
 
-/// What is asked of a snapshot, by number: a path, which addresses come to r2, the changes of the last entry, and the path
-/// with the link a down.
+/// What is asked of a snapshot, by number: a path, which addresses come to r2, the changes of the last entry, and which
+/// addresses come to r2 with the link a down.
 fn question(alloc: Global, number: u32) -> Result<Query, OutOfMemory> {
     let first = Name::from_text(alloc, b"r1")?;
     let second = Name::from_text(alloc, b"r2")?;
@@ -204,38 +202,38 @@ fn question(alloc: Global, number: u32) -> Result<Query, OutOfMemory> {
         _ => {
             let mut without = List::new(alloc);
             without.push(Name::from_text(alloc, b"a")?)?;
-            Ok(Query::new(without, Ask::Path(first, 0x0A01_0203)))
+            Ok(Query::new(without, Ask::Reach(first, second)))
         }
     }
 }
 
-/// The routers of a path, and how it ends; None where the answer is another.
-fn path_of(answer: &Answer) -> Option<(&[RouterId], PathEnd)> {
+/// The routers of a path; none where the answer is another.
+fn hops_of(answer: &Answer) -> &[RouterId] {
     match answer {
-        Answer::Path { hops, end } => Some((hops.as_slice(), *end)),
-        _ => None,
+        Answer::Path { hops, .. } => hops.as_slice(),
+        _ => &[],
     }
 }
 
-/// The runs that come to a router; None where the answer is another.
-fn runs_of(answer: &Answer) -> Option<&[Run]> {
+/// The runs that come to a router; none where the answer is another.
+fn runs_of(answer: &Answer) -> &[Run] {
     match answer {
-        Answer::Runs(runs) => Some(runs.as_slice()),
-        _ => None,
+        Answer::Runs(runs) => runs.as_slice(),
+        _ => &[],
     }
 }
 
-/// The changes of an entry; None where the answer is another.
-fn changes_of(answer: &Answer) -> Option<&[Change]> {
+/// The changes of an entry; none where the answer is another.
+fn changes_of(answer: &Answer) -> &[Change] {
     match answer {
-        Answer::Delta(changes) => Some(changes.as_slice()),
-        _ => None,
+        Answer::Delta(changes) => changes.as_slice(),
+        _ => &[],
     }
 }
 
-/// Two answers are of one kind and the same.
+/// Two answers of one kind are the same.
 fn compare_answers(rt: &impl Abort, x: &Answer, y: &Answer) {
-    assert_eq!(rt; path_of(x), path_of(y));
+    assert_eq!(rt; hops_of(x), hops_of(y));
     assert_eq!(rt; runs_of(x), runs_of(y));
     assert_eq!(rt; changes_of(x), changes_of(y));
 }
@@ -288,14 +286,7 @@ fn a_full_store_refuses(rt: HostRuntime) {
     assert_eq!(rt; last_of_two(&rt, rt.alloc(), &store), (7, clearing()));
 }
 
-/// How the path ends that the question of this number asks for.
-fn path_end(rt: &impl Abort, alloc: Global, snapshot: &Snapshot, number: u32) -> Option<PathEnd> {
-    let query = question(alloc, number).expect(rt, "memory");
-    let answer = snapshot.answer(alloc, &query).expect(rt, "an answer");
-    path_of(&answer).map(|path| path.1)
-}
-
-/// What a snapshot saw is cut by 10.1.0.0/16, changed there, and cleared. Where the link a is down, its path ends there.
+/// What a snapshot saw is cut by 10.1.0.0/16, changed there, and cleared.
 #[test]
 fn a_held_snapshot_stays(rt: HostRuntime) {
     let mut store = store_of(rt.alloc(), 10).expect(&rt, "memory");
@@ -304,12 +295,9 @@ fn a_held_snapshot_stays(rt: HostRuntime) {
     let held = store.snap().expect(&rt, "memory");
     let _ = post(&mut store, dropping());
     let _ = post(&mut store, own());
+    compare(&rt, rt.alloc(), &held, &[to_second(), leaving()]);
     let _ = post(&mut store, clearing());
-    compare(&rt, rt.alloc(), &held, &first_two());
-    let up = path_end(&rt, rt.alloc(), &held, 0);
-    assert_eq!(rt; up, Some(PathEnd::At(Target::Exit(1))));
-    let down = path_end(&rt, rt.alloc(), &held, 3);
-    assert_eq!(rt; down, Some(PathEnd::At(Target::LinkDown(LinkId(0)))));
+    compare(&rt, rt.alloc(), &held, &[to_second(), leaving()]);
     let now = store.snap().expect(&rt, "memory");
     compare(&rt, rt.alloc(), &now, &all_five());
 }

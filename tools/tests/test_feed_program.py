@@ -107,6 +107,21 @@ def report(network: Network, folder: str) -> list[str]:
     return [*feeds, f"history {len(history)}", *entries, *(f"job {place + 1}" for place in range(64)), "done"]
 
 
+def by_feed(printed: list[str]) -> list[str]:
+    """The report with the entries of its history feed by feed, each feed's in the order in which they stand. Each feed
+    is a job, and jobs run side by side, so that the whole order is another one each time."""
+    first = next(place for place, line in enumerate(printed) if line.startswith("history ")) + 1
+    past = first + int(printed[first - 1].split(" ")[1])
+    entries = [line.split(" ", 1)[1] for line in printed[first:past]]
+    entries.sort(key=lambda entry: int(entry.split(" ")[1]))
+    return [*printed[:first], *(f"{place} {entry}" for place, entry in enumerate(entries, 1)), *printed[past:]]
+
+
+def positions(printed: list[str]) -> list[str]:
+    """The numbers of the history's entries, as printed."""
+    return [line.split(" ", 1)[0] for line in printed if line[0].isdigit()]
+
+
 @unittest.skipUnless(os.access(PROGRAM, os.X_OK), "the program isn't built")
 class Program(unittest.TestCase):
     def setUp(self) -> None:
@@ -129,7 +144,9 @@ class Program(unittest.TestCase):
                 self.write(router, some_feed(place, source))
             printed = self.run_program("topology", *(f"{router}={router}" for router in ROUTERS))
             self.assertGreater(sum(line.startswith("refused") for line in printed), 500)
-            self.assertEqual(printed, report(parse_topology(topology().encode()), self.folder))
+            due = report(parse_topology(topology().encode()), self.folder)
+            self.assertEqual(by_feed(printed), due)
+            self.assertEqual(positions(printed), positions(due))
 
     def test_topologies(self) -> None:
         source = random.Random(16)

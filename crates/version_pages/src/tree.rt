@@ -7,6 +7,7 @@ ghost use Rattle.version_pages.specs.Shape.{Shape, IsDeep, IsUnder, AreKids, IsA
 ghost use Rattle.version_pages.specs.Keys.{first_key};
 
 mod change;
+mod end;
 mod grow;
 mod own;
 mod parts;
@@ -117,14 +118,43 @@ impl<T: Keyed> Kid<T> {
     }
 }
 
+/// How many elements a child and the three after it have together, or the greatest number where they have more.
+fn four_len<T: Keyed>(kids: &Vec<Kid<T>>, k: usize) -> u64
+    requires { k + 4 ≤ length kids.now.items }
+    ensures { result + 1 < 2 ^ 64 → length (joined (take (k + 4) kids.now.items)) ≡ length (joined (take k kids.now.items)) + result }
+{
+    let two = kids[k].len().saturating_add(kids[k + 1].len());
+    let three = two.saturating_add(kids[k + 2].len());
+    three.saturating_add(kids[k + 3].len())
+}
+
+/// A child at or before the one that has the element at a place, with how many elements the place is behind its first.
+/// It looks at four children at once, as long as one follows them.
+fn skip<T: Keyed>(kids: &Vec<Kid<T>>, i: u64) -> (usize, u64)
+    requires some { 0 < length kids.now.items }
+    ensures child { result.0 < length kids.now.items }
+    ensures place { i ≡ length (joined (take result.0 kids.now.items)) + result.1 }
+{
+    let mut k = 0;
+    let mut j = i;
+    'fours: while kids.len() - k > 4 {
+        let len = four_len(kids, k);
+        if j <= len {
+            break;
+        }
+        j -= len;
+        k += 4;
+    }
+    (k, j)
+}
+
 /// The child that has the element at a place, or the last where there is none, with the element's place in it.
 fn find<T: Keyed>(kids: &Vec<Kid<T>>, i: u64) -> (usize, u64)
     requires some { 0 < length kids.now.items }
     ensures { IsAt kids.now.items i result.0 result.1 }
 {
     let last = kids.len() - 1;
-    let mut k = 0;
-    let mut j = i;
+    let (mut k, mut j) = skip(kids, i);
     'kids: while k < last {
         let len = kids[k].len();
         if j < len {

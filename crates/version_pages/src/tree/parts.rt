@@ -11,9 +11,9 @@ use std::alloc::Global;
 use std::sync::Arc;
 
 /// How many elements children have together.
-fn len_of<T: Keyed>(kids: &Vec<Kid<T>>) -> u64
-    requires { length (joined kids.now.items) < 2 ^ 64 }
-    ensures { result ≡ length (joined kids.now.items) }
+pub fn len_of<T: Keyed>(kids: &[Kid<T>]) -> u64
+    requires { length (joined kids.now) < 2 ^ 64 }
+    ensures { result ≡ length (joined kids.now) }
 {
     let mut len = 0;
     for kid in kids {

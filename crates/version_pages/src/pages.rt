@@ -9,7 +9,7 @@ ghost use Rattle.version_pages.specs.Search.{EndsBelow};
 use crate::growth::Growth;
 use crate::keyed::Keyed;
 use crate::page::page_of_one;
-use crate::tree::{Kid, page_kid};
+use crate::tree::{Kid, LONG, page_kid};
 use dn_model::OutOfMemory;
 use std::alloc::Global;
 use std::marker::Model;
@@ -172,7 +172,7 @@ impl<T: Keyed + Clone> Pages<T> {
         let Some(root) = &mut self.root else {
             return Err(value);
         };
-        if root.len() == u64::MAX {
+        if root.len() >= LONG - 1 {
             return Err(value);
         }
         return root.push_alone(value);

@@ -23,7 +23,7 @@ impl<T: Keyed> Kid<T> {
     /// the element back, and the list is as before.
     #[cycle(push)]
     pub fn push_alone(&mut self, value: T) -> Result<(), T>
-        requires few { length self.old.items + 1 < 2 ^ 64 }
+        requires few { length self.old.items + 1 < 2 ^ 62 }
         ensures items { self.new.items ≡ (if is_ok result then insert self.old.items (length self.old.items) value else self.old.items) }
         ensures back { IfErr result (λ x. x ≡ value) }
         ensures level { self.new.height ≡ self.old.height }
@@ -45,7 +45,7 @@ impl<T: Keyed> Tree<T> {
     /// the element back, and the list is as before.
     #[cycle(push)]
     fn push_alone(&mut self, value: T) -> Result<(), T>
-        requires few { length self.old.items + 1 < 2 ^ 64 }
+        requires few { length self.old.items + 1 < 2 ^ 62 }
         ensures items { self.new.items ≡ (if is_ok result then insert self.old.items (length self.old.items) value else self.old.items) }
         ensures back { IfErr result (λ x. x ≡ value) }
         ensures level { self.new.height ≡ self.old.height }

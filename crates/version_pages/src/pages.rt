@@ -1,7 +1,7 @@
 //! A list in shared pages.
 
 ghost use Rattle.std.specs.Prelude.{◌≡◌, ◌+◌, ◌*◌, ◌<◌, ◌≤◌, ◌^◌, ◌↔◌, ◌++◌, ◌∷◌, []};
-ghost use Rattle.std.specs.Prelude.{IfOk, OnErr, IfSome, IsSome, is_ok, if◌then◌else◌, length, set, insert, take, drop, slice_index_or};
+ghost use Rattle.std.specs.Prelude.{IfErr, IfOk, OnErr, IfSome, IsSome, is_ok, if◌then◌else◌, length, set, insert, take, drop, slice_index_or};
 ghost use Rattle.version_pages.specs.Changes.{Changes};
 ghost use Rattle.version_pages.specs.Growth.{grown, CanGrow};
 ghost use Rattle.version_pages.specs.Search.{EndsBelow};
@@ -9,7 +9,7 @@ ghost use Rattle.version_pages.specs.Search.{EndsBelow};
 use crate::growth::Growth;
 use crate::keyed::Keyed;
 use crate::page::page_of_one;
-use crate::tree::{Kid, page_kid};
+use crate::tree::{Kid, LONG, page_kid};
 use dn_model::OutOfMemory;
 use std::alloc::Global;
 use std::marker::Model;
@@ -163,13 +163,33 @@ impl<T: Keyed + Clone> Pages<T> {
         return self.grow(alloc, i, Growth::Before(value));
     }
 
+    /// Puts one more element at the end where that takes no more than room in the last page. Else it hands the element
+    /// back, and the list is as before.
+    fn push_alone(&mut self, value: T) -> Result<(), T>
+        ensures items { self.new ≡ (if is_ok result then insert self.old (length self.old) value else self.old) }
+        ensures back { IfErr result (λ x. x ≡ value) }
+    {
+        let Some(root) = &mut self.root else {
+            return Err(value);
+        };
+        if root.len() >= LONG - 1 {
+            return Err(value);
+        }
+        return root.push_alone(value);
+    }
+
     /// Puts one more element at the end. After `OutOfMemory` the list is as before.
     pub fn push(&mut self, alloc: Global, value: T) -> Result<(), OutOfMemory>
         requires { (x y : T) → T.is_clone x y → y ≡ x }
         ensures { self.new ≡ (if is_ok result then self.old ++ value ∷ [] else self.old) }
     {
-        let len = self.len();
-        return self.insert_at(alloc, len, value);
+        match self.push_alone(value) {
+            Ok(()) => Ok(()),
+            Err(value) => {
+                let len = self.len();
+                return self.insert_at(alloc, len, value);
+            }
+        }
     }
 
     /// Puts two elements in the place of one. After `OutOfMemory` the list is as before.

@@ -7,6 +7,7 @@ ghost use Rattle.version_pages.specs.Shape.{Shape, IsDeep, IsUnder, AreKids, IsA
 ghost use Rattle.version_pages.specs.Keys.{first_key};
 
 mod change;
+mod end;
 mod grow;
 mod own;
 mod parts;
@@ -20,6 +21,9 @@ use std::sync::Arc;
 
 /// The most elements that a page has.
 pub const FULL: usize = 64;
+
+/// A list is shorter than this, so that the lengths of four children can be added.
+pub const LONG: u64 = 1 << 62;
 
 /// The most children that a fork has.
 pub const WIDE: usize = 32;
@@ -46,8 +50,8 @@ enum Node<T: Keyed> {
     },
 }
 
-/// A tree that others may hold too, with the number of its elements and the key of the first. A contract sees it as the
-/// tree.
+/// A tree that others may hold too, with the number of its elements, which is below 2^62, and the key of the first. A
+/// contract sees it as the tree.
 #[cycle(tree)]
 #[derive(Drop)]
 pub struct Kid<T: Keyed> {
@@ -76,7 +80,7 @@ impl<T: Keyed> Model for Tree<T> {
 }
 
 impl<T: Keyed> Model for Kid<T> {
-    ghost use Rattle.std.specs.Prelude.{◌≡◌, ◌+◌, ◌*◌, length};
+    ghost use Rattle.std.specs.Prelude.{◌≡◌, ◌+◌, ◌*◌, ◌<◌, ◌^◌, length};
     ghost use Rattle.std.specs.Arc.{arc_value};
     ghost use Rattle.version_pages.specs.Keys.{first_key};
     ghost use Rattle.version_pages.specs.Shape.{Shape};
@@ -85,7 +89,7 @@ impl<T: Keyed> Model for Kid<T> {
 
     ghost view = { λ k. arc_value k.tree };
 
-    ghost invariant = { λ k. (k.len ≡ length (arc_value k.tree).items) × (k.key ≡ first_key T.key_of (arc_value k.tree).items) };
+    ghost invariant = { λ k. (k.len ≡ length (arc_value k.tree).items) × (k.key ≡ first_key T.key_of (arc_value k.tree).items) × (k.len < 2 ^ 62) };
 
     ghost size = { λ s. 2 * s.height + 1 };
 
@@ -97,7 +101,8 @@ impl<T: Keyed> Model for Kid<T> {
 impl<T: Keyed> Kid<T> {
     /// How many elements there are.
     pub fn len(&self) -> u64
-        ensures { result ≡ length self.now.items }
+        ensures value { result ≡ length self.now.items }
+        ensures few { result < 2 ^ 62 }
     {
         self.len
     }
@@ -117,14 +122,42 @@ impl<T: Keyed> Kid<T> {
     }
 }
 
+/// How many elements a child and the three after it have together.
+fn four_len<T: Keyed>(kids: &Vec<Kid<T>>, k: usize) -> u64
+    requires { k + 4 ≤ length kids.now.items }
+    ensures { length (joined (take (k + 4) kids.now.items)) ≡ length (joined (take k kids.now.items)) + result }
+{
+    let four = &kids[k..k + 4];
+    four[0].len() + four[1].len() + four[2].len() + four[3].len()
+}
+
+/// A child at or before the one that has the element at a place, with how many elements the place is behind its first.
+/// It looks at four children at once, as long as one follows them.
+fn skip<T: Keyed>(kids: &Vec<Kid<T>>, i: u64) -> (usize, u64)
+    requires some { 0 < length kids.now.items }
+    ensures child { result.0 < length kids.now.items }
+    ensures place { i ≡ length (joined (take result.0 kids.now.items)) + result.1 }
+{
+    let mut k = 0;
+    let mut j = i;
+    'fours: while kids.len() - k > 4 {
+        let len = four_len(kids, k);
+        if j < len {
+            break;
+        }
+        j -= len;
+        k += 4;
+    }
+    (k, j)
+}
+
 /// The child that has the element at a place, or the last where there is none, with the element's place in it.
 fn find<T: Keyed>(kids: &Vec<Kid<T>>, i: u64) -> (usize, u64)
     requires some { 0 < length kids.now.items }
     ensures { IsAt kids.now.items i result.0 result.1 }
 {
     let last = kids.len() - 1;
-    let mut k = 0;
-    let mut j = i;
+    let (mut k, mut j) = skip(kids, i);
     'kids: while k < last {
         let len = kids[k].len();
         if j < len {

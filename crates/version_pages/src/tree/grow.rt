@@ -6,7 +6,7 @@ ghost use Rattle.version_pages.specs.Shape.{Shape, AreHalves, IsAt, IsDeep, IsPa
 ghost use Rattle.version_pages.specs.Growth.{grown, CanGrow};
 
 use super::own::unshare;
-use super::{Kid, Node, Tree, find, key_after};
+use super::{Kid, LONG, Node, Tree, find, key_after};
 use crate::growth::{Growth, grow_page};
 use crate::keyed::Keyed;
 use dn_model::OutOfMemory;
@@ -66,7 +66,7 @@ impl<T: Keyed + Clone> Kid<T> {
     fn grow(&mut self, alloc: Global, i: u64, growth: Growth<T>) -> Result<(), OutOfMemory>
         requires inside { CanGrow growth self.old.items i }
         requires room { 0 < self.old.room }
-        requires few { length self.old.items + 1 < 2 ^ 64 }
+        requires few { length self.old.items + 1 < 2 ^ 62 }
         requires clones { (x y : T) → T.is_clone x y → y ≡ x }
         ensures items { self.new.items ≡ (if is_ok result then grown growth self.old.items i else self.old.items) }
         ensures level { self.new.height ≡ self.old.height }
@@ -95,7 +95,7 @@ impl<T: Keyed + Clone> Kid<T> {
         ensures { self.new.items ≡ (if is_ok result then grown growth self.old.items i else self.old.items) }
     {
         let len = self.len;
-        if len == u64::MAX {
+        if len >= LONG - 1 {
             return Err(OutOfMemory);
         }
         if self.tree.has_room() {
@@ -112,7 +112,7 @@ impl<T: Keyed + Clone> Tree<T> {
     fn grow(&mut self, alloc: Global, i: u64, growth: Growth<T>) -> Result<(), OutOfMemory>
         requires inside { CanGrow growth self.old.items i }
         requires room { 0 < self.old.room }
-        requires few { length self.old.items + 1 < 2 ^ 64 }
+        requires few { length self.old.items + 1 < 2 ^ 62 }
         requires clones { (x y : T) → T.is_clone x y → y ≡ x }
         ensures items { self.new.items ≡ (if is_ok result then grown growth self.old.items i else self.old.items) }
         ensures level { self.new.height ≡ self.old.height }

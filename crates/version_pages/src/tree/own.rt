@@ -49,7 +49,23 @@ impl<T: Keyed + Clone> Tree<T> {
     }
 }
 
+/// Puts a copy in the place of a pointer's tree.
+#[cold]
+#[inline(never)]
+fn copy_tree<T: Keyed + Clone>(
+    alloc: Global,
+    tree: &mut Arc<Tree<T>, Global>,
+) -> Result<(), OutOfMemory>
+    requires { (x y : T) → T.is_clone x y → y ≡ x }
+    ensures { arc_value tree.new ≡ arc_value tree.old }
+{
+    let copy = tree.duplicate(alloc)?;
+    *tree = Arc::new(alloc, copy)?;
+    Ok(())
+}
+
 /// Makes a pointer the only one to its tree: where somebody else holds it too, this one gets a copy.
+#[inline(always)]
 pub fn unshare<T: Keyed + Clone>(
     alloc: Global,
     tree: &mut Arc<Tree<T>, Global>,
@@ -58,8 +74,7 @@ pub fn unshare<T: Keyed + Clone>(
     ensures { arc_value tree.new ≡ arc_value tree.old }
 {
     if Arc::strong_count(tree) != 1 {
-        let copy = tree.duplicate(alloc)?;
-        *tree = Arc::new(alloc, copy)?;
+        return copy_tree(alloc, tree);
     }
     Ok(())
 }

@@ -3,7 +3,7 @@
 ghost use Rattle.std.specs.Prelude.{◌≡◌, ◌<◌, ◌≤◌, ◌^◌, ◌++◌, ◌↔◌, IfOk, OnOk, IsTrue, length};
 ghost use Rattle.version_pages.specs.Shape.{AreHalves, IsDeep, IsUnder, AreKids, joined, page_shape, fork_shape};
 
-use super::{FULL, Kid, Node, Tree, WIDE};
+use super::{FULL, Kid, LONG, Node, Tree, WIDE};
 use crate::keyed::Keyed;
 use crate::page::{page_of, page_of_one};
 use dn_model::OutOfMemory;
@@ -11,9 +11,9 @@ use std::alloc::Global;
 use std::sync::Arc;
 
 /// How many elements children have together.
-fn len_of<T: Keyed>(kids: &Vec<Kid<T>>) -> u64
-    requires { length (joined kids.now.items) < 2 ^ 64 }
-    ensures { result ≡ length (joined kids.now.items) }
+pub fn len_of<T: Keyed>(kids: &[Kid<T>]) -> u64
+    requires { length (joined kids.now) < 2 ^ 64 }
+    ensures { result ≡ length (joined kids.now) }
 {
     let mut len = 0;
     for kid in kids {
@@ -46,7 +46,7 @@ pub fn fork_kid<T: Keyed + Drop>(
     height: u64,
 ) -> Result<Kid<T>, OutOfMemory>
     requires kids { AreKids height kids.items }
-    requires few { length (joined kids.items) < 2 ^ 64 }
+    requires few { length (joined kids.items) < 2 ^ 62 }
     ensures fork { IfOk result (λ kid. kid ≡ fork_shape height kids.items) }
     ensures deep { IfOk result IsDeep }
 {
@@ -76,7 +76,7 @@ impl<T: Keyed + Clone> Tree<T> {
     /// A full tree as two, of the same height. Where it grows at its end the first of them is nearly full.
     pub fn halves(&self, alloc: Global, at_end: bool) -> Result<(Kid<T>, Kid<T>), OutOfMemory>
         requires full { self.now.room ≡ 0 }
-        requires few { length self.now.items < 2 ^ 64 }
+        requires few { length self.now.items < 2 ^ 62 }
         requires clones { (x y : T) → T.is_clone x y → y ≡ x }
         ensures { IfOk result (λ p. AreHalves p.0 p.1 self.now) }
     {
@@ -107,7 +107,7 @@ impl<T: Keyed + Clone> Kid<T> {
         ensures { IfOk result (λ p. AreHalves p.0 p.1 self.now) }
     {
         let len = self.len;
-        prove!(len <= u64::MAX);
+        prove!(len < LONG);
         self.tree.halves(alloc, at_end)
     }
 

@@ -1,10 +1,12 @@
 //! A search in one descent: a fork looks at the keys of its children's first elements, which it has beside them, and a
 //! page at its elements.
 
-ghost use Rattle.std.specs.Prelude.{◌≡◌, ◌+◌, ◌<◌, ◌^◌, length, take};
-ghost use Rattle.version_pages.specs.Shape.{joined};
+ghost use Rattle.std.specs.Prelude.{◌≡◌, ◌<◌, ◌^◌, length, slice_index_or};
+ghost use Rattle.version_pages.specs.Keys.{first_key};
+ghost use Rattle.version_pages.specs.Shape.{Shape};
 ghost use Rattle.version_pages.specs.Search.{EndsBelow, EndsIn};
 
+use super::parts::len_of;
 use super::{Kid, Node, Tree};
 use crate::keyed::Keyed;
 
@@ -25,24 +27,37 @@ fn search_page<T: Keyed>(items: &[T], key: u64) -> usize
     low
 }
 
-/// The child in which the elements end that have a key below this one, and how many elements go before the child.
-fn search_kids<T: Keyed>(kids: &Vec<Kid<T>>, key: u64) -> (usize, u64)
-    requires some { 0 < length kids.now.items }
-    requires few { length (joined kids.now.items) < 2 ^ 64 }
-    ensures ends { EndsIn T.key_of kids.now.items key result.0 }
-    ensures before { result.1 ≡ length (joined (take result.0 kids.now.items)) }
+/// A child at or before the one in which the elements end that have a key below this one. It looks at every fourth child,
+/// as long as there is one.
+fn skip_kids<T: Keyed>(kids: &Vec<Kid<T>>, key: u64) -> usize
+    requires { 0 < length kids.now.items }
+    ensures inside { result < length kids.now.items }
+    ensures here { (e : Shape T) → 0 < result → first_key T.key_of (slice_index_or kids.now.items result e).items < key }
+{
+    let mut k = 0;
+    'fours: while kids.len() - k > 4 {
+        if kids[k + 4].key() >= key {
+            break;
+        }
+        k += 4;
+    }
+    k
+}
+
+/// The child in which the elements end that have a key below this one.
+fn search_kids<T: Keyed>(kids: &Vec<Kid<T>>, key: u64) -> usize
+    requires { 0 < length kids.now.items }
+    ensures { EndsIn T.key_of kids.now.items key result }
 {
     let last = kids.len() - 1;
-    let mut k = 0;
-    let mut before = 0;
+    let mut k = skip_kids(kids, key);
     'kids: while k < last {
         if kids[k + 1].key() >= key {
             break;
         }
-        before += kids[k].len();
         k += 1;
     }
-    (k, before)
+    k
 }
 
 impl<T: Keyed> Tree<T> {
@@ -54,7 +69,8 @@ impl<T: Keyed> Tree<T> {
         match &self.node {
             Node::Page(items) => search_page(items, key) as u64,
             Node::Fork { kids, .. } => {
-                let (k, before) = search_kids(kids, key);
+                let k = search_kids(kids, key);
+                let before = len_of(&kids[..k]);
                 before + kids[k].tree().count_below(key)
             }
         }

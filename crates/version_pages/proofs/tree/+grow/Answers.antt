@@ -42,7 +42,7 @@ Tree::grow-grow-requires g t c κs within =
     let level : c.index_mut-kid.result.now.height + 1 ≡ c.in-Fork.height = kid-level _ _ _ _ new at.child is in
     let high : c.in-Fork.height ≡ c.args.self.now.height = ap (λ (s : Shape _). s.height) shape in
     let few : length c.index_mut-kid.result.now.items ≤ length (joined c.ready.new.kids.items) = kid-few _ _ _ at.child is in
-    let all : length (joined c.ready.new.kids.items) + 1 < 2 ^ 64 = omega (arith, ap length e, c.requires.few) in
+    let all : length (joined c.ready.new.kids.items) + 1 < 2 ^ 62 = omega (arith, ap length e, c.requires.few) in
     let roomy : 0 < c.index_mut-kid.result.now.room = rw is (c.in_ok-k-in-Fork.ensures.room c.index_mut-kid.result.now) in
     (search rules, (search rules, (can, (roomy, (omega arith, c.requires.clones)))))
 

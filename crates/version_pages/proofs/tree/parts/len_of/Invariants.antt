@@ -3,4 +3,4 @@ use Rattle.version_pages.specs.Shape.{joined}
 use Rattle.version_pages.proofs.tree.parts.len_of.Given as goal
 
 abbrev pub invariant-loop-kid : goal.invariant-loop-kid
-invariant-loop-kid g l = l.len + length (joined (drop l.kid-index l.kids.items)) ≡ length (joined l.kids.items)
+invariant-loop-kid g l = l.len + length (joined (drop l.kid-index l.kids)) ≡ length (joined l.kids)

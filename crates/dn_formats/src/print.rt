@@ -3,7 +3,7 @@
 //! A writer `push_..` adds a text at the end of `out`. After `OutOfMemory`, for which alone it fails, a part of its
 //! text may have been added.
 
-ghost use Rattle.std.specs.Prelude.{◌≡◌, ◌++◌, OnOk, IfOk, codes, decimal};
+ghost use Rattle.std.specs.Prelude.{◌≡◌, ◌+◌, ◌<◌, ◌≤◌, ◌∷◌, [], ◌++◌, OnOk, IfOk, codes, decimal, vec_len, vec_capacity};
 ghost use Rattle.dn_formats.specs.Texts.{address_text, prefix_text, run_text, target_text, drop_text, name_of_router, name_of_link};
 
 use crate::text::Text;
@@ -19,34 +19,105 @@ pub fn push_bytes(out: &mut Vec<u8>, bytes: &[u8]) -> Result<(), OutOfMemory>
     Ok(())
 }
 
+/// Adds a digit, for which there is room.
+fn put_digit(out: &mut Vec<u8>, digit: u64)
+    requires digit { digit < 10 }
+    requires room { vec_len out.old < vec_capacity out.old }
+    ensures text { out.new.items ≡ out.old.items ++ (48 + digit) ∷ [] }
+    ensures len { vec_len out.new ≡ vec_len out.old + 1 }
+    ensures capacity { vec_capacity out.new ≡ vec_capacity out.old }
+{
+    out.push_reserved(b'0' + digit as u8);
+}
+
+/// Adds a number of at most three digits in decimal. There is room for three.
+#[tactic(auto, using(crate::proofs::Decimals::decimal_of_two, crate::proofs::Decimals::decimal_of_three, crate::proofs::Decimals::decimal_of_one))]
+fn put_small(out: &mut Vec<u8>, number: u64)
+    requires small { number < 1000 }
+    requires room { vec_len out.old + 3 ≤ vec_capacity out.old }
+    ensures text { out.new.items ≡ out.old.items ++ decimal number }
+    ensures len { vec_len out.new ≤ vec_len out.old + 3 }
+    ensures capacity { vec_capacity out.new ≡ vec_capacity out.old }
+{
+    if number < 10 {
+        put_digit(out, number);
+        return;
+    }
+    if number < 100 {
+        put_digit(out, number / 10);
+        put_digit(out, number % 10);
+        return;
+    }
+    put_digit(out, number / 100);
+    put_digit(out, number / 10 % 10);
+    put_digit(out, number % 10);
+}
+
+/// Adds a number of four to six digits in decimal.
+#[tactic(auto, using(crate::proofs::Decimals::decimal_thousands))]
+fn push_thousands(out: &mut Vec<u8>, number: u64) -> Result<(), OutOfMemory>
+    requires most { number < 1000000 }
+    requires least { 1000 ≤ number }
+    ensures { OnOk result (out.new.items ≡ out.old.items ++ decimal number) }
+{
+    out.reserve(6)?;
+    put_small(out, number / 1000);
+    put_digit(out, number / 100 % 10);
+    put_digit(out, number / 10 % 10);
+    put_digit(out, number % 10);
+    Ok(())
+}
+
 /// Adds a number in decimal, without leading zeros.
 pub fn push_decimal(out: &mut Vec<u8>, number: u64) -> Result<(), OutOfMemory>
     ensures { OnOk result (out.new.items ≡ out.old.items ++ decimal number) }
 {
+    if number < 1000 {
+        out.reserve(3)?;
+        put_small(out, number);
+        return Ok(());
+    }
+    if number < 1_000_000 {
+        return push_thousands(out, number);
+    }
     let mut buffer = Buffer::new();
     push_bytes(out, buffer.format(number).as_bytes())
+}
+
+/// Adds an address: four decimal numbers parted by dots. There is room for it.
+fn put_address(out: &mut Vec<u8>, a: u32)
+    requires room { vec_len out.old + 15 ≤ vec_capacity out.old }
+    ensures text { out.new.items ≡ out.old.items ++ address_text a }
+    ensures len { vec_len out.new ≤ vec_len out.old + 15 }
+    ensures capacity { vec_capacity out.new ≡ vec_capacity out.old }
+{
+    put_small(out, u64::from(a / 0x0100_0000));
+    out.push_reserved(b'.');
+    put_small(out, u64::from(a / 0x0001_0000 % 256));
+    out.push_reserved(b'.');
+    put_small(out, u64::from(a / 0x0100 % 256));
+    out.push_reserved(b'.');
+    put_small(out, u64::from(a % 256));
 }
 
 /// Adds an address: four decimal numbers parted by dots.
 pub fn push_address(out: &mut Vec<u8>, a: u32) -> Result<(), OutOfMemory>
     ensures { OnOk result (out.new.items ≡ out.old.items ++ address_text a) }
 {
-    push_decimal(out, u64::from(a / 0x0100_0000))?;
-    push_bytes(out, b".")?;
-    push_decimal(out, u64::from(a / 0x0001_0000 % 256))?;
-    push_bytes(out, b".")?;
-    push_decimal(out, u64::from(a / 0x0100 % 256))?;
-    push_bytes(out, b".")?;
-    push_decimal(out, u64::from(a % 256))
+    out.reserve(15)?;
+    put_address(out, a);
+    Ok(())
 }
 
 /// Adds a prefix: `ADDRESS/LEN`.
 pub fn push_prefix(out: &mut Vec<u8>, p: Prefix) -> Result<(), OutOfMemory>
     ensures { OnOk result (out.new.items ≡ out.old.items ++ prefix_text p) }
 {
-    push_address(out, p.base())?;
-    push_bytes(out, b"/")?;
-    push_decimal(out, u64::from(p.len()))
+    out.reserve(19)?;
+    put_address(out, p.base());
+    out.push_reserved(b'/');
+    put_small(out, u64::from(p.len()));
+    Ok(())
 }
 
 /// Adds a run: `LO-HI`, both included, also where they are equal.

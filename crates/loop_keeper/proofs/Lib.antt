@@ -1,0 +1,5 @@
+pub mod Advancing
+pub mod Parts
+pub mod Runs
+pub mod Told
+pub mod Ways

@@ -1,0 +1,12 @@
+//! The loops of a network, kept from update to update (as in Delta-net, NSDI 2017): each cycle with the set of the
+//! addresses that go round it. After an update only the rows that meet what changed are looked at.
+#![tactic(auto)]
+
+mod address_set;
+mod found;
+mod kept_cycle;
+mod number_set;
+mod steps;
+mod telling;
+
+pub use steps::Steps;

@@ -117,19 +117,23 @@ opened-self k s h = record { sound = h; same = same-self k s }
 pub opened-nothing : (k : ℕ) → 0 < k → IsOpened k nothing (halves nothing nothing 0)
 opened-nothing k h = record {
   sound = (h, tt, tt, refl);
-  same = record { same = λ a b. ⊎_elim
-      (λ (i : a < 2 ^ (k - 1)). has-low k nothing nothing 0 a i)
-      (λ (i : 2 ^ (k - 1) ≤ a). has-high k nothing nothing 0 a i)
-      (cases_lt a (2 ^ (k - 1))) };
+  same = record {
+    same = λ a b. ⊎_elim
+        (λ (i : a < 2 ^ (k - 1)). has-low k nothing nothing 0 a i)
+        (λ (i : 2 ^ (k - 1) ≤ a). has-high k nothing nothing 0 a i)
+        (cases_lt a (2 ^ (k - 1)));
+  };
 }
 
 pub opened-everything : (k n : ℕ) → 0 < k → n ≡ 2 ^ k → IsOpened k everything (halves everything everything n)
 opened-everything k n h e = record {
   sound = (h, tt, tt, e ∙ half-twice k h);
-  same = record { same = λ a b. ⊎_elim
-      (λ (i : a < 2 ^ (k - 1)). has-low k everything everything n a i)
-      (λ (i : 2 ^ (k - 1) ≤ a). has-high k everything everything n a i)
-      (cases_lt a (2 ^ (k - 1))) };
+  same = record {
+    same = λ a b. ⊎_elim
+        (λ (i : a < 2 ^ (k - 1)). has-low k everything everything n a i)
+        (λ (i : 2 ^ (k - 1) ≤ a). has-high k everything everything n a i)
+        (cases_lt a (2 ^ (k - 1)));
+  };
 }
 
 pub closed-nothing : (k : ℕ) (s : Numbers) → IsSound k s → size_of k s ≡ 0 → IsOpened k s nothing
@@ -169,9 +173,11 @@ put-none k l p inside s h = record { exact = λ a b. sym (ap (λ (x : Bool). if 
 pub put-there : (k l p : ℕ) (inside : Bool) (s : Numbers) → s ≡ whole_of inside → IsPut k l p inside s s
 put-there k l p inside s e =
     let P : Numbers → Type 0 = λ v. IsPut k l p inside v v in
-    subst P (sym e) (record { exact = λ a b.
-        let w : has k (whole_of inside) a ≡ inside = has-whole k inside a in
-        w ∙ sym (ap (λ (x : Bool). if is_within l p a then inside else x) w ∙ if-same (is_within l p a) inside) })
+    subst P (sym e) (record {
+      exact = λ a b.
+          let w : has k (whole_of inside) a ≡ inside = has-whole k inside a in
+          w ∙ sym (ap (λ (x : Bool). if is_within l p a then inside else x) w ∙ if-same (is_within l p a) inside);
+    })
 
 pub put-all : (k l p : ℕ) (inside : Bool) (s : Numbers) → p - l ≡ 2 ^ k → p ≤ 2 ^ k → IsPut k l p inside s (whole_of inside)
 put-all k l p inside s e h = record { exact = λ a b. has-whole k inside a ∙ sym (ap (λ (x : Bool). if x then inside else has k s a) (in-all k l p a e h b)) }
@@ -180,13 +186,15 @@ pub put-halves : (k l p : ℕ) (inside : Bool) (low high low' high' : Numbers) (
     → IsPut (k - 1) (min l (2 ^ (k - 1))) (min p (2 ^ (k - 1))) inside low low'
     → IsPut (k - 1) (l - 2 ^ (k - 1)) (p - 2 ^ (k - 1)) inside high high'
     → IsPut k l p inside (halves low high n) (halves low' high' n')
-put-halves k l p inside low high low' high' n n' some lower upper = record { exact = λ a b.
-    let d : 2 ^ k ≡ 2 ^ (k - 1) + 2 ^ (k - 1) = half-twice k some in
-    ⊎_elim
-    (λ (i : a < 2 ^ (k - 1)). has-low k low' high' n' a i ∙ lower.exact a i ∙ ap₂ (λ (x : Bool). λ (y : Bool). if x then inside else y) (within-low l p (2 ^ (k - 1)) a i) (sym (has-low k low high n a i)))
-    (λ (i : 2 ^ (k - 1) ≤ a). let j : a - 2 ^ (k - 1) < 2 ^ (k - 1) = omega arith in
-    has-high k low' high' n' a i ∙ upper.exact (a - 2 ^ (k - 1)) j ∙ ap₂ (λ (x : Bool). λ (y : Bool). if x then inside else y) (within-high l p (2 ^ (k - 1)) a i) (sym (has-high k low high n a i)))
-    (cases_lt a (2 ^ (k - 1))) }
+put-halves k l p inside low high low' high' n n' some lower upper = record {
+  exact = λ a b.
+      let d : 2 ^ k ≡ 2 ^ (k - 1) + 2 ^ (k - 1) = half-twice k some in
+      ⊎_elim
+      (λ (i : a < 2 ^ (k - 1)). has-low k low' high' n' a i ∙ lower.exact a i ∙ ap₂ (λ (x : Bool). λ (y : Bool). if x then inside else y) (within-low l p (2 ^ (k - 1)) a i) (sym (has-low k low high n a i)))
+      (λ (i : 2 ^ (k - 1) ≤ a). let j : a - 2 ^ (k - 1) < 2 ^ (k - 1) = omega arith in
+      has-high k low' high' n' a i ∙ upper.exact (a - 2 ^ (k - 1)) j ∙ ap₂ (λ (x : Bool). λ (y : Bool). if x then inside else y) (within-high l p (2 ^ (k - 1)) a i) (sym (has-high k low high n a i)))
+      (cases_lt a (2 ^ (k - 1)));
+}
 
 pub put-between : (k l p : ℕ) (inside : Bool) (s t u v : Numbers) → IsSame k s t → IsPut k l p inside t u → IsSame k u v → IsPut k l p inside s v
 put-between k l p inside s t u v e h f = record { exact = λ a b. f.same a b ∙ h.exact a b ∙ ap (λ (x : Bool). if is_within l p a then inside else x) (e.same a b) }
@@ -213,12 +221,14 @@ least-high k l u n a some none h =
     let i : a < 2 ^ (k - 1) = h.0 in
     let j : 2 ^ (k - 1) + a < 2 ^ k = omega arith in
     let e : 2 ^ (k - 1) + a - 2 ^ (k - 1) ≡ a = omega arith in
-    let o : 2 ^ (k - 1) ≤ 2 ^ (k - 1) + a = omega arith in
-    (j, has-high k l u n (2 ^ (k - 1) + a) o ∙ ap (λ (x : ℕ). has (k - 1) u x) e ∙ h.1,
-    λ (b : ℕ). λ (m : b < 2 ^ (k - 1) + a). ⊎_elim
-    (λ (x : b < 2 ^ (k - 1)). has-low k l u n b x ∙ none b x)
-    (λ (x : 2 ^ (k - 1) ≤ b). let y : b - 2 ^ (k - 1) < a = omega arith in has-high k l u n b x ∙ h.2 (b - 2 ^ (k - 1)) y)
-    (cases_lt b (2 ^ (k - 1))))
+    let o : 2 ^ (k - 1) ≤ 2 ^ (k - 1) + a = omega arith in (
+      j,
+      has-high k l u n (2 ^ (k - 1) + a) o ∙ ap (λ (x : ℕ). has (k - 1) u x) e ∙ h.1,
+      λ (b : ℕ). λ (m : b < 2 ^ (k - 1) + a). ⊎_elim
+          (λ (x : b < 2 ^ (k - 1)). has-low k l u n b x ∙ none b x)
+          (λ (x : 2 ^ (k - 1) ≤ b). let y : b - 2 ^ (k - 1) < a = omega arith in has-high k l u n b x ∙ h.2 (b - 2 ^ (k - 1)) y)
+          (cases_lt b (2 ^ (k - 1))),
+    )
 
 pub least-none : (k : ℕ) (l u : Numbers) (n : ℕ) → 0 < k → IsLeast (k - 1) l None → IsLeast (k - 1) u None → IsLeast k (halves l u n) None
 least-none k l u n some lower upper = λ (b : ℕ). λ (m : b < 2 ^ k).

@@ -87,15 +87,15 @@ runs-all test k at (halves low high n) rest h l r e =
     let P : ℕ → Type 0 = λ v. AreRunsFrom v test rest in
     let inside : at + 2 ^ (k - 1) + 2 ^ (k - 1) ≤ 2 ^ 32 = omega arith in
     let upper : AreRunsOf test (k - 1) (at + 2 ^ (k - 1)) high rest = runs-all test (k - 1) (at + 2 ^ (k - 1)) high rest h.2 inside (subst P end r) (λ (a : ℕ). λ (x : a < 2 ^ (k - 1)).
-        let i : 2 ^ (k - 1) + a < 2 ^ k = omega arith in
-        let j : at + (2 ^ (k - 1) + a) ≡ at + 2 ^ (k - 1) + a = omega arith in
-        let m : 2 ^ (k - 1) ≤ 2 ^ (k - 1) + a = omega arith in
-        let o : 2 ^ (k - 1) + a - 2 ^ (k - 1) ≡ a = omega arith in
-        sym (ap test j) ∙ e (2 ^ (k - 1) + a) i ∙ has-high k low high n (2 ^ (k - 1) + a) m ∙ ap (λ (v : ℕ). has (k - 1) high v) o) in
+    let i : 2 ^ (k - 1) + a < 2 ^ k = omega arith in
+    let j : at + (2 ^ (k - 1) + a) ≡ at + 2 ^ (k - 1) + a = omega arith in
+    let m : 2 ^ (k - 1) ≤ 2 ^ (k - 1) + a = omega arith in
+    let o : 2 ^ (k - 1) + a - 2 ^ (k - 1) ≡ a = omega arith in
+    sym (ap test j) ∙ e (2 ^ (k - 1) + a) i ∙ has-high k low high n (2 ^ (k - 1) + a) m ∙ ap (λ (v : ℕ). has (k - 1) high v) o) in
     let below : at + 2 ^ (k - 1) ≤ 2 ^ 32 = omega arith in
     let lower : AreRunsOf test (k - 1) at low (runs_of (k - 1) (at + 2 ^ (k - 1)) high rest) = runs-all test (k - 1) at low (runs_of (k - 1) (at + 2 ^ (k - 1)) high rest) h.1 below upper.from (λ (a : ℕ). λ (x : a < 2 ^ (k - 1)).
-        let i : a < 2 ^ k = omega arith in
-        e a i ∙ has-low k low high n a x) in
+    let i : a < 2 ^ k = omega arith in
+    e a i ∙ has-low k low high n a x) in
     let sum : n ≡ size_of (k - 1) low + size_of (k - 1) high = h.3 in
     let first : addresses_in (runs_of (k - 1) at low (runs_of (k - 1) (at + 2 ^ (k - 1)) high rest)) ≡ size_of (k - 1) low + addresses_in (runs_of (k - 1) (at + 2 ^ (k - 1)) high rest) = lower.count in
     let second : addresses_in (runs_of (k - 1) (at + 2 ^ (k - 1)) high rest) ≡ size_of (k - 1) high + addresses_in rest = upper.count in
@@ -122,8 +122,8 @@ cycle-some does one c h exact least many e =
     let P : List RouterId → Type 0 = λ v. (a : ℕ) → a < 2 ^ 32 → has 32 one.addresses a ≡ goes_round does v a in
     let goes : (a : ℕ) → a < 2 ^ 32 → has 32 one.addresses a ≡ goes_round does c.routers a = subst P (sym e) exact in
     let all : AreRunsOf (goes_round does c.routers) 32 0 one.addresses [] = runs-all (goes_round does c.routers) 32 0 one.addresses [] h (omega arith) (record { apart = tt; start = tt; exact = λ (a : ℕ). λ (x : 0 + 2 ^ 32 ≤ a). λ (y : a < 2 ^ 32). absurd (omega arith) }) (λ (a : ℕ). λ (x : a < 2 ^ 32).
-        let j : 0 + a ≡ a = omega arith in
-        ap (λ (v : ℕ). goes_round does c.routers v) j ∙ sym (goes a x)) in
+    let j : 0 + a ≡ a = omega arith in
+    ap (λ (v : ℕ). goes_round does c.routers v) j ∙ sym (goes a x)) in
     let are : AreRuns (runs_of 32 0 one.addresses []) (goes_round does c.routers) = from-first (goes_round does c.routers) (runs_of 32 0 one.addresses []) all.from in
     let count : addresses_in (runs_of 32 0 one.addresses []) ≡ size_of 32 one.addresses + 0 = all.count in
     record {

@@ -184,6 +184,7 @@ among-append x (r ∷ a) b m = ⊎_elim
 in-back : (front back : List RouterId) (x : RouterId) → all_differ is_router (front ++ x ∷ back) ≡ true → is_among back x ≡ true → ⊥
 in-back [] back x d i = false≢true (sym (ap not i) ∙ (and_parts (not (is_among back x)) (all_differ is_router back) d).0)
 in-back (y ∷ front) back x d i = in-back front back x (and_parts (not (is_among (front ++ x ∷ back) y)) (all_differ is_router (front ++ x ∷ back)) d).1 i
+
 in-front : (front back : List RouterId) (x : RouterId) → all_differ is_router (front ++ x ∷ back) ≡ true → is_among front x ≡ true → ⊥
 in-front [] back x d i = false≢true i
 in-front (y ∷ front) back x d i =
@@ -233,26 +234,26 @@ turned-cycle f first path turned h t =
     let differ : all_differ is_router (t.front ++ t.first ∷ t.back) ≡ true = subst D split (all-new f first first h.rest h.others h.round) in
     let M : List RouterId → Type 0 = λ v. is_among v first ≡ true in
     let after : list_all (λ s. nat_lt t.first.0 s.0) (t.back ++ t.front) ≡ true = all-after t.first.0 (t.back ++ t.front) (λ (r : RouterId). λ (m : is_among (t.back ++ t.front) r ≡ true).
-        let N : List RouterId → Type 0 = λ v. is_among v r ≡ true in
-        let inside : is_among path r ≡ true = subst N (sym t.is) (⊎_elim
-            (λ (i : is_among t.back r ≡ true). among-append-right r t.front (t.first ∷ t.back) (or_right (is_router r t.first) (is_among t.back r) i))
-            (λ (i : is_among t.front r ≡ true). among-append-left r t.front (t.first ∷ t.back) i)
-            (among-append r t.back t.front m)) in
-        let low : t.first.0 ≤ r.0 = t.least r inside in
-        let other : t.first.0 ≡ r.0 → ⊥ = differ-others t.front t.back t.first differ r m in
-        ⊎_elim
-        (λ (l : t.first.0 < r.0). l)
-        (λ (l : r.0 ≤ t.first.0). let e : t.first.0 ≡ r.0 = omega arith in absurd (other e))
-        (cases_lt t.first.0 r.0)) in
+    let N : List RouterId → Type 0 = λ v. is_among v r ≡ true in
+    let inside : is_among path r ≡ true = subst N (sym t.is) (⊎_elim
+    (λ (i : is_among t.back r ≡ true). among-append-right r t.front (t.first ∷ t.back) (or_right (is_router r t.first) (is_among t.back r) i))
+    (λ (i : is_among t.front r ≡ true). among-append-left r t.front (t.first ∷ t.back) i)
+    (among-append r t.back t.front m)) in
+    let low : t.first.0 ≤ r.0 = t.least r inside in
+    let other : t.first.0 ≡ r.0 → ⊥ = differ-others t.front t.back t.first differ r m in
+    ⊎_elim
+    (λ (l : t.first.0 < r.0). l)
+    (λ (l : r.0 ≤ t.first.0). let e : t.first.0 ≡ r.0 = omega arith in absurd (other e))
+    (cases_lt t.first.0 r.0)) in
     let is : is_cycle f (t.first ∷ (t.back ++ t.front)) ≡ true =
-        and_from (list_all (λ s. nat_lt t.first.0 s.0) (t.back ++ t.front) && all_differ is_router (t.first ∷ (t.back ++ t.front))) (go_round f t.first (t.first ∷ (t.back ++ t.front)))
-        (and_from (list_all (λ s. nat_lt t.first.0 s.0) (t.back ++ t.front)) (all_differ is_router (t.first ∷ (t.back ++ t.front))) after (differs f t.first t.first (t.back ++ t.front) after round)) round in
+    and_from (list_all (λ s. nat_lt t.first.0 s.0) (t.back ++ t.front) && all_differ is_router (t.first ∷ (t.back ++ t.front))) (go_round f t.first (t.first ∷ (t.back ++ t.front)))
+    (and_from (list_all (λ s. nat_lt t.first.0 s.0) (t.back ++ t.front)) (all_differ is_router (t.first ∷ (t.back ++ t.front))) after (differs f t.first t.first (t.back ++ t.front) after round)) round in
     let here : is_among (t.first ∷ (t.back ++ t.front)) first ≡ true = ⊎_elim
-        (λ (i : is_among t.front first ≡ true). or_right (is_router first t.first) (is_among (t.back ++ t.front) first) (among-append-right first t.back t.front i))
-        (λ (i : is_among (t.first ∷ t.back) first ≡ true). ⊎_elim
-        (λ (j : is_router first t.first ≡ true). or_left (is_router first t.first) (is_among (t.back ++ t.front) first) j)
-        (λ (j : is_among t.back first ≡ true). or_right (is_router first t.first) (is_among (t.back ++ t.front) first) (among-append-left first t.back t.front j))
-        (or_cases (is_router first t.first) (is_among t.back first) i))
-        (among-append first t.front (t.first ∷ t.back) (subst M split (among-head first first h.rest refl))) in
+    (λ (i : is_among t.front first ≡ true). or_right (is_router first t.first) (is_among (t.back ++ t.front) first) (among-append-right first t.back t.front i))
+    (λ (i : is_among (t.first ∷ t.back) first ≡ true). ⊎_elim
+    (λ (j : is_router first t.first ≡ true). or_left (is_router first t.first) (is_among (t.back ++ t.front) first) j)
+    (λ (j : is_among t.back first ≡ true). or_right (is_router first t.first) (is_among (t.back ++ t.front) first) (among-append-left first t.back t.front j))
+    (or_cases (is_router first t.first) (is_among t.back first) i))
+    (among-append first t.front (t.first ∷ t.back) (subst M split (among-head first first h.rest refl))) in
     let C : List RouterId → Type 0 = λ v. (is_cycle f v ≡ true) × (is_among v first ≡ true) in
     subst C (sym t.turn) (is, here)

@@ -1,10 +1,15 @@
 -- How kept cycles are changed.
-use Rattle.std.specs.Prelude.{ℕ, List, ◌≡◌, ◌<◌, ◌^◌, ◌⊎◌, Contains, IsTrue, IsFalse}
+use Rattle.std.specs.Prelude.{ℕ, not, ◌&&◌, List, ◌≡◌, ◌<◌, ◌^◌, ◌⊎◌, Contains, IsTrue, IsFalse}
 use Rattle.dn_model.specs.declared.change.Change.{Change}
 use Rattle.dn_model.specs.declared.ids.RouterId.{RouterId}
-use Rattle.loop_keeper.specs.Finding.{HasFound, is_touched}
-use Rattle.loop_keeper.specs.Kept.{Kept, HasKept, HasSome, AreDistinct}
+use Rattle.loop_keeper.specs.Finding.{HasFound, is_touched, touches}
+use Rattle.loop_keeper.specs.Kept.{Kept, HasKept, HasSome, AreDistinct, has_address}
 use Rattle.loop_keeper.specs.declared.found.Found.{Found}
+
+-- the run of a change taken out of a cycle that has its router
+pub record IsTakenOut (c : Change) (old new : Kept) : Type 0 where
+  pub same : new.routers ≡ old.routers
+  pub exact : (a : ℕ) → a < 2 ^ 32 → has_address new a ≡ (has_address old a && not (touches old.routers a c))
 
 -- the addresses of changes taken out of the cycles that have their routers
 pub record AreTakenOut (changes : List Change) (old new : List Kept) : Type 0 where

@@ -3,10 +3,17 @@
 #![tactic(auto)]
 
 mod address_set;
+mod editing;
+mod finding;
+mod following;
 mod found;
 mod kept_cycle;
+mod kept_loops;
 mod number_set;
 mod steps;
 mod telling;
+#[cfg(test)]
+mod tests;
 
+pub use kept_loops::KeptLoops;
 pub use steps::Steps;

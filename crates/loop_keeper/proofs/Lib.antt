@@ -1,4 +1,6 @@
 pub mod Advancing
+pub mod Leaving
+pub mod Meeting
 pub mod Parts
 pub mod Putting
 pub mod Runs

@@ -91,6 +91,28 @@ has-none k (halves l u n) h e a b =
     (λ (i : 2 ^ (k - 1) ≤ a). let j : a - 2 ^ (k - 1) < 2 ^ (k - 1) = omega arith in has-high k l u n a i ∙ has-none (k - 1) u h.2 y (a - 2 ^ (k - 1)) j)
     (cases_lt a (2 ^ (k - 1)))
 
+-- a set that has some numbers has one
+pub size-some : (k : ℕ) (s : Numbers) → IsSound k s → 0 < size_of k s → (a : ℕ) × (a < 2 ^ k) × (has k s a ≡ true)
+size-some k nothing h l = absurd (omega arith)
+size-some k everything h l = (0, pow_pos k, refl)
+size-some k (halves l u n) h some =
+    let c : n ≡ size_of (k - 1) l + size_of (k - 1) u = h.3 in
+    let d : 2 ^ k ≡ 2 ^ (k - 1) + 2 ^ (k - 1) = half-twice k h.0 in
+    ⊎_elim
+    (λ (i : 0 < size_of (k - 1) l).
+    let x : (a : ℕ) × (a < 2 ^ (k - 1)) × (has (k - 1) l a ≡ true) = size-some (k - 1) l h.1 i in
+    let low : x.0 < 2 ^ (k - 1) = x.1 in
+    let below : x.0 < 2 ^ k = omega arith in
+    (x.0, below, has-low k l u n x.0 x.1 ∙ x.2))
+    (λ (i : size_of (k - 1) l ≤ 0).
+    let x : (a : ℕ) × (a < 2 ^ (k - 1)) × (has (k - 1) u a ≡ true) = size-some (k - 1) u h.2 (omega arith) in
+    let low : x.0 < 2 ^ (k - 1) = x.1 in
+    let below : x.0 + 2 ^ (k - 1) < 2 ^ k = omega arith in
+    let high : 2 ^ (k - 1) ≤ x.0 + 2 ^ (k - 1) = omega arith in
+    let back : x.0 + 2 ^ (k - 1) - 2 ^ (k - 1) ≡ x.0 = omega arith in
+    (x.0 + 2 ^ (k - 1), below, has-high k l u n (x.0 + 2 ^ (k - 1)) high ∙ ap (λ (v : ℕ). has (k - 1) u v) back ∙ x.2))
+    (cases_lt 0 (size_of (k - 1) l))
+
 pub has-all : (k : ℕ) (s : Numbers) → IsSound k s → size_of k s ≡ 2 ^ k → (a : ℕ) → a < 2 ^ k → has k s a ≡ true
 has-all k nothing h e a b = absurd (omega arith)
 has-all k everything h e a b = refl

@@ -1,18 +1,20 @@
 -- The runs of changes taken out of kept cycles.
-use Rattle.std.proofs.Common.{◌≡◌, ℕ, suc, ◌+◌, ◌<◌, ◌≤◌, ◌^◌, ◌⊎◌, ◌∙◌, Bool, true, false, not, ◌&&◌, ◌||◌, nat_le, nat_lt, List, [], ◌∷◌, ◌++◌, length, get_or, slice_set, refl, ap, ap₂, sym, subst, ⊎_elim, arith}
+use Rattle.std.proofs.Common.{◌≡◌, ℕ, zero, suc, ◌+◌, ◌<◌, ◌≤◌, ◌^◌, ◌⊎◌, ◌∙◌, Bool, true, false, not, ◌&&◌, ◌||◌, nat_le, nat_lt, List, [], ◌∷◌, ◌++◌, length, get_or, slice_set, take, refl, ap, ap₂, sym, subst, ⊎_elim, arith}
 use Rattle.std.specs.Prelude.{if◌then◌else◌, Contains}
 use Rattle.std.specs.List.{list_any}
-use Rattle.std.proofs.lemmas.Bool.{cases_Bool, cases_eq, and_from, and_parts, not_from_false, false≢true}
+use Rattle.std.proofs.lemmas.Bool.{cases_Bool, cases_eq, and_from, and_parts, not_from_false, both_ways, false≢true}
 use Rattle.std.proofs.lemmas.Bool.Decides.{leb_tells}
-use Rattle.std.proofs.lemmas.List.{get_or_default, get_or-set_same, get_or-set_other, length-set}
+use Rattle.std.proofs.lemmas.List.{get_or_default, get_or-set_same, get_or-set_other, take_more}
 use Rattle.std.proofs.lemmas.List.Elements.{Contains-get_or}
+use Rattle.std.proofs.lemmas.List.Folds.{list_any_at}
+use Rattle.dn_model.specs.Delta.{AreChanges, IsChange}
 use Rattle.dn_model.specs.Rows.{is_within}
 use Rattle.dn_model.specs.Runs.{holds}
 use Rattle.dn_model.specs.declared.change.Change.{Change}
 use Rattle.dn_model.specs.declared.ids.RouterId.{RouterId}
 use Rattle.dn_model.specs.declared.run.Run.{Run}
 use Rattle.loop_check.specs.Following.{is_among}
-use Rattle.loop_keeper.specs.Edits.{AreTakenOut, IsTakenOut}
+use Rattle.loop_keeper.specs.Edits.{AreTakenOut, IsTakenOut, has_changed}
 use Rattle.loop_keeper.specs.Finding.{is_touched, touches}
 use Rattle.loop_keeper.specs.Kept.{AreDistinct, HasKept, Kept, has_address}
 use Rattle.loop_keeper.specs.Numbers.{IsPut, has}
@@ -136,7 +138,7 @@ or-group : (x y z : Bool) → (x || (y || z)) ≡ ((x || y) || z)
 or-group true y z = refl
 or-group false y z = refl
 
-touched-append : (cs ds : List Change) (rs : List RouterId) (a : ℕ) → is_touched (cs ++ ds) rs a ≡ (is_touched cs rs a || is_touched ds rs a)
+pub touched-append : (cs ds : List Change) (rs : List RouterId) (a : ℕ) → is_touched (cs ++ ds) rs a ≡ (is_touched cs rs a || is_touched ds rs a)
 touched-append [] ds rs a = refl
 touched-append (c ∷ cs) ds rs a = ap (λ (x : Bool). touches rs a c || x) (touched-append cs ds rs a) ∙ or-group (touches rs a c) (is_touched cs rs a) (is_touched ds rs a)
 
@@ -158,3 +160,40 @@ out-then cs ds old now new x y = record {
       let p : (is_touched cs rs a ≡ false) × (is_touched ds rs a ≡ false) = or-false (is_touched cs rs a) (is_touched ds rs a) (sym (touched-append cs ds rs a) ∙ t) in
       y.kept rs a b (x.kept rs a b has p.0) p.1;
 }
+
+-- ---- where no change is one of a cycle's routers
+
+any-none : (p : Kept → Bool) (xs : List Kept) (x : Kept) → list_any p xs ≡ false → Contains xs x → p x ≡ false
+any-none p xs x h i = ⊎_elim
+    (λ (t : p x ≡ true).
+    let at : p (get_or xs i.0 x) ≡ true = ap p i.2 ∙ t in
+    absurd (both_ways (list_any p xs) h (list_any_at p xs i.0 x i.1 at)))
+    (λ (t : p x ≡ false). t)
+    (cases_Bool (p x))
+
+changed-none : (cs : List Change) (one : Kept) (a : ℕ) → has_changed cs one ≡ false → is_touched cs one.routers a ≡ false
+changed-none [] one a h = refl
+changed-none (c ∷ cs) one a h =
+    let p : (is_among one.routers c.router ≡ false) × (has_changed cs one ≡ false) = or-false (is_among one.routers c.router) (has_changed cs one) h in
+    ap (λ (x : Bool). (x && holds a c.run) || is_touched cs one.routers a) p.0 ∙ changed-none cs one a p.1
+
+pub out-of-none : (cs : List Change) (old : List Kept) → list_any (has_changed cs) old ≡ false → AreTakenOut cs old old
+out-of-none cs old h = record {
+  distinct = λ apart. apart;
+  only = λ rs a b has.
+      let none : is_touched cs has.one.routers a ≡ false = changed-none cs has.one a (any-none (has_changed cs) old has.one h has.among) in
+      (has, ap (λ (v : List RouterId). is_touched cs v a) (sym has.is) ∙ none);
+  kept = λ rs a b has t. has;
+}
+
+-- ---- change after change
+
+pub each-change : (cs : List Change) (k : ℕ) (d : Change) → AreChanges cs → k < length cs → IsChange (get_or cs k d)
+each-change [] k d h l = absurd (omega arith)
+each-change (x ∷ cs) zero d h l = h.0
+each-change (x ∷ cs) (suc k) d h l = each-change cs k d h.2 (omega arith)
+
+pub out-next : (cs : List Change) (k : ℕ) (d : Change) (old now new : List Kept) → k < length cs → AreTakenOut (take k cs) old now → AreTakenOut (get_or cs k d ∷ []) now new → AreTakenOut (take (k + 1) cs) old new
+out-next cs k d old now new l x y =
+    let P : List Change → Type 0 = λ v. AreTakenOut v old new in
+    subst P (sym (take_more cs k d l)) (out-then (take k cs) (get_or cs k d ∷ []) old now new x y)

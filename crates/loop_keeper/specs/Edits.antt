@@ -1,7 +1,9 @@
 -- How kept cycles are changed.
-use Rattle.std.specs.Prelude.{ℕ, not, ◌&&◌, List, ◌≡◌, ◌<◌, ◌^◌, ◌⊎◌, Contains, IsTrue, IsFalse}
+use Rattle.std.specs.Prelude.{ℕ, Bool, not, ◌&&◌, List, ◌≡◌, ◌<◌, ◌^◌, ◌⊎◌, Contains, IsTrue, IsFalse}
+use Rattle.std.specs.List.{list_any}
 use Rattle.dn_model.specs.declared.change.Change.{Change}
 use Rattle.dn_model.specs.declared.ids.RouterId.{RouterId}
+use Rattle.loop_check.specs.Following.{is_among}
 use Rattle.loop_keeper.specs.Finding.{HasFound, is_touched, touches}
 use Rattle.loop_keeper.specs.Kept.{Kept, HasKept, HasSome, AreDistinct, has_address}
 use Rattle.loop_keeper.specs.declared.found.Found.{Found}
@@ -10,6 +12,10 @@ use Rattle.loop_keeper.specs.declared.found.Found.{Found}
 pub record IsTakenOut (c : Change) (old new : Kept) : Type 0 where
   pub same : new.routers ≡ old.routers
   pub exact : (a : ℕ) → a < 2 ^ 32 → has_address new a ≡ (has_address old a && not (touches old.routers a c))
+
+-- whether a change is one of a cycle's routers
+abbrev pub has_changed : List Change → Kept → Bool
+has_changed changes one = list_any (λ c. is_among one.routers c.router) changes
 
 -- the addresses of changes taken out of the cycles that have their routers
 pub record AreTakenOut (changes : List Change) (old new : List Kept) : Type 0 where

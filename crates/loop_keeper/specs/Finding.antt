@@ -1,5 +1,5 @@
 -- The cycles that rows show where changes meet them.
-use Rattle.std.specs.Prelude.{ℕ, Bool, List, ◌≡◌, ◌<◌, ◌≤◌, ◌^◌, ◌&&◌, Contains, IsTrue}
+use Rattle.std.specs.Prelude.{ℕ, Bool, List, ◌≡◌, ◌<◌, ◌≤◌, ◌^◌, ◌&&◌, Contains, IsTrue, slice_index_or}
 use Rattle.std.specs.List.{list_any}
 use Rattle.dn_model.specs.Cycles.{goes_round}
 use Rattle.dn_model.specs.Runs.{holds}
@@ -8,7 +8,6 @@ use Rattle.dn_model.specs.declared.ids.RouterId.{RouterId}
 use Rattle.dn_model.specs.declared.target.Target.{Target}
 use Rattle.dn_model.specs.Forwarding.{does}
 use Rattle.dn_model.specs.declared.forwarding_row.ForwardingRow.{ForwardingRow}
-use Rattle.label_view.specs.Places.{IsInRow}
 use Rattle.loop_check.specs.Following.{is_among}
 use Rattle.loop_keeper.specs.declared.found.Found.{Found}
 
@@ -39,19 +38,32 @@ FindTouched does changes found =
     (routers : List RouterId) (a : ℕ) → a < 2 ^ 32 → IsTrue (goes_round does routers a)
     → IsTrue (is_touched changes routers a) → HasFound found routers a
 
+-- what was found are addresses
+abbrev pub AllInside : List Found → Type 0
+AllInside found = (one : Found) → Contains found one → one.past ≤ 2 ^ 32
+
 -- cycles found beside others: those through the router of a change where its run is
 pub record FindsMore (does : RouterId → ℕ → Target) (changes : List Change) (old new : List Found) : Type 0 where
   pub sound : AllGoRound does old → AllGoRound does new
+  pub inside : AllInside old → AllInside new
   pub kept : (routers : List RouterId) (a : ℕ) → HasFound old routers a → HasFound new routers a
   pub found : FindTouched does changes new
 
 -- cycles found beside others: that of the row at a place that has a router
 pub record FindsAt (rows : List ForwardingRow) (i : ℕ) (router : RouterId) (old new : List Found) : Type 0 where
   pub sound : AllGoRound (does rows) old → AllGoRound (does rows) new
+  pub inside : AllInside old → AllInside new
   pub kept : (routers : List RouterId) (a : ℕ) → HasFound old routers a → HasFound new routers a
-  pub found : (routers : List RouterId) (a : ℕ) → IsInRow rows i a → IsTrue (goes_round (does rows) routers a)
+  pub found : (d : ForwardingRow) (routers : List RouterId) (a : ℕ) → (slice_index_or rows i d).low ≤ a
+      → a < (slice_index_or rows i d).past → IsTrue (goes_round (does rows) routers a)
       → IsTrue (is_among routers router) → HasFound new routers a
 
--- what was found are addresses
-abbrev pub AllInside : List Found → Type 0
-AllInside found = (one : Found) → Contains found one → one.past ≤ 2 ^ 32
+-- cycles found beside others: those of the rows from a place up to, and without, another one that have a router
+pub record FindsBetween (rows : List ForwardingRow) (first past : ℕ) (router : RouterId) (old new : List Found)
+    : Type 0 where
+  pub sound : AllGoRound (does rows) old → AllGoRound (does rows) new
+  pub inside : AllInside old → AllInside new
+  pub kept : (routers : List RouterId) (a : ℕ) → HasFound old routers a → HasFound new routers a
+  pub found : (k : ℕ) (d : ForwardingRow) (routers : List RouterId) (a : ℕ) → first ≤ k → k < past
+      → (slice_index_or rows k d).low ≤ a → a < (slice_index_or rows k d).past
+      → IsTrue (goes_round (does rows) routers a) → IsTrue (is_among routers router) → HasFound new routers a

@@ -101,10 +101,10 @@ pub(crate) fn leave_empty_out(cycles: &mut Vec<KeptCycle>)
 {
     let mut k = 0;
     'cycles: while k < cycles.len() {
-        if cycles[k].addresses().count() == 0 {
+        if cycles[k].is_empty() {
             let _one = cycles.swap_remove(k);
-        } else {
-            k += 1;
+            continue;
         }
+        k += 1;
     }
 }

@@ -1,9 +1,9 @@
 //! The cycles that rows show where changes meet them.
 
-ghost use Rattle.std.specs.Prelude.{◌≡◌, ◌+◌, ◌*◌, ◌<◌, ◌≤◌, OnOk, IfOk, [], ◌∷◌, length};
+ghost use Rattle.std.specs.Prelude.{◌≡◌, ◌+◌, ◌-◌, ◌*◌, ◌<◌, ◌≤◌, OnOk, IfOk, [], ◌∷◌, length};
 ghost use Rattle.dn_model.specs.Delta.{IsChange, AreChanges};
 ghost use Rattle.dn_model.specs.Forwarding.{AreForwarding, does};
-ghost use Rattle.loop_keeper.specs.Finding.{AllGoRound, FindTouched, FindsMore, FindsAt};
+ghost use Rattle.loop_keeper.specs.Finding.{AllGoRound, AllInside, FindTouched, FindsMore, FindsAt, FindsBetween};
 ghost use Rattle.loop_keeper.specs.Looks.{rows_met};
 
 use crate::following::{follow, turned};
@@ -39,6 +39,28 @@ fn find_at<V: LabelView, L: Ledger>(
     Ok(())
 }
 
+/// Finds the cycles that have a router in the rows from a place up to, and without, another one.
+fn find_between<V: LabelView, L: Ledger>(
+    alloc: Global,
+    view: &V,
+    first: u64,
+    past: u64,
+    router: RouterId,
+    found: &mut Vec<Found>,
+    steps: &mut Steps<L>,
+) -> Result<(), OutOfMemory>
+    requires form { AreForwarding (V.width view.now) (V.rows view.now) }
+    requires rows { past ≤ length (V.rows view.now) }
+    requires router { router.0 < V.width view.now }
+    ensures found { OnOk result (FindsBetween (V.rows view.now) first past router found.old.items found.new.items) }
+    ensures cost { steps.new ≤ steps.old + V.width view.now * (past - first) }
+{
+    for i in first..past {
+        find_at(alloc, view, i, router, found, steps)?;
+    }
+    Ok(())
+}
+
 /// Finds the cycles through the router of a change in the rows that its run meets.
 fn find_along<V: LabelView, L: Ledger>(
     alloc: Global,
@@ -54,13 +76,9 @@ fn find_along<V: LabelView, L: Ledger>(
     if u32::from(change.router.0) >= view.routers() {
         return Ok(());
     }
-    let mut i = view.atom_of(change.run.lo);
+    let first = view.atom_of(change.run.lo);
     let last = view.atom_of(change.run.hi);
-    'rows: while i <= last {
-        find_at(alloc, view, i, change.router, found, steps)?;
-        i += 1;
-    }
-    Ok(())
+    find_between(alloc, view, first, last + 1, change.router, found, steps)
 }
 
 /// Finds the cycles through the routers of changes in the rows that their runs meet.
@@ -72,6 +90,7 @@ pub(crate) fn find_all<V: LabelView, L: Ledger>(
 ) -> Result<Vec<Found>, OutOfMemory>
     requires { AreChanges changes.now }
     ensures sound { IfOk result (λ found. AllGoRound (does (V.rows view.now)) found.items) }
+    ensures inside { IfOk result (λ found. AllInside found.items) }
     ensures all { IfOk result (λ found. FindTouched (does (V.rows view.now)) changes.now found.items) }
     ensures cost { steps.new ≤ steps.old + V.width view.now * rows_met (V.rows view.now) changes.now }
 {

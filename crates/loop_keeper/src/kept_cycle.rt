@@ -1,7 +1,8 @@
 //! A cycle that is kept.
 
-ghost use Rattle.std.specs.Prelude.{◌≡◌, ◌≤◌, ◌^◌, OnOk, IfOk, IsTrue, IsFalse};
+ghost use Rattle.std.specs.Prelude.{◌≡◌, ◌<◌, ◌≤◌, ◌^◌, ℕ, false, OnOk, IfOk, IsTrue, IsFalse};
 ghost use Rattle.loop_check.specs.Following.{is_among};
+ghost use Rattle.loop_keeper.specs.Kept.{HasSome, has_address};
 ghost use Rattle.loop_keeper.specs.Numbers.{nothing, IsPut, IsSound, IsLeast, size_of};
 
 use crate::address_set::AddressSet;
@@ -63,6 +64,15 @@ impl KeptCycle {
         ensures { result ≡ is_among self.now.routers router }
     {
         self.routers.as_slice().iter().any(|r| r.0 == router.0)
+    }
+
+    /// Whether it has no address.
+    pub(crate) fn is_empty(&self) -> bool
+        ensures yes { IsTrue result → (a : ℕ) → a < 2 ^ 32 → has_address self.now a ≡ false }
+        ensures refused { IsFalse result → HasSome self.now }
+    {
+        let addresses = self.addresses();
+        addresses.count() == 0
     }
 
     /// The addresses.

@@ -1,12 +1,13 @@
 //! The cycles of a network, kept from update to update.
 
-ghost use Rattle.std.specs.Prelude.{◌≡◌, ℕ, ◌+◌, ◌*◌, ◌<◌, ◌≤◌, [], OnOk, IfOk, IsFalse, length};
+ghost use Rattle.std.specs.Prelude.{◌≡◌, ℕ, ◌+◌, ◌*◌, ◌<◌, ◌≤◌, [], OnOk, IfOk};
+ghost use Rattle.std.specs.List.{list_any};
 ghost use Rattle.dn_model.specs.Cycles.{AreCycles};
 ghost use Rattle.dn_model.specs.Delta.{AreChanges, IsDelta};
 ghost use Rattle.dn_model.specs.Forwarding.{does};
 ghost use Rattle.dn_model.specs.declared.ids.RouterId.{RouterId as Router};
 ghost use Rattle.dn_model.specs.declared.target.Target.{Target as TargetIs};
-ghost use Rattle.loop_keeper.specs.Edits.{AreTakenOut, AreEdited};
+ghost use Rattle.loop_keeper.specs.Edits.{AreEdited, has_changed};
 ghost use Rattle.loop_keeper.specs.Finding.{AllInside, is_touched};
 ghost use Rattle.loop_keeper.specs.Kept.{AreKept, HasKept, IsLoopFree};
 ghost use Rattle.loop_keeper.specs.Looks.{rows_met};
@@ -84,18 +85,18 @@ impl CycleList {
     }
 }
 
-/// Whether a change may take addresses out of a cycle.
-fn has_router_of(cycles: &[KeptCycle], changes: &[Change]) -> bool
-    ensures { IsFalse result → AreTakenOut changes.now cycles.now cycles.now }
+/// Whether a change is one of a cycle's routers.
+fn is_changed(one: &KeptCycle, changes: &[Change]) -> bool
+    ensures { result ≡ has_changed changes.now one.now }
 {
-    for one in cycles {
-        for change in changes {
-            if one.has_router(change.router) {
-                return true;
-            }
-        }
-    }
-    false
+    changes.iter().any(|change| one.has_router(change.router))
+}
+
+/// Whether changes may take addresses out of a cycle.
+fn are_changed(cycles: &[KeptCycle], changes: &[Change]) -> bool
+    ensures { result ≡ list_any (has_changed changes.now) cycles.now }
+{
+    cycles.iter().any(|one| is_changed(one, changes))
 }
 
 /// The same cycles again.
@@ -197,7 +198,7 @@ impl KeptLoops {
     {
         let changes = delta.changes();
         let found = find_all(alloc, view, changes, steps)?;
-        if found.is_empty() && !has_router_of(self.cycles(), changes) {
+        if found.is_empty() && !are_changed(self.cycles(), changes) {
             return Ok(());
         }
         return self.change(alloc, changes, found);

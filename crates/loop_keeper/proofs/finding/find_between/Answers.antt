@@ -8,8 +8,9 @@ loop-i-preserved g c =
     let sum : c.loop-i.i - c.args.first + 1 ≤ c.loop-i.i + 1 - c.args.first = omega arith in
     record {
       found = finds-next (g.V.LabelView.rows c.args.view.now) c.args.first c.loop-i.i c.args.router c.args.found.now.items c.loop-i.found.items c.find_at.new.found.items c.loop-i.invariant.found c.in_ok-find_at.ensures.found;
+      within = omega arith;
       cost = looks-more (g.V.LabelView.width c.args.view.now) c.args.steps.now c.loop-i.steps c.find_at.new.steps (c.loop-i.i - c.args.first) 1 (c.loop-i.i + 1 - c.args.first) c.loop-i.invariant.cost one sum;
     }
 
 pub returns-clause-cost : goal.returns-clause-cost
-returns-clause-cost g c = looks-most (g.V.LabelView.width c.args.view.now) c.args.steps.now c.loop-i.steps (c.loop-i.i - c.args.first) (c.args.past - c.args.first) c.loop-i.invariant.cost (omega arith)
+returns-clause-cost g c = looks-most (g.V.LabelView.width c.args.view.now) c.args.steps.now c.loop-i.steps (c.loop-i.i - c.args.first) (c.args.past - c.args.first) c.loop-i.invariant.cost c.loop-i.invariant.within

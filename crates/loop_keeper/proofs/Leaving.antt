@@ -62,7 +62,7 @@ swaps-out n now new x l e =
           get_or-take (length now - 1) (slice_set now n last) n d m ∙ get_or-set_same now n last d l ∙ get_or_default now (length now - 1) x d o;
       other = λ k d b ne.
           let m : k < length now - 1 = omega arith in
-          get_or-take (length now - 1) (slice_set now n last) k d m ∙ get_or-set_other now n k last d (λ q. ne (sym q));
+          get_or-take (length now - 1) (slice_set now n last) k d m ∙ get_or-set_other now n k last d ne;
     })
 
 swapped-distinct : (n : ℕ) (now new : List Kept) → n < length now → SwapsOut n now new → AreDistinct now → AreDistinct new

@@ -92,7 +92,7 @@ put-at one old new k was now l is same kept put e =
     let P : List Kept → Type 0 = λ v. ArePutIn (one ∷ []) old v in
     let long : length (slice_set old k now) ≡ length old = length-set old k now in
     let here : (d : Kept) → get_or (slice_set old k now) k d ≡ now = λ d. get_or-set_same old k now d l in
-    let there : (i : ℕ) (d : Kept) → (i ≡ k → ⊥) → get_or (slice_set old k now) i d ≡ get_or old i d = λ i d o. get_or-set_other old k i now d (λ q. o (sym q)) in
+    let there : (i : ℕ) (d : Kept) → (i ≡ k → ⊥) → get_or (slice_set old k now) i d ≡ get_or old i d = λ i d o. get_or-set_other old k i now d o in
     let before : (d : Kept) → get_or old k d ≡ was = λ d. get_or_default old k d was l ∙ is in
     let routers : (i : ℕ) (d : Kept) → (get_or (slice_set old k now) i d).routers ≡ (get_or old i d).routers = λ i d. ⊎_elim
         (λ (x : i ≡ k). ap (λ (n : ℕ). (get_or (slice_set old k now) n d).routers) x ∙ ap (λ (v : Kept). v.routers) (here d) ∙ kept ∙ sym (ap (λ (v : Kept). v.routers) (before d)) ∙ ap (λ (n : ℕ). (get_or old n d).routers) (sym x))

@@ -1,5 +1,5 @@
 -- What is kept of a network, through an update.
-use Rattle.std.proofs.Common.{◌≡◌, ℕ, ◌<◌, ◌^◌, ◌⊎◌, ◌∙◌, Bool, true, false, ◌&&◌, ◌||◌, nat_lt, ◌==◌, Option, None, Some, List, [], ◌∷◌, refl, ap, ap₂, sym, subst, ⊎_elim}
+use Rattle.std.proofs.Common.{◌≡◌, ℕ, ◌<◌, ◌^◌, ◌∙◌, Bool, true, false, ◌&&◌, nat_lt, ◌==◌, Option, None, Some, List, [], ◌∷◌, refl, ap, ap₂, sym, subst, ⊎_elim}
 use Rattle.std.specs.Prelude.{if◌then◌else◌, Contains}
 use Rattle.std.specs.List.{list_all}
 use Rattle.std.proofs.lemmas.Bool.{cases_Bool, eqb-true, and_from, and_parts, or_left, or_right, both_ways}

@@ -1,5 +1,5 @@
 -- Cycles found in the rows that the run of a change meets.
-use Rattle.std.proofs.Common.{◌≡◌, ℕ, zero, suc, ◌+◌, ◌-◌, ◌*◌, ◌<◌, ◌≤◌, ◌^◌, ◌⊎◌, ◌∙◌, Bool, true, false, ◌&&◌, ◌||◌, nat_le, nat_lt, Option, List, [], ◌∷◌, ◌++◌, length, get_or, take, drop, refl, ap, sym, subst, ⊎_elim, arith}
+use Rattle.std.proofs.Common.{◌≡◌, ℕ, zero, suc, ◌+◌, ◌-◌, ◌*◌, ◌<◌, ◌≤◌, ◌^◌, ◌∙◌, Bool, true, false, nat_le, nat_lt, Option, List, [], ◌∷◌, ◌++◌, length, get_or, take, drop, ap, sym, subst, ⊎_elim, arith}
 use Rattle.std.specs.Prelude.{Contains, cond, count_by}
 use Rattle.std.proofs.Math.Nat.{mul-add}
 use Rattle.std.proofs.lemmas.Bool.{and_from, and_parts, cases_eq, cases_lt, false≢true, le-leb, leb-true, lt-ltb, or_cases}
@@ -20,7 +20,7 @@ use Rattle.label_view.proofs.InRow.{some_row}
 use Rattle.dn_model.specs.declared.target.Target.{Target}
 use Rattle.loop_check.specs.Following.{IsInNone, is_among}
 use Rattle.loop_check.proofs.Rounds.{goes-on, one-shared}
-use Rattle.loop_keeper.specs.Finding.{AllGoRound, FindTouched, FindsAt, FindsBetween, FindsMore, HasFound, is_touched, touches}
+use Rattle.loop_keeper.specs.Finding.{FindTouched, FindsAt, FindsBetween, FindsMore, is_touched, touches}
 use Rattle.loop_keeper.specs.Following.{ComesBack, IsTurned}
 use Rattle.loop_keeper.specs.Looks.{meets, rows_met}
 use Rattle.loop_keeper.specs.declared.found.Found.{Found}

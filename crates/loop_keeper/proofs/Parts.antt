@@ -1,5 +1,5 @@
 -- A set of numbers and its halves.
-use Rattle.std.proofs.Common.{◌≡◌, ℕ, zero, suc, ◌+◌, ◌-◌, ◌*◌, ◌<◌, ◌≤◌, ◌^◌, ◌⊎◌, ◌∙◌, Bool, true, false, ◌&&◌, nat_lt, nat_le, Option, None, Some, add-one, refl, ap, ap₂, sym, subst, ⊎_elim, arith}
+use Rattle.std.proofs.Common.{◌≡◌, ℕ, zero, suc, ◌+◌, ◌-◌, ◌*◌, ◌<◌, ◌≤◌, ◌^◌, ◌∙◌, Bool, true, false, ◌&&◌, nat_lt, nat_le, None, Some, add-one, refl, ap, ap₂, sym, subst, ⊎_elim, arith}
 use Rattle.std.specs.Prelude.{min, if◌then◌else◌}
 use Rattle.std.proofs.Math.Nat.{pow-succ'}
 use Rattle.std.proofs.lemmas.Bool.{cases_lt}

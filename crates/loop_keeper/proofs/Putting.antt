@@ -1,5 +1,5 @@
 -- What was found put beside what is kept.
-use Rattle.std.proofs.Common.{◌≡◌, ℕ, ◌+◌, ◌<◌, ◌≤◌, ◌^◌, ◌⊎◌, ◌∙◌, Bool, true, false, nat_le, nat_lt, List, [], ◌∷◌, ◌++◌, length, get_or, slice_set, refl, ap, ap₂, sym, subst, inl, inr, ⊎_elim, arith}
+use Rattle.std.proofs.Common.{◌≡◌, ℕ, ◌+◌, ◌<◌, ◌≤◌, ◌^◌, ◌⊎◌, ◌∙◌, Bool, true, false, nat_le, nat_lt, List, [], ◌∷◌, ◌++◌, length, get_or, slice_set, refl, ap, sym, subst, inl, inr, ⊎_elim, arith}
 use Rattle.std.specs.Prelude.{if◌then◌else◌, Contains}
 use Rattle.std.proofs.lemmas.Bool.{and_parts, both_ways, cases_Bool, cases_eq, cases_lt, leb-true, ltb-true}
 use Rattle.std.proofs.lemmas.List.{get_or_default, get_or-set_other, get_or-set_same, get_or_append_left, get_or_push, length-append, length-set}
@@ -9,7 +9,7 @@ use Rattle.dn_model.specs.declared.ids.RouterId.{RouterId}
 use Rattle.dn_model.proofs.Covers.{within-yes}
 use Rattle.loop_keeper.specs.Edits.{ArePutIn}
 use Rattle.loop_keeper.specs.Finding.{HasFound}
-use Rattle.loop_keeper.specs.Kept.{AreDistinct, HasKept, Kept, has_address}
+use Rattle.loop_keeper.specs.Kept.{HasKept, Kept, has_address}
 use Rattle.loop_keeper.specs.Numbers.{IsPut, Numbers, has, nothing}
 use Rattle.loop_keeper.specs.declared.found.Found.{Found}
 
@@ -95,9 +95,9 @@ put-at one old new k was now l is same kept put e =
     let there : (i : ℕ) (d : Kept) → (i ≡ k → ⊥) → get_or (slice_set old k now) i d ≡ get_or old i d = λ i d o. get_or-set_other old k i now d o in
     let before : (d : Kept) → get_or old k d ≡ was = λ d. get_or_default old k d was l ∙ is in
     let routers : (i : ℕ) (d : Kept) → (get_or (slice_set old k now) i d).routers ≡ (get_or old i d).routers = λ i d. ⊎_elim
-        (λ (x : i ≡ k). ap (λ (n : ℕ). (get_or (slice_set old k now) n d).routers) x ∙ ap (λ (v : Kept). v.routers) (here d) ∙ kept ∙ sym (ap (λ (v : Kept). v.routers) (before d)) ∙ ap (λ (n : ℕ). (get_or old n d).routers) (sym x))
-        (λ (x : i ≡ k → ⊥). ap (λ (v : Kept). v.routers) (there i d x))
-        (cases_eq i k) in
+    (λ (x : i ≡ k). ap (λ (n : ℕ). (get_or (slice_set old k now) n d).routers) x ∙ ap (λ (v : Kept). v.routers) (here d) ∙ kept ∙ sym (ap (λ (v : Kept). v.routers) (before d)) ∙ ap (λ (n : ℕ). (get_or old n d).routers) (sym x))
+    (λ (x : i ≡ k → ⊥). ap (λ (v : Kept). v.routers) (there i d x))
+    (cases_eq i k) in
     let among : Contains (slice_set old k now) now = (k, omega arith, here now) in
     subst P (sym e) (record {
       distinct = λ apart i j d m o r. let o' : j < length old = omega arith in apart i j d m o' (sym (routers i d) ∙ r ∙ routers j d);

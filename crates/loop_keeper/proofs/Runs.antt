@@ -1,13 +1,12 @@
 -- A set of addresses as runs, and a kept cycle as it is told.
-use Rattle.std.proofs.Common.{◌≡◌, ℕ, ◌+◌, ◌-◌, ◌<◌, ◌≤◌, ◌^◌, ◌⊎◌, ◌∙◌, Bool, true, false, ◌==◌, Option, None, Some, List, [], ◌∷◌, refl, ap, sym, subst, ⊎_elim, arith}
+use Rattle.std.proofs.Common.{◌≡◌, ℕ, ◌+◌, ◌-◌, ◌<◌, ◌≤◌, ◌^◌, ◌∙◌, Bool, true, false, ◌==◌, None, Some, List, [], ◌∷◌, refl, ap, sym, subst, ⊎_elim, arith}
 use Rattle.std.specs.Prelude.{map, if◌then◌else◌}
-use Rattle.std.specs.List.{list_any}
 use Rattle.std.proofs.lemmas.Bool.{cases_Bool, cases_lt, eqb-true, both_ways}
 use Rattle.std.proofs.lemmas.List.Sums.{sum_by-cons}
 use Rattle.std.proofs.lemmas.Nat.{pow_pos}
 use Rattle.dn_model.specs.Cycles.{BeginAt, IsCycle, goes_round}
 use Rattle.dn_model.specs.CyclesFrom.{IsCycleOf}
-use Rattle.dn_model.specs.Runs.{AreApart, AreRuns, addresses_in, holds, run_length}
+use Rattle.dn_model.specs.Runs.{AreApart, AreRuns, addresses_in, run_length}
 use Rattle.dn_model.specs.RunsFrom.{AreRunsFrom, with_run}
 use Rattle.dn_model.specs.declared.answer.Cycle.{Cycle}
 use Rattle.dn_model.specs.declared.ids.RouterId.{RouterId}

@@ -1,5 +1,5 @@
 -- The runs of changes taken out of kept cycles.
-use Rattle.std.proofs.Common.{◌≡◌, ℕ, zero, suc, ◌+◌, ◌<◌, ◌≤◌, ◌^◌, ◌⊎◌, ◌∙◌, Bool, true, false, not, ◌&&◌, ◌||◌, nat_le, nat_lt, List, [], ◌∷◌, ◌++◌, length, get_or, slice_set, take, refl, ap, ap₂, sym, subst, ⊎_elim, arith}
+use Rattle.std.proofs.Common.{◌≡◌, ℕ, zero, suc, ◌+◌, ◌<◌, ◌≤◌, ◌∙◌, Bool, true, false, not, ◌&&◌, ◌||◌, nat_le, nat_lt, List, [], ◌∷◌, ◌++◌, length, get_or, slice_set, take, refl, ap, ap₂, sym, subst, ⊎_elim, arith}
 use Rattle.std.specs.Prelude.{if◌then◌else◌, Contains}
 use Rattle.std.specs.List.{list_any}
 use Rattle.std.proofs.lemmas.Bool.{cases_Bool, cases_eq, and_from, and_parts, not_from_false, both_ways, false≢true}
@@ -12,12 +12,11 @@ use Rattle.dn_model.specs.Rows.{is_within}
 use Rattle.dn_model.specs.Runs.{holds}
 use Rattle.dn_model.specs.declared.change.Change.{Change}
 use Rattle.dn_model.specs.declared.ids.RouterId.{RouterId}
-use Rattle.dn_model.specs.declared.run.Run.{Run}
 use Rattle.loop_check.specs.Following.{is_among}
 use Rattle.loop_keeper.specs.Edits.{AreTakenOut, IsTakenOut, has_changed}
 use Rattle.loop_keeper.specs.Finding.{is_touched, touches}
-use Rattle.loop_keeper.specs.Kept.{AreDistinct, HasKept, Kept, has_address}
-use Rattle.loop_keeper.specs.Numbers.{IsPut, has}
+use Rattle.loop_keeper.specs.Kept.{Kept, has_address}
+use Rattle.loop_keeper.specs.Numbers.{IsPut}
 
 -- ---- out of one cycle
 

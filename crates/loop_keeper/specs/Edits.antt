@@ -1,5 +1,5 @@
 -- How kept cycles are changed.
-use Rattle.std.specs.Prelude.{ℕ, Bool, not, ◌&&◌, List, ◌≡◌, ◌<◌, ◌^◌, ◌⊎◌, Contains, IsTrue, IsFalse}
+use Rattle.std.specs.Prelude.{ℕ, Bool, not, ◌&&◌, List, ◌≡◌, ◌<◌, ◌^◌, ◌⊎◌, Contains, IsFalse}
 use Rattle.std.specs.List.{list_any}
 use Rattle.dn_model.specs.declared.change.Change.{Change}
 use Rattle.dn_model.specs.declared.ids.RouterId.{RouterId}

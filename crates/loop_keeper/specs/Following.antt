@@ -1,5 +1,5 @@
 -- Following one row from a router on until it comes back to it.
-use Rattle.std.specs.Prelude.{ℕ, Bool, true, false, not, List, [], ◌∷◌, ◌++◌, ◌≡◌, ◌≤◌, IsTrue}
+use Rattle.std.specs.Prelude.{Bool, true, false, not, List, ◌∷◌, ◌++◌, ◌≡◌, ◌≤◌, IsTrue}
 use Rattle.std.specs.List.{list_all}
 use Rattle.dn_model.specs.Cycles.{go_round}
 use Rattle.dn_model.specs.Reach.{is_router}

@@ -17,6 +17,6 @@ returns-in-Some c =
 pub returns : goal.returns
 returns c =
     let none : (x : Kept) → Contains c.args.cycles.now.items x → x.routers ≡ c.args.found.routers → ⊥ = λ x i e.
-        let P : List Kept → Type 0 = λ v. Contains v x in
-        c.in_default.ensures.none x (subst P (sym c.as_slice.ensures.value) i) (e ∙ sym c.as_slice-2.ensures.value) in
+    let P : List Kept → Type 0 = λ v. Contains v x in
+    c.in_default.ensures.none x (subst P (sym c.as_slice.ensures.value) i) (e ∙ sym c.as_slice-2.ensures.value) in
     put-new c.args.found c.args.cycles.now.items c.push.new.self.items c.in_ok-one.one c.put_run-2.new.self none c.in_ok-one.ensures.none (c.put_run-2.ensures.same ∙ c.in_ok-one.ensures.routers) c.in_ok-put_run.ensures.put c.in_ok-push.ensures.items

@@ -1,10 +1,8 @@
-use Rattle.std.proofs.Common.{◌≡◌, ◌<◌, Bool, true, false, List, length, slice_index_or, sym, subst, arith}
+use Rattle.std.proofs.Common.{◌<◌, Bool, List, length, slice_index_or, sym, subst}
 use Rattle.dn_model.specs.Forwarding.{target_of}
-use Rattle.dn_model.specs.declared.forwarding_row.ForwardingRow.{ForwardingRow}
 use Rattle.dn_model.specs.declared.ids.RouterId.{RouterId}
 use Rattle.label_view.proofs.InRow.{some_row}
-use Rattle.loop_check.specs.Following.{IsInNone}
-use Rattle.loop_keeper.specs.Following.{ComesBack, IsFollowed, IsTurned}
+use Rattle.loop_keeper.specs.Following.{IsFollowed, IsTurned}
 use Rattle.loop_keeper.proofs.Meeting.{comes-some, finds-none, finds-one}
 use Rattle.loop_keeper.proofs.finding.find_at.Goals as goal
 

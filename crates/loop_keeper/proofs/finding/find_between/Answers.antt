@@ -1,4 +1,4 @@
-use Rattle.std.proofs.Common.{◌≡◌, ◌+◌, ◌-◌, ◌*◌, ◌<◌, ◌≤◌, arith}
+use Rattle.std.proofs.Common.{◌+◌, ◌-◌, ◌*◌, ◌≤◌, arith}
 use Rattle.loop_keeper.proofs.Meeting.{finds-next, looks-more, looks-most}
 use Rattle.loop_keeper.proofs.finding.find_between.Goals as goal
 

@@ -1,4 +1,4 @@
-use Rattle.std.proofs.Common.{◌≡◌, ◌∙◌, ℕ, Option, None, Some, sym, ap, subst}
+use Rattle.std.proofs.Common.{◌≡◌, ◌∙◌, None, Some, ap, subst}
 use Rattle.loop_keeper.specs.Numbers.{IsLeast, IsSound, Numbers, size_of}
 use Rattle.loop_keeper.proofs.Runs.{cycle-none, cycle-some}
 use Rattle.loop_keeper.proofs.telling.cycle_of.Goals as goal

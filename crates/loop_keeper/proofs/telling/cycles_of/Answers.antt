@@ -1,4 +1,4 @@
-use Rattle.std.proofs.Common.{◌≡◌, ◌<◌, ◌≤◌, length, get_or, sym, arith}
+use Rattle.std.proofs.Common.{◌<◌, ◌≤◌, length, sym, arith}
 use Rattle.loop_keeper.proofs.Told.{AreToldTo, kept-exactly, told-all, told-more, told-start}
 use Rattle.loop_keeper.proofs.telling.cycles_of.Goals as goal
 

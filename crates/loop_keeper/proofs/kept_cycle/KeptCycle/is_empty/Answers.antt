@@ -16,10 +16,10 @@ returns-clause-refused c = λ n.
     let S : Numbers → Type 0 = λ v. IsSound 32 v in
     let count : c.count.result ≡ size_of 32 c.args.self.now.addresses = c.count.ensures.value ∙ ap (λ (v : Numbers). size_of 32 v) c.addresses-addresses.ensures in
     let some : 0 < size_of 32 c.args.self.now.addresses = ⊎_elim
-        (λ (l : 0 < size_of 32 c.args.self.now.addresses). l)
-        (λ (l : size_of 32 c.args.self.now.addresses ≤ 0).
-        let none : c.count.result ≡ 0 = omega arith in
-        absurd (both_ways (c.count.result == 0) n (eq-eqb c.count.result 0 none)))
-        (cases_lt 0 (size_of 32 c.args.self.now.addresses)) in
+    (λ (l : 0 < size_of 32 c.args.self.now.addresses). l)
+    (λ (l : size_of 32 c.args.self.now.addresses ≤ 0).
+    let none : c.count.result ≡ 0 = omega arith in
+    absurd (both_ways (c.count.result == 0) n (eq-eqb c.count.result 0 none)))
+    (cases_lt 0 (size_of 32 c.args.self.now.addresses)) in
     let x : (a : ℕ) × (a < 2 ^ 32) × (has 32 c.args.self.now.addresses a ≡ true) = size-some 32 c.args.self.now.addresses (subst S c.addresses-addresses.ensures c.count.ensures.sound) some in
     record { address = x.0; below = x.1; there = x.2 }

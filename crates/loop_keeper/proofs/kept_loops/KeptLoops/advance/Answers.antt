@@ -1,11 +1,9 @@
-use Rattle.std.proofs.Common.{◌≡◌, ◌∙◌, ℕ, Bool, List, [], length, sym, subst, arith}
-use Rattle.std.proofs.lemmas.Bool.{eqb-true}
+use Rattle.std.proofs.Common.{◌≡◌, ◌∙◌, List, length, sym, subst, arith}
 use Rattle.std.proofs.lemmas.List.{nil_from_length}
 use Rattle.std.proofs.lemmas.Result.{on_ok_weaker}
-use Rattle.std.specs.List.{list_any}
 use Rattle.dn_model.specs.Forwarding.{does}
 use Rattle.dn_model.specs.declared.change.Change.{Change}
-use Rattle.loop_keeper.specs.Edits.{AreEdited, AreTakenOut, has_changed}
+use Rattle.loop_keeper.specs.Edits.{AreEdited, AreTakenOut}
 use Rattle.loop_keeper.specs.Finding.{FindTouched}
 use Rattle.loop_keeper.specs.Kept.{Kept}
 use Rattle.loop_keeper.proofs.Advancing.{advanced, advanced-idle}

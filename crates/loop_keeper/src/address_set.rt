@@ -1,7 +1,7 @@
 //! Sets of addresses.
 
-ghost use Rattle.std.specs.Prelude.{◌≡◌, ◌≤◌, ◌^◌, OnOk, IfOk, IsTrue, IsFalse};
-ghost use Rattle.loop_keeper.specs.Numbers.{nothing, has, IsSound, IsLeast, IsPut, size_of};
+ghost use Rattle.std.specs.Prelude.{◌≡◌, ◌≤◌, ◌^◌, OnOk, IfOk};
+ghost use Rattle.loop_keeper.specs.Numbers.{nothing, IsSound, IsLeast, IsPut, size_of};
 
 use crate::number_set::NumberSet;
 use dn_model::OutOfMemory;

@@ -1,6 +1,6 @@
 //! Changes of what is kept.
 
-ghost use Rattle.std.specs.Prelude.{◌≡◌, ◌<◌, ◌≤◌, ◌^◌, ◌∷◌, [], OnOk, IfOk, IfSome, IfNone, Contains, length, slice_index_or};
+ghost use Rattle.std.specs.Prelude.{◌≡◌, ◌<◌, ◌≤◌, ◌^◌, ◌∷◌, [], OnOk, IfSome, IfNone, Contains, length, slice_index_or};
 ghost use Rattle.dn_model.specs.Delta.{AreChanges, IsChange};
 ghost use Rattle.loop_keeper.specs.Edits.{IsTakenOut, AreTakenOut, ArePutIn, AreWithoutEmpty};
 ghost use Rattle.loop_keeper.specs.Finding.{AllInside};

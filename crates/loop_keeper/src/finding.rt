@@ -1,6 +1,6 @@
 //! The cycles that rows show where changes meet them.
 
-ghost use Rattle.std.specs.Prelude.{◌≡◌, ◌+◌, ◌-◌, ◌*◌, ◌<◌, ◌≤◌, OnOk, IfOk, [], ◌∷◌, length};
+ghost use Rattle.std.specs.Prelude.{◌+◌, ◌-◌, ◌*◌, ◌<◌, ◌≤◌, OnOk, IfOk, [], ◌∷◌, length};
 ghost use Rattle.dn_model.specs.Delta.{IsChange, AreChanges};
 ghost use Rattle.dn_model.specs.Forwarding.{AreForwarding, does};
 ghost use Rattle.loop_keeper.specs.Finding.{AllGoRound, AllInside, FindTouched, FindsMore, FindsAt, FindsBetween};

@@ -1,6 +1,6 @@
 //! The cycle of one row that has a router.
 
-ghost use Rattle.std.specs.Prelude.{◌≡◌, ℕ, ◌+◌, ◌<◌, ◌≤◌, IfOk, length, slice_index_or, take, drop, ◌++◌};
+ghost use Rattle.std.specs.Prelude.{ℕ, ◌+◌, ◌<◌, ◌≤◌, IfOk, length, slice_index_or};
 ghost use Rattle.dn_model.specs.Forwarding.{AreForwarding, target_of};
 ghost use Rattle.dn_model.specs.declared.forwarding_row.ForwardingRow.{ForwardingRow as Row};
 ghost use Rattle.dn_model.specs.declared.ids.RouterId.{RouterId as Router};

@@ -3,7 +3,7 @@
 ghost use Rattle.std.specs.Prelude.{◌≡◌, ◌<◌, ◌≤◌, ◌^◌, ℕ, false, OnOk, IfOk, IsTrue, IsFalse};
 ghost use Rattle.loop_check.specs.Following.{is_among};
 ghost use Rattle.loop_keeper.specs.Kept.{HasSome, has_address};
-ghost use Rattle.loop_keeper.specs.Numbers.{nothing, IsPut, IsSound, IsLeast, size_of};
+ghost use Rattle.loop_keeper.specs.Numbers.{nothing, IsPut};
 
 use crate::address_set::AddressSet;
 use dn_model::{List, OutOfMemory, RouterId};

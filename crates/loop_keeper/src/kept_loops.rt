@@ -1,6 +1,6 @@
 //! The cycles of a network, kept from update to update.
 
-ghost use Rattle.std.specs.Prelude.{◌≡◌, ℕ, ◌+◌, ◌*◌, ◌<◌, ◌≤◌, [], OnOk, IfOk};
+ghost use Rattle.std.specs.Prelude.{◌≡◌, ℕ, ◌+◌, ◌*◌, ◌≤◌, [], OnOk, IfOk};
 ghost use Rattle.std.specs.List.{list_any};
 ghost use Rattle.dn_model.specs.Cycles.{AreCycles};
 ghost use Rattle.dn_model.specs.Delta.{AreChanges, IsDelta};
@@ -8,8 +8,8 @@ ghost use Rattle.dn_model.specs.Forwarding.{does};
 ghost use Rattle.dn_model.specs.declared.ids.RouterId.{RouterId as Router};
 ghost use Rattle.dn_model.specs.declared.target.Target.{Target as TargetIs};
 ghost use Rattle.loop_keeper.specs.Edits.{AreEdited, has_changed};
-ghost use Rattle.loop_keeper.specs.Finding.{AllInside, is_touched};
-ghost use Rattle.loop_keeper.specs.Kept.{AreKept, HasKept, IsLoopFree};
+ghost use Rattle.loop_keeper.specs.Finding.{AllInside};
+ghost use Rattle.loop_keeper.specs.Kept.{AreKept, IsLoopFree};
 ghost use Rattle.loop_keeper.specs.Looks.{rows_met};
 
 use crate::editing::{leave_empty_out, put_all_in, take_all_out};

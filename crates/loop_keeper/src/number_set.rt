@@ -1,8 +1,7 @@
 //! Sets of numbers below a power of two, as trees by the bits of a number.
 
 ghost use Rattle.std.specs.Prelude.{◌≡◌, min, ◌<◌, ◌≤◌, ◌^◌, OnOk, IfOk, IsTrue};
-ghost use Rattle.std.specs.Arc.{arc_value};
-ghost use Rattle.loop_keeper.specs.Numbers.{nothing, has, IsSound, IsSame, IsOpened, IsLeast, IsPut, size_of, whole_of};
+ghost use Rattle.loop_keeper.specs.Numbers.{nothing, IsSound, IsOpened, IsLeast, IsPut, size_of, whole_of};
 
 use dn_model::OutOfMemory;
 use std::alloc::Global;

@@ -1,6 +1,6 @@
 //! Kept cycles as an answer: by least address, then by first router.
 
-ghost use Rattle.std.specs.Prelude.{◌≡◌, ◌<◌, ◌≤◌, ◌^◌, ℕ, IfOk, OnOk, IsTrue, IsFalse, Contains, false, length, slice_index_or};
+ghost use Rattle.std.specs.Prelude.{◌≡◌, ◌<◌, ◌≤◌, ℕ, IfOk, OnOk, IsTrue, IsFalse, Contains, false, length, slice_index_or};
 ghost use Rattle.dn_model.specs.Cycles.{AreCycles, AreInOrder, HasCycle, first_router};
 ghost use Rattle.dn_model.specs.CyclesFrom.{is_before, AreSomeCycles, IsCycleOf, IsPutAmong, TellsCycle};
 ghost use Rattle.dn_model.specs.declared.answer.Cycle.{Cycle as CycleIs};

@@ -1,0 +1,261 @@
+-- A set of numbers and its halves.
+use Rattle.std.proofs.Common.{◌≡◌, ℕ, zero, suc, ◌+◌, ◌-◌, ◌*◌, ◌<◌, ◌≤◌, ◌^◌, ◌∙◌, Bool, true, false, ◌&&◌, nat_lt, nat_le, None, Some, add-one, refl, ap, ap₂, sym, subst, ⊎_elim, arith}
+use Rattle.std.specs.Prelude.{min, if◌then◌else◌}
+use Rattle.std.proofs.Math.Nat.{pow-succ'}
+use Rattle.std.proofs.lemmas.Bool.{cases_lt}
+use Rattle.std.proofs.lemmas.Bool.Decides.{leb_tells}
+use Rattle.std.proofs.lemmas.Nat.{pow_pos}
+use Rattle.dn_model.specs.Rows.{is_within}
+use Rattle.loop_keeper.specs.Numbers.{Numbers, nothing, everything, halves, has, size_of, whole_of, IsSound, IsSame, IsOpened, IsPut, IsLeast}
+
+-- ---- a half
+
+pub half-twice : (k : ℕ) → 0 < k → 2 ^ k ≡ 2 ^ (k - 1) + 2 ^ (k - 1)
+half-twice k h =
+    let e : k ≡ (k - 1) + 1 = omega arith in
+    let two : 2 ^ ((k - 1) + 1) ≡ 2 * 2 ^ (k - 1) = ap (λ n. 2 ^ n) (add-one (k - 1)) ∙ pow-succ' 2 (k - 1) in
+    let s : 2 ^ k ≡ 2 ^ ((k - 1) + 1) = ap (λ n. 2 ^ n) e in
+    omega arith
+
+lt-same : (x y a b : ℕ) → (x < a → y < b) → (y < b → x < a) → nat_lt x a ≡ nat_lt y b
+lt-same x y a b f g = ⊎_elim
+    (λ (p : (nat_lt x a ≡ true) × (suc x ≤ a)). ⊎_elim
+    (λ (q : (nat_lt y b ≡ true) × (suc y ≤ b)). p.0 ∙ sym q.0)
+    (λ (q : (nat_lt y b ≡ false) × (b < suc y)). let l : x < a = (let m : suc x ≤ a = p.1 in omega arith) in let n : y < b = f l in let o : b < suc y = q.1 in absurd (omega arith))
+    (leb_tells (suc y) b))
+    (λ (p : (nat_lt x a ≡ false) × (a < suc x)). ⊎_elim
+    (λ (q : (nat_lt y b ≡ true) × (suc y ≤ b)). let l : y < b = (let m : suc y ≤ b = q.1 in omega arith) in let n : x < a = g l in let o : a < suc x = p.1 in absurd (omega arith))
+    (λ (q : (nat_lt y b ≡ false) × (b < suc y)). p.0 ∙ sym q.0)
+    (leb_tells (suc y) b))
+    (leb_tells (suc x) a)
+
+le-same : (x y a b : ℕ) → (x ≤ a → y ≤ b) → (y ≤ b → x ≤ a) → nat_le x a ≡ nat_le y b
+le-same x y a b f g = ⊎_elim
+    (λ (p : (nat_le x a ≡ true) × (x ≤ a)). ⊎_elim
+    (λ (q : (nat_le y b ≡ true) × (y ≤ b)). p.0 ∙ sym q.0)
+    (λ (q : (nat_le y b ≡ false) × (b < y)). let n : y ≤ b = f p.1 in let o : b < y = q.1 in absurd (omega arith))
+    (leb_tells y b))
+    (λ (p : (nat_le x a ≡ false) × (a < x)). ⊎_elim
+    (λ (q : (nat_le y b ≡ true) × (y ≤ b)). let n : x ≤ a = g q.1 in let o : a < x = p.1 in absurd (omega arith))
+    (λ (q : (nat_le y b ≡ false) × (b < y)). p.0 ∙ sym q.0)
+    (leb_tells y b))
+    (leb_tells x a)
+
+within-same : (l p a m q b : ℕ) → (l ≤ a → m ≤ b) → (m ≤ b → l ≤ a) → (a < p → b < q) → (b < q → a < p) → is_within l p a ≡ is_within m q b
+within-same l p a m q b f g h i = ap₂ (λ (x : Bool). λ (y : Bool). x && y) (le-same l m a b f g) (lt-same a b p q h i)
+
+within-low : (l p half a : ℕ) → a < half → is_within (min l half) (min p half) a ≡ is_within l p a
+within-low l p half a h = within-same (min l half) (min p half) a l p a
+    (λ (x : min l half ≤ a). let r : l ≤ a = omega arith in r)
+    (λ (x : l ≤ a). let r : min l half ≤ a = omega arith in r)
+    (λ (x : a < min p half). let r : a < p = omega arith in r)
+    (λ (x : a < p). let r : a < min p half = omega arith in r)
+
+within-high : (l p half a : ℕ) → half ≤ a → is_within (l - half) (p - half) (a - half) ≡ is_within l p a
+within-high l p half a h = within-same (l - half) (p - half) (a - half) l p a
+    (λ (x : l - half ≤ a - half). let r : l ≤ a = omega arith in r)
+    (λ (x : l ≤ a). let r : l - half ≤ a - half = omega arith in r)
+    (λ (x : a - half < p - half). let r : a < p = omega arith in r)
+    (λ (x : a < p). let r : a - half < p - half = omega arith in r)
+
+-- ---- the numbers of a half
+
+pub has-low : (k : ℕ) (l u : Numbers) (n a : ℕ) → a < 2 ^ (k - 1) → has k (halves l u n) a ≡ has (k - 1) l a
+has-low k l u n a h = ap (λ (b : Bool). if b then has (k - 1) l a else has (k - 1) u (a - 2 ^ (k - 1))) (lt-same a 0 (2 ^ (k - 1)) 1 (λ (x : a < 2 ^ (k - 1)). let r : 0 < 1 = omega arith in r) (λ (x : 0 < 1). h))
+
+pub has-high : (k : ℕ) (l u : Numbers) (n a : ℕ) → 2 ^ (k - 1) ≤ a → has k (halves l u n) a ≡ has (k - 1) u (a - 2 ^ (k - 1))
+has-high k l u n a h = ap (λ (b : Bool). if b then has (k - 1) l a else has (k - 1) u (a - 2 ^ (k - 1))) (lt-same a 0 (2 ^ (k - 1)) 0 (λ (x : a < 2 ^ (k - 1)). let r : 0 < 0 = omega arith in r) (λ (x : 0 < 0). let r : a < 2 ^ (k - 1) = omega arith in r))
+
+-- ---- how many numbers there are
+
+pub size-most : (k : ℕ) (s : Numbers) → IsSound k s → size_of k s ≤ 2 ^ k
+size-most k nothing h = omega arith
+size-most k everything h = omega arith
+size-most k (halves l u n) h =
+    let a : size_of (k - 1) l ≤ 2 ^ (k - 1) = size-most (k - 1) l h.1 in
+    let b : size_of (k - 1) u ≤ 2 ^ (k - 1) = size-most (k - 1) u h.2 in
+    let c : n ≡ size_of (k - 1) l + size_of (k - 1) u = h.3 in
+    let d : 2 ^ k ≡ 2 ^ (k - 1) + 2 ^ (k - 1) = half-twice k h.0 in
+    omega arith
+
+pub has-none : (k : ℕ) (s : Numbers) → IsSound k s → size_of k s ≡ 0 → (a : ℕ) → a < 2 ^ k → has k s a ≡ false
+has-none k nothing h e a b = refl
+has-none k everything h e a b = absurd (omega arith)
+has-none k (halves l u n) h e a b =
+    let c : n ≡ size_of (k - 1) l + size_of (k - 1) u = h.3 in
+    let d : 2 ^ k ≡ 2 ^ (k - 1) + 2 ^ (k - 1) = half-twice k h.0 in
+    let x : size_of (k - 1) l ≡ 0 = omega arith in
+    let y : size_of (k - 1) u ≡ 0 = omega arith in
+    ⊎_elim
+    (λ (i : a < 2 ^ (k - 1)). has-low k l u n a i ∙ has-none (k - 1) l h.1 x a i)
+    (λ (i : 2 ^ (k - 1) ≤ a). let j : a - 2 ^ (k - 1) < 2 ^ (k - 1) = omega arith in has-high k l u n a i ∙ has-none (k - 1) u h.2 y (a - 2 ^ (k - 1)) j)
+    (cases_lt a (2 ^ (k - 1)))
+
+-- a set that has some numbers has one
+pub size-some : (k : ℕ) (s : Numbers) → IsSound k s → 0 < size_of k s → (a : ℕ) × (a < 2 ^ k) × (has k s a ≡ true)
+size-some k nothing h l = absurd (omega arith)
+size-some k everything h l = (0, pow_pos k, refl)
+size-some k (halves l u n) h some =
+    let c : n ≡ size_of (k - 1) l + size_of (k - 1) u = h.3 in
+    let d : 2 ^ k ≡ 2 ^ (k - 1) + 2 ^ (k - 1) = half-twice k h.0 in
+    ⊎_elim
+    (λ (i : 0 < size_of (k - 1) l).
+    let x : (a : ℕ) × (a < 2 ^ (k - 1)) × (has (k - 1) l a ≡ true) = size-some (k - 1) l h.1 i in
+    let low : x.0 < 2 ^ (k - 1) = x.1 in
+    let below : x.0 < 2 ^ k = omega arith in
+    (x.0, below, has-low k l u n x.0 x.1 ∙ x.2))
+    (λ (i : size_of (k - 1) l ≤ 0).
+    let x : (a : ℕ) × (a < 2 ^ (k - 1)) × (has (k - 1) u a ≡ true) = size-some (k - 1) u h.2 (omega arith) in
+    let low : x.0 < 2 ^ (k - 1) = x.1 in
+    let below : x.0 + 2 ^ (k - 1) < 2 ^ k = omega arith in
+    let high : 2 ^ (k - 1) ≤ x.0 + 2 ^ (k - 1) = omega arith in
+    let back : x.0 + 2 ^ (k - 1) - 2 ^ (k - 1) ≡ x.0 = omega arith in
+    (x.0 + 2 ^ (k - 1), below, has-high k l u n (x.0 + 2 ^ (k - 1)) high ∙ ap (λ (v : ℕ). has (k - 1) u v) back ∙ x.2))
+    (cases_lt 0 (size_of (k - 1) l))
+
+pub has-all : (k : ℕ) (s : Numbers) → IsSound k s → size_of k s ≡ 2 ^ k → (a : ℕ) → a < 2 ^ k → has k s a ≡ true
+has-all k nothing h e a b = absurd (omega arith)
+has-all k everything h e a b = refl
+has-all k (halves l u n) h e a b =
+    let c : n ≡ size_of (k - 1) l + size_of (k - 1) u = h.3 in
+    let d : 2 ^ k ≡ 2 ^ (k - 1) + 2 ^ (k - 1) = half-twice k h.0 in
+    let p : size_of (k - 1) l ≤ 2 ^ (k - 1) = size-most (k - 1) l h.1 in
+    let q : size_of (k - 1) u ≤ 2 ^ (k - 1) = size-most (k - 1) u h.2 in
+    let x : size_of (k - 1) l ≡ 2 ^ (k - 1) = omega arith in
+    let y : size_of (k - 1) u ≡ 2 ^ (k - 1) = omega arith in
+    ⊎_elim
+    (λ (i : a < 2 ^ (k - 1)). has-low k l u n a i ∙ has-all (k - 1) l h.1 x a i)
+    (λ (i : 2 ^ (k - 1) ≤ a). let j : a - 2 ^ (k - 1) < 2 ^ (k - 1) = omega arith in has-high k l u n a i ∙ has-all (k - 1) u h.2 y (a - 2 ^ (k - 1)) j)
+    (cases_lt a (2 ^ (k - 1)))
+
+-- ---- a set as another tree
+
+pub same-self : (k : ℕ) (s : Numbers) → IsSame k s s
+same-self k s = record { same = λ a b. refl }
+
+pub opened-self : (k : ℕ) (s : Numbers) → IsSound k s → IsOpened k s s
+opened-self k s h = record { sound = h; same = same-self k s }
+
+pub opened-nothing : (k : ℕ) → 0 < k → IsOpened k nothing (halves nothing nothing 0)
+opened-nothing k h = record {
+  sound = (h, tt, tt, refl);
+  same = record {
+    same = λ a b. ⊎_elim
+        (λ (i : a < 2 ^ (k - 1)). has-low k nothing nothing 0 a i)
+        (λ (i : 2 ^ (k - 1) ≤ a). has-high k nothing nothing 0 a i)
+        (cases_lt a (2 ^ (k - 1)));
+  };
+}
+
+pub opened-everything : (k n : ℕ) → 0 < k → n ≡ 2 ^ k → IsOpened k everything (halves everything everything n)
+opened-everything k n h e = record {
+  sound = (h, tt, tt, e ∙ half-twice k h);
+  same = record {
+    same = λ a b. ⊎_elim
+        (λ (i : a < 2 ^ (k - 1)). has-low k everything everything n a i)
+        (λ (i : 2 ^ (k - 1) ≤ a). has-high k everything everything n a i)
+        (cases_lt a (2 ^ (k - 1)));
+  };
+}
+
+pub closed-nothing : (k : ℕ) (s : Numbers) → IsSound k s → size_of k s ≡ 0 → IsOpened k s nothing
+closed-nothing k s h e = record { sound = tt; same = record { same = λ a b. sym (has-none k s h e a b) } }
+
+pub closed-everything : (k : ℕ) (s : Numbers) → IsSound k s → size_of k s ≡ 2 ^ k → IsOpened k s everything
+closed-everything k s h e = record { sound = tt; same = record { same = λ a b. sym (has-all k s h e a b) } }
+
+-- ---- numbers put in or taken out
+
+pub sound-whole : (k : ℕ) (inside : Bool) → IsSound k (whole_of inside)
+sound-whole k true = tt
+sound-whole k false = tt
+
+has-whole : (k : ℕ) (inside : Bool) (a : ℕ) → has k (whole_of inside) a ≡ inside
+has-whole k true a = refl
+has-whole k false a = refl
+
+if-same : (b x : Bool) → (if b then x else x) ≡ x
+if-same true x = refl
+if-same false x = refl
+
+out-below : (l p a : ℕ) → p ≤ l → is_within l p a ≡ false
+out-below l p a h = ⊎_elim
+    (λ (x : (nat_le l a ≡ true) × (l ≤ a)). let i : l ≤ a = x.1 in ap₂ (λ (y : Bool). λ (z : Bool). y && z) x.0 (lt-same a 0 p 0 (λ (y : a < p). let r : 0 < 0 = omega arith in r) (λ (y : 0 < 0). let r : a < p = omega arith in r)))
+    (λ (x : (nat_le l a ≡ false) × (a < l)). ap (λ (y : Bool). y && nat_lt a p) x.0)
+    (leb_tells l a)
+
+in-all : (k l p a : ℕ) → p - l ≡ 2 ^ k → p ≤ 2 ^ k → a < 2 ^ k → is_within l p a ≡ true
+in-all k l p a e h i = ap₂ (λ (y : Bool). λ (z : Bool). y && z)
+    (le-same l 0 a 0 (λ (y : l ≤ a). let r : 0 ≤ 0 = omega arith in r) (λ (y : 0 ≤ 0). let r : l ≤ a = omega arith in r))
+    (lt-same a 0 p 1 (λ (y : a < p). let r : 0 < 1 = omega arith in r) (λ (y : 0 < 1). let r : a < p = omega arith in r))
+
+pub put-none : (k l p : ℕ) (inside : Bool) (s : Numbers) → p ≤ l → IsPut k l p inside s s
+put-none k l p inside s h = record { exact = λ a b. sym (ap (λ (x : Bool). if x then inside else has k s a) (out-below l p a h)) }
+
+pub put-there : (k l p : ℕ) (inside : Bool) (s : Numbers) → s ≡ whole_of inside → IsPut k l p inside s s
+put-there k l p inside s e =
+    let P : Numbers → Type 0 = λ v. IsPut k l p inside v v in
+    subst P (sym e) (record {
+      exact = λ a b.
+          let w : has k (whole_of inside) a ≡ inside = has-whole k inside a in
+          w ∙ sym (ap (λ (x : Bool). if is_within l p a then inside else x) w ∙ if-same (is_within l p a) inside);
+    })
+
+pub put-all : (k l p : ℕ) (inside : Bool) (s : Numbers) → p - l ≡ 2 ^ k → p ≤ 2 ^ k → IsPut k l p inside s (whole_of inside)
+put-all k l p inside s e h = record { exact = λ a b. has-whole k inside a ∙ sym (ap (λ (x : Bool). if x then inside else has k s a) (in-all k l p a e h b)) }
+
+pub put-halves : (k l p : ℕ) (inside : Bool) (low high low' high' : Numbers) (n n' : ℕ) → 0 < k
+    → IsPut (k - 1) (min l (2 ^ (k - 1))) (min p (2 ^ (k - 1))) inside low low'
+    → IsPut (k - 1) (l - 2 ^ (k - 1)) (p - 2 ^ (k - 1)) inside high high'
+    → IsPut k l p inside (halves low high n) (halves low' high' n')
+put-halves k l p inside low high low' high' n n' some lower upper = record {
+  exact = λ a b.
+      let d : 2 ^ k ≡ 2 ^ (k - 1) + 2 ^ (k - 1) = half-twice k some in
+      ⊎_elim
+      (λ (i : a < 2 ^ (k - 1)). has-low k low' high' n' a i ∙ lower.exact a i ∙ ap₂ (λ (x : Bool). λ (y : Bool). if x then inside else y) (within-low l p (2 ^ (k - 1)) a i) (sym (has-low k low high n a i)))
+      (λ (i : 2 ^ (k - 1) ≤ a). let j : a - 2 ^ (k - 1) < 2 ^ (k - 1) = omega arith in
+      has-high k low' high' n' a i ∙ upper.exact (a - 2 ^ (k - 1)) j ∙ ap₂ (λ (x : Bool). λ (y : Bool). if x then inside else y) (within-high l p (2 ^ (k - 1)) a i) (sym (has-high k low high n a i)))
+      (cases_lt a (2 ^ (k - 1)));
+}
+
+pub put-between : (k l p : ℕ) (inside : Bool) (s t u v : Numbers) → IsSame k s t → IsPut k l p inside t u → IsSame k u v → IsPut k l p inside s v
+put-between k l p inside s t u v e h f = record { exact = λ a b. f.same a b ∙ h.exact a b ∙ ap (λ (x : Bool). if is_within l p a then inside else x) (e.same a b) }
+
+pub level-some : (k l p : ℕ) → l < p → p ≤ 2 ^ k → (p - l ≡ 2 ^ k → ⊥) → 0 < k
+level-some zero l p h i n = let e : p - l ≡ 1 = omega arith in absurd (n e)
+level-some (suc k) l p h i n = omega arith
+
+-- ---- the least number
+
+pub least-everything : (k : ℕ) → IsLeast k everything (Some 0)
+least-everything k = let h : 0 < 2 ^ k = pow_pos k in (h, refl, λ (b : ℕ). λ (l : b < 0). absurd (omega arith))
+
+pub least-low : (k : ℕ) (l u : Numbers) (n a : ℕ) → 0 < k → IsLeast (k - 1) l (Some a) → IsLeast k (halves l u n) (Some a)
+least-low k l u n a some h =
+    let d : 2 ^ k ≡ 2 ^ (k - 1) + 2 ^ (k - 1) = half-twice k some in
+    let i : a < 2 ^ (k - 1) = h.0 in
+    let j : a < 2 ^ k = omega arith in
+    (j, has-low k l u n a i ∙ h.1, λ (b : ℕ). λ (m : b < a). let o : b < 2 ^ (k - 1) = omega arith in has-low k l u n b o ∙ h.2 b m)
+
+pub least-high : (k : ℕ) (l u : Numbers) (n a : ℕ) → 0 < k → IsLeast (k - 1) l None → IsLeast (k - 1) u (Some a) → IsLeast k (halves l u n) (Some (2 ^ (k - 1) + a))
+least-high k l u n a some none h =
+    let d : 2 ^ k ≡ 2 ^ (k - 1) + 2 ^ (k - 1) = half-twice k some in
+    let i : a < 2 ^ (k - 1) = h.0 in
+    let j : 2 ^ (k - 1) + a < 2 ^ k = omega arith in
+    let e : 2 ^ (k - 1) + a - 2 ^ (k - 1) ≡ a = omega arith in
+    let o : 2 ^ (k - 1) ≤ 2 ^ (k - 1) + a = omega arith in (
+      j,
+      has-high k l u n (2 ^ (k - 1) + a) o ∙ ap (λ (x : ℕ). has (k - 1) u x) e ∙ h.1,
+      λ (b : ℕ). λ (m : b < 2 ^ (k - 1) + a). ⊎_elim
+          (λ (x : b < 2 ^ (k - 1)). has-low k l u n b x ∙ none b x)
+          (λ (x : 2 ^ (k - 1) ≤ b). let y : b - 2 ^ (k - 1) < a = omega arith in has-high k l u n b x ∙ h.2 (b - 2 ^ (k - 1)) y)
+          (cases_lt b (2 ^ (k - 1))),
+    )
+
+pub least-none : (k : ℕ) (l u : Numbers) (n : ℕ) → 0 < k → IsLeast (k - 1) l None → IsLeast (k - 1) u None → IsLeast k (halves l u n) None
+least-none k l u n some lower upper = λ (b : ℕ). λ (m : b < 2 ^ k).
+    let d : 2 ^ k ≡ 2 ^ (k - 1) + 2 ^ (k - 1) = half-twice k some in
+    ⊎_elim
+    (λ (x : b < 2 ^ (k - 1)). has-low k l u n b x ∙ lower b x)
+    (λ (x : 2 ^ (k - 1) ≤ b). let y : b - 2 ^ (k - 1) < 2 ^ (k - 1) = omega arith in has-high k l u n b x ∙ upper (b - 2 ^ (k - 1)) y)
+    (cases_lt b (2 ^ (k - 1)))

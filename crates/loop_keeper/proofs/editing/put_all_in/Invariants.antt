@@ -1,0 +1,15 @@
+use Rattle.std.proofs.Common.{List, length}
+use Rattle.loop_keeper.specs.Edits.{ArePutIn}
+use Rattle.loop_keeper.specs.Finding.{AllInside}
+use Rattle.loop_keeper.specs.Kept.{Kept}
+use Rattle.loop_keeper.proofs.editing.put_all_in.Given as goal
+
+-- those that are left, put in, make all
+abbrev pub invariant-putting : goal.invariant-putting
+invariant-putting l = record {
+  inside : AllInside l.left.items;
+  whole : (new : List Kept) → ArePutIn l.left.items l.cycles.items new → ArePutIn l.fn.found.items l.initial.cycles.items new;
+}
+
+abbrev pub decreases-putting : goal.decreases-putting
+decreases-putting l = length l.left.items

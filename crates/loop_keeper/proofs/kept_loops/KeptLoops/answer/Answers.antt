@@ -1,0 +1,12 @@
+use Rattle.std.proofs.Common.{ℕ, List, subst}
+use Rattle.std.specs.Prelude.{IfOk}
+use Rattle.dn_model.specs.Cycles.{AreCycles}
+use Rattle.dn_model.specs.declared.ids.RouterId.{RouterId}
+use Rattle.dn_model.specs.declared.target.Target.{Target}
+use Rattle.loop_keeper.specs.Kept.{AreKept, Kept}
+use Rattle.loop_keeper.proofs.kept_loops.KeptLoops.answer.Goals as goal
+
+pub returns : goal.returns
+returns c =
+    let P : List Kept → Type 0 = λ v. IfOk c.cycles_of.result (λ cycles. (does : RouterId → ℕ → Target) → AreKept does v → AreCycles does cycles) in
+    subst P c.cycles.ensures c.cycles_of.ensures

@@ -1,0 +1,19 @@
+//! The loops of a network, kept from update to update (as in Delta-net, NSDI 2017): each cycle with the set of the
+//! addresses that go round it. After an update only the rows that meet what changed are looked at.
+#![tactic(auto)]
+
+mod address_set;
+mod editing;
+mod finding;
+mod following;
+mod found;
+mod kept_cycle;
+mod kept_loops;
+mod number_set;
+mod steps;
+mod telling;
+#[cfg(test)]
+mod tests;
+
+pub use kept_loops::KeptLoops;
+pub use steps::Steps;

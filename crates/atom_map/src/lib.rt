@@ -2,9 +2,11 @@
 //! boundary to atom (Delta-net, NSDI 2017).
 #![tactic(auto)]
 
+mod guide;
 mod map;
 mod search;
 #[cfg(test)]
 mod tests;
 
+pub use guide::Guide;
 pub use map::AtomMap;

@@ -5,6 +5,7 @@ ghost use Rattle.dn_model.specs.Atoms.{AreAtoms, IsCut, atom_of, atoms_in, bound
 ghost use Rattle.dn_model.specs.declared.atom_row.AtomRow.{AtomRow};
 ghost use Rattle.atom_map.specs.Index.{one_atom};
 
+use crate::guide::Guide;
 use crate::search::{atoms_below, part, place_from, place_of, read};
 use dn_model::{AtomId, AtomRow, List, OutOfMemory};
 use std::alloc::Global;
@@ -14,18 +15,14 @@ use version_pages::Pages;
 /// The address after the last.
 const END: u64 = 0x1_0000_0000;
 
-/// How many places after a cut another one counts as near.
-const NEAR: u64 = 16;
-
 /// The addresses, cut into atoms. A contract sees it as the list of the atoms with their bounds, in order: they cover
 /// the addresses from 0 to 2^32 once, and their numbers are those below their count.
 #[derive(Drop)]
 pub struct AtomMap {
     rows: Pages<AtomRow>,
     lows: Pages<u32>,
-    /// The place of the last cut that was not near the one before it. An update cuts at both ends of its prefix, and then
-    /// looks at the first: a search looks here first. It is a hint, of which nothing is promised.
-    near: u64,
+    /// Where to look for the atom of an address.
+    guide: Guide,
 }
 
 impl Model for AtomMap {
@@ -57,7 +54,7 @@ impl AtomMap {
         Ok(AtomMap {
             rows,
             lows,
-            near: 0,
+            guide: guide_to_one(alloc),
         })
     }
 
@@ -71,17 +68,7 @@ impl AtomMap {
         ensures there { IfOk result (λ cut. IfSome cut (λ p. (p.0.0 < length self.new) × (p.1.0 < length self.new))) }
     {
         let place = self.place_of(at);
-        self.come_to(place);
         return self.cut_at(alloc, place, at);
-    }
-
-    /// Remembers the place of a cut, unless it is near the one that is remembered.
-    fn come_to(&mut self, place: u64)
-        ensures { self.new ≡ self.old }
-    {
-        if place < self.near || place - self.near > NEAR {
-            self.near = place;
-        }
     }
 
     /// Cuts the atom at a place, which has the address.
@@ -104,6 +91,7 @@ impl AtomMap {
             return Ok(None);
         }
         let new = part(alloc, &mut self.rows, &mut self.lows, place, at)?;
+        self.guide.count(at);
         Ok(Some((row.atom, new)))
     }
 
@@ -130,7 +118,7 @@ impl AtomMap {
         ensures from { (d : AtomRow) → (slice_index_or self.now result d).low ≤ a }
         ensures to { (d : AtomRow) → a < (slice_index_or self.now result d).past }
     {
-        place_from(&self.rows, self.near, a)
+        place_from(&self.rows, self.guide.place(a), a)
     }
 
     /// The atom at a place, with its bounds.
@@ -190,7 +178,8 @@ impl AtomMap {
         Ok(List::from_vec(rows))
     }
 
-    /// The same atoms again. The two share all that they keep, and each stays as it is when the other is cut.
+    /// The same atoms again. The two share all that they keep, and each stays as it is when the other is cut. The new one
+    /// searches from the root.
     pub fn copy(&self) -> Result<AtomMap, OutOfMemory>
         ensures { IfOk result (λ atoms. atoms ≡ self.now) }
     {
@@ -199,7 +188,15 @@ impl AtomMap {
         Ok(AtomMap {
             rows,
             lows,
-            near: self.near,
+            guide: Guide::new(),
         })
     }
+}
+
+/// A guide to the one atom of all addresses.
+fn guide_to_one(alloc: Global) -> Guide {
+    let mut guide = Guide::new();
+    guide.begin(alloc);
+    guide.count(0);
+    guide
 }

@@ -39,20 +39,22 @@ fn ends_below(run: &[AtomRow], a: u32) -> bool {
     }
 }
 
-/// How many of these atoms end at an address or below it, up to the first that doesn't.
+/// How many of these atoms end at an address or below it. It looks at few of them where it is one of the first.
 fn count_below(run: &[AtomRow], a: u32) -> usize
     ensures inside { result ≤ length run.now }
     ensures after { (d : AtomRow) → result < length run.now → a < (slice_index_or run.now result d).past }
 {
-    let mut below = 0;
-    'rows: while below < run.len() {
-        let past = run[below].past;
-        if past > a as u64 {
-            return below;
+    let mut low = 0;
+    let mut high = run.len();
+    'halving: while low < high {
+        let middle = low + ((high - low) / 2).min(low + 1);
+        if run[middle].past <= u64::from(a) {
+            low = middle + 1;
+        } else {
+            high = middle;
         }
-        below += 1;
     }
-    below
+    low
 }
 
 /// The place of the atom that has an address, where it stands in one page with the atom at a place and not before it.
@@ -78,7 +80,21 @@ fn place_near(rows: &Pages<AtomRow>, near: u64, a: u32) -> Option<u64>
     Some(place)
 }
 
-/// The place of the atom that has an address. It looks near a place first.
+/// The place of the atom that has an address. It looks first in the page that follows that of a place.
+fn place_behind(rows: &Pages<AtomRow>, near: u64, a: u32) -> u64
+    requires { AreAtoms rows.now }
+    ensures inside { result < length rows.now }
+    ensures from { (d : AtomRow) → (slice_index_or rows.now result d).low ≤ a }
+    ensures to { (d : AtomRow) → a < (slice_index_or rows.now result d).past }
+{
+    let rest = rows.run_from(near).len() as u64;
+    match place_near(rows, near.wrapping_add(rest), a) {
+        Some(place) => place,
+        None => place_of(rows, a),
+    }
+}
+
+/// The place of the atom that has an address. It looks first in the page of a place, from there on.
 pub fn place_from(rows: &Pages<AtomRow>, near: u64, a: u32) -> u64
     requires { AreAtoms rows.now }
     ensures inside { result < length rows.now }
@@ -87,7 +103,7 @@ pub fn place_from(rows: &Pages<AtomRow>, near: u64, a: u32) -> u64
 {
     match place_near(rows, near, a) {
         Some(place) => place,
-        None => place_of(rows, a),
+        None => place_behind(rows, near, a),
     }
 }
 

@@ -9,7 +9,7 @@ use Rattle.dn_model.specs.declared.entry.Op.{Op}
 use Rattle.dn_model.specs.declared.rule.Rule.{Rule}
 use Rattle.dn_model.specs.declared.target.Target.{Target}
 use Rattle.dn_model.specs.declared.target.Target.TheVariants.{NoRoute}
-use Rattle.net_engine.specs.Segments.{AreSegments, BeginsAt, Held, IsBefore, IsCutAt, IsInForce, IsPast, IsPlace, IsReruled, IsRerulesAt, IsSegment, begins_in, held_at, held_before, held_from, held_of, nothing_held}
+use Rattle.net_engine.specs.Segments.{AreSegments, BeginsAt, Held, IsBefore, IsCutAt, IsInForce, IsPast, IsPlace, IsReruled, IsRerulesAt, IsSegment, IsSpot, KeepsBelow, begins_in, held_at, held_before, held_from, held_of, nothing_held}
 
 abbrev pub low_at : List Segment → ℕ → Segment → ℕ
 low_at segments i d = (get_or segments i d).low
@@ -71,16 +71,6 @@ is-place segments at place h inside before after = record {
       (cases_lt place k);
 }
 
--- one more of them begins below an address
-pub below-more : (run : List Segment) (below at : ℕ) (s : Segment) → s ≡ get_or run below s → below < length run → s.low < at → ((k : ℕ) (d : Segment) → k < below → low_at run k d < at) → (k : ℕ) (d : Segment) → k < below + 1 → low_at run k d < at
-below-more run below at s is l b before k d m = ⊎_elim
-    (λ (n : k < below). before k d n)
-    (λ (n : below ≤ k).
-    let e : k ≡ below = omega arith in
-    let same : low_at run below d ≡ s.low = ap (λ (x : Segment). x.low) (get_or_default run below d s l ∙ sym is) in
-    subst (λ i. low_at run i d < at) (sym e) (omega arith))
-    (cases_lt k below)
-
 -- what stands in a part of them stands among all
 run-read : (segments run : List Segment) (near k : ℕ) (d : Segment) → take (length run) (drop near segments) ≡ run → k < length run → low_at run k d ≡ low_at segments (near + k) d
 run-read segments run near k d is l =
@@ -101,7 +91,7 @@ near-below segments run near below h is l =
     omega arith
 
 -- what a look at a part of them finds
-pub place-near : (segments now run : List Segment) (near below at : ℕ) → segments ≡ now → AreSegments 0 segments → take (length run) (drop near segments) ≡ run → below < length run → (below ≡ 0 → near ≡ 0) → ((k : ℕ) (d : Segment) → k < below → low_at run k d < at) → ((d : Segment) → at ≤ low_at run below d) → IsPlace now at (near + below)
+pub place-near : (segments now run : List Segment) (near below at : ℕ) → segments ≡ now → AreSegments 0 segments → take (length run) (drop near segments) ≡ run → below < length run → (below ≡ 0 → near ≡ 0) → ((d : Segment) → 0 < below → low_at run (below - 1) d < at) → ((d : Segment) → at ≤ low_at run below d) → IsPlace now at (near + below)
 place-near segments now run near below at view h is l first before after =
     let inside : near + length run ≤ length segments = run-inside segments run near is (omega arith) in
     subst (λ zs. IsPlace zs at (near + below)) view
@@ -109,7 +99,7 @@ place-near segments now run near below at view h is l first before after =
     (λ d m.
     ⊎_elim
     (λ (n : 0 < below).
-    let b : low_at run (below - 1) d < at = before (below - 1) d (omega arith) in
+    let b : low_at run (below - 1) d < at = before d n in
     let r : low_at run (below - 1) d ≡ low_at segments (near + (below - 1)) d = run-read segments run near (below - 1) d is (omega arith) in
     let e : near + (below - 1) ≡ near + below - 1 = omega arith in
     subst (λ i. low_at segments i d < at) e (omega arith))
@@ -121,6 +111,21 @@ place-near segments now run near below at view h is l first before after =
     let a : at ≤ low_at run below d = after d in
     let r : low_at run below d ≡ low_at segments (near + below) d = run-read segments run near below d is l in
     omega arith))
+
+pub spot-near : (segments now run : List Segment) (near below at : ℕ) (s : Segment) → segments ≡ now → AreSegments 0 segments → take (length run) (drop near segments) ≡ run → below < length run → (below ≡ 0 → near ≡ 0) → ((d : Segment) → 0 < below → low_at run (below - 1) d < at) → ((d : Segment) → at ≤ low_at run below d) → ((d : Segment) → s ≡ get_or run below d) → IsSpot now at (near + below) (eqb s.low at)
+spot-near segments now run near below at s view h is l first before after read =
+    let inside : near + length run ≤ length segments = run-inside segments run near is (omega arith) in
+    let low : (d : Segment) → low_at segments (near + below) d ≡ s.low = λ d.
+    sym (run-read segments run near below d is l) ∙ ap (λ (x : Segment). x.low) (sym (read d)) in
+    record {
+      place_is = place-near segments now run near below at view h is l first before after;
+      begins_is = (
+        λ t. subst (λ zs. BeginsAt zs (near + below) at) view (record { inside = omega arith; low = λ d. low d ∙ eqb-true s.low at t }),
+        λ b.
+            let w : BeginsAt segments (near + below) at = subst (λ zs. BeginsAt zs (near + below) at) (sym view) b in
+            eq-eqb s.low at (sym (low s) ∙ w.low s),
+      );
+    }
 
 -- ---- where one begins
 
@@ -348,6 +353,37 @@ segments-insert start (s ∷ ss) (suc place) x h y i before after =
           (λ k d m. before (suc k) d (omega arith)) (λ d m. after d (omega arith)),
     )
 
+begins-inserted : (segments : List Segment) (place : ℕ) (x : Segment) → place ≤ length segments → BeginsAt (insert segments place x) place x.low
+begins-inserted [] zero x l = record { inside = omega arith; low = λ d. refl }
+begins-inserted [] (suc place) x l = absurd (omega arith)
+begins-inserted (s ∷ ss) zero x l = record { inside = omega arith; low = λ d. refl }
+begins-inserted (s ∷ ss) (suc place) x l =
+    let b : BeginsAt (insert ss place x) place x.low = begins-inserted ss place x (omega arith) in
+    let i : place < length (insert ss place x) = b.inside in
+    record { inside = omega arith; low = b.low }
+
+begins-still : (segments : List Segment) (place k lo : ℕ) (x : Segment) → k < place → BeginsAt segments k lo → BeginsAt (insert segments place x) k lo
+begins-still [] place k lo x l b = let i : k < 0 = b.inside in absurd (omega arith)
+begins-still (s ∷ ss) zero k lo x l b = absurd (omega arith)
+begins-still (s ∷ ss) (suc place) zero lo x l b = record { inside = omega arith; low = b.low }
+begins-still (s ∷ ss) (suc place) (suc k) lo x l b =
+    let i : suc k < suc (length ss) = b.inside in
+    let c : BeginsAt (insert ss place x) k lo = begins-still ss place k lo x (omega arith) (record { inside = omega arith; low = b.low }) in
+    let j : k < length (insert ss place x) = c.inside in
+    record { inside = omega arith; low = c.low }
+
+-- those below an address stand before the place of one more
+keeps-below : (segments : List Segment) (place at : ℕ) (x : Segment) → IsPlace segments at place → KeepsBelow segments (insert segments place x) at
+keeps-below segments place at x p = record {
+  places = λ k lo l b. ⊎_elim
+      (λ (m : k < place). begins-still segments place k lo x m b)
+      (λ (m : place ≤ k).
+      let a : at ≤ low_at segments k x = p.after k x m b.inside in
+      let e : low_at segments k x ≡ lo = b.low x in
+      absurd (omega arith))
+      (cases_lt k place);
+}
+
 -- a cut
 pub is-cut : (segments : List Segment) (place : ℕ) (x : Segment) → AreSegments 0 segments → IsPlace segments x.low place → begins_in segments x.low ≡ false → x.low < 2 ^ 32 → held_of x ≡ held_before nothing_held segments place → IsCutAt segments (insert segments place x) x.low
 is-cut segments place x h p n below e =
@@ -500,6 +536,15 @@ found-cut segments now place x f =
 pub cut-made : {V E : Type 0} (r : Result V E) (segments now new : List Segment) (place : ℕ) (x : Segment) → Finds segments now place x → new ≡ cond (is_ok r) (insert segments place x) segments → OnOk r (IsCutAt now new x.low)
 cut-made (Ok v) segments now new place x f e = subst (λ zs. IsCutAt now zs x.low) (sym e) (found-cut segments now place x f)
 cut-made (Err o) segments now new place x f e = tt
+
+pub cut-begins : {V E : Type 0} (r : Result V E) (segments now new : List Segment) (place : ℕ) (x : Segment) → Finds segments now place x → new ≡ cond (is_ok r) (insert segments place x) segments → OnOk r (BeginsAt new place x.low)
+cut-begins (Ok v) segments now new place x f e = subst (λ zs. BeginsAt zs place x.low) (sym e) (begins-inserted segments place x (subst (λ zs. place ≤ length zs) (sym f.view) f.place_is.inside))
+cut-begins (Err o) segments now new place x f e = tt
+
+pub cut-keeps : {V E : Type 0} (r : Result V E) (segments now new : List Segment) (place : ℕ) (x : Segment) → Finds segments now place x → new ≡ cond (is_ok r) (insert segments place x) segments → OnOk r (KeepsBelow now new x.low)
+cut-keeps (Ok v) segments now new place x f e =
+    subst (λ zs. KeepsBelow now zs x.low) (sym (e ∙ ap (λ zs. insert zs place x) f.view)) (keeps-below now place x.low x f.place_is)
+cut-keeps (Err o) segments now new place x f e = tt
 
 pub cut-form : {V E : Type 0} (r : Result V E) (segments now new : List Segment) (place : ℕ) (x : Segment) → Finds segments now place x → new ≡ cond (is_ok r) (insert segments place x) segments → AreSegments 0 new
 cut-form (Ok v) segments now new place x f e = subst (λ zs. AreSegments 0 zs) (sym e) (found-cut segments now place x f).form

@@ -1,5 +1,5 @@
 -- One router's rules at all addresses: segments in order of address, each up to where the next one begins.
-use Rattle.std.specs.Prelude.{ℕ, zero, suc, Bool, List, [], ◌∷◌, Option, length, set, slice_index_or, IsPermutation, nat_le, ◌≡◌, ◌+◌, ◌<◌, ◌≤◌, ◌^◌, ◌==◌, ◌||◌, if◌then◌else◌}
+use Rattle.std.specs.Prelude.{ℕ, zero, suc, Bool, List, [], ◌∷◌, Option, length, set, slice_index_or, IsPermutation, IsTrue, nat_le, ◌↔◌, ◌≡◌, ◌+◌, ◌<◌, ◌≤◌, ◌^◌, ◌==◌, ◌||◌, if◌then◌else◌}
 use Rattle.std.specs.List.{list_any}
 use Rattle.dn_model.specs.Rules.{after_rule_op, target_of as target_of_rule, IsTop}
 use Rattle.dn_model.specs.declared.entry.Op.{Op}
@@ -8,6 +8,10 @@ use Rattle.dn_model.specs.declared.target.Target.{Target}
 use Rattle.dn_model.specs.declared.target.Target.TheVariants.{NoRoute}
 use Rattle.net_engine.specs.declared.segment.Segment.{Segment}
 use Rattle.net_engine.specs.declared.segment.Targets.{Targets}
+
+-- where a segment begins
+abbrev pub segment_low : Segment → ℕ
+segment_low s = s.low
 
 -- what the first of some rules says is done
 pub record IsInForce (rules : List Rule) (target : Target) : Type 0 where
@@ -59,6 +63,15 @@ pub record IsPlace (segments : List Segment) (at place : ℕ) : Type 0 where
 pub record BeginsAt (segments : List Segment) (place at : ℕ) : Type 0 where
   pub inside : place < length segments
   pub low : (d : Segment) → (slice_index_or segments place d).low ≡ at
+
+-- so many segments begin below an address, and it is said whether the next one begins there
+pub record IsSpot (segments : List Segment) (at place : ℕ) (begins : Bool) : Type 0 where
+  pub place_is : IsPlace segments at place
+  pub begins_is : IsTrue begins ↔ BeginsAt segments place at
+
+-- where segments begin below an address, they keep their places
+pub record KeepsBelow (old new : List Segment) (at : ℕ) : Type 0 where
+  pub places : (place lo : ℕ) → lo < at → BeginsAt old place lo → BeginsAt new place lo
 
 -- what is held up to a place: that of the segment before it, if there is one
 abbrev pub held_before : Held → List Segment → ℕ → Held

@@ -4,7 +4,6 @@
 #![tactic(auto)]
 
 mod ends;
-mod guide;
 mod net;
 #[cfg(test)]
 mod net_tests;
@@ -12,6 +11,7 @@ mod relabel;
 mod router_owners;
 mod segment;
 mod span;
+mod state;
 mod tables;
 mod version;
 #[cfg(test)]

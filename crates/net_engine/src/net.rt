@@ -8,7 +8,7 @@ ghost use Rattle.net_engine.specs.Walked.{IsWalked};
 
 use crate::router_owners::RouterOwners;
 use crate::span::Span;
-use crate::walk::{cut_both, walk_segments};
+use crate::walk::{Reach, cut_both, walk_segments};
 use atom_map::AtomMap;
 use delta_graph::Delta;
 use dn_model::{Op, OutOfMemory, RouterId, Target};
@@ -111,8 +111,9 @@ impl Net {
             mut owners,
         } = self;
         let own = &mut owners[usize::from(r.0)];
-        cut_both(alloc, own, span)?;
-        let (labels, delta) = walk_segments(alloc, &atoms, labels, own, r, op, span)?;
+        let place = cut_both(alloc, own, span)?;
+        let reach = Reach { place, span };
+        let (labels, delta) = walk_segments(alloc, &atoms, labels, own, r, op, reach)?;
         Ok((
             Net {
                 routers,

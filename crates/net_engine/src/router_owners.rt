@@ -1,11 +1,11 @@
 //! One router's rules at all addresses.
 
 ghost use Rattle.std.specs.Prelude.{◌≡◌, ◌+◌, ℕ, ◌<◌, ◌≤◌, ◌^◌, [], ◌↔◌, IfOk, IfSome, OnOk, IsTrue, length, slice_index_or};
-ghost use Rattle.net_engine.specs.Segments.{AreSegments, BeginsAt, IsBefore, IsRerulesAt, IsCutAt, IsPast, IsPlace};
-ghost use Rattle.net_engine.specs.declared.segment.Segment.{Segment as SegmentIs};
+ghost use Rattle.version_pages.specs.Search.{EndsBelow};
+ghost use Rattle.net_engine.specs.Segments.{AreSegments, BeginsAt, IsBefore, IsRerulesAt, IsCutAt, IsPast, IsSpot, KeepsBelow, segment_low};
 
-use crate::guide::Guide;
 use crate::segment::{Segment, Targets, rerule};
+use atom_map::Guide;
 use dn_model::{Op, OutOfMemory, Target};
 use owner_tree::Owners;
 use std::alloc::Global;
@@ -15,19 +15,22 @@ use version_pages::Pages;
 /// The address after the last.
 const END: u64 = 0x1_0000_0000;
 
-/// How many places after a cut another one counts as near.
-const NEAR: u64 = 16;
-
 /// One router's rules at all addresses: segments in order of address, each up to where the next one begins. Before the
 /// first there is no rule. A contract sees the list of the segments.
 #[derive(Drop)]
 pub struct RouterOwners {
     segments: Pages<Segment>,
-    /// The place before that of the last cut that was not near the one before it. An update cuts at both ends of its prefix
-    /// and then begins at the first: it looks here before it searches. It is a hint, of which nothing is promised.
-    near: u64,
-    /// Where to look for an address that isn't near.
+    /// Where to look for an address.
     guide: Guide,
+}
+
+/// Where a search for an address ends.
+#[derive(Clone, Copy, Debug, PartialEq, Eq)]
+struct Spot {
+    /// How many segments begin below the address.
+    place: u64,
+    /// Whether the next one begins there.
+    begins: bool,
 }
 
 impl Model for RouterOwners {
@@ -50,22 +53,22 @@ impl RouterOwners {
     {
         RouterOwners {
             segments: Pages::new(),
-            near: 0,
             guide: Guide::new(),
         }
     }
 
-    /// The place of the first segment that doesn't begin below an address, found by a search of all.
-    fn search(&self, at: u32) -> u64
-        ensures { IsPlace self.now at result }
+    /// Where a search of all segments for an address ends.
+    fn search(&self, at: u32) -> Spot
+        ensures { IsSpot self.now at result.place result.begins }
     {
-        self.segments.count_below(u64::from(at))
+        let place = self.segments.count_below(u64::from(at));
+        let begins = self.begins(place, at);
+        Spot { place, begins }
     }
 
-    /// The place of the first segment that doesn't begin below an address, where it stands in one page with a place and
-    /// after it, or at the very beginning.
-    fn place_near(&self, near: u64, at: u32) -> Option<u64>
-        ensures { IfSome result (IsPlace self.now at) }
+    /// Where a search for an address ends, where that is in one page with a place and after it, or at the very beginning.
+    fn spot_near(&self, near: u64, at: u32) -> Option<Spot>
+        ensures { IfSome result (λ spot. IsSpot self.now at spot.place spot.begins) }
     {
         let run = self.segments.run_from(near);
         if ends_below(run, at) {
@@ -78,50 +81,40 @@ impl RouterOwners {
         if below == 0 && near != 0 {
             return None;
         }
+        let begins = run[below].low == at;
         let place = near + below as u64;
-        Some(place)
+        Some(Spot { place, begins })
     }
 
-    /// The place of the first segment that doesn't begin below an address: how many begin below it. It looks near the last
-    /// cut first, and then where the guide says.
-    pub fn place_of(&self, at: u32) -> u64
-        ensures { IsPlace self.now at result }
-    {
-        match self.place_near(self.near, at) {
-            Some(place) => place,
-            None => self.place_by_guide(at),
-        }
-    }
-
-    /// The place of the first segment that doesn't begin below an address. It looks first where the guide says.
-    fn place_by_guide(&self, at: u32) -> u64
-        ensures { IsPlace self.now at result }
+    /// Where a search for an address ends. It looks first where the guide says.
+    fn spot_of(&self, at: u32) -> Spot
+        ensures { IsSpot self.now at result.place result.begins }
     {
         let place = self.guide.place(at);
-        match self.place_near(place, at) {
-            Some(place) => place,
-            None => self.place_behind(place, at),
+        match self.spot_near(place, at) {
+            Some(spot) => spot,
+            None => self.spot_behind(place, at),
         }
     }
 
-    /// The place of the first segment that doesn't begin below an address. It looks first in the page that follows that of a
-    /// place.
-    fn place_behind(&self, place: u64, at: u32) -> u64
-        ensures { IsPlace self.now at result }
+    /// Where a search for an address ends. It looks first in the page that follows that of a place.
+    fn spot_behind(&self, place: u64, at: u32) -> Spot
+        ensures { IsSpot self.now at result.place result.begins }
     {
         let rest = self.segments.run_from(place).len() as u64;
-        match self.place_near(place.wrapping_add(rest), at) {
-            Some(place) => place,
+        match self.spot_near(place.wrapping_add(rest), at) {
+            Some(spot) => spot,
             None => self.search(at),
         }
     }
 
-    /// Remembers the place of a cut, unless it is near the one that is remembered.
-    fn come_to(&mut self, place: u64)
-        ensures { self.new ≡ self.old }
+    /// Where a search for an address ends. It looks first in the page of a place, from there on.
+    fn spot_from(&self, near: u64, at: u32) -> Spot
+        ensures { IsSpot self.now at result.place result.begins }
     {
-        if place <= self.near || place - self.near > NEAR {
-            self.near = place.saturating_sub(1);
+        match self.spot_near(near, at) {
+            Some(spot) => spot,
+            None => self.spot_of(at),
         }
     }
 
@@ -164,15 +157,36 @@ impl RouterOwners {
         }
     }
 
-    /// Cuts the segment that has an address in two there, if none begins there: both parts have the rules of the whole.
-    /// It fails for want of memory alone.
-    pub fn cut(&mut self, alloc: Global, at: u32) -> Result<(), OutOfMemory>
-        ensures { OnOk result (IsCutAt self.old self.new at) }
+    /// Cuts the segment that has an address in two there, if none begins there: both parts have the rules of the whole. It
+    /// answers the place of the segment that begins there then. It fails for want of memory alone.
+    pub fn cut(&mut self, alloc: Global, at: u32) -> Result<u64, OutOfMemory>
+        ensures cut { OnOk result (IsCutAt self.old self.new at) }
+        ensures begins { IfOk result (λ place. BeginsAt self.new place at) }
     {
-        let place = self.place_of(at);
-        self.come_to(place);
+        let spot = self.spot_of(at);
+        self.part(alloc, spot, at)?;
+        Ok(spot.place)
+    }
+
+    /// Cuts at an address too, which it looks for first behind the place of a segment that was cut before. It fails for want
+    /// of memory alone.
+    pub fn cut_behind(&mut self, alloc: Global, near: u64, at: u32) -> Result<(), OutOfMemory>
+        ensures cut { OnOk result (IsCutAt self.old self.new at) }
+        ensures keeps { OnOk result (KeepsBelow self.old self.new at) }
+    {
+        let spot = self.spot_from(near, at);
+        return self.part(alloc, spot, at);
+    }
+
+    /// Cuts there, where a search for the address ends, and tells the guide.
+    fn part(&mut self, alloc: Global, spot: Spot, at: u32) -> Result<(), OutOfMemory>
+        requires { IsSpot self.old at spot.place spot.begins }
+        ensures cut { OnOk result (IsCutAt self.old self.new at) }
+        ensures begins { OnOk result (BeginsAt self.new spot.place at) }
+        ensures keeps { OnOk result (KeepsBelow self.old self.new at) }
+    {
         let before = self.segments.len();
-        self.cut_at(alloc, place, at)?;
+        self.cut_at(alloc, spot, at)?;
         self.tell_guide(alloc, before, at);
         Ok(())
     }
@@ -189,21 +203,24 @@ impl RouterOwners {
         }
     }
 
-    /// Cuts there, where so many segments begin below the address.
-    fn cut_at(&mut self, alloc: Global, place: u64, at: u32) -> Result<(), OutOfMemory>
-        requires { IsPlace self.old at place }
-        ensures { OnOk result (IsCutAt self.old self.new at) }
+    /// Cuts there, where a search for the address ends.
+    fn cut_at(&mut self, alloc: Global, spot: Spot, at: u32) -> Result<(), OutOfMemory>
+        requires { IsSpot self.old at spot.place spot.begins }
+        ensures cut { OnOk result (IsCutAt self.old self.new at) }
+        ensures begins { OnOk result (BeginsAt self.new spot.place at) }
+        ensures keeps { OnOk result (KeepsBelow self.old self.new at) }
     {
-        if self.begins(place, at) {
+        let _ = &self.segments;
+        if spot.begins {
             return Ok(());
         }
-        let (rules, target) = self.rules_before(alloc, place)?;
+        let (rules, target) = self.rules_before(alloc, spot.place)?;
         let segment = Segment {
             low: at,
             rules,
             target,
         };
-        self.segments.insert_at(alloc, place, segment)
+        self.segments.insert_at(alloc, spot.place, segment)
     }
 
     /// Makes an update to the rules of the segment at a place, which the update's prefix covers. It fails for want of
@@ -223,7 +240,6 @@ impl RouterOwners {
         let segments = self.segments.copy()?;
         Ok(RouterOwners {
             segments,
-            near: self.near,
             guide: Guide::new(),
         })
     }
@@ -237,18 +253,19 @@ fn ends_below(run: &[Segment], at: u32) -> bool {
     }
 }
 
-/// How many of these segments begin below an address, up to the first that doesn't.
+/// How many of these segments begin below an address. It looks at few of them where it is one of the first.
 fn count_below(run: &[Segment], at: u32) -> usize
-    ensures inside { result ≤ length run.now }
-    ensures before { (k : ℕ) (d : SegmentIs) → k < result → (slice_index_or run.now k d).low < at }
-    ensures after { (d : SegmentIs) → result < length run.now → at ≤ (slice_index_or run.now result d).low }
+    ensures { EndsBelow segment_low run.now at result }
 {
-    let mut below = 0;
-    'segments: while below < run.len() {
-        if at <= run[below].low {
-            return below;
+    let mut low = 0;
+    let mut high = run.len();
+    'halving: while low < high {
+        let middle = low + ((high - low) / 2).min(low + 1);
+        if run[middle].low < at {
+            low = middle + 1;
+        } else {
+            high = middle;
         }
-        below += 1;
     }
-    below
+    low
 }

@@ -1,21 +1,16 @@
 //! A version of a network.
 
-ghost use Rattle.std.specs.Prelude.{◌≡◌, ◌<◌, ◌++◌, ◌∷◌, [], List, ℕ, IfOk, length};
+ghost use Rattle.std.specs.Prelude.{◌≡◌, ◌++◌, ◌∷◌, [], List, IfOk, length};
 ghost use Rattle.std.specs.Arc.{arc_value};
 ghost use Rattle.dn_model.specs.Delta.{IsDeltaOf};
-ghost use Rattle.dn_model.specs.Entry.{IsEntryOf, IsOpOf, prefix_of_op};
+ghost use Rattle.dn_model.specs.Entry.{IsEntryOf};
 ghost use Rattle.dn_model.specs.Version.{KeptStandsFor, forwarding_of};
 ghost use Rattle.dn_model.specs.declared.entry.Entry.{Entry as EntryIs};
-ghost use Rattle.net_engine.specs.Walked.{BeginsAtEnds, IsClear, IsCutAt, IsSet, IsRemade, IsUpdated};
 
-use crate::ends::{cut_ends, past_of};
-use crate::net::Net;
-use crate::span::Span;
-use crate::tables::{copies, empty_tables, has_route_of, update_at};
+use crate::state::State;
 use delta_graph::Delta;
-use dn_model::{Entry, Op, OutOfMemory, Prefix, RouterId, Target, Topology};
+use dn_model::{Entry, OutOfMemory, RouterId, Target, Topology};
 use label_view::LabelView;
-use route_table::RouteTable;
 use std::alloc::Global;
 use std::marker::Model;
 use std::sync::Arc;
@@ -23,24 +18,27 @@ use std::sync::Arc;
 /// What all routers do with all addresses after a history of updates: atoms, which are the intervals of addresses
 /// between the ends of the prefixes that were set, with what each router does there and its rules there, and each
 /// router's routes (Delta-net, NSDI 2017). A contract sees the topology, the atoms in order, and the routes.
+///
+/// It is one pointer, so that whoever keeps a version hands it on cheaply.
 #[derive(Drop)]
 pub struct Version {
-    topology: Arc<Topology, Global>,
-    net: Net,
-    tables: Vec<RouteTable>,
+    state: Box<State, Global>,
 }
 
 impl Model for Version {
-    ghost use Rattle.std.specs.Prelude.{◌≡◌, length};
-    ghost use Rattle.std.specs.Arc.{arc_value};
     ghost use Rattle.dn_model.specs.Version.{Kept};
-    ghost use Rattle.net_engine.specs.Whole.{IsWhole};
 
     ghost Value = { Kept };
 
-    ghost view = { λ v. record { topology = arc_value v.topology; atoms = v.net.atoms; routes = v.tables.items } };
+    ghost view = { λ v. v.state.value };
+}
 
-    ghost invariant = { λ v. IsWhole (record { topology = arc_value v.topology; atoms = v.net.atoms; routes = v.tables.items }) × (v.net.routers ≡ length (arc_value v.topology).routers) };
+/// The version that keeps this.
+fn version_of(alloc: Global, state: State) -> Result<Version, OutOfMemory>
+    ensures { IfOk result (λ version. version ≡ state) }
+{
+    let state = Box::new(alloc, state)?;
+    Ok(Version { state })
 }
 
 impl Version {
@@ -49,96 +47,16 @@ impl Version {
         ensures topology { IfOk result (λ version. version.topology ≡ arc_value t) }
         ensures stands { IfOk result (λ version. KeptStandsFor version []) }
     {
-        let routers = t.router_count();
-        let net = Net::new(alloc, routers)?;
-        let tables = empty_tables(alloc, routers as usize)?;
-        Ok(Version {
-            topology: t,
-            net,
-            tables,
-        })
+        let state = State::empty(alloc, t)?;
+        let version = version_of(alloc, state)?;
+        Ok(version)
     }
 
-    /// The same version, whose atoms begin at the ends of a prefix too.
-    fn cut(self, alloc: Global, prefix: Prefix) -> Result<Version, OutOfMemory>
-        ensures { IfOk result (λ version. IsCutAt self version prefix) }
+    /// What it keeps, for a change in place.
+    fn into_state(self) -> State
+        ensures { result ≡ self }
     {
-        let Version {
-            topology,
-            net,
-            tables,
-        } = self;
-        let net = cut_ends(net, alloc, prefix)?;
-        Ok(Version {
-            topology,
-            net,
-            tables,
-        })
-    }
-
-    /// The version after an update of one of its routers, at whose prefix's ends atoms begin.
-    fn update(self, alloc: Global, r: RouterId, op: &Op) -> Result<(Version, Delta), OutOfMemory>
-        requires router { r.0 < length self.topology.routers }
-        requires op { IsOpOf self.topology op.now }
-        requires ends { BeginsAtEnds self.atoms (prefix_of_op op.now) }
-        ensures { IfOk result (λ made. IsRemade self made.0 r op.now made.1) }
-    {
-        let Version {
-            topology,
-            net,
-            mut tables,
-        } = self;
-        let prefix = op.prefix();
-        let span = Span {
-            lo: prefix.base(),
-            past: past_of(prefix),
-        };
-        update_at(alloc, &mut tables, usize::from(r.0), op)?;
-        let (net, delta) = net.update(alloc, r, op, span)?;
-        Ok((
-            Version {
-                topology,
-                net,
-                tables,
-            },
-            delta,
-        ))
-    }
-
-    /// The version after a clearing, which changes nothing where the router has no route of the prefix.
-    fn clear(self, alloc: Global, r: RouterId, op: &Op) -> Result<(Version, Delta), OutOfMemory>
-        requires router { r.0 < length self.topology.routers }
-        requires op { IsOpOf self.topology op.now }
-        requires clears { IsClear op.now }
-        ensures { IfOk result (λ made. IsUpdated self made.0 r op.now made.1) }
-    {
-        if has_route_of(&self.tables[usize::from(r.0)], op.prefix()) {
-            return self.update(alloc, r, op);
-        }
-        Ok((self, Delta::new(alloc)))
-    }
-
-    /// The version after a setting, which cuts atoms at the ends of the prefix.
-    fn set(self, alloc: Global, r: RouterId, op: &Op) -> Result<(Version, Delta), OutOfMemory>
-        requires router { r.0 < length self.topology.routers }
-        requires op { IsOpOf self.topology op.now }
-        requires sets { IsSet op.now }
-        ensures { IfOk result (λ made. IsUpdated self made.0 r op.now made.1) }
-    {
-        let parted = self.cut(alloc, op.prefix())?;
-        parted.update(alloc, r, op)
-    }
-
-    /// The version after an update of one of its routers.
-    fn updated(self, alloc: Global, r: RouterId, op: &Op) -> Result<(Version, Delta), OutOfMemory>
-        requires router { r.0 < length self.topology.routers }
-        requires op { IsOpOf self.topology op.now }
-        ensures { IfOk result (λ made. IsUpdated self made.0 r op.now made.1) }
-    {
-        match op {
-            Op::Set { .. } => self.set(alloc, r, op),
-            Op::Clear { .. } => self.clear(alloc, r, op),
-        }
+        Box::into_inner(self.state)
     }
 
     /// The version after an update of one of its routers, and where that changes what the router does. It takes the
@@ -149,7 +67,9 @@ impl Version {
         ensures stands { IfOk result (λ made. (history : List EntryIs) → KeptStandsFor self history → KeptStandsFor made.0 (history ++ entry.now ∷ [])) }
         ensures delta { IfOk result (λ made. (history : List EntryIs) → KeptStandsFor self history → IsDeltaOf self.topology (history ++ entry.now ∷ []) made.1) }
     {
-        self.updated(alloc, entry.router, &entry.op)
+        let (state, delta) = self.into_state().advance(alloc, entry)?;
+        let version = version_of(alloc, state)?;
+        Ok((version, delta))
     }
 
     /// The version after an update of one of its routers, and where that changes what the router does. This version
@@ -167,14 +87,9 @@ impl Version {
     pub fn copy(&self, alloc: Global) -> Result<Version, OutOfMemory>
         ensures { IfOk result (λ version. version ≡ self.now) }
     {
-        let topology = Arc::try_clone(&self.topology)?;
-        let net = self.net.copy(alloc)?;
-        let tables = copies(alloc, &self.tables)?;
-        Ok(Version {
-            topology,
-            net,
-            tables,
-        })
+        let state = self.state.copy(alloc)?;
+        let version = version_of(alloc, state)?;
+        Ok(version)
     }
 }
 
@@ -184,22 +99,22 @@ impl LabelView for Version {
     ghost rows = { λ v. forwarding_of v.atoms };
 
     fn routers(&self) -> u32 {
-        self.net.routers()
+        self.state.routers()
     }
 
     fn atoms(&self) -> u64 {
-        self.net.count()
+        self.state.atoms()
     }
 
     fn bounds(&self, i: u64) -> (u64, u64) {
-        self.net.bounds(i)
+        self.state.bounds(i)
     }
 
     fn atom_of(&self, a: u32) -> u64 {
-        self.net.place_of(a)
+        self.state.atom_of(a)
     }
 
     fn target(&self, r: RouterId, i: u64) -> Target {
-        self.net.target(r, i)
+        self.state.target(r, i)
     }
 }

@@ -20,16 +20,27 @@ use std::alloc::Global;
 /// The address after the last.
 const END: u64 = 0x1_0000_0000;
 
-/// Cuts a router's segments at both ends of a span. It fails for want of memory alone.
-pub fn cut_both(alloc: Global, owners: &mut RouterOwners, span: Span) -> Result<(), OutOfMemory>
-    requires { span.past ≤ 2 ^ 32 }
-    ensures { OnOk result (AreCutAt owners.old owners.new span.lo span.past) }
+/// A span, and the place of the segment of a router that begins at its first address.
+#[derive(Clone, Copy, Debug, PartialEq, Eq)]
+pub struct Reach {
+    pub place: u64,
+    pub span: Span,
+}
+
+/// Cuts a router's segments at both ends of a span, and answers the place of the segment that begins at its first address. It
+/// fails for want of memory alone.
+pub fn cut_both(alloc: Global, owners: &mut RouterOwners, span: Span) -> Result<u64, OutOfMemory>
+    requires order { span.lo < span.past }
+    requires end { span.past ≤ 2 ^ 32 }
+    ensures cut { OnOk result (AreCutAt owners.old owners.new span.lo span.past) }
+    ensures begins { IfOk result (λ place. BeginsAt owners.new place span.lo) }
 {
-    owners.cut(alloc, span.lo)?;
+    let place = owners.cut(alloc, span.lo)?;
     if span.past == END {
-        return Ok(());
+        return Ok(place);
     }
-    owners.cut(alloc, span.past as u32)
+    owners.cut_behind(alloc, place, span.past as u32)?;
+    Ok(place)
 }
 
 /// Where a walk over segments stands: at this place and address, with the labels and the changes so far.
@@ -115,24 +126,24 @@ pub fn walk_segments(
     owners: &mut RouterOwners,
     r: RouterId,
     op: &Op,
-    span: Span,
+    reach: Reach,
 ) -> Result<(LabelGraph, Delta), OutOfMemory>
     requires router { r.0 < labels.routers }
     requires labelled { AreLabelled atoms.now labels }
     requires along { GoAlong atoms.now labels r.0 owners.old }
-    requires order { span.lo < span.past }
-    requires end { span.past ≤ 2 ^ 32 }
-    requires first { begins_in owners.old span.lo ≡ true }
-    requires last { span.past < 2 ^ 32 → begins_in owners.old span.past ≡ true }
-    ensures { IfOk result (λ made. IsReruledOver atoms.now labels made.0 owners.old owners.new [] made.1 r op.now span.lo span.past) }
+    requires order { reach.span.lo < reach.span.past }
+    requires end { reach.span.past ≤ 2 ^ 32 }
+    requires first { BeginsAt owners.old reach.place reach.span.lo }
+    requires last { reach.span.past < 2 ^ 32 → begins_in owners.old reach.span.past ≡ true }
+    ensures { IfOk result (λ made. IsReruledOver atoms.now labels made.0 owners.old owners.new [] made.1 r op.now reach.span.lo reach.span.past) }
 {
     let mut walk = Walk {
         labels,
         delta: Delta::new(alloc),
-        place: owners.place_of(span.lo),
-        at: u64::from(span.lo),
+        place: reach.place,
+        at: u64::from(reach.span.lo),
     };
-    'segments: while walk.at < span.past {
+    'segments: while walk.at < reach.span.past {
         walk = step(alloc, atoms, owners, walk, r, op)?;
     }
     let Walk {

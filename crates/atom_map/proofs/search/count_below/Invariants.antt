@@ -1,8 +1,13 @@
-use Rattle.std.proofs.Common.{◌-◌, ◌≤◌, length}
+use Rattle.std.proofs.Common.{◌-◌, ◌<◌, ◌≤◌, length, get_or}
+use Rattle.dn_model.specs.declared.atom_row.AtomRow.{AtomRow}
 use Rattle.atom_map.proofs.search.count_below.Given as goal
 
-abbrev pub invariant-rows : goal.invariant-rows
-invariant-rows l = l.below ≤ length l.run
+abbrev pub invariant-halving : goal.invariant-halving
+invariant-halving l = record {
+  order : l.low ≤ l.high;
+  inside : l.high ≤ length l.run;
+  after : (d : AtomRow) → l.high < length l.run → l.a < (get_or l.run l.high d).past;
+}
 
-abbrev pub decreases-rows : goal.decreases-rows
-decreases-rows l = length l.run - l.below
+abbrev pub decreases-halving : goal.decreases-halving
+decreases-halving l = l.high - l.low

@@ -5,11 +5,11 @@ use Rattle.net_engine.proofs.walk.walk_segments.Given as goal
 
 abbrev pub invariant-segments : goal.invariant-segments
 invariant-segments l = record {
-  from : l.span.lo ≤ l.walk.at;
-  to : l.walk.at ≤ l.span.past;
+  from : l.reach.span.lo ≤ l.walk.at;
+  to : l.walk.at ≤ l.reach.span.past;
   begins : l.walk.at < 2 ^ 32 → BeginsAt l.owners l.walk.place l.walk.at;
-  made : IsReruledOver l.atoms l.fn.labels l.walk.labels l.fn.owners l.owners [] l.walk.delta l.r l.op l.span.lo l.walk.at;
+  made : IsReruledOver l.atoms l.fn.labels l.walk.labels l.fn.owners l.owners [] l.walk.delta l.r l.op l.reach.span.lo l.walk.at;
 }
 
 abbrev pub decreases-segments : goal.decreases-segments
-decreases-segments l = l.span.past - l.walk.at
+decreases-segments l = l.reach.span.past - l.walk.at

@@ -8,7 +8,7 @@ walk_segments-requires-clause-along c =
     let inside : c.args.r.0 < c.self.inside.routers = router-now c.args.self c.self.inside.routers c.self.inside.atoms c.self.inside.labels c.self.inside.owners.items c.args.r.0 c.self.view_is c.requires.router in
     own-along c.self.inside.routers c.self.inside.atoms c.self.inside.labels c.self.inside.owners.items c.args.r.0 c.args.span.lo c.args.span.past c.index_mut-own.result.now c.cut_both.new.owners c.self.invariant inside
     (own-found c.self.inside.owners.items c.from.result c.args.r.0 c.index_mut-own.result.now c.from.ensures (subst (λ n. c.args.r.0 < n) (sym c.self.invariant.each) inside) c.index_mut-own.ensures.value)
-    c.in_ok-cut_both.ensures
+    c.in_ok-place.ensures.cut
     (boundary-now c.args.self c.self.inside.routers c.self.inside.atoms c.self.inside.labels c.self.inside.owners.items c.args.span.lo c.self.view_is c.requires.first)
     (λ l. boundary-now c.args.self c.self.inside.routers c.self.inside.atoms c.self.inside.labels c.self.inside.owners.items c.args.span.past c.self.view_is (c.requires.last l))
 
@@ -20,7 +20,7 @@ makes c =
       inside = inside;
       end = c.requires.end;
       own_is = own-found c.self.inside.owners.items c.from.result c.args.r.0 c.index_mut-own.result.now c.from.ensures (subst (λ n. c.args.r.0 < n) (sym c.self.invariant.each) inside) c.index_mut-own.ensures.value;
-      parts_are = c.in_ok-cut_both.ensures;
+      parts_are = c.in_ok-place.ensures.cut;
       made_are = c.in_ok-labels.ensures;
     }
 

@@ -1,19 +1,15 @@
--- What was updated stands for the history with the entry.
-use Rattle.std.proofs.lemmas.Result.{IfOk-weaker}
-use Rattle.net_engine.proofs.Updated.{delta-after, stands-after}
+-- What the version keeps was advanced.
+use Rattle.std.proofs.Common.{◌++◌, ◌∷◌, [], subst, sym}
+use Rattle.dn_model.specs.Delta.{IsDeltaOf}
+use Rattle.dn_model.specs.Version.{Kept, KeptStandsFor}
 use Rattle.net_engine.proofs.version.Version.advance.Goals as goal
 
-pub returns-clause-topology : goal.returns-clause-topology
-returns-clause-topology c = IfOk-weaker c.updated.result _ _ (λ made h. h.topology) c.updated.ensures
-
 pub returns-clause-stands : goal.returns-clause-stands
-returns-clause-stands c = IfOk-weaker c.updated.result _ _
-    (λ made h history of. stands-after c.args.self made.0 history c.args.entry.now of h.topology h.routes.made h.whole h.routes.inside h.routes.as_updated h.routes.placed h.begins)
-    c.updated.ensures
+returns-clause-stands c = λ history of.
+    subst (λ (v : Kept). KeptStandsFor v (history ++ c.args.entry.now ∷ [])) (sym c.in_ok-version.ensures)
+    (c.in_ok-state.ensures.stands history (subst (λ (v : Kept). KeptStandsFor v history) (sym c.into_state.ensures) of))
 
 pub returns-clause-delta : goal.returns-clause-delta
-returns-clause-delta c = IfOk-weaker c.updated.result _ _
-    (λ made h history of. delta-after c.args.self made.0 history c.args.entry.now of h.topology made.1
-    (stands-after c.args.self made.0 history c.args.entry.now of h.topology h.routes.made h.whole h.routes.inside h.routes.as_updated h.routes.placed h.begins)
-    h.form h.tells)
-    c.updated.ensures
+returns-clause-delta c = λ history of.
+    subst (λ (v : Kept). IsDeltaOf v.topology (history ++ c.args.entry.now ∷ []) c.in_ok-state.delta) c.into_state.ensures
+    (c.in_ok-state.ensures.delta history (subst (λ (v : Kept). KeptStandsFor v history) (sym c.into_state.ensures) of))

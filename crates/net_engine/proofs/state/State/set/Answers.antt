@@ -1,6 +1,6 @@
 use Rattle.std.proofs.lemmas.Result.{IfOk-weaker}
 use Rattle.net_engine.proofs.Making.{ends-of_update, set-after_cut}
-use Rattle.net_engine.proofs.version.Version.set.Goals as goal
+use Rattle.net_engine.proofs.state.State.set.Goals as goal
 
 pub update-requires-clause-ends : goal.update-requires-clause-ends
 update-requires-clause-ends c = ends-of_update c.in_ok-parted.parted.atoms c.prefix.result c.args.op.now c.prefix.ensures c.in_ok-parted.ensures.ends

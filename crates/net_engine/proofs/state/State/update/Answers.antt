@@ -1,7 +1,7 @@
 -- The update is made to the table and to the atoms of the prefix.
 use Rattle.std.proofs.Common.{◌∙◌}
 use Rattle.net_engine.proofs.Making.{update-made, wide-for}
-use Rattle.net_engine.proofs.version.Version.update.Goals as goal
+use Rattle.net_engine.proofs.state.State.update.Goals as goal
 
 pub invariant_of-result : goal.invariant_of-result
 invariant_of-result c = (

@@ -1,7 +1,7 @@
 -- What is cut is whole still, and atoms begin at both ends.
 use Rattle.std.proofs.Common.{◌∙◌}
 use Rattle.net_engine.proofs.Making.{cut-made, wide-for}
-use Rattle.net_engine.proofs.version.Version.cut.Goals as goal
+use Rattle.net_engine.proofs.state.State.cut.Goals as goal
 
 pub invariant_of-result : goal.invariant_of-result
 invariant_of-result c = (

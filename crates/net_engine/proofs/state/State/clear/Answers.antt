@@ -1,6 +1,6 @@
 use Rattle.std.proofs.lemmas.Result.{IfOk-weaker}
 use Rattle.net_engine.proofs.Making.{cleared, ends-of_update, read-now, route-ends, unchanged, whole-now}
-use Rattle.net_engine.proofs.version.Version.clear.Goals as goal
+use Rattle.net_engine.proofs.state.State.clear.Goals as goal
 
 pub update-requires-clause-ends : goal.update-requires-clause-ends
 update-requires-clause-ends c =

@@ -154,6 +154,9 @@ impl<S: Source> Intake<S> {
         ensures ok { OnOk result (self.new ≡ record { source = self.old.source; limit = self.old.limit; passed = self.old.passed; held = self.old.held ++ self.old.pending; pending = [] }) }
         ensures err { OnErr result (self.new ≡ self.old) }
     {
+        if self.piece.is_empty() {
+            return Ok(());
+        }
         self.cutter.feed(self.piece.as_slice())?;
         self.piece.clear();
         Ok(())

@@ -25,7 +25,7 @@ fn push_set(
     push_bytes(out, b"set ")?;
     push_prefix(out, prefix)?;
     push_labelled(out, b" metric ", u64::from(metric))?;
-    push_bytes(out, b" ")?;
+    out.push(b' ')?;
     push_target(out, t, target)
 }
 
@@ -71,11 +71,12 @@ fn push_entry_line(
 {
     push_decimal(out, position)?;
     push_labelled(out, b" feed ", u64::from(entry.feed_no))?;
-    push_bytes(out, b" ")?;
+    out.push(b' ')?;
     push_router(out, t, entry.router)?;
-    push_bytes(out, b" ")?;
+    out.push(b' ')?;
     push_op(out, t, entry.op)?;
-    push_bytes(out, b"\n")
+    out.push(b'\n')?;
+    Ok(())
 }
 
 /// Adds the lines of all entries.

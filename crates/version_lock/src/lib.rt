@@ -11,6 +11,7 @@ mod parts;
 mod plain_book;
 mod plays;
 mod seat;
+mod shelved;
 #[cfg(test)]
 mod tests;
 mod turn;

@@ -11,6 +11,7 @@ use crate::book::{Book, Pinned, PostRefused};
 use crate::parts::{give, take_in};
 use crate::plays::Notes;
 use crate::seat::{Note, Seat};
+use crate::shelved::Shelved;
 use crate::turn::{BOOK, post_in, snap_in, take_book};
 use crate::view::{Desk, Opening, Token};
 use atomic_table::{Badge, Table};
@@ -54,8 +55,9 @@ impl<B: Book> VersionLock<B> {
             book: Snapshot::of(&book),
             seats,
         };
+        let shelved = Shelved::new(alloc, book)?;
         let mut slots = Vec::new(alloc);
-        slots.push(Some(book))?;
+        slots.push(Some(shelved))?;
         let Ok((desk, token)) = Table::new(alloc, &[0, 0], slots, &opening) else {
             return Err(OutOfMemory);
         };
@@ -198,7 +200,7 @@ impl<B: Book> VersionLock<B> {
         let slot = closed.take(BOOK);
         closed.free();
         match slot {
-            Some(book) => book,
+            Some(book) => book.into_book(),
             None => unreachable!(),
         }
     }

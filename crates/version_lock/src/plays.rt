@@ -3,6 +3,7 @@
 ghost use Rattle.std.specs.Prelude.{ℕ};
 
 use crate::book::Book;
+use crate::shelved::Shelved;
 use crate::view::View;
 use atomic_table::{Join, Play, Split};
 use std::marker::{Brand, PhantomData};
@@ -10,7 +11,7 @@ use std::marker::{Brand, PhantomData};
 /// The turn is taken where it was free, and the book with it.
 pub(crate) struct Wins;
 
-impl<B: Book> Play<Option<B>, View> for Wins {
+impl<B: Book> Play<Option<Shelved<B>>, View> for Wins {
     ghost use Rattle.version_lock.specs.Steps.{won};
 
     ghost then = { won B.history B.basis };
@@ -19,7 +20,7 @@ impl<B: Book> Play<Option<B>, View> for Wins {
 /// One entry joins the history.
 pub(crate) struct Applies;
 
-impl<B: Book> Play<Option<B>, View> for Applies {
+impl<B: Book> Play<Option<Shelved<B>>, View> for Applies {
     ghost use Rattle.version_lock.specs.Steps.{applied};
 
     ghost then = { applied B.history };
@@ -28,7 +29,7 @@ impl<B: Book> Play<Option<B>, View> for Applies {
 /// The length of the history is read.
 pub(crate) struct Pins;
 
-impl<B: Book> Play<Option<B>, View> for Pins {
+impl<B: Book> Play<Option<Shelved<B>>, View> for Pins {
     ghost use Rattle.version_lock.specs.Steps.{counted};
 
     ghost then = { counted };
@@ -37,7 +38,7 @@ impl<B: Book> Play<Option<B>, View> for Pins {
 /// The turn is set free, and the book goes home.
 pub(crate) struct Frees;
 
-impl<B: Book> Play<Option<B>, View> for Frees {
+impl<B: Book> Play<Option<Shelved<B>>, View> for Frees {
     ghost use Rattle.version_lock.specs.Steps.{freed};
 
     ghost then = { freed };
@@ -46,7 +47,7 @@ impl<B: Book> Play<Option<B>, View> for Frees {
 /// A seat looks at what a split or a join left it.
 pub(crate) struct Recalls;
 
-impl<B: Book> Play<Option<B>, View> for Recalls {
+impl<B: Book> Play<Option<Shelved<B>>, View> for Recalls {
     ghost use Rattle.version_lock.specs.Steps.{recalled};
 
     ghost then = { recalled };

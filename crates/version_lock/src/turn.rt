@@ -11,6 +11,7 @@ ghost use Rattle.version_lock.specs.Tokens.{IsTokenOf, IsSameToken, IsReady, Has
 
 use crate::book::{Book, PostRefused};
 use crate::plays::{Applies, Frees, Pins, Wins};
+use crate::shelved::Shelved;
 use crate::view::{Board, Token};
 use dn_model::{Entry, OutOfMemory};
 use std::sync::Wait;
@@ -25,7 +26,11 @@ pub(crate) const COUNT: usize = 1;
 pub(crate) const BOOK: usize = 0;
 
 /// Waits until the turn is won, and takes the book out of its slot. Between two tries it sleeps.
-pub(crate) fn take_book<B: Book, R: Wait>(rt: &R, board: &Board<B>, token: &mut Token<B>) -> B
+pub(crate) fn take_book<B: Book, R: Wait>(
+    rt: &R,
+    board: &Board<B>,
+    token: &mut Token<B>,
+) -> Shelved<B>
     requires board { IsTokenOf board.now.table_id token.old }
     requires ready { IsReady token.old }
     requires setup { token.old.me.0.setup ≡ Some (setup_of B.basis board.now.key) }
@@ -57,7 +62,7 @@ fn set_free<B: Book>(board: &Board<B>, token: &mut Token<B>)
 }
 
 /// Puts the book back with one more entry of the seat, which joins the history, and sets the turn free.
-fn settle_applied<B: Book>(board: &Board<B>, token: &mut Token<B>, book: B)
+fn settle_applied<B: Book>(board: &Board<B>, token: &mut Token<B>, book: Shelved<B>)
     requires board { IsTokenOf board.now.table_id token.old }
     requires turn { HasTurn token.old }
     requires basis { B.basis book ≡ (setup_of B.basis board.now.key).basis }
@@ -72,7 +77,7 @@ fn settle_applied<B: Book>(board: &Board<B>, token: &mut Token<B>, book: B)
 }
 
 /// Puts the book back with the history that it had, and sets the turn free.
-fn settle<B: Book>(board: &Board<B>, token: &mut Token<B>, book: B)
+fn settle<B: Book>(board: &Board<B>, token: &mut Token<B>, book: Shelved<B>)
     requires board { IsTokenOf board.now.table_id token.old }
     requires turn { HasTurn token.old }
     requires basis { B.basis book ≡ (setup_of B.basis board.now.key).basis }
@@ -89,7 +94,7 @@ fn settle<B: Book>(board: &Board<B>, token: &mut Token<B>, book: B)
 pub(crate) fn post_in<B: Book>(
     board: &Board<B>,
     token: &mut Token<B>,
-    book: B,
+    book: Shelved<B>,
     number: u32,
     entry: &Entry,
 ) -> Result<u32, PostRefused>
@@ -125,7 +130,7 @@ pub(crate) fn post_in<B: Book>(
 pub(crate) fn snap_in<B: Book>(
     board: &Board<B>,
     token: &mut Token<B>,
-    book: B,
+    book: Shelved<B>,
 ) -> Result<B::Snap, OutOfMemory>
     requires board { IsTokenOf board.now.table_id token.old }
     requires turn { HasTurn token.old }

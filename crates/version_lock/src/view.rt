@@ -1,6 +1,7 @@
 //! What the seats of a lock know, and the rule that the lock keeps.
 
 use crate::book::{Basis, Book};
+use crate::shelved::Shelved;
 use atomic_table::{Seat, Shared, Table, TableRule};
 use dn_model::{List, Posted};
 use std::alloc::Global;
@@ -49,7 +50,7 @@ pub struct LockRule<B> {
     book: PhantomData<B>,
 }
 
-impl<B: Book> TableRule<Option<B>, View, Opening<B>> for LockRule<B> {
+impl<B: Book> TableRule<Option<Shelved<B>>, View, Opening<B>> for LockRule<B> {
     ghost use Rattle.version_lock.specs.Rule.{Kept, first_view, setup_of};
 
     ghost holds = { λ opening. Kept B.history B.basis (setup_of B.basis opening) };
@@ -58,10 +59,10 @@ impl<B: Book> TableRule<Option<B>, View, Opening<B>> for LockRule<B> {
 }
 
 /// The table without its memory, as all seats see it.
-pub(crate) type Board<B> = Shared<Option<B>, View, Opening<B>, LockRule<B>>;
+pub(crate) type Board<B> = Shared<Option<Shelved<B>>, View, Opening<B>, LockRule<B>>;
 
 /// The table with its memory.
-pub(crate) type Desk<B> = Table<Option<B>, View, Opening<B>, LockRule<B>, Global>;
+pub(crate) type Desk<B> = Table<Option<Shelved<B>>, View, Opening<B>, LockRule<B>, Global>;
 
 /// A seat at the table.
-pub(crate) type Token<B> = Seat<Option<B>, View>;
+pub(crate) type Token<B> = Seat<Option<Shelved<B>>, View>;

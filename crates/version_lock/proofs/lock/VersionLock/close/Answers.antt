@@ -18,7 +18,8 @@ returns-clause-basis g c =
     let end = closes_by g.B.Book.history g.B.Book.basis s c.args.self.setup c.seat.inside c.args.seat _ _ _ _ c.take-slot.result (ap (λ (l : Lock). l.setup) c.self.view_is)
     c.seat.invariant c.seat.view_is c.into_seat-token.ensures.2 c.close_with-closed.ensures.values.2 c.requires.whole c.take-slot.ensures.value in
     let both = sym c.in-Some.is ∙ end.1 in
-    let same : c.in-Some.book ≡ end.0 = cc (both) in ap g.B.Book.basis same ∙ end.3
+    let held : c.in-Some.book ≡ end.0 = cc (both) in
+    let same : c.into_book.result ≡ end.0 = c.into_book.ensures ∙ held in ap g.B.Book.basis same ∙ end.3
 
 pub returns-clause-history : goal.returns-clause-history
 returns-clause-history g c =
@@ -26,7 +27,8 @@ returns-clause-history g c =
     let end = closes_by g.B.Book.history g.B.Book.basis s c.args.self.setup c.seat.inside c.args.seat _ _ _ _ c.take-slot.result (ap (λ (l : Lock). l.setup) c.self.view_is)
     c.seat.invariant c.seat.view_is c.into_seat-token.ensures.2 c.close_with-closed.ensures.values.2 c.requires.whole c.take-slot.ensures.value in
     let both = sym c.in-Some.is ∙ end.1 in
-    let same : c.in-Some.book ≡ end.0 = cc (both) in ap g.B.Book.history same ∙ end.2
+    let held : c.in-Some.book ≡ end.0 = cc (both) in
+    let same : c.into_book.result ≡ end.0 = c.into_book.ensures ∙ held in ap g.B.Book.history same ∙ end.2
 
 pub returns-clause-own : goal.returns-clause-own
 returns-clause-own g c =
@@ -34,5 +36,6 @@ returns-clause-own g c =
     let end = closes_by g.B.Book.history g.B.Book.basis s c.args.self.setup c.seat.inside c.args.seat _ _ _ _ c.take-slot.result (ap (λ (l : Lock). l.setup) c.self.view_is)
     c.seat.invariant c.seat.view_is c.into_seat-token.ensures.2 c.close_with-closed.ensures.values.2 c.requires.whole c.take-slot.ensures.value in
     let both = sym c.in-Some.is ∙ end.1 in
-    let same : c.in-Some.book ≡ end.0 = cc (both) in
+    let held : c.in-Some.book ≡ end.0 = cc (both) in
+    let same : c.into_book.result ≡ end.0 = c.into_book.ensures ∙ held in
     subst (λ (b : g.row.B.Denot). All (λ p. Contains c.args.seat.used p.seat) (g.B.Book.history b)) (sym same) end.4

@@ -29,7 +29,7 @@ use std::sync::ledger::Ledger;
 /// The cycles of a network with the sets of the addresses that go round them. A contract sees the list of them.
 ///
 /// A copy is one count. A change works in place where nobody else holds the list, and copies it where somebody does:
-/// what a copy holds stays. Where an update makes and breaks no cycle nothing is copied.
+/// what a copy holds stays. Where an update finds no cycle, and changes no router of a kept one, nothing is copied.
 #[derive(Drop)]
 pub struct KeptLoops {
     list: Option<Arc<CycleList, Global>>,

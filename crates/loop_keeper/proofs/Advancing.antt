@@ -98,3 +98,24 @@ advanced-idle f g d found old kept delta find none taken = record {
       (λ (t : is_touched d rs a ≡ false). kept.all rs a b (goes-same f g d rs a delta b t ∙ goes))
       (cases_Bool (is_touched d rs a));
 }
+
+-- ---- networks that do the same at each address
+
+goes-alike : (f g : RouterId → ℕ → Target) (rs : List RouterId) (a : ℕ) → ((r : RouterId) → f r a ≡ g r a) → goes_round f rs a ≡ goes_round g rs a
+goes-alike f g rs a e = cycle-same (at_address f a) (at_address g a) rs (λ r m. e r)
+
+pub kept-alike : (f g : RouterId → ℕ → Target) (kept : List Kept) → ((r : RouterId) (a : ℕ) → a < 2 ^ 32 → f r a ≡ g r a) → AreKept f kept → AreKept g kept
+kept-alike f g kept e h = record {
+  distinct = h.distinct;
+  some = h.some;
+  sound = λ rs a b has. sym (goes-alike f g rs a (λ r. e r a b)) ∙ h.sound rs a b has;
+  all = λ rs a b goes. h.all rs a b (goes-alike f g rs a (λ r. e r a b) ∙ goes);
+}
+
+pub delta-alike : (f g h : RouterId → ℕ → Target) (d : List Change) → ((r : RouterId) (a : ℕ) → a < 2 ^ 32 → g r a ≡ h r a) → IsDelta f g d → IsDelta f h d
+delta-alike f g h d e x = record {
+  form = x.form;
+  exact = λ r a b.
+      let P : Target → Type 0 = λ t. TellsChange (f r a) t (change_at d r a) in
+      subst P (e r a b) (x.exact r a b);
+}

@@ -19,7 +19,7 @@ overflow_add-last g c =
 
 pub returns-clause-found : goal.returns-clause-found
 returns-clause-found g c = on_ok_weaker c.find_between.result
-    (finds-along (g.V.LabelView.width c.args.view.now) (g.V.LabelView.rows c.args.view.now) c.args.change.now c.atom_of-first.result c.atom_of-last.result c.args.found.now.items c.find_between.new.found.items c.routers.ensures.form c.atom_of-first.ensures.inside c.atom_of-last.ensures.inside c.atom_of-first.ensures.from c.atom_of-last.ensures.to)
+    (finds-along (g.V.LabelView.width c.args.view.now) (g.V.LabelView.rows c.args.view.now) c.args.change.now c.atom_of-first.result c.atom_of-last.result c.args.found.now.items c.find_between.new.found.items c.routers.ensures.form c.atom_of-first.ensures.inside c.atom_of-last.ensures.inside (λ d. omega (arith, c.atom_of-first.ensures.from d)) c.atom_of-last.ensures.to)
     c.find_between.ensures.found
 
 pub returns-clause-cost : goal.returns-clause-cost

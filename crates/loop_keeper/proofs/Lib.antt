@@ -1,4 +1,6 @@
 pub mod Advancing
+pub mod Agreeing
+pub mod Crossing
 pub mod Leaving
 pub mod Meeting
 pub mod Parts

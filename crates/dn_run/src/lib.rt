@@ -7,6 +7,8 @@ mod feeds;
 mod files;
 #[cfg(test)]
 mod held_gate;
+#[cfg(test)]
+mod history_tests;
 mod input;
 mod jobs;
 mod laws;

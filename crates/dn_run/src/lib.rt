@@ -7,6 +7,8 @@ mod feeds;
 mod files;
 #[cfg(test)]
 mod held_gate;
+#[cfg(test)]
+mod history_tests;
 mod input;
 mod jobs;
 mod laws;
@@ -21,9 +23,15 @@ mod ruling;
 mod run_tests;
 #[cfg(test)]
 mod script_tests;
+#[cfg(test)]
+mod slow_gate;
 mod status;
 mod stop;
 mod sure;
+#[cfg(test)]
+mod trial;
+#[cfg(test)]
+mod trial_tests;
 mod untaken;
 mod words;
 

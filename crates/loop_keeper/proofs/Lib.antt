@@ -1,5 +1,4 @@
 pub mod Advancing
-pub mod Agreeing
 pub mod Crossing
 pub mod Leaving
 pub mod Meeting

@@ -157,7 +157,7 @@ waypoint-same t f g n m w answer h is =
 
 -- ---- over a history
 
-without-none : (t : Target) → t ≡ without [] t
+pub without-none : (t : Target) → t ≡ without [] t
 without-none targets.NoRoute = refl
 without-none (targets.Dropped kind) = refl
 without-none targets.Local = refl

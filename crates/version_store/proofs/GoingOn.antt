@@ -9,7 +9,8 @@ use Rattle.dn_model.specs.declared.change.Change.{Change}
 use Rattle.dn_model.specs.declared.entry.Entry.{Entry}
 use Rattle.dn_model.specs.declared.entry.Posted.{Posted}
 use Rattle.dn_model.specs.declared.topology.Topology.{Topology}
-use Rattle.version_store.specs.Kept.{IsKeptOf, IsVersionOf}
+use Rattle.version_store.specs.Kept.{IsKeptOf, IsStandingOf, IsVersionOf}
+use Rattle.version_store.specs.declared.standing.Standing.{Standing}
 
 -- the entries of a history with one more
 pub entries-more : (h : List Posted) (p : Posted) → entries (h ++ p ∷ []) ≡ entries h ++ p.entry ∷ []
@@ -31,25 +32,16 @@ pub list-read : (h made new : List Posted) (i : ℕ) (p : Posted) → i < length
 list-read h made new i p inside is so longer =
     longer ∙ ap (λ (g : List Posted). g ++ p ∷ []) so ∙ ap (λ (q : Posted). take i h ++ q ∷ []) is ∙ sym (take_more h i p inside)
 
--- a version goes on by the entry at a place of the history
-pub version-read : (t : Topology) (h : List Posted) (i : ℕ) (p : Posted) (old new : Kept) → i < length h → p ≡ get_or h i p → IsVersionOf t (entries (take i h)) old → new.topology ≡ old.topology →
-    ((es : List Entry) → KeptStandsFor old es → KeptStandsFor new (es ++ p.entry ∷ [])) → IsVersionOf t (entries (take (i + 1) h)) new
-version-read t h i p old new inside is stands same on =
-    let front = take i h in
-    let longer : entries (take (i + 1) h) ≡ entries (take i h) ++ p.entry ∷ [] =
-    ap (λ (g : List Posted). entries g) (take_more h i p inside) ∙ entries-more front (get_or h i p) ∙ ap (λ (q : Posted). entries front ++ q.entry ∷ []) (sym is) in
-    subst (λ (es : List Entry). IsVersionOf t es new) (sym longer) (version-more t (entries front) p.entry old new stands same on)
-
 -- an entry of the network is one of the version's network
 pub entry-of : (t : Topology) (es : List Entry) (old : Kept) (e : Entry) → IsVersionOf t es old → IsEntryOf t e → IsEntryOf old.topology e
 entry-of t es old e is own = let P : Topology → Type 0 = λ s. IsEntryOf s e in subst P (sym is.topology) own
 
 -- what a store keeps goes on by an entry
-pub kept-more : (t : Topology) (limit : ℕ) (h : List Posted) (p : Posted) (old : Option Kept) (version : Kept) (before changes : List Change) → IsKeptOf t limit h old before → length h < limit → IsEntryOf t p.entry →
-    IsVersionOf t (entries h ++ p.entry ∷ []) version → IsDeltaOf t (entries h ++ p.entry ∷ []) changes → IsKeptOf t limit (h ++ p ∷ []) (Some version) changes
-kept-more t limit h p old version before changes kept room own stands delta = record {
+pub kept-more : (t : Topology) (limit : ℕ) (h : List Posted) (p : Posted) (old : Option Standing) (standing : Standing) (before changes : List Change) → IsKeptOf t limit h old before → length h < limit → IsEntryOf t p.entry →
+    IsStandingOf t (entries h ++ p.entry ∷ []) standing → IsDeltaOf t (entries h ++ p.entry ∷ []) changes → IsKeptOf t limit (h ++ p ∷ []) (Some standing) changes
+kept-more t limit h p old standing before changes kept room own stands delta = record {
   few = omega (arith, length-append h (p ∷ []));
   own = All-push (λ (q : Posted). IsEntryOf t q.entry) h p kept.own own;
-  stands = subst (λ (es : List Entry). IsVersionOf t es version) (sym (entries-more h p)) stands;
+  stands = subst (λ (es : List Entry). IsStandingOf t es standing) (sym (entries-more h p)) stands;
   delta = subst (λ (es : List Entry). IsDeltaOf t es changes) (sym (entries-more h p)) delta;
 }

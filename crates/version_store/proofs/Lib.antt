@@ -1,3 +1,4 @@
 pub mod Crossing
 pub mod GoingOn
+pub mod Keeping
 pub mod Playing

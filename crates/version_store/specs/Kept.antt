@@ -3,12 +3,15 @@ use Rattle.std.specs.Prelude.{ℕ, List, [], ◌∷◌, ◌++◌, Option, IfSome
 use Rattle.std.specs.List.{All}
 use Rattle.dn_model.specs.Delta.{IsDeltaOf}
 use Rattle.dn_model.specs.Entry.{IsEntryOf, entries}
+use Rattle.dn_model.specs.Table.{does_after}
 use Rattle.dn_model.specs.Version.{Kept, KeptStandsFor}
 use Rattle.dn_model.specs.declared.change.Change.{Change}
 use Rattle.dn_model.specs.declared.entry.Entry.{Entry}
 use Rattle.dn_model.specs.declared.entry.Posted.{Posted}
 use Rattle.dn_model.specs.declared.topology.Topology.{Topology}
+use Rattle.loop_keeper.specs.Kept.{AreKept}
 use Rattle.version_lock.specs.declared.book.Basis.{Basis}
+use Rattle.version_store.specs.declared.standing.Standing.{Standing}
 
 -- a store: its network and limit, which stay, and the entries that were posted in it
 pub record Ledger : Type 0 where
@@ -41,18 +44,23 @@ pub record IsVersionOf (t : Topology) (history : List Entry) (version : Kept) : 
   pub topology : version.topology ≡ t
   pub stands : KeptStandsFor version history
 
--- What a store keeps of a history that is as long as the limit at most: the version after it, if there is one, and the
+-- what stands after these entries: a version of this network, and all cycles that addresses go round then
+pub record IsStandingOf (t : Topology) (history : List Entry) (standing : Standing) : Type 0 where
+  pub version : IsVersionOf t history standing.version
+  pub loops : AreKept (does_after t history) standing.loops
+
+-- What a store keeps of a history that is as long as the limit at most: what stands after it, if that is there, and the
 -- changes that its last entry made.
-pub record IsKeptOf (t : Topology) (limit : ℕ) (history : List Posted) (version : Option Kept) (changes : List Change) :
+pub record IsKeptOf (t : Topology) (limit : ℕ) (history : List Posted) (standing : Option Standing) (changes : List Change) :
     Type 0 where
   pub few : length history ≤ limit
   pub own : AreOf t history
-  pub stands : IfSome version (IsVersionOf t (entries history))
+  pub stands : IfSome standing (IsStandingOf t (entries history))
   pub delta : IsDeltaOf t (entries history) changes
 
--- what a snapshot keeps of a history of fewer than 2^32 entries: the version after it, and the changes that its last
+-- what a snapshot keeps of a history of fewer than 2^32 entries: what stands after it, and the changes that its last
 -- entry made
-pub record IsPastOf (t : Topology) (history : List Posted) (version : Kept) (changes : List Change) : Type 0 where
+pub record IsPastOf (t : Topology) (history : List Posted) (standing : Standing) (changes : List Change) : Type 0 where
   pub few : length history < 2 ^ 32
-  pub stands : IsVersionOf t (entries history) version
+  pub stands : IsStandingOf t (entries history) standing
   pub delta : IsDeltaOf t (entries history) changes

@@ -1,10 +1,11 @@
-//! A history of route updates with the version of the network after it, which keeps up with every entry, and snapshots
-//! of it, which answer queries over the history as it was, whatever is posted later.
+//! A history of route updates with the version of the network after it and its loops, which keep up with every entry,
+//! and snapshots of it, which answer queries over the history as it was, whatever is posted later.
 #![tactic(auto)]
 
 mod asking;
 mod play;
 mod snapshot;
+mod standing;
 mod store;
 #[cfg(test)]
 mod tests;

@@ -7,12 +7,12 @@ ghost use Rattle.dn_model.specs.Delta.{IsDeltaOf};
 ghost use Rattle.dn_model.specs.Entry.{entries};
 ghost use Rattle.dn_model.specs.Query.{unknown_of};
 ghost use Rattle.version_store.specs.Asked.{IsAskRefusal};
-ghost use Rattle.version_store.specs.Kept.{IsVersionOf};
+ghost use Rattle.version_store.specs.Kept.{IsStandingOf};
 
 use crate::asking::{AskRefused, refusal_of};
+use crate::standing::Standing;
 use delta_graph::Delta;
 use dn_model::{Answer, OutOfMemory, Posted, Query, Topology};
-use net_engine::Version;
 use std::alloc::Global;
 use std::marker::Model;
 use std::sync::Arc;
@@ -21,13 +21,14 @@ use version_pages::Pages;
 /// A snapshot of a network's history: it answers queries over the history as it was, whatever came later. A contract
 /// sees the network and that history.
 ///
-/// It keeps the history, the version after it and the changes that its last entry made. It shares them with the store
-/// that it was taken of, as far as nothing was posted there since, and with other snapshots.
+/// It keeps the history, the version after it, the loops of the network then and the changes that its last entry made.
+/// It shares them with the store that it was taken of, as far as nothing was posted there since, and with other
+/// snapshots.
 #[derive(Drop)]
 pub struct Snapshot {
     topology: Arc<Topology, Global>,
     history: Pages<Posted>,
-    version: Version,
+    standing: Standing,
     changes: Arc<Delta, Global>,
 }
 
@@ -39,19 +40,19 @@ impl Model for Snapshot {
 
     ghost view = { λ s. record { topology = arc_value s.topology; history = s.history } };
 
-    ghost invariant = { λ s. IsPastOf (arc_value s.topology) s.history s.version (arc_value s.changes) };
+    ghost invariant = { λ s. IsPastOf (arc_value s.topology) s.history s.standing (arc_value s.changes) };
 }
 
 impl Snapshot {
-    /// The snapshot of a history, by the version after it and the changes that its last entry made.
+    /// The snapshot of a history, by what stands after it and the changes that its last entry made.
     pub(crate) fn of(
         topology: Arc<Topology, Global>,
         history: Pages<Posted>,
-        version: Version,
+        standing: Standing,
         changes: Arc<Delta, Global>,
     ) -> Snapshot
         requires few { length history < 2 ^ 32 }
-        requires version { IsVersionOf (arc_value topology) (entries history) version }
+        requires standing { IsStandingOf (arc_value topology) (entries history) standing }
         requires changes { IsDeltaOf (arc_value topology) (entries history) (arc_value changes) }
         ensures topology { result.topology ≡ arc_value topology }
         ensures history { result.history ≡ history }
@@ -59,7 +60,7 @@ impl Snapshot {
         Snapshot {
             topology,
             history,
-            version,
+            standing,
             changes,
         }
     }
@@ -82,7 +83,7 @@ impl Snapshot {
             return Err(refusal_of(unknown));
         }
         let changes = self.changes.changes();
-        match row_answers::answer(alloc, &self.topology, &self.version, changes, query) {
+        match self.standing.answer(alloc, &self.topology, changes, query) {
             Ok(answer) => Ok(answer),
             Err(OutOfMemory) => Err(AskRefused::OutOfMemory),
         }

@@ -1,4 +1,4 @@
-//! The book of a version lock: a history, and the version after it.
+//! The book of a version lock: a history, and what stands after it.
 
 ghost use Rattle.std.specs.Prelude.{◌≡◌, ◌<◌, ◌≤◌, ◌++◌, ◌∷◌, [], All, IfOk, IfErr, OnOk, OnErr, length};
 ghost use Rattle.std.specs.Arc.{arc_value};
@@ -8,28 +8,30 @@ ghost use Rattle.version_store.specs.Kept.{AreOf};
 
 use crate::play::{Event, play_one};
 use crate::snapshot::Snapshot;
-use crate::versions::{next_version, own_version};
+use crate::standing::Standing;
+use crate::versions::{next_standing, own_standing};
 use delta_graph::Delta;
 use dn_model::{Entry, List, OutOfMemory, Posted, Topology};
-use net_engine::Version;
 use std::alloc::Global;
 use std::marker::Model;
 use std::sync::Arc;
 use version_lock::{Book, PostRefused};
 use version_pages::Pages;
 
-/// A history of a network's entries, with the version after it and the changes that its last entry made. A contract
-/// sees the basis, that is the network and how many entries it takes at most, and the history.
+/// A history of a network's entries, with the version after it, the loops of the network then and the changes that its
+/// last entry made. A contract sees the basis, that is the network and how many entries it takes at most, and the
+/// history.
 ///
-/// A post changes the version in its own place. Where it finds no memory half way, the history is as before and the
-/// version is gone: it is made again, update by update, at the next post, and by each snapshot for itself until then.
+/// A post changes the version and the loops in their own place. Where it finds no memory half way, the history is as
+/// before and both are gone: they are made again, update by update, at the next post, and by each snapshot for itself
+/// until then.
 #[derive(Drop)]
 pub struct Store {
     alloc: Global,
     topology: Arc<Topology, Global>,
     limit: u32,
     history: Pages<Posted>,
-    version: Option<Version>,
+    standing: Option<Standing>,
     changes: Arc<Delta, Global>,
 }
 
@@ -44,7 +46,7 @@ impl Model for Store {
       history = s.history;
     } };
 
-    ghost invariant = { λ s. IsKeptOf (arc_value s.topology) s.limit s.history s.version (arc_value s.changes) };
+    ghost invariant = { λ s. IsKeptOf (arc_value s.topology) s.limit s.history s.standing (arc_value s.changes) };
 }
 
 impl Store {
@@ -58,14 +60,14 @@ impl Store {
         ensures basis { IfOk result (λ store. store.basis ≡ record { topology = arc_value topology; limit = limit }) }
         ensures empty { IfOk result (λ store. store.history ≡ []) }
     {
-        let version = Version::empty(alloc, Arc::try_clone(&topology)?)?;
+        let standing = Standing::empty(alloc, Arc::try_clone(&topology)?)?;
         let changes = Arc::new(alloc, Delta::new(alloc))?;
         Ok(Store {
             alloc,
             topology,
             limit,
             history: Pages::new(),
-            version: Some(version),
+            standing: Some(standing),
             changes,
         })
     }
@@ -130,8 +132,8 @@ impl Store {
         ensures number { IfOk result (λ n. n ≡ length self.new.history) }
         ensures err { OnErr result (self.new.history ≡ self.old.history) }
     {
-        let taken = self.version.take();
-        let (version, changes) = next_version(
+        let taken = self.standing.take();
+        let (standing, changes) = next_standing(
             self.alloc,
             &self.topology,
             &self.history,
@@ -143,7 +145,7 @@ impl Store {
             entry: *entry,
         };
         self.history.push(self.alloc, posted)?;
-        self.version = Some(version);
+        self.standing = Some(standing);
         self.changes = changes;
         Ok(self.history.len() as u32)
     }
@@ -172,11 +174,11 @@ impl Book for Store {
     }
 
     fn snap(&self) -> Result<Snapshot, OutOfMemory> {
-        let version = own_version(self.alloc, &self.topology, &self.history, &self.version)?;
+        let standing = own_standing(self.alloc, &self.topology, &self.history, &self.standing)?;
         let topology = Arc::try_clone(&self.topology)?;
         let history = self.history.copy()?;
         let changes = Arc::try_clone(&self.changes)?;
         prove!(self.history.len() <= self.limit as u64);
-        Ok(Snapshot::of(topology, history, version, changes))
+        Ok(Snapshot::of(topology, history, standing, changes))
     }
 }

@@ -9,8 +9,8 @@ ghost use Rattle.dn_model.specs.declared.topology.Topology.{Topology as Topology
 
 use super::{AskRefused, Event, Snapshot, Store};
 use dn_model::{
-    Answer, Ask, Change, DropKind, Entry, LinkId, List, Name, Op, OutOfMemory, Prefix, Query,
-    RouterId, Run, Target, TopoEnd, TopoLink, Topology, plain_answer,
+    Answer, Ask, Change, Cycle, DropKind, Entry, LinkId, List, Name, Op, OutOfMemory, Prefix,
+    Query, RouterId, Run, Target, TopoEnd, TopoLink, Topology, plain_answer,
 };
 use std::alloc::Global;
 use std::process::Abort;
@@ -19,6 +19,9 @@ use version_lock::{Book, PostRefused};
 
 /// From r1 to r2 over the link a.
 const TO_SECOND: Target = Target::To(RouterId(1), LinkId(0));
+
+/// From r2 back to r1 over the link a.
+const TO_FIRST: Target = Target::To(RouterId(0), LinkId(0));
 
 /// A link between interfaces of two routers.
 fn link(
@@ -173,6 +176,20 @@ fn clearing() -> Entry
     clear(0, ten())
 }
 
+/// r2 sends 10.0.0.0/8 back to r1.
+fn back() -> Entry
+    ensures { (t : TopologyIs) → length t.routers ≡ 3 → length t.links ≡ 2 → IsEntryOf t result }
+{
+    set(1, ten(), 10, TO_FIRST)
+}
+
+/// Updates of which the second makes a cycle, and the third breaks it.
+fn round_and_out() -> [Entry; 3]
+    ensures { (t : TopologyIs) → length t.routers ≡ 3 → length t.links ≡ 2 → All (IsEntryOf t) result }
+{
+    [to_second(), back(), own()]
+}
+
 /// All five updates, in the order in which they are posted.
 fn all_five() -> [Entry; 5]
     ensures { (t : TopologyIs) → length t.routers ≡ 3 → length t.links ≡ 2 → All (IsEntryOf t) result }
@@ -190,8 +207,8 @@ fn post(store: &mut Store, entry: Entry) -> Result<u32, PostRefused>
     store.post(7, &entry)
 }
 
-/// What is asked of a snapshot, by number: a path, which addresses come to r2, the changes of the last entry, and which
-/// addresses come to r2 with the link a down.
+/// What is asked of a snapshot, by number: a path, which addresses come to r2, the changes of the last entry, the loops,
+/// and which addresses come to r2 with the link a down.
 fn question(alloc: Global, number: u32) -> Result<Query, OutOfMemory> {
     let first = Name::from_text(alloc, b"r1")?;
     let second = Name::from_text(alloc, b"r2")?;
@@ -199,6 +216,7 @@ fn question(alloc: Global, number: u32) -> Result<Query, OutOfMemory> {
         0 => Ok(Query::of(alloc, Ask::Path(first, 0x0A01_0203))),
         1 => Ok(Query::of(alloc, Ask::Reach(first, second))),
         2 => Ok(Query::of(alloc, Ask::Delta)),
+        3 => Ok(Query::of(alloc, Ask::Loops)),
         _ => {
             let mut without = List::new(alloc);
             without.push(Name::from_text(alloc, b"a")?)?;
@@ -231,11 +249,42 @@ fn changes_of(answer: &Answer) -> &[Change] {
     }
 }
 
+/// The cycles; none where the answer is another.
+fn cycles_of(answer: &Answer) -> &[Cycle] {
+    match answer {
+        Answer::Loops(cycles) => cycles.as_slice(),
+        _ => &[],
+    }
+}
+
+/// The routers of the first of some cycles.
+fn first_routers(cycles: &[Cycle]) -> &[RouterId] {
+    match cycles {
+        [] => &[],
+        [first, ..] => first.routers.as_slice(),
+    }
+}
+
+/// How many cycles there are, and the addresses of the first: the least, and how many they are.
+fn first_addresses(cycles: &[Cycle]) -> (usize, u32, u64) {
+    match cycles {
+        [] => (0, 0, 0),
+        [first, ..] => (cycles.len(), first.least, first.addresses),
+    }
+}
+
+/// As many cycles, of which the first are the same. In this network there is one at most.
+fn compare_loops(rt: &impl Abort, x: &[Cycle], y: &[Cycle]) {
+    assert_eq!(rt; first_routers(x), first_routers(y));
+    assert_eq!(rt; first_addresses(x), first_addresses(y));
+}
+
 /// Two answers of one kind are the same.
 fn compare_answers(rt: &impl Abort, x: &Answer, y: &Answer) {
     assert_eq!(rt; hops_of(x), hops_of(y));
     assert_eq!(rt; runs_of(x), runs_of(y));
     assert_eq!(rt; changes_of(x), changes_of(y));
+    compare_loops(rt, cycles_of(x), cycles_of(y));
 }
 
 /// The plain evaluator's answer over these entries.
@@ -252,7 +301,7 @@ fn compare(rt: &impl Abort, alloc: Global, snapshot: &Snapshot, entries: &[Entry
     requires { (t : TopologyIs) → length t.routers ≡ 3 → length t.links ≡ 2 → All (IsEntryOf t) entries.now }
 {
     assert_eq!(rt; snapshot.number() as usize, entries.len());
-    for number in 0..4 {
+    for number in 0..5 {
         let query = question(alloc, number).expect(rt, "memory");
         let answer = snapshot.answer(alloc, &query).expect(rt, "an answer");
         let plain = plain(rt, alloc, entries, &query);
@@ -300,6 +349,29 @@ fn a_held_snapshot_stays(rt: HostRuntime) {
     compare(&rt, rt.alloc(), &held, &[to_second(), leaving()]);
     let now = store.snap().expect(&rt, "memory");
     compare(&rt, rt.alloc(), &now, &all_five());
+}
+
+/// How many cycles a snapshot tells.
+fn count_loops(rt: &impl Abort, alloc: Global, snapshot: &Snapshot) -> usize {
+    let query = Query::of(alloc, Ask::Loops);
+    let answer = snapshot.answer(alloc, &query).expect(rt, "an answer");
+    cycles_of(&answer).len()
+}
+
+/// A cycle comes, is held, and breaks.
+#[test]
+fn a_held_snapshot_keeps_its_loops(rt: HostRuntime) {
+    let mut store = store_of(rt.alloc(), 10).expect(&rt, "memory");
+    let _ = post(&mut store, to_second());
+    let before = store.snap().expect(&rt, "memory");
+    let _ = post(&mut store, back());
+    let held = store.snap().expect(&rt, "memory");
+    let _ = post(&mut store, own());
+    assert_eq!(rt; count_loops(&rt, rt.alloc(), &before), 0);
+    assert_eq!(rt; count_loops(&rt, rt.alloc(), &held), 1);
+    compare(&rt, rt.alloc(), &held, &[to_second(), back()]);
+    let now = store.snap().expect(&rt, "memory");
+    compare(&rt, rt.alloc(), &now, &round_and_out());
 }
 
 #[test]

@@ -1,90 +1,90 @@
-//! Versions of a network after a history of its entries.
+//! What stands after a history of a network's entries.
 
 ghost use Rattle.std.specs.Prelude.{◌≡◌, IfOk, IfSome};
 ghost use Rattle.std.specs.Arc.{arc_value};
 ghost use Rattle.dn_model.specs.Delta.{IsDeltaOf};
 ghost use Rattle.dn_model.specs.Entry.{IsEntryOf, entries};
-ghost use Rattle.version_store.specs.Kept.{AreOf, IsVersionOf, entries_with};
+ghost use Rattle.version_store.specs.Kept.{AreOf, IsStandingOf, entries_with};
 
+use crate::standing::Standing;
 use delta_graph::Delta;
 use dn_model::{Entry, OutOfMemory, Posted, Topology};
-use net_engine::Version;
 use std::alloc::Global;
 use std::sync::Arc;
 use version_pages::Pages;
 
-/// The version after a history, made update by update. It fails for want of memory alone.
-fn made_version(
+/// What stands after a history, made update by update. It fails for want of memory alone.
+fn made_standing(
     alloc: Global,
     topology: &Arc<Topology, Global>,
     history: &Pages<Posted>,
-) -> Result<Version, OutOfMemory>
+) -> Result<Standing, OutOfMemory>
     requires { AreOf (arc_value topology.now) history.now }
-    ensures { IfOk result (IsVersionOf (arc_value topology.now) (entries history.now)) }
+    ensures { IfOk result (IsStandingOf (arc_value topology.now) (entries history.now)) }
 {
-    let mut version = Version::empty(alloc, Arc::try_clone(topology)?)?;
+    let mut standing = Standing::empty(alloc, Arc::try_clone(topology)?)?;
     for i in 0..history.len() {
         let Some(posted) = history.get(i) else {
             unreachable!()
         };
-        let (next, _) = version.advance(alloc, &posted.entry)?;
-        version = next;
+        let (next, _) = standing.advance(alloc, &posted.entry)?;
+        standing = next;
     }
-    Ok(version)
+    Ok(standing)
 }
 
-/// The version after a history: the one that there is, or one made update by update. It fails for want of memory alone.
-fn some_version(
+/// What stands after a history: what there is, or made update by update. It fails for want of memory alone.
+fn some_standing(
     alloc: Global,
     topology: &Arc<Topology, Global>,
     history: &Pages<Posted>,
-    version: Option<Version>,
-) -> Result<Version, OutOfMemory>
+    standing: Option<Standing>,
+) -> Result<Standing, OutOfMemory>
     requires own { AreOf (arc_value topology.now) history.now }
-    requires version { IfSome version (IsVersionOf (arc_value topology.now) (entries history.now)) }
-    ensures { IfOk result (IsVersionOf (arc_value topology.now) (entries history.now)) }
+    requires standing { IfSome standing (IsStandingOf (arc_value topology.now) (entries history.now)) }
+    ensures { IfOk result (IsStandingOf (arc_value topology.now) (entries history.now)) }
 {
-    match version {
-        Some(version) => Ok(version),
-        None => made_version(alloc, topology, history),
+    match standing {
+        Some(standing) => Ok(standing),
+        None => made_standing(alloc, topology, history),
     }
 }
 
-/// The version after a history and one more entry, and the changes that this entry makes. The version that there is
-/// goes on in its own place; at `OutOfMemory`, for which alone it fails, it is dropped.
-pub(crate) fn next_version(
+/// What stands after a history and one more entry, and the changes that this entry makes. What there is goes on in its
+/// own place; at `OutOfMemory`, for which alone it fails, it is dropped.
+pub(crate) fn next_standing(
     alloc: Global,
     topology: &Arc<Topology, Global>,
     history: &Pages<Posted>,
-    version: Option<Version>,
+    standing: Option<Standing>,
     entry: &Entry,
-) -> Result<(Version, Arc<Delta, Global>), OutOfMemory>
+) -> Result<(Standing, Arc<Delta, Global>), OutOfMemory>
     requires own { AreOf (arc_value topology.now) history.now }
-    requires version { IfSome version (IsVersionOf (arc_value topology.now) (entries history.now)) }
+    requires standing { IfSome standing (IsStandingOf (arc_value topology.now) (entries history.now)) }
     requires entry { IsEntryOf (arc_value topology.now) entry.now }
-    ensures version { IfOk result (λ made. IsVersionOf (arc_value topology.now) (entries_with history.now entry.now) made.0) }
+    ensures standing { IfOk result (λ made. IsStandingOf (arc_value topology.now) (entries_with history.now entry.now) made.0) }
     ensures changes { IfOk result (λ made. IsDeltaOf (arc_value topology.now) (entries_with history.now entry.now) (arc_value made.1)) }
 {
-    let standing = some_version(alloc, topology, history, version)?;
+    let standing = some_standing(alloc, topology, history, standing)?;
     let (next, delta) = standing.advance(alloc, entry)?;
     let changes = Arc::new(alloc, delta)?;
     Ok((next, changes))
 }
 
-/// The version after a history, which the caller owns: a copy of the one that there is, or one made update by update.
-/// It fails for want of memory alone.
-pub(crate) fn own_version(
+/// What stands after a history, which the caller owns: a copy of what there is, or made update by update. It fails for
+/// want of memory alone.
+pub(crate) fn own_standing(
     alloc: Global,
     topology: &Arc<Topology, Global>,
     history: &Pages<Posted>,
-    version: &Option<Version>,
-) -> Result<Version, OutOfMemory>
+    standing: &Option<Standing>,
+) -> Result<Standing, OutOfMemory>
     requires own { AreOf (arc_value topology.now) history.now }
-    requires version { IfSome version.now (IsVersionOf (arc_value topology.now) (entries history.now)) }
-    ensures { IfOk result (IsVersionOf (arc_value topology.now) (entries history.now)) }
+    requires standing { IfSome standing.now (IsStandingOf (arc_value topology.now) (entries history.now)) }
+    ensures { IfOk result (IsStandingOf (arc_value topology.now) (entries history.now)) }
 {
-    match version {
-        Some(version) => version.copy(alloc),
-        None => made_version(alloc, topology, history),
+    match standing {
+        Some(standing) => standing.copy(alloc),
+        None => made_standing(alloc, topology, history),
     }
 }

@@ -1,9 +1,0 @@
-use Rattle.std.proofs.Common.{take}
-use Rattle.std.specs.Arc.{arc_value}
-use Rattle.dn_model.specs.Entry.{entries}
-use Rattle.version_store.specs.Kept.{IsVersionOf}
-use Rattle.version_store.proofs.versions.made_version.Given as goal
-
--- the version is that after the entries so far
-abbrev pub invariant-loop-i : goal.invariant-loop-i
-invariant-loop-i l = IsVersionOf (arc_value l.topology) (entries (take l.i l.history)) l.version

@@ -1,6 +1,6 @@
 //! All black holes of a router's walks.
 
-ghost use Rattle.std.specs.Prelude.{◌≡◌, ◌<◌, IfOk};
+ghost use Rattle.std.specs.Prelude.{◌≡◌, ◌+◌, ◌*◌, ◌<◌, ◌≤◌, IfOk, length};
 ghost use Rattle.dn_model.specs.Forwarding.{does};
 ghost use Rattle.dn_model.specs.Holes.{AreHoles};
 ghost use Rattle.blackhole.specs.Gathering.{AreHolesOf};
@@ -11,6 +11,8 @@ use crate::row_fall::row_fall;
 use dn_model::{Hole, List, OutOfMemory, RouterId};
 use label_view::LabelView;
 use std::alloc::Global;
+use std::sync::ledger::Ledger;
+use step_count::Steps;
 
 /// The holes of what was gathered, in the same order.
 fn holes_of(alloc: Global, falls: Vec<Fall>) -> Result<List<Hole>, OutOfMemory>
@@ -36,18 +38,20 @@ fn holes_of(alloc: Global, falls: Vec<Fall>) -> Result<List<Hole>, OutOfMemory>
 /// The addresses whose walks from a router end without a way on: for each last router and cause (`NoRoute`, `Dropped`
 /// or `LinkDown`) that has any, their runs; by router, then by cause in the order in which causes are told. A walk that
 /// goes round ends nowhere. Each row is followed once, and only as far as it goes: at most as many looks as there are
-/// routers. Its hole is found among those so far by halves, and touching rows of one hole become one run at once.
-pub fn blackholes<V: LabelView>(
+/// routers, so at most as many as rows times routers. Its hole is found among those so far by halves, and touching rows of one hole become one run at once.
+pub fn blackholes<V: LabelView, L: Ledger>(
     alloc: Global,
     view: &V,
     first: RouterId,
+    steps: &mut Steps<L>,
 ) -> Result<List<Hole>, OutOfMemory>
     requires { first.0 < V.width view.now }
-    ensures { IfOk result (λ holes. AreHoles (V.width view.now) (does (V.rows view.now)) first holes) }
+    ensures holes { IfOk result (λ holes. AreHoles (V.width view.now) (does (V.rows view.now)) first holes) }
+    ensures cost { steps.new ≤ steps.old + length (V.rows view.now) * V.width view.now }
 {
     let mut falls = Vec::new(alloc);
     for i in 0..view.atoms() {
-        let end = row_fall(view, i, first);
+        let end = row_fall(view, i, first, steps);
         add_row(alloc, &mut falls, view, i, end)?;
     }
     holes_of(alloc, falls)

@@ -1,6 +1,6 @@
 //! Where the addresses of one row end without a way on.
 
-ghost use Rattle.std.specs.Prelude.{◌≡◌, ℕ, true, ◌<◌, IfSome, length};
+ghost use Rattle.std.specs.Prelude.{◌≡◌, ℕ, true, ◌+◌, ◌<◌, ◌≤◌, IfSome, length};
 ghost use Rattle.dn_model.specs.Forwarding.{does};
 ghost use Rattle.dn_model.specs.Holes.{falls, is_cause};
 ghost use Rattle.dn_model.specs.declared.ids.RouterId.{RouterId as RouterIs};
@@ -10,6 +10,8 @@ ghost use Rattle.blackhole.specs.Falls.{fall_of, is_fall};
 
 use dn_model::{RouterId, Target};
 use label_view::LabelView;
+use std::sync::ledger::Ledger;
+use step_count::Steps;
 
 /// The last router of a walk and what it does, if that is a cause.
 fn fall_at(router: RouterId, target: Target) -> Option<(RouterId, Target)>
@@ -23,17 +25,24 @@ fn fall_at(router: RouterId, target: Target) -> Option<(RouterId, Target)>
 }
 
 /// The last router, and the cause, of the walks from a router of the addresses of the row at a place, if they end
-/// without a way on.
-pub fn row_fall<V: LabelView>(view: &V, i: u64, first: RouterId) -> Option<(RouterId, Target)>
+/// without a way on. It takes at most as many looks as there are routers.
+pub fn row_fall<V: LabelView, L: Ledger>(
+    view: &V,
+    i: u64,
+    first: RouterId,
+    steps: &mut Steps<L>,
+) -> Option<(RouterId, Target)>
     requires router { first.0 < V.width view.now }
     requires place { i < length (V.rows view.now) }
     ensures cause { IfSome result (λ end. is_cause end.1 ≡ true) }
     ensures falls { (last : RouterIs) (cause : TargetIs) (a : ℕ) → IsInRow (V.rows view.now) i a →
         is_fall result last cause ≡ falls (V.width view.now) (does (V.rows view.now)) first last cause a }
+    ensures cost { steps.new ≤ steps.old + V.width view.now }
 {
     let mut router = first;
     let mut left = view.routers();
     while left > 0 {
+        steps.tick();
         match view.target(router, i) {
             Target::To(far, _) => router = far,
             last => return fall_at(router, last),

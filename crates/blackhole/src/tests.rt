@@ -6,7 +6,11 @@ use super::blackholes;
 use dn_model::{DropKind, ForwardingRow, Hole, LinkId, List, OutOfMemory, RouterId, Run, Target};
 use label_view::{LabelView, ListView};
 use std::alloc::Global;
+use std::marker::Brand;
+use std::process::Abort;
+use std::sync::ledger::{Blank, Ledger};
 use std::test::Fail;
+use step_count::Steps;
 
 const FIRST: RouterId = RouterId(0);
 
@@ -83,14 +87,15 @@ fn line(alloc: Global) -> Result<ListView, OutOfMemory>
 }
 
 /// Asks by the bound alone.
-fn holes_by<V: LabelView>(
+fn holes_by<V: LabelView, L: Ledger>(
     alloc: Global,
     view: &V,
     first: RouterId,
+    steps: &mut Steps<L>,
 ) -> Result<List<Hole>, OutOfMemory>
     requires { first.0 < V.width view.now }
 {
-    blackholes(alloc, view, first)
+    blackholes(alloc, view, first, steps)
 }
 
 /// Whether the hole at a place is this one.
@@ -109,10 +114,14 @@ fn is_hole(
     }
 }
 
-#[test]
-fn holes_come_by_router_then_cause(rt: HostRuntime) -> Result<(), Fail> {
-    let view = line(rt.alloc())?;
-    let holes = holes_by(rt.alloc(), &view, FIRST)?;
+fn holes_of_a_line<L: Ledger>(rt: &impl Abort, alloc: Global, blank: Blank) -> Result<(), Fail>
+    requires name { blank.name ≡ L.name }
+    requires parts { blank.parts ≡ L.parts }
+    requires some { 0 < blank.parts }
+{
+    let mut steps = Steps::<L>::new(blank);
+    let view = line(alloc)?;
+    let holes = holes_by(alloc, &view, FIRST, &mut steps)?;
     let silent = Target::Dropped(DropKind::Blackhole);
     let refused = Target::Dropped(DropKind::Unreachable);
     let down = Target::LinkDown(LinkId(2));
@@ -140,10 +149,14 @@ fn holes_come_by_router_then_cause(rt: HostRuntime) -> Result<(), Fail> {
     Ok(())
 }
 
-#[test]
-fn walks_from_the_last_router_have_holes_of_their_own(rt: HostRuntime) -> Result<(), Fail> {
-    let view = line(rt.alloc())?;
-    let holes = blackholes(rt.alloc(), &view, THIRD)?;
+fn holes_of_the_last<L: Ledger>(rt: &impl Abort, alloc: Global, blank: Blank) -> Result<(), Fail>
+    requires name { blank.name ≡ L.name }
+    requires parts { blank.parts ≡ L.parts }
+    requires some { 0 < blank.parts }
+{
+    let mut steps = Steps::<L>::new(blank);
+    let view = line(alloc)?;
+    let holes = blackholes(alloc, &view, THIRD, &mut steps)?;
     assert_eq!(rt; holes.len(), 2);
     assert!(rt;
         is_hole(
@@ -164,4 +177,14 @@ fn walks_from_the_last_router_have_holes_of_their_own(rt: HostRuntime) -> Result
         )
     );
     Ok(())
+}
+
+#[test]
+fn holes_come_by_router_then_cause(rt: HostRuntime) -> Result<(), Fail> {
+    holes_of_a_line::<Brand>(&rt, rt.alloc(), Blank::new(1))
+}
+
+#[test]
+fn walks_from_the_last_router_have_holes_of_their_own(rt: HostRuntime) -> Result<(), Fail> {
+    holes_of_the_last::<Brand>(&rt, rt.alloc(), Blank::new(1))
 }

@@ -8,11 +8,11 @@ ghost use Rattle.loop_keeper.specs.Looks.{rows_met};
 
 use crate::following::{follow, turned};
 use crate::found::Found;
-use crate::steps::Steps;
 use dn_model::{Change, OutOfMemory, RouterId};
 use label_view::LabelView;
 use std::alloc::Global;
 use std::sync::ledger::Ledger;
+use step_count::Steps;
 
 /// Finds the cycle of the row at a place that has a router, if there is one.
 fn find_at<V: LabelView, L: Ledger>(

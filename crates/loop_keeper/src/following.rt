@@ -6,11 +6,11 @@ ghost use Rattle.dn_model.specs.declared.forwarding_row.ForwardingRow.{Forwardin
 ghost use Rattle.dn_model.specs.declared.ids.RouterId.{RouterId as Router};
 ghost use Rattle.loop_keeper.specs.Following.{IsFollowed, IsTurned};
 
-use crate::steps::Steps;
 use dn_model::{List, OutOfMemory, RouterId, Target};
 use label_view::LabelView;
 use std::alloc::Global;
 use std::sync::ledger::Ledger;
+use step_count::Steps;
 
 /// Follows the row at a place from a router on until it comes back to that router, or ends. The routers passed are left
 /// in `path`. It makes as many hops as there are routers at most, and each is one look.

@@ -16,7 +16,6 @@ use crate::editing::{leave_empty_out, put_all_in, take_all_out};
 use crate::finding::find_all;
 use crate::found::Found;
 use crate::kept_cycle::KeptCycle;
-use crate::steps::Steps;
 use crate::telling::cycles_of;
 use delta_graph::Delta;
 use dn_model::{Change, Cycle, List, OutOfMemory};
@@ -25,6 +24,7 @@ use std::alloc::Global;
 use std::marker::Model;
 use std::sync::Arc;
 use std::sync::ledger::Ledger;
+use step_count::Steps;
 
 /// The cycles of a network with the sets of the addresses that go round them. A contract sees the list of them.
 ///

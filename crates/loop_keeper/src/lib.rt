@@ -10,10 +10,8 @@ mod found;
 mod kept_cycle;
 mod kept_loops;
 mod number_set;
-mod steps;
 mod telling;
 #[cfg(test)]
 mod tests;
 
 pub use kept_loops::KeptLoops;
-pub use steps::Steps;

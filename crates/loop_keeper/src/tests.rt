@@ -3,7 +3,7 @@
 ghost use Rattle.std.specs.Prelude.{◌≡◌, ◌<◌, All};
 ghost use Rattle.dn_model.specs.Forwarding.{IsForwarding};
 
-use super::{KeptLoops, Steps};
+use super::KeptLoops;
 use delta_graph::Delta;
 use dn_model::{Change, ForwardingRow, LinkId, List, RouterId, Run, Target};
 use label_view::{LabelView, ListView};
@@ -11,6 +11,7 @@ use std::alloc::Global;
 use std::marker::Brand;
 use std::process::Abort;
 use std::sync::ledger::{Blank, Ledger};
+use step_count::Steps;
 
 const FIRST: RouterId = RouterId(0);
 

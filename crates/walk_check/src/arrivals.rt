@@ -1,6 +1,6 @@
 //! Which addresses come to a router.
 
-ghost use Rattle.std.specs.Prelude.{◌≡◌, ℕ, ◌<◌, IfOk, length};
+ghost use Rattle.std.specs.Prelude.{◌≡◌, ℕ, ◌+◌, ◌*◌, ◌<◌, ◌≤◌, IfOk, length};
 ghost use Rattle.dn_model.specs.Forwarding.{does};
 ghost use Rattle.dn_model.specs.Reach.{reaches};
 ghost use Rattle.dn_model.specs.Runs.{AreRuns};
@@ -10,12 +10,21 @@ use dn_model::{List, OutOfMemory, RouterId, Run, Target};
 use label_view::LabelView;
 use label_view::runs::RunList;
 use std::alloc::Global;
+use std::sync::ledger::Ledger;
+use step_count::Steps;
 
 /// Whether the addresses of the row at a place come from a router to another, or to the same one at once.
-fn row_reaches<V: LabelView>(view: &V, i: u64, first: RouterId, to: RouterId) -> bool
+fn row_reaches<V: LabelView, L: Ledger>(
+    view: &V,
+    i: u64,
+    first: RouterId,
+    to: RouterId,
+    steps: &mut Steps<L>,
+) -> bool
     requires router { first.0 < V.width view.now }
     requires place { i < length (V.rows view.now) }
-    ensures { (a : ℕ) → IsInRow (V.rows view.now) i a → result ≡ reaches (V.width view.now) (does (V.rows view.now)) first to a }
+    ensures reaches { (a : ℕ) → IsInRow (V.rows view.now) i a → result ≡ reaches (V.width view.now) (does (V.rows view.now)) first to a }
+    ensures cost { steps.new ≤ steps.old + V.width view.now }
 {
     let mut router = first;
     let mut left = view.routers();
@@ -23,6 +32,7 @@ fn row_reaches<V: LabelView>(view: &V, i: u64, first: RouterId, to: RouterId) ->
         if router.0 == to.0 {
             return true;
         }
+        steps.tick();
         match view.target(router, i) {
             Target::To(far, _) => router = far,
             _ => return false,
@@ -33,19 +43,22 @@ fn row_reaches<V: LabelView>(view: &V, i: u64, first: RouterId, to: RouterId) ->
 }
 
 /// The runs of the addresses whose walk from a router meets another, in order, no two touching. The first router is met
-/// at once. Each row is looked at once, and followed only as far as it goes.
-pub fn reach<V: LabelView>(
+/// at once. Each row is followed once, and only as far as it goes: at most as many looks as there are routers, so at
+/// most as many as rows times routers.
+pub fn reach<V: LabelView, L: Ledger>(
     alloc: Global,
     view: &V,
     first: RouterId,
     to: RouterId,
+    steps: &mut Steps<L>,
 ) -> Result<List<Run>, OutOfMemory>
     requires { first.0 < V.width view.now }
-    ensures { IfOk result (λ runs. AreRuns runs (reaches (V.width view.now) (does (V.rows view.now)) first to)) }
+    ensures runs { IfOk result (λ runs. AreRuns runs (reaches (V.width view.now) (does (V.rows view.now)) first to)) }
+    ensures cost { steps.new ≤ steps.old + length (V.rows view.now) * V.width view.now }
 {
     let mut runs = RunList::new(alloc);
     for i in 0..view.atoms() {
-        let passes = row_reaches(view, i, first, to);
+        let passes = row_reaches(view, i, first, to, steps);
         runs.push_row_if(view, i, passes)?;
     }
     Ok(runs.finish()?)

@@ -1,6 +1,6 @@
 //! Addresses that miss a waypoint.
 
-ghost use Rattle.std.specs.Prelude.{◌≡◌, ℕ, ◌<◌, IfOk, length};
+ghost use Rattle.std.specs.Prelude.{◌≡◌, ℕ, ◌+◌, ◌*◌, ◌<◌, ◌≤◌, IfOk, length};
 ghost use Rattle.dn_model.specs.Forwarding.{does};
 ghost use Rattle.dn_model.specs.Reach.{misses};
 ghost use Rattle.dn_model.specs.Runs.{AreRuns};
@@ -10,18 +10,22 @@ use dn_model::{List, OutOfMemory, RouterId, Run, Target};
 use label_view::LabelView;
 use label_view::runs::RunList;
 use std::alloc::Global;
+use std::sync::ledger::Ledger;
+use step_count::Steps;
 
 /// Whether the addresses of the row at a place come from a router to another without having met the waypoint.
-fn row_misses<V: LabelView>(
+fn row_misses<V: LabelView, L: Ledger>(
     view: &V,
     i: u64,
     first: RouterId,
     to: RouterId,
     through: RouterId,
+    steps: &mut Steps<L>,
 ) -> bool
     requires router { first.0 < V.width view.now }
     requires place { i < length (V.rows view.now) }
-    ensures { (a : ℕ) → IsInRow (V.rows view.now) i a → result ≡ misses (V.width view.now) (does (V.rows view.now)) first to through a }
+    ensures misses { (a : ℕ) → IsInRow (V.rows view.now) i a → result ≡ misses (V.width view.now) (does (V.rows view.now)) first to through a }
+    ensures cost { steps.new ≤ steps.old + V.width view.now }
 {
     let mut router = first;
     let mut left = view.routers();
@@ -32,6 +36,7 @@ fn row_misses<V: LabelView>(
         if router.0 == to.0 {
             return true;
         }
+        steps.tick();
         match view.target(router, i) {
             Target::To(far, _) => router = far,
             _ => return false,
@@ -46,20 +51,23 @@ fn row_misses<V: LabelView>(
 
 /// The runs of the addresses whose walk from a router meets the router `to`, and doesn't meet the waypoint `through`
 /// before it or there; in order, no two touching. There are none where the waypoint is either router. What a walk meets
-/// after `to` doesn't count. Each row is looked at once, and followed only as far as it goes.
-pub fn waypoint<V: LabelView>(
+/// after `to` doesn't count. Each row is followed once, and only as far as it goes: at most as many looks as there are
+/// routers, so at most as many as rows times routers.
+pub fn waypoint<V: LabelView, L: Ledger>(
     alloc: Global,
     view: &V,
     first: RouterId,
     to: RouterId,
     through: RouterId,
+    steps: &mut Steps<L>,
 ) -> Result<List<Run>, OutOfMemory>
     requires { first.0 < V.width view.now }
-    ensures { IfOk result (λ runs. AreRuns runs (misses (V.width view.now) (does (V.rows view.now)) first to through)) }
+    ensures runs { IfOk result (λ runs. AreRuns runs (misses (V.width view.now) (does (V.rows view.now)) first to through)) }
+    ensures cost { steps.new ≤ steps.old + length (V.rows view.now) * V.width view.now }
 {
     let mut runs = RunList::new(alloc);
     for i in 0..view.atoms() {
-        let passes = row_misses(view, i, first, to, through);
+        let passes = row_misses(view, i, first, to, through, steps);
         runs.push_row_if(view, i, passes)?;
     }
     Ok(runs.finish()?)

@@ -1,12 +1,16 @@
 //! Waypoints by rows whose answers are found by hand.
 
-ghost use Rattle.std.specs.Prelude.{◌≡◌, IfOk};
+ghost use Rattle.std.specs.Prelude.{◌≡◌, ◌<◌, IfOk};
 
 use super::waypoint;
 use dn_model::{ForwardingRow, LinkId, List, OutOfMemory, RouterId, Run, Target};
 use label_view::ListView;
 use std::alloc::Global;
+use std::marker::Brand;
+use std::process::Abort;
+use std::sync::ledger::{Blank, Ledger};
 use std::test::Fail;
+use step_count::Steps;
 
 const FIRST: RouterId = RouterId(0);
 
@@ -46,22 +50,40 @@ fn pair(alloc: Global) -> Result<ListView, OutOfMemory>
     Ok(ListView::new(2, rows))
 }
 
-#[test]
-fn a_waypoint_counts_up_to_the_arrival(rt: HostRuntime) -> Result<(), Fail> {
-    let view = pair(rt.alloc())?;
-    let missed = waypoint(rt.alloc(), &view, FIRST, SECOND, RouterId(9))?;
+fn arrivals<L: Ledger>(rt: &impl Abort, alloc: Global, blank: Blank) -> Result<(), Fail>
+    requires name { blank.name ≡ L.name }
+    requires parts { blank.parts ≡ L.parts }
+    requires some { 0 < blank.parts }
+{
+    let mut steps = Steps::<L>::new(blank);
+    let view = pair(alloc)?;
+    let missed = waypoint(alloc, &view, FIRST, SECOND, RouterId(9), &mut steps)?;
     assert_eq!(rt; missed.as_slice(), &[Run { lo: 0, hi: 19 }][..]);
-    let after = waypoint(rt.alloc(), &view, FIRST, FIRST, SECOND)?;
+    let after = waypoint(alloc, &view, FIRST, FIRST, SECOND, &mut steps)?;
     assert_eq!(rt; after.as_slice(), &[Run { lo: 0, hi: LAST }][..]);
     Ok(())
 }
 
-#[test]
-fn either_end_as_waypoint_is_met_by_all(rt: HostRuntime) -> Result<(), Fail> {
-    let view = pair(rt.alloc())?;
-    let at_end = waypoint(rt.alloc(), &view, FIRST, SECOND, SECOND)?;
+fn ends<L: Ledger>(rt: &impl Abort, alloc: Global, blank: Blank) -> Result<(), Fail>
+    requires name { blank.name ≡ L.name }
+    requires parts { blank.parts ≡ L.parts }
+    requires some { 0 < blank.parts }
+{
+    let mut steps = Steps::<L>::new(blank);
+    let view = pair(alloc)?;
+    let at_end = waypoint(alloc, &view, FIRST, SECOND, SECOND, &mut steps)?;
     assert_eq!(rt; at_end.len(), 0);
-    let at_start = waypoint(rt.alloc(), &view, FIRST, SECOND, FIRST)?;
+    let at_start = waypoint(alloc, &view, FIRST, SECOND, FIRST, &mut steps)?;
     assert_eq!(rt; at_start.len(), 0);
     Ok(())
+}
+
+#[test]
+fn a_waypoint_counts_up_to_the_arrival(rt: HostRuntime) -> Result<(), Fail> {
+    arrivals::<Brand>(&rt, rt.alloc(), Blank::new(1))
+}
+
+#[test]
+fn either_end_as_waypoint_is_met_by_all(rt: HostRuntime) -> Result<(), Fail> {
+    ends::<Brand>(&rt, rt.alloc(), Blank::new(1))
 }

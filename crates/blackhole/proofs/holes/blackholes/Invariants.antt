@@ -1,8 +1,12 @@
+use Rattle.std.proofs.Common.{◌+◌, ◌*◌, ◌≤◌}
 use Rattle.dn_model.specs.Forwarding.{does}
 use Rattle.dn_model.specs.Holes.{falls}
 use Rattle.blackhole.specs.Gathering.{AreFalls}
 use Rattle.blackhole.proofs.holes.blackholes.Given as goal
 
--- what falls where in the rows so far
+-- what falls where in the rows so far; each row took at most a look at each router
 abbrev pub invariant-loop-i : goal.invariant-loop-i
-invariant-loop-i g l = AreFalls l.falls.items (g.V.LabelView.rows l.view) l.i (falls (g.V.LabelView.width l.view) (does (g.V.LabelView.rows l.view)) l.first)
+invariant-loop-i g l = record {
+  falls : AreFalls l.falls.items (g.V.LabelView.rows l.view) l.i (falls (g.V.LabelView.width l.view) (does (g.V.LabelView.rows l.view)) l.first);
+  cost : l.steps ≤ l.initial.steps + l.i * g.V.LabelView.width l.view;
+}

@@ -1,4 +1,4 @@
-use Rattle.std.proofs.Common.{◌≡◌, ◌∙◌, ap, sym}
+use Rattle.std.proofs.Common.{◌≡◌, ◌∙◌, ap, sym, arith}
 use Rattle.dn_model.specs.Forwarding.{does}
 use Rattle.dn_model.specs.Walk.{at_address}
 use Rattle.dn_model.specs.declared.ids.LinkId.{LinkId}
@@ -21,4 +21,5 @@ loop-left-preserved g c = record {
   rest = λ last cause a inside.
       let is : at_address (does (g.V.LabelView.rows c.args.view.now)) a c.loop-left.router ≡ c.target.result = target-is _ _ c.args.i a c.loop-left.router c.target.result c.routers-left.ensures.form c.requires.place c.target.ensures inside in
       sym (falls-later (at_address (does (g.V.LabelView.rows c.args.view.now)) a) c.loop-left.left c.loop-left.router _ _ last cause c.loop-left-test.true (is ∙ c.in-To.is)) ∙ c.loop-left.invariant.rest last cause a inside;
+  cost = omega (arith, c.loop-left.invariant.cost);
 }

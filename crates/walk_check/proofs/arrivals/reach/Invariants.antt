@@ -1,8 +1,12 @@
+use Rattle.std.proofs.Common.{◌+◌, ◌*◌, ◌≤◌}
 use Rattle.dn_model.specs.Forwarding.{does}
 use Rattle.dn_model.specs.Reach.{reaches}
 use Rattle.label_view.specs.Places.{AreGatheredTo}
 use Rattle.walk_check.proofs.arrivals.reach.Given as goal
 
--- the runs are of the addresses of the rows so far that come to the router
+-- the runs are of the addresses of the rows so far that come to the router; each row took at most a look at each router
 abbrev pub invariant-loop-i : goal.invariant-loop-i
-invariant-loop-i g l = AreGatheredTo l.runs (g.V.LabelView.rows l.view) l.i (reaches (g.V.LabelView.width l.view) (does (g.V.LabelView.rows l.view)) l.first l.to)
+invariant-loop-i g l = record {
+  runs : AreGatheredTo l.runs (g.V.LabelView.rows l.view) l.i (reaches (g.V.LabelView.width l.view) (does (g.V.LabelView.rows l.view)) l.first l.to);
+  cost : l.steps ≤ l.initial.steps + l.i * g.V.LabelView.width l.view;
+}

@@ -1,4 +1,4 @@
-use Rattle.std.proofs.Common.{◌≡◌, ◌∙◌, sym}
+use Rattle.std.proofs.Common.{◌≡◌, ◌∙◌, sym, arith}
 use Rattle.dn_model.specs.Forwarding.{does}
 use Rattle.dn_model.specs.Walk.{at_address}
 use Rattle.dn_model.specs.declared.ids.LinkId.{LinkId}
@@ -8,11 +8,11 @@ use Rattle.label_view.proofs.InRow.{leads-within, target-is}
 use Rattle.walk_check.proofs.Reaching.{met-here, met-later, met-never}
 use Rattle.walk_check.proofs.arrivals.row_reaches.Goals as goal
 
-pub returns-then-router-to : goal.returns-then-router-to
-returns-then-router-to g c = λ a inside. sym (met-here (at_address (does (g.V.LabelView.rows c.args.view.now)) a) c.loop-left.left c.loop-left.router c.args.to c.if-router-to.true) ∙ c.loop-left.invariant.rest a inside
+pub returns-then-router-to-clause-reaches : goal.returns-then-router-to-clause-reaches
+returns-then-router-to-clause-reaches g c = λ a inside. sym (met-here (at_address (does (g.V.LabelView.rows c.args.view.now)) a) c.loop-left.left c.loop-left.router c.args.to c.if-router-to.true) ∙ c.loop-left.invariant.rest a inside
 
-pub returns-in_default : goal.returns-in_default
-returns-in_default g c = λ a inside.
+pub returns-in_default-clause-reaches : goal.returns-in_default-clause-reaches
+returns-in_default-clause-reaches g c = λ a inside.
     let is : at_address (does (g.V.LabelView.rows c.args.view.now)) a c.loop-left.router ≡ c.target.result = target-is _ _ c.args.i a c.loop-left.router c.target.result c.routers-left.ensures.form c.requires.place c.target.ensures inside in
     let last : (s : RouterId) (l : LinkId) → at_address (does (g.V.LabelView.rows c.args.view.now)) a c.loop-left.router ≡ To s l → ⊥ = λ s l e. c.in_default.not-To s l (sym is ∙ e) in
     sym (met-never (at_address (does (g.V.LabelView.rows c.args.view.now)) a) c.loop-left.left c.loop-left.router c.args.to c.loop-left-test.true c.if-router-to.false last) ∙ c.loop-left.invariant.rest a inside
@@ -23,4 +23,5 @@ loop-left-preserved g c = record {
   rest = λ a inside.
       let is : at_address (does (g.V.LabelView.rows c.args.view.now)) a c.loop-left.router ≡ c.target.result = target-is _ _ c.args.i a c.loop-left.router c.target.result c.routers-left.ensures.form c.requires.place c.target.ensures inside in
       sym (met-later (at_address (does (g.V.LabelView.rows c.args.view.now)) a) c.loop-left.left c.loop-left.router _ c.args.to _ c.loop-left-test.true c.if-router-to.false (is ∙ c.in-To.is)) ∙ c.loop-left.invariant.rest a inside;
+  cost = omega (arith, c.loop-left.invariant.cost);
 }

@@ -1,4 +1,4 @@
-use Rattle.std.proofs.Common.{◌≡◌, ℕ, ◌<◌}
+use Rattle.std.proofs.Common.{◌≡◌, ℕ, ◌+◌, ◌<◌}
 use Rattle.std.specs.List.{list_any}
 use Rattle.dn_model.specs.Forwarding.{does}
 use Rattle.dn_model.specs.Reach.{is_router, reaches}
@@ -6,11 +6,12 @@ use Rattle.dn_model.specs.Walk.{at_address, walk}
 use Rattle.label_view.specs.Places.{IsInRow}
 use Rattle.walk_check.proofs.arrivals.row_reaches.Given as goal
 
--- the walk from here on meets the router where the whole walk does
+-- the walk from here on meets the router where the whole walk does, and each hop was a look
 abbrev pub invariant-loop-left : goal.invariant-loop-left
 invariant-loop-left g l = record {
   within : l.router.0 < g.V.LabelView.width l.view;
   rest : (a : ℕ) → IsInRow (g.V.LabelView.rows l.view) l.i a → list_any (is_router l.to) (walk (at_address (does (g.V.LabelView.rows l.view)) a) l.left l.router) ≡ reaches (g.V.LabelView.width l.view) (does (g.V.LabelView.rows l.view)) l.fn.first l.to a;
+  cost : l.steps + l.left ≡ l.initial.steps + g.V.LabelView.width l.view;
 }
 
 abbrev pub decreases-loop-left : goal.decreases-loop-left

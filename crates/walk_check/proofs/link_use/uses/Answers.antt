@@ -8,12 +8,14 @@ pub loop-i-init : goal.loop-i-init
 loop-i-init g c = record {
   first = gathered-start _ c.new-first.result _ _ c.atoms-i-end.ensures.form c.new-first.ensures.runs c.new-first.ensures.past;
   second = gathered-start _ c.new-second.result _ _ c.atoms-i-end.ensures.form c.new-second.ensures.runs c.new-second.ensures.past;
+  cost = omega arith;
 }
 
 pub loop-i-preserved : goal.loop-i-preserved
 loop-i-preserved g c = record {
-  first = c.in_ok-push_row_if.ensures (goes_over (does (g.V.LabelView.rows c.args.view.now)) c.args.end1 c.args.link) c.loop-i.invariant.first c.row_uses-one.ensures;
-  second = c.in_ok-push_row_if-2.ensures (goes_over (does (g.V.LabelView.rows c.args.view.now)) c.args.end2 c.args.link) c.loop-i.invariant.second c.row_uses-other.ensures;
+  first = c.in_ok-push_row_if.ensures (goes_over (does (g.V.LabelView.rows c.args.view.now)) c.args.end1 c.args.link) c.loop-i.invariant.first c.row_uses-one.ensures.over;
+  second = c.in_ok-push_row_if-2.ensures (goes_over (does (g.V.LabelView.rows c.args.view.now)) c.args.end2 c.args.link) c.loop-i.invariant.second c.row_uses-other.ensures.over;
+  cost = omega (arith, c.loop-i.invariant.cost, c.row_uses-one.ensures.cost, c.row_uses-other.ensures.cost);
 }
 
 pub returns : goal.returns
@@ -22,4 +24,5 @@ returns g c =
     record {
       first = gathered-all (g.V.LabelView.rows c.args.view.now) c.loop-i.i c.loop-i.first c.in_ok-finish.field-0 (goes_over (does (g.V.LabelView.rows c.args.view.now)) c.args.end1 c.args.link) end c.loop-i.invariant.first c.in_ok-finish.ensures.value c.in_ok-finish.ensures.apart;
       second = gathered-all (g.V.LabelView.rows c.args.view.now) c.loop-i.i c.loop-i.second c.in_ok-finish-2.field-0 (goes_over (does (g.V.LabelView.rows c.args.view.now)) c.args.end2 c.args.link) end c.loop-i.invariant.second c.in_ok-finish-2.ensures.value c.in_ok-finish-2.ensures.apart;
+      cost = omega (arith, c.loop-i.invariant.cost, c.atoms-i-end.ensures.value);
     }

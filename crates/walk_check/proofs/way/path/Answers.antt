@@ -1,4 +1,4 @@
-use Rattle.std.proofs.Common.{◌≡◌, ◌∙◌, sym, ap}
+use Rattle.std.proofs.Common.{◌≡◌, ◌∙◌, sym, ap, arith}
 use Rattle.dn_model.specs.Forwarding.{does}
 use Rattle.dn_model.specs.Walk.{at_address}
 use Rattle.dn_model.specs.declared.answer.PathEnd.TheVariants.{At}
@@ -17,6 +17,7 @@ returns-in_default g c =
     record {
       hops = c.from_vec.ensures ∙ walked-last _ _ _ _ _ _ c.loop-left-test.true last c.in_ok-push.ensures.items c.loop-left.invariant.hops;
       end = ap At (sym is) ∙ sym (walk_end-last _ _ _ c.loop-left-test.true last) ∙ c.loop-left.invariant.end;
+      cost = omega (arith, c.loop-left.invariant.cost);
     }
 
 pub loop-left-preserved : goal.loop-left-preserved
@@ -28,4 +29,5 @@ loop-left-preserved g c =
       within = leads-within _ _ c.atom_of-place.result c.loop-left.router _ _ c.target.result c.routers-left.ensures.form c.atom_of-place.ensures.inside c.target.ensures c.in-To.is;
       hops = walked-to _ _ _ _ _ _ _ _ c.loop-left-test.true e c.in_ok-push.ensures.items c.loop-left.invariant.hops;
       end = sym (walk_end-to _ _ _ _ _ c.loop-left-test.true e) ∙ c.loop-left.invariant.end;
+      cost = omega (arith, c.loop-left.invariant.cost);
     }

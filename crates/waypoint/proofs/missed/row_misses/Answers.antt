@@ -1,4 +1,4 @@
-use Rattle.std.proofs.Common.{◌≡◌, ◌∙◌, sym}
+use Rattle.std.proofs.Common.{◌≡◌, ◌∙◌, sym, arith}
 use Rattle.dn_model.specs.Forwarding.{does}
 use Rattle.dn_model.specs.Walk.{at_address}
 use Rattle.dn_model.specs.declared.ids.LinkId.{LinkId}
@@ -8,14 +8,14 @@ use Rattle.label_view.proofs.InRow.{leads-within, target-is}
 use Rattle.waypoint.proofs.Missing.{met-later, met-never, through-here, to-here}
 use Rattle.waypoint.proofs.missed.row_misses.Goals as goal
 
-pub returns-then-router-through : goal.returns-then-router-through
-returns-then-router-through g c = λ a inside. sym (through-here (at_address (does (g.V.LabelView.rows c.args.view.now)) a) c.loop-left.left c.loop-left.router c.args.to c.args.through c.if-router-through.true) ∙ c.loop-left.invariant.rest a inside
+pub returns-then-router-through-clause-misses : goal.returns-then-router-through-clause-misses
+returns-then-router-through-clause-misses g c = λ a inside. sym (through-here (at_address (does (g.V.LabelView.rows c.args.view.now)) a) c.loop-left.left c.loop-left.router c.args.to c.args.through c.if-router-through.true) ∙ c.loop-left.invariant.rest a inside
 
-pub returns-then-router-to : goal.returns-then-router-to
-returns-then-router-to g c = λ a inside. sym (to-here (at_address (does (g.V.LabelView.rows c.args.view.now)) a) c.loop-left.left c.loop-left.router c.args.to c.args.through c.if-router-through.false c.if-router-to.true) ∙ c.loop-left.invariant.rest a inside
+pub returns-then-router-to-clause-misses : goal.returns-then-router-to-clause-misses
+returns-then-router-to-clause-misses g c = λ a inside. sym (to-here (at_address (does (g.V.LabelView.rows c.args.view.now)) a) c.loop-left.left c.loop-left.router c.args.to c.args.through c.if-router-through.false c.if-router-to.true) ∙ c.loop-left.invariant.rest a inside
 
-pub returns-in_default : goal.returns-in_default
-returns-in_default g c = λ a inside.
+pub returns-in_default-clause-misses : goal.returns-in_default-clause-misses
+returns-in_default-clause-misses g c = λ a inside.
     let is : at_address (does (g.V.LabelView.rows c.args.view.now)) a c.loop-left.router ≡ c.target.result = target-is _ _ c.args.i a c.loop-left.router c.target.result c.routers-left.ensures.form c.requires.place c.target.ensures inside in
     let last : (s : RouterId) (l : LinkId) → at_address (does (g.V.LabelView.rows c.args.view.now)) a c.loop-left.router ≡ To s l → ⊥ = λ s l e. c.in_default.not-To s l (sym is ∙ e) in
     sym (met-never (at_address (does (g.V.LabelView.rows c.args.view.now)) a) c.loop-left.left c.loop-left.router c.args.to c.args.through c.loop-left-test.true c.if-router-through.false c.if-router-to.false last) ∙ c.loop-left.invariant.rest a inside
@@ -26,4 +26,5 @@ loop-left-preserved g c = record {
   rest = λ a inside.
       let is : at_address (does (g.V.LabelView.rows c.args.view.now)) a c.loop-left.router ≡ c.target.result = target-is _ _ c.args.i a c.loop-left.router c.target.result c.routers-left.ensures.form c.requires.place c.target.ensures inside in
       sym (met-later (at_address (does (g.V.LabelView.rows c.args.view.now)) a) c.loop-left.left c.loop-left.router _ c.args.to c.args.through _ c.loop-left-test.true c.if-router-through.false c.if-router-to.false (is ∙ c.in-To.is)) ∙ c.loop-left.invariant.rest a inside;
+  cost = omega (arith, c.loop-left.invariant.cost);
 }

@@ -5,7 +5,8 @@ ghost use Rattle.std.specs.Prelude.{◌≡◌, ◌+◌, ◌<◌};
 use std::marker::Model;
 use std::sync::ledger::{Blank, Book, Ledger, Share};
 
-/// How many steps were taken. A step is a look at one target of a view. It takes no bytes, and only `tick` changes it.
+/// How many steps were taken. A step is a look at one target of a view, that is at what one router does with the
+/// addresses of one row, or at one set of rules. It takes no bytes, and only `tick` changes it.
 #[derive(Drop)]
 pub struct Steps<L: Ledger> {
     book: Book<L>,

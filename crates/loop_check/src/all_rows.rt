@@ -1,6 +1,6 @@
 //! The cycles of all addresses.
 
-ghost use Rattle.std.specs.Prelude.{◌≡◌, ◌≤◌, ℕ, List as Listed, IfOk, length};
+ghost use Rattle.std.specs.Prelude.{◌≡◌, ◌+◌, ◌*◌, ◌≤◌, ℕ, List as Listed, IfOk, length};
 ghost use Rattle.dn_model.specs.Cycles.{AreCycles};
 ghost use Rattle.dn_model.specs.Forwarding.{does};
 ghost use Rattle.dn_model.specs.declared.forwarding_row.ForwardingRow.{ForwardingRow as Row};
@@ -12,6 +12,8 @@ use crate::row::{Workspace, cycles_at};
 use dn_model::{Cycle, List, OutOfMemory};
 use label_view::LabelView;
 use std::alloc::Global;
+use std::sync::ledger::Ledger;
+use step_count::Steps;
 
 /// What is known of all rows, as it is told.
 fn told(alloc: Global, known: Vec<KnownCycle>) -> Result<List<Cycle>, OutOfMemory>
@@ -28,15 +30,20 @@ fn told(alloc: Global, known: Vec<KnownCycle>) -> Result<List<Cycle>, OutOfMemor
 
 /// The cycles in which addresses go round for ever, by least address, then by first router: each once, from that of its
 /// routers on that is the first in the topology's order, with the least address that goes round it and the number of
-/// all that do. It goes over the rows once and looks at each router once a row; a row whose addresses go round costs a
-/// look at each cycle known so far beside, and of those there are few.
-pub fn loops<V: LabelView>(alloc: Global, view: &V) -> Result<List<Cycle>, OutOfMemory>
-    ensures { IfOk result (λ cycles. AreCycles (does (V.rows view.now)) cycles) }
+/// all that do. It goes over the rows once and takes one look at each router a row, so at most as many as rows times
+/// routers. A row whose addresses go round is beside compared with each cycle known so far, and of those there are few.
+pub fn loops<V: LabelView, L: Ledger>(
+    alloc: Global,
+    view: &V,
+    steps: &mut Steps<L>,
+) -> Result<List<Cycle>, OutOfMemory>
+    ensures cycles { IfOk result (λ cycles. AreCycles (does (V.rows view.now)) cycles) }
+    ensures cost { steps.new ≤ steps.old + length (V.rows view.now) * V.width view.now }
 {
     let mut work = Workspace::new(alloc, view.routers())?;
     let mut known = Vec::new(alloc);
     for i in 0..view.atoms() {
-        let cycles = cycles_at(alloc, view, i, &mut work)?;
+        let cycles = cycles_at(alloc, view, i, &mut work, steps)?;
         add_cycles(alloc, view, i, &mut known, cycles)?;
     }
     told(alloc, known)

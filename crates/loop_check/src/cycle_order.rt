@@ -10,7 +10,7 @@ ghost use Rattle.dn_model.specs.declared.forwarding_row.ForwardingRow.{Forwardin
 ghost use Rattle.label_view.specs.Places.{AreGatheredTo};
 
 use crate::first_order::first_number;
-use crate::known::{KnownCycle, is_same};
+use crate::known::{KnownCycle, are_same_routers};
 use dn_model::{Cycle, OutOfMemory, RouterId, Run};
 
 /// Whether a cycle comes before another: by least address, then by first router.
@@ -25,12 +25,12 @@ fn comes_before(x: &Cycle, y: &Cycle) -> bool
 }
 
 /// Whether a cycle of these routers is among these.
-fn has_cycle(cycles: &[Cycle], routers: &[RouterId]) -> bool
+pub fn has_cycle(cycles: &[Cycle], routers: &[RouterId]) -> bool
     ensures yes { IsTrue result → HasCycle cycles.now routers.now }
     ensures refused { IsFalse result → (c : CycleIs) → Contains cycles.now c → c.routers ≡ routers.now → ⊥ }
 {
     for cycle in cycles {
-        if is_same(cycle.routers.as_slice(), routers) {
+        if are_same_routers(cycle.routers.as_slice(), routers) {
             return true;
         }
     }
@@ -52,8 +52,9 @@ fn place_of(cycles: &[Cycle], cycle: &Cycle) -> usize
     cycles.len()
 }
 
-/// Puts a cycle in its place among others, none of which has its least address and its first router.
-fn put_cycle(cycles: &mut Vec<Cycle>, cycle: Cycle) -> Result<(), OutOfMemory>
+/// Puts a cycle in its place among others, none of which has its least address and its first router: by least address,
+/// then by first router. It fails for want of memory alone.
+pub fn put_cycle(cycles: &mut Vec<Cycle>, cycle: Cycle) -> Result<(), OutOfMemory>
     ensures { OnOk result (AreInOrder cycles.old.items
         → ((c : CycleIs) → Contains cycles.old.items c → c.least ≡ cycle.least
         → first_router c.routers ≡ first_router cycle.routers → ⊥)

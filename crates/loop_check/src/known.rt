@@ -19,8 +19,8 @@ pub(crate) struct KnownCycle {
     pub(crate) runs: RunList,
 }
 
-/// Whether two lists of routers are the same.
-pub(crate) fn is_same(x: &[RouterId], y: &[RouterId]) -> bool
+/// Whether two lists of routers are the same: as many, and the same one at each place.
+pub fn are_same_routers(x: &[RouterId], y: &[RouterId]) -> bool
     ensures yes { IsTrue result → x.now ≡ y.now }
     ensures refused { IsFalse result → x.now ≡ y.now → ⊥ }
 {
@@ -33,7 +33,7 @@ fn is_listed(cycles: &[List<RouterId>], routers: &[RouterId]) -> bool
     ensures refused { IsFalse result → Contains cycles.now routers.now → ⊥ }
 {
     for cycle in cycles {
-        if is_same(cycle.as_slice(), routers) {
+        if are_same_routers(cycle.as_slice(), routers) {
             return true;
         }
     }
@@ -46,7 +46,7 @@ fn is_known(known: &[KnownCycle], routers: &[RouterId]) -> bool
     ensures refused { IsFalse result → HasKnown known.now routers.now → ⊥ }
 {
     for one in known {
-        if is_same(one.routers.as_slice(), routers) {
+        if are_same_routers(one.routers.as_slice(), routers) {
             return true;
         }
     }

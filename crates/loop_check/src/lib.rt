@@ -1,4 +1,5 @@
-//! Loops: the cycles of routers in which addresses go round for ever, found row by row.
+//! Loops: the cycles of routers in which addresses go round for ever, found row by row, and the order in which cycles
+//! are told.
 #![tactic(auto)]
 
 mod all_rows;
@@ -12,4 +13,6 @@ mod tests;
 mod walk;
 
 pub use all_rows::loops;
+pub use cycle_order::{has_cycle, put_cycle};
+pub use known::are_same_routers;
 pub use row::cycles_of_atom;

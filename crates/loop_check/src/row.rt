@@ -1,6 +1,6 @@
 //! The cycles of one row.
 
-ghost use Rattle.std.specs.Prelude.{◌≡◌, ◌<◌, ◌≤◌, IfOk, OnOk, None, length, slice_index_or, vec_len};
+ghost use Rattle.std.specs.Prelude.{◌≡◌, ◌+◌, ◌<◌, ◌≤◌, IfOk, OnOk, None, length, slice_index_or, vec_len};
 ghost use Rattle.dn_model.specs.Forwarding.{AreForwarding, target_of};
 ghost use Rattle.dn_model.specs.declared.forwarding_row.ForwardingRow.{ForwardingRow as Row};
 ghost use Rattle.dn_model.specs.declared.ids.RouterId.{RouterId as Router};
@@ -14,6 +14,8 @@ use crate::walk::walk_from;
 use dn_model::{List, OutOfMemory, RouterId, Target};
 use label_view::LabelView;
 use std::alloc::Global;
+use std::sync::ledger::Ledger;
+use step_count::Steps;
 
 /// Room for looks at rows, which is used again for each row.
 #[derive(Drop)]
@@ -41,12 +43,14 @@ impl Workspace {
 }
 
 /// Takes what each router does with the addresses of the row at a place, by one look at each router.
-fn read_row<V: LabelView>(view: &V, i: u64, targets: &mut [Target])
+fn read_row<V: LabelView, L: Ledger>(view: &V, i: u64, targets: &mut [Target], steps: &mut Steps<L>)
     requires place { i < length (V.rows view.now) }
     requires room { length targets.old ≡ V.width view.now }
-    ensures { (d : Row) (r : Router) → hops targets.new r ≡ target_of (slice_index_or (V.rows view.now) i d) r }
+    ensures row { (d : Row) (r : Router) → hops targets.new r ≡ target_of (slice_index_or (V.rows view.now) i d) r }
+    ensures cost { steps.new ≤ steps.old + V.width view.now }
 {
     for r in 0..view.routers() {
+        steps.tick();
         targets[r as usize] = view.target(RouterId(r as u16), i);
     }
 }
@@ -116,11 +120,12 @@ fn row_cycles(
 }
 
 /// The cycles of the row at a place, found in a workspace.
-pub(crate) fn cycles_at<V: LabelView>(
+pub(crate) fn cycles_at<V: LabelView, L: Ledger>(
     alloc: Global,
     view: &V,
     i: u64,
     work: &mut Workspace,
+    steps: &mut Steps<L>,
 ) -> Result<List<List<RouterId>>, OutOfMemory>
     requires form { AreForwarding (V.width view.now) (V.rows view.now) }
     requires place { i < length (V.rows view.now) }
@@ -129,8 +134,9 @@ pub(crate) fn cycles_at<V: LabelView>(
     ensures targets { vec_len work.new.targets ≡ V.width view.now }
     ensures passed { vec_len work.new.passed ≡ V.width view.now }
     ensures cycles { IfOk result (λ cycles. AreCyclesAt (V.rows view.now) i cycles) }
+    ensures cost { steps.new ≤ steps.old + V.width view.now }
 {
-    read_row(view, i, work.targets.as_mut_slice());
+    read_row(view, i, work.targets.as_mut_slice(), steps);
     clear(work.passed.as_mut_slice());
     row_cycles(
         alloc,
@@ -142,15 +148,17 @@ pub(crate) fn cycles_at<V: LabelView>(
 
 /// The cycles in which the addresses of the row at a place go round: lists of routers, each of which sends them on to
 /// the next and the last one back to the first. Each cycle is told once, from that of its routers on that is the first
-/// in the topology's order, and the cycles come by first router. It looks at each router once.
-pub fn cycles_of_atom<V: LabelView>(
+/// in the topology's order, and the cycles come by first router. It takes one look at each router.
+pub fn cycles_of_atom<V: LabelView, L: Ledger>(
     alloc: Global,
     view: &V,
     i: u64,
+    steps: &mut Steps<L>,
 ) -> Result<List<List<RouterId>>, OutOfMemory>
     requires { i < length (V.rows view.now) }
-    ensures { IfOk result (λ cycles. AreCyclesAt (V.rows view.now) i cycles) }
+    ensures cycles { IfOk result (λ cycles. AreCyclesAt (V.rows view.now) i cycles) }
+    ensures cost { steps.new ≤ steps.old + V.width view.now }
 {
     let mut work = Workspace::new(alloc, view.routers())?;
-    cycles_at(alloc, view, i, &mut work)
+    cycles_at(alloc, view, i, &mut work, steps)
 }

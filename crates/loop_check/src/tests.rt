@@ -7,7 +7,11 @@ use super::{cycles_of_atom, loops};
 use dn_model::{Cycle, ForwardingRow, LinkId, List, OutOfMemory, RouterId, Target};
 use label_view::{LabelView, ListView};
 use std::alloc::Global;
+use std::marker::Brand;
+use std::process::Abort;
+use std::sync::ledger::{Blank, Ledger};
 use std::test::Fail;
+use step_count::Steps;
 
 const FIRST: RouterId = RouterId(0);
 
@@ -81,8 +85,12 @@ fn crowd(alloc: Global) -> Result<ListView, OutOfMemory> {
 }
 
 /// Asks by the bound alone.
-fn loops_by<V: LabelView>(alloc: Global, view: &V) -> Result<List<Cycle>, OutOfMemory> {
-    loops(alloc, view)
+fn loops_by<V: LabelView, L: Ledger>(
+    alloc: Global,
+    view: &V,
+    steps: &mut Steps<L>,
+) -> Result<List<Cycle>, OutOfMemory> {
+    loops(alloc, view, steps)
 }
 
 /// Whether this cycle is told at a place.
@@ -105,21 +113,29 @@ fn stand(cycles: &[List<RouterId>], place: usize, routers: &[RouterId]) -> bool 
     }
 }
 
-#[test]
-fn touching_rows_of_one_cycle_are_told_once(rt: HostRuntime) -> Result<(), Fail> {
-    let view = pair(rt.alloc())?;
-    let cycles = loops_by(rt.alloc(), &view)?;
+fn one_cycle<L: Ledger>(rt: &impl Abort, alloc: Global, blank: Blank) -> Result<(), Fail>
+    requires name { blank.name ≡ L.name }
+    requires parts { blank.parts ≡ L.parts }
+    requires some { 0 < blank.parts }
+{
+    let mut steps = Steps::<L>::new(blank);
+    let view = pair(alloc)?;
+    let cycles = loops_by(alloc, &view, &mut steps)?;
     assert_eq!(rt; cycles.len(), 1);
     assert!(rt; tells(cycles.as_slice(), 0, &[FIRST, SECOND], 10, 20));
-    let none = cycles_of_atom(rt.alloc(), &view, view.atom_of(30))?;
+    let none = cycles_of_atom(alloc, &view, view.atom_of(30), &mut steps)?;
     assert_eq!(rt; none.len(), 0);
     Ok(())
 }
 
-#[test]
-fn cycles_come_by_least_address_then_by_first_router(rt: HostRuntime) -> Result<(), Fail> {
-    let view = crowd(rt.alloc())?;
-    let cycles = loops(rt.alloc(), &view)?;
+fn four_cycles<L: Ledger>(rt: &impl Abort, alloc: Global, blank: Blank) -> Result<(), Fail>
+    requires name { blank.name ≡ L.name }
+    requires parts { blank.parts ≡ L.parts }
+    requires some { 0 < blank.parts }
+{
+    let mut steps = Steps::<L>::new(blank);
+    let view = crowd(alloc)?;
+    let cycles = loops(alloc, &view, &mut steps)?;
     assert_eq!(rt; cycles.len(), 4);
     assert!(rt; tells(cycles.as_slice(), 0, &[SECOND, THIRD, FOURTH], 0, 10));
     assert!(rt; tells(cycles.as_slice(), 1, &[SECOND], 10, 10));
@@ -128,12 +144,31 @@ fn cycles_come_by_least_address_then_by_first_router(rt: HostRuntime) -> Result<
     Ok(())
 }
 
-#[test]
-fn cycles_of_one_row_come_by_first_router(rt: HostRuntime) -> Result<(), Fail> {
-    let view = crowd(rt.alloc())?;
-    let cycles = cycles_of_atom(rt.alloc(), &view, view.atom_of(15))?;
+fn cycles_of_a_row<L: Ledger>(rt: &impl Abort, alloc: Global, blank: Blank) -> Result<(), Fail>
+    requires name { blank.name ≡ L.name }
+    requires parts { blank.parts ≡ L.parts }
+    requires some { 0 < blank.parts }
+{
+    let mut steps = Steps::<L>::new(blank);
+    let view = crowd(alloc)?;
+    let cycles = cycles_of_atom(alloc, &view, view.atom_of(15), &mut steps)?;
     assert_eq!(rt; cycles.len(), 2);
     assert!(rt; stand(cycles.as_slice(), 0, &[SECOND]));
     assert!(rt; stand(cycles.as_slice(), 1, &[THIRD, FOURTH]));
     Ok(())
+}
+
+#[test]
+fn touching_rows_of_one_cycle_are_told_once(rt: HostRuntime) -> Result<(), Fail> {
+    one_cycle::<Brand>(&rt, rt.alloc(), Blank::new(1))
+}
+
+#[test]
+fn cycles_come_by_least_address_then_by_first_router(rt: HostRuntime) -> Result<(), Fail> {
+    four_cycles::<Brand>(&rt, rt.alloc(), Blank::new(1))
+}
+
+#[test]
+fn cycles_of_one_row_come_by_first_router(rt: HostRuntime) -> Result<(), Fail> {
+    cycles_of_a_row::<Brand>(&rt, rt.alloc(), Blank::new(1))
 }

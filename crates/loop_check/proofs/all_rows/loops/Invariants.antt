@@ -1,12 +1,13 @@
-use Rattle.std.proofs.Common.{◌≡◌, vec_len}
+use Rattle.std.proofs.Common.{◌≡◌, ◌+◌, ◌*◌, ◌≤◌, vec_len}
 use Rattle.loop_check.specs.Known.{AreKnownTo, HaveAllBefore}
 use Rattle.loop_check.proofs.all_rows.loops.Given as goal
 
--- what the rows so far show
+-- what the rows so far show; each row took at most a look at each router
 abbrev pub invariant-loop-i : goal.invariant-loop-i
 invariant-loop-i g l = record {
   targets : vec_len l.work.targets ≡ g.V.LabelView.width l.view;
   passed : vec_len l.work.passed ≡ g.V.LabelView.width l.view;
   known : AreKnownTo (g.V.LabelView.rows l.view) l.i l.known.items;
   before : HaveAllBefore (g.V.LabelView.rows l.view) l.i l.known.items;
+  cost : l.steps ≤ l.initial.steps + l.i * g.V.LabelView.width l.view;
 }

@@ -10,9 +10,10 @@ loop-r-preserved g c =
     record {
       room = length-set c.loop-r.targets c.loop-r.r c.target.result ∙ c.loop-r.invariant.room;
       read = λ d k b. read-more (λ (n : ℕ). slice_index_or (slice_index_or (g.V.LabelView.rows c.args.view.now) c.args.i d).targets n NoRoute) c.loop-r.targets _ c.loop-r.r c.target.result inside refl (c.target.ensures d) (c.loop-r.invariant.read d) k b;
+      cost = omega (arith, c.loop-r.invariant.cost);
     }
 
-pub returns : goal.returns
-returns g c = λ d r.
+pub returns-clause-row : goal.returns-clause-row
+returns-clause-row g c = λ d r.
     read-all (g.V.LabelView.width c.args.view.now) (g.V.LabelView.rows c.args.view.now) c.args.i d c.loop-r.targets c.routers-r-end.ensures.form c.requires.place c.loop-r.invariant.room
     (λ k b. c.loop-r.invariant.read d k (omega (arith, c.routers-r-end.ensures.value))) r

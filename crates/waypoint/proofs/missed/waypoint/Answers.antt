@@ -2,7 +2,7 @@ use Rattle.std.proofs.Common.{◌≤◌, length, arith}
 use Rattle.dn_model.specs.Forwarding.{does}
 use Rattle.dn_model.specs.Reach.{misses}
 use Rattle.label_view.proofs.InRow.{gathered-all, gathered-start}
-use Rattle.step_count.proofs.Counting.{steps-more}
+use Rattle.step_count.proofs.Counting.{steps_more}
 use Rattle.waypoint.proofs.missed.waypoint.Goals as goal
 
 pub loop-i-init : goal.loop-i-init
@@ -14,7 +14,7 @@ loop-i-init g c = record {
 pub loop-i-preserved : goal.loop-i-preserved
 loop-i-preserved g c = record {
   runs = c.in_ok-push_row_if.ensures (misses (g.V.LabelView.width c.args.view.now) (does (g.V.LabelView.rows c.args.view.now)) c.args.first c.args.to c.args.through) c.loop-i.invariant.runs c.row_misses-passes.ensures.misses;
-  cost = steps-more (g.V.LabelView.width c.args.view.now) c.args.steps.now c.loop-i.steps c.row_misses-passes.new.steps c.loop-i.i c.loop-i.invariant.cost c.row_misses-passes.ensures.cost;
+  cost = steps_more (g.V.LabelView.width c.args.view.now) c.args.steps.now c.loop-i.steps c.row_misses-passes.new.steps c.loop-i.i c.loop-i.invariant.cost c.row_misses-passes.ensures.cost;
 }
 
 pub returns-clause-runs : goal.returns-clause-runs

@@ -8,8 +8,8 @@ ghost use Rattle.loop_keeper.specs.Kept.{Kept as KeptIs};
 
 use crate::found::Found;
 use crate::kept_cycle::KeptCycle;
-use crate::telling::is_same;
 use dn_model::{Change, List, OutOfMemory, RouterId};
+use loop_check::are_same_routers;
 use std::alloc::Global;
 
 /// Takes the run of a change out of a cycle, if that has its router.
@@ -57,7 +57,7 @@ fn place_of(cycles: &[KeptCycle], routers: &[RouterId]) -> Option<usize>
     ensures none { IfNone result ((one : KeptIs) → Contains cycles.now one → one.routers ≡ routers.now → ⊥) }
 {
     for (k, one) in cycles.iter().enumerate() {
-        if is_same(one.routers(), routers) {
+        if are_same_routers(one.routers(), routers) {
             return Some(k);
         }
     }

@@ -1,2 +1,3 @@
-pub mod SameAnswers
 pub mod LinkEnds
+pub mod Looking
+pub mod SameAnswers

@@ -1,8 +1,10 @@
--- The links of a topology: their ends are at its routers.
-use Rattle.std.proofs.Common.{◌≡◌, ℕ, zero, suc, ◌<◌, true, ◌&&◌, Option, Some, List, [], ◌∷◌, length, sym, subst, arith}
+-- The links of a topology: their ends are at its routers, at two of them.
+use Rattle.std.proofs.Common.{◌≡◌, ℕ, zero, suc, ◌*◌, ◌<◌, ◌≤◌, ◌==◌, not, true, ◌&&◌, Option, Some, List, [], ◌∷◌, length, sym, subst, arith}
 use Rattle.std.specs.List.{list_all}
 use Rattle.std.specs.Prelude.{slice_get, IsSomeAnd}
 use Rattle.std.proofs.lemmas.Bool.{and_parts}
+use Rattle.std.proofs.lemmas.Bool.Decides.{nat_tests}
+use Rattle.std.proofs.lemmas.Nat.{mul-le}
 use Rattle.std.proofs.lemmas.Option.{none-some, same_Some}
 use borrow.Author.Tests.{ltb-true}
 use Rattle.dn_model.specs.Answer.{IsAnswerOf, IsUsesAnswer}
@@ -41,6 +43,20 @@ first-within t i n link is wide = let l : link.first.router.0 < length t.routers
 
 pub second-within : (t : Topology) (i n : ℕ) (link : TopoLink) → slice_get t.links i ≡ Some link → n ≡ length t.routers → link.second.router.0 < n
 second-within t i n link is wide = let l : link.second.router.0 < length t.routers = end-within (length t.routers) link.second (and_parts _ _ (ends-of t i link is)).1 in omega arith
+
+-- they are two routers
+pub two-routers : (t : Topology) (i n : ℕ) (link : TopoLink) → slice_get t.links i ≡ Some link → n ≡ length t.routers → 2 ≤ n
+two-routers t i n link is wide =
+    let differ : not (link.first.router.0 == link.second.router.0) ≡ true = (and_parts _ _ (each-sound (length t.routers) i t.links link is (all-sound t))).1 in
+    let first : link.first.router.0 < n = first-within t i n link is wide in
+    let second : link.second.router.0 < n = second-within t i n link is wide in
+    grind (arith, nat_tests)
+
+-- so two looks at each row are at most one at each router in each row
+pub two-each : (t : Topology) (i n rows : ℕ) (link : TopoLink) → slice_get t.links i ≡ Some link → n ≡ length t.routers → 2 * rows ≤ rows * n
+two-each t i n rows link is wide =
+    let most : rows * 2 ≤ rows * n = mul-le rows 2 rows n (omega arith) (two-routers t i n link is wide) in
+    omega arith
 
 -- runs at both ends of a named link answer what goes over it
 pub uses-is : (t : Topology) (shows : RouterId → ℕ → Target) (name : List ℕ) (l : LinkId) (link : TopoLink) (first second : List Run) → link_of t name ≡ Some l → slice_get t.links l.0 ≡ Some link →

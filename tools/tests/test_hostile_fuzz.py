@@ -20,6 +20,7 @@ from feed_help import TOP, load_tool, read
 
 FUZZ = load_tool("fuzz")
 HOSTILE = load_tool("hostile")
+GROWTHS = load_tool("refuse-growths")
 
 # The tools have put their folder of modules on the path.
 import run_words  # noqa: E402
@@ -247,6 +248,24 @@ class Programs(unittest.TestCase):
         with tempfile.TemporaryDirectory() as folder:
             for group in ("files", "outputs", "slow-pipes", "cut-feeds", "all-feeds", "little-memory"):
                 self.assertGreaterEqual(len(list(GROUPS[group](folder))), 2)
+
+
+class RefusedGrowths(unittest.TestCase):
+    """How a run may end in which a growth of memory was refused."""
+
+    def test_each_case_is_judged(self) -> None:
+        for name, made in GROWTHS.CASES.items():
+            with self.subTest(name), tempfile.TemporaryDirectory() as place:
+                folder = Path(place)
+                words, error = made(folder), GROWTHS.ERRORS.get(name)
+                if error is None:
+                    due = plain_report(["run", *words], place)
+                else:
+                    due = Ended(3, f"{error}\n".encode())
+                self.assertEqual(GROWTHS.judge(due, words, folder, error), [])
+                self.assertEqual(GROWTHS.judge(Ended(7, b""), words, folder, error), [])
+                for wrong in (Ended(7, due.text), Ended(7, b"", b"?"), Ended(0, b""), Ended(-11, b""), Ended(1, due.text)):
+                    self.assertNotEqual(GROWTHS.judge(wrong, words, folder, error), [])
 
 
 if __name__ == "__main__":

@@ -15,6 +15,7 @@ use crate::shelved::Shelved;
 use crate::view::{Board, Token};
 use dn_model::{Entry, OutOfMemory};
 use std::sync::Wait;
+use std::time::Duration;
 
 /// The word that is 1 while somebody has the turn.
 pub(crate) const TURN: usize = 0;
@@ -25,7 +26,14 @@ pub(crate) const COUNT: usize = 1;
 /// The slot of the book.
 pub(crate) const BOOK: usize = 0;
 
-/// Waits until the turn is won, and takes the book out of its slot. Between two tries it sleeps.
+/// Of so many entries one wakes a caller that waits for the turn. Each time the turn goes to another processor, that one
+/// has little of the book in its caches; so the callers take turns of many entries rather than of one.
+const ENTRIES_A_WAKE: u32 = 64;
+
+/// The most milliseconds that a caller sleeps between two tries for the turn, whether or not it is woken.
+const NAP: u64 = 4;
+
+/// Waits until the turn is won, and takes the book out of its slot. Between two tries it sleeps, a few milliseconds at most.
 pub(crate) fn take_book<B: Book, R: Wait>(
     rt: &R,
     board: &Board<B>,
@@ -44,13 +52,13 @@ pub(crate) fn take_book<B: Book, R: Wait>(
         if board.compare_exchange::<Wins>(token, TURN, 0, 1) == 0 {
             return board.exchange(token, BOOK, None).unwrap();
         }
-        board.park(rt, TURN, 1);
+        board.park_timeout(rt, TURN, 1, Duration::from_millis(NAP));
     }
     unreachable!()
 }
 
-/// Sets the turn free, with the book in its slot, and wakes one who waits for it.
-fn set_free<B: Book>(board: &Board<B>, token: &mut Token<B>)
+/// Sets the turn free, with the book in its slot, and wakes one who waits for it, if that is due.
+fn set_free<B: Book>(board: &Board<B>, token: &mut Token<B>, wakes: bool)
     requires board { IsTokenOf board.now.table_id token.old }
     requires turn { token.old.me.0.turn ≡ true }
     requires book { (book : B) × (token.old.me.1 ≡ (0, Some book) ∷ []) × (B.history book ≡ token.old.me.0.seen) × (B.basis book ≡ (setup_of B.basis board.now.key).basis) }
@@ -58,11 +66,13 @@ fn set_free<B: Book>(board: &Board<B>, token: &mut Token<B>)
     ensures freed { token.new.me ≡ (without_turn token.old.me.0, []) }
 {
     board.store::<Frees>(token, TURN, 0);
-    board.wake_one(TURN);
+    if wakes {
+        board.wake_one(TURN);
+    }
 }
 
-/// Puts the book back with one more entry of the seat, which joins the history, and sets the turn free.
-fn settle_applied<B: Book>(board: &Board<B>, token: &mut Token<B>, book: Shelved<B>)
+/// Puts the book back with one more entry of the seat, which joins the history at this position, and sets the turn free.
+fn settle_applied<B: Book>(board: &Board<B>, token: &mut Token<B>, book: Shelved<B>, position: u32)
     requires board { IsTokenOf board.now.table_id token.old }
     requires turn { HasTurn token.old }
     requires basis { B.basis book ≡ (setup_of B.basis board.now.key).basis }
@@ -73,7 +83,7 @@ fn settle_applied<B: Book>(board: &Board<B>, token: &mut Token<B>, book: Shelved
 {
     board.exchange(token, BOOK, Some(book));
     board.fetch_add::<Applies>(token, COUNT, 1);
-    set_free(board, token);
+    set_free(board, token, position % ENTRIES_A_WAKE == 0);
 }
 
 /// Puts the book back with the history that it had, and sets the turn free.
@@ -87,7 +97,7 @@ fn settle<B: Book>(board: &Board<B>, token: &mut Token<B>, book: Shelved<B>)
 {
     board.exchange(token, BOOK, Some(book));
     board.load::<Pins>(token, COUNT);
-    set_free(board, token);
+    set_free(board, token, true);
 }
 
 /// Posts an entry in the book of the turn, and sets the turn free.
@@ -116,7 +126,7 @@ pub(crate) fn post_in<B: Book>(
     let mut book = book;
     match book.post(number, entry) {
         Ok(position) => {
-            settle_applied(board, token, book);
+            settle_applied(board, token, book, position);
             Ok(position)
         }
         Err(refused) => {

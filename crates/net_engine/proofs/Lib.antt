@@ -6,6 +6,7 @@ pub mod Crossing
 pub mod Cutting
 pub mod Does
 pub mod Held
+pub mod Looking
 pub mod RowsOfAtoms
 pub mod Making
 pub mod Owned

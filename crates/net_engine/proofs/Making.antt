@@ -1,5 +1,5 @@
 -- What an update makes of a version.
-use Rattle.std.proofs.Common.{◌≡◌, ◌≢◌, ℕ, ◌+◌, ◌<◌, ◌≤◌, ◌^◌, ◌∙◌, ◌||◌, ⊎_elim, Bool, true, false, Option, List, [], ◌∷◌, length, replicate, get_or, refl, ap, sym, subst, eqb, length-set}
+use Rattle.std.proofs.Common.{◌≡◌, ◌≢◌, ℕ, ◌+◌, ◌<◌, ◌≤◌, ◌^◌, ◌∙◌, ◌||◌, ⊎_elim, Bool, true, false, Option, List, [], ◌∷◌, length, replicate, get_or, refl, ap, sym, subst, arith, eqb, length-set}
 use Rattle.std.specs.List.{Contains}
 use Rattle.std.specs.List.Sorted.{IsPermutation}
 use Rattle.std.proofs.lemmas.Bool.{and_parts, and_right, cases_Bool, cases_eq, eqb-true}
@@ -18,6 +18,7 @@ use Rattle.dn_model.specs.declared.entry.Route.{Route}
 use Rattle.dn_model.specs.declared.ids.RouterId.{RouterId}
 use Rattle.dn_model.specs.declared.target.Target.{Target}
 use Rattle.dn_model.specs.declared.topology.Topology.{Topology}
+use Rattle.net_engine.specs.Looks.{atoms_added, atoms_between, atoms_met, more_at_ends}
 use Rattle.net_engine.specs.Net.{AreWide, first_atom}
 use Rattle.net_engine.specs.Walked.{BeginsAtEnds, Follows, HasRouteOf, IsClear, IsCutAt, IsParted, IsRemade, IsSet, IsUpdated, IsWalked, UpdatesAt, is_part}
 use Rattle.net_engine.specs.Whole.{Agrees, HasEnds, IsWhole}
@@ -112,6 +113,8 @@ module _ (old new : List Atom) (r : RouterId) (op : Op) (changes : List Change) 
       begins = w.begins;
       form = w.form;
       tells = made-tells;
+      long = w.long;
+      met = w.met (prefix_of_op op).base ((prefix_of_op op).base + size (prefix_of_op op));
     }
 
 -- ---- clearings and settings
@@ -125,6 +128,11 @@ or-none : (x y : Bool) → y ≡ false → x ≡ (x || y)
 or-none true y e = refl
 or-none false y e = sym e
 
+-- and adds no atom
+clears-adds_none : (atoms : List Atom) (op : Op) → IsClear op → length atoms ≡ length atoms + atoms_added atoms op
+clears-adds_none atoms (Set q m t) h = absurd h
+clears-adds_none atoms (Clear q m) h = omega arith
+
 pub cleared : (old new : Kept) (r : RouterId) (op : Op) (changes : List Change) → IsClear op → IsRemade old new r op changes → IsUpdated old new r op changes
 cleared old new r op changes c h = record {
   whole = h.whole;
@@ -133,6 +141,8 @@ cleared old new r op changes c h = record {
   begins = λ a l. h.begins a ∙ or-none (begins_at old.atoms a) (op_sets_end a op) (clears-no_end op a c);
   form = h.form;
   tells = h.tells;
+  added = h.long ∙ clears-adds_none old.atoms op c;
+  met = h.met;
 }
 
 -- where the router has no route of the prefix it changes nothing
@@ -157,6 +167,8 @@ unchanged old r op p routes changes whole inside c is at none told =
       begins = λ a l. or-none (begins_at old.atoms a) (op_sets_end a op) (clears-no_end op a c);
       form = tt;
       tells = λ q a l. refl;
+      added = clears-adds_none old.atoms op c;
+      met = refl;
     })
 
 -- a route's prefix has its ends
@@ -173,6 +185,10 @@ sets-ends : (op : Op) (a : ℕ) → IsSet op → is_end_of (prefix_of_op op) a �
 sets-ends (Set q m t) a h = refl
 sets-ends (Clear q m) a h = absurd h
 
+sets-more : (atoms : List Atom) (op : Op) → IsSet op → more_at_ends atoms (prefix_of_op op) ≡ atoms_added atoms op
+sets-more atoms (Set q m t) h = refl
+sets-more atoms (Clear q m) h = absurd h
+
 pub set-after_cut : (old mid new : Kept) (r : RouterId) (op : Op) (p : Cidr) (changes : List Change) → IsSet op → p ≡ prefix_of_op op → IsCutAt old mid p → IsRemade mid new r op changes → IsUpdated old new r op changes
 set-after_cut old mid new r op p changes s is cut h = record {
   whole = h.whole;
@@ -181,6 +197,8 @@ set-after_cut old mid new r op p changes s is cut h = record {
   begins = λ a l. h.begins a ∙ cut.parted.begins a l ∙ ap (λ b. begins_at old.atoms a || b) (ap (λ (q : Cidr). is_end_of q a) is ∙ sets-ends op a s);
   form = h.form;
   tells = λ q a l. subst (λ u. TellsChange u (target_at new.atoms q a) (change_at changes q a)) (cut.parted.targets q a l) (h.tells q a l);
+  added = h.long ∙ cut.parted.more ∙ ap (λ n. length old.atoms + n) (ap (more_at_ends old.atoms) is ∙ sets-more old.atoms op s);
+  met = h.met ∙ subst (λ (q : Cidr). atoms_met mid.atoms q ≡ atoms_met old.atoms q) is cut.parted.met;
 }
 
 -- the ends of a prefix are those of an update that has it
@@ -219,6 +237,20 @@ update-made now t old new routes made r op changes p at lo hi view h cover wide 
     (sym is) cidr
     (subst (λ (q : Cidr). BeginsAtEnds old q) (sym is) (subst (λ (k : Kept). BeginsAtEnds k.atoms (prefix_of_op op)) back ends))
     (subst (λ n. UpdatesAt n op routes made) place u))
+
+-- what was looked at, by the atoms that have an address of the prefix
+pub looks-made : (now : Kept) (t : Topology) (atoms : List Atom) (routes : List (List Route)) (op : Op) (p : Cidr) (lo hi was is : ℕ) → kept_of t atoms routes ≡ now → p ≡ prefix_of_op op → lo ≡ p.base → hi ≡ p.base + size p → is ≤ was + 2 + atoms_between atoms lo hi → is ≤ was + 2 + atoms_met now.atoms (prefix_of_op op)
+looks-made now t atoms routes op p lo hi was is view of low high cost =
+    let first : atoms_between atoms lo hi ≡ atoms_between atoms p.base hi = ap (λ n. atoms_between atoms n hi) low in
+    let second : atoms_between atoms p.base hi ≡ atoms_met atoms p = ap (λ n. atoms_between atoms p.base n) high in
+    let third : atoms_met atoms p ≡ atoms_met atoms (prefix_of_op op) = ap (λ (q : Cidr). atoms_met atoms q) of in
+    let last : atoms_met atoms (prefix_of_op op) ≡ atoms_met now.atoms (prefix_of_op op) = ap (λ (k : Kept). atoms_met k.atoms (prefix_of_op op)) view in
+    omega arith
+
+pub looks-after_cut : (old mid : Kept) (op : Op) (p : Cidr) (was is : ℕ) → p ≡ prefix_of_op op → IsCutAt old mid p → is ≤ was + 2 + atoms_met mid.atoms (prefix_of_op op) → is ≤ was + 2 + atoms_met old.atoms (prefix_of_op op)
+looks-after_cut old mid op p was is of cut cost =
+    let same : atoms_met mid.atoms (prefix_of_op op) ≡ atoms_met old.atoms (prefix_of_op op) = subst (λ (q : Cidr). atoms_met mid.atoms q ≡ atoms_met old.atoms q) of cut.parted.met in
+    omega arith
 
 -- ---- the first version
 

@@ -1,13 +1,15 @@
 -- Atoms that are cut at both ends of a prefix.
-use Rattle.std.proofs.Common.{◌≡◌, ◌+◌, ◌<◌, ◌^◌, ◌∙◌, ◌||◌, Bool, true, false, List, refl, ap, sym, arith, eqb}
+use Rattle.std.proofs.Common.{◌≡◌, ◌+◌, ◌<◌, ◌^◌, ◌∙◌, ◌||◌, Bool, true, false, List, length, refl, ap, sym, arith, eqb, inl, inr}
 use Rattle.std.proofs.lemmas.Bool.{eq-eqb, ne_eqb, or_left, or_right}
 use Rattle.dn_model.specs.Cidr.{Cidr, IsCidr, size}
 use Rattle.dn_model.specs.Entry.{is_end_of}
 use Rattle.dn_model.specs.Rows.{CoverFrom}
 use Rattle.dn_model.specs.Version.{Atom, begins_at, first_of, past_of, rules_at, target_at}
+use Rattle.net_engine.specs.Looks.{atoms_met, more_at}
 use Rattle.net_engine.specs.Net.{cut_atoms}
 use Rattle.net_engine.specs.Walked.{BeginsAtEnds, IsParted}
 use Rattle.net_engine.proofs.Atoms.{cut-begins, cut-rules, cut-target, eqb-turned}
+use Rattle.net_engine.proofs.Looking.{cut-meets, cut-more, ends-apart, more-after, more-past}
 
 or-one : (p q r : Bool) → r ≡ false → (p || q) ≡ (p || (q || r))
 or-one true q r e = refl
@@ -29,6 +31,11 @@ parted-once old new p cover cidr last is = record {
       ∙ or-one (begins_at old a) (eqb p.base a) (eqb (p.base + size p) a) past;
   rules = λ r a l. ap (λ xs. rules_at xs r a) is ∙ cut-rules old p.base r a;
   targets = λ r a l. ap (λ xs. target_at xs r a) is ∙ cut-target old p.base r a;
+  more =
+      let one : length (cut_atoms old p.base) ≡ length old + more_at old p.base = cut-more 0 old p.base cover (omega arith) cidr.base in
+      let none : more_at old (p.base + size p) ≡ 0 = more-past old (p.base + size p) (omega arith) in
+      ap (λ xs. length xs) is ∙ (omega arith);
+  met = ap (λ xs. atoms_met xs p) is ∙ cut-meets old p.base p.base (p.base + size p) (ends-apart p) (inl refl);
 }
 
 -- each other one twice
@@ -44,6 +51,18 @@ parted-twice old mid new p cover again cidr below first second = record {
       ∙ or-two (begins_at old a) (eqb p.base a) (eqb (p.base + size p) a);
   rules = λ r a l. ap (λ xs. rules_at xs r a) second ∙ cut-rules mid (p.base + size p) r a ∙ ap (λ xs. rules_at xs r a) first ∙ cut-rules old p.base r a;
   targets = λ r a l. ap (λ xs. target_at xs r a) second ∙ cut-target mid (p.base + size p) r a ∙ ap (λ xs. target_at xs r a) first ∙ cut-target old p.base r a;
+  more =
+      let one : length (cut_atoms old p.base) ≡ length old + more_at old p.base = cut-more 0 old p.base cover (omega arith) cidr.base in
+      let two : length (cut_atoms mid (p.base + size p)) ≡ length mid + more_at mid (p.base + size p) = cut-more 0 mid (p.base + size p) again (omega arith) below in
+      let same : more_at mid (p.base + size p) ≡ more_at old (p.base + size p) =
+      ap (λ xs. more_at xs (p.base + size p)) first ∙ more-after old p.base (p.base + size p) cover cidr.base (ends-apart p) in
+      let long : length mid ≡ length (cut_atoms old p.base) = ap (λ xs. length xs) first in
+      ap (λ xs. length xs) second ∙ (omega arith);
+  met =
+      ap (λ xs. atoms_met xs p) second
+      ∙ cut-meets mid (p.base + size p) p.base (p.base + size p) (ends-apart p) (inr refl)
+      ∙ ap (λ xs. atoms_met xs p) first
+      ∙ cut-meets old p.base p.base (p.base + size p) (ends-apart p) (inl refl);
 }
 
 -- then atoms begin at both ends

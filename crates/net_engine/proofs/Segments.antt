@@ -2,7 +2,7 @@
 use Rattle.std.proofs.Common.{◌≡◌, ℕ, ◌+◌, ◌-◌, ◌<◌, ◌≤◌, ◌^◌, ◌∙◌, ◌||◌, ⊎_elim, ◌⊎◌, zero, suc, Bool, true, false, cond, None, List, [], ◌∷◌, length, get_or, set, take, drop, min, Result, Ok, Err, IfOk, OnOk, OnErr, IsTrue, is_ok, refl, ap, sym, subst, arith, eqb, leb, inl, inr}
 use Rattle.std.specs.List.{insert}
 use Rattle.std.proofs.lemmas.Bool.{cases_Bool, cases_lt, le-leb, lt-leb, eq-eqb, eqb-true, or_cases, or_left, or_right, both_ways}
-use Rattle.std.proofs.lemmas.List.{get_or-drop, get_or-set_other, get_or-set_same, get_or-take, get_or_default, length-drop, length-set, length-take, set-get_or}
+use Rattle.std.proofs.lemmas.List.{get_or-drop, get_or-set_other, get_or-set_same, get_or-take, length-drop, length-set, length-take, set-get_or}
 use Rattle.net_engine.specs.declared.segment.Segment.{Segment}
 use Rattle.net_engine.specs.declared.segment.Targets.{Targets}
 use Rattle.dn_model.specs.declared.entry.Op.{Op}
@@ -516,6 +516,16 @@ pub record Finds (segments now : List Segment) (place : ℕ) (x : Segment) : Typ
   pub apart : BeginsAt now place x.low → ⊥
   pub below : x.low < 2 ^ 32
   pub before : IsBefore now place x.rules x.target
+
+pub finds-at : (segments now : List Segment) (place at : ℕ) (begins : Bool) (rules : List Rule) (target : Target) → segments ≡ now → AreSegments 0 segments → IsSpot now at place begins → begins ≡ false → at < 2 ^ 32 → IsBefore now place rules target → Finds segments now place (record { low = at; rules = rules; target = target })
+finds-at segments now place at begins rules target view form spot other below before = record {
+  view = view;
+  form = form;
+  place_is = spot.place_is;
+  apart = λ b. both_ways begins other (spot.begins_is.1 b);
+  below = below;
+  before = before;
+}
 
 found-cut : (segments now : List Segment) (place : ℕ) (x : Segment) → Finds segments now place x → IsCutAt now (insert segments place x) x.low
 found-cut segments now place x f =

@@ -2,7 +2,7 @@
 use Rattle.std.proofs.Common.{◌≡◌, ◌≢◌, ℕ, ◌<◌, ◌≤◌, ◌^◌, ◌∙◌, ⊎_elim, true, false, None, option_map, List, [], ◌∷◌, length, get_or, set, map, refl, ap, sym, subst, arith}
 use Rattle.std.specs.List.Sorted.{IsPermutation}
 use Rattle.std.proofs.lemmas.Bool.{cases_eq, cases_lt}
-use Rattle.std.proofs.lemmas.List.{get_or-set_other, get_or-set_same, get_or_read, length-set}
+use Rattle.std.proofs.lemmas.List.{get_or-set_other, get_or-set_same, get_or_read, length-map, length-set}
 use Rattle.dn_model.specs.Atoms.{atom_low, atom_past, is_boundary, row_at}
 use Rattle.dn_model.specs.Delta.{TellsChange, change_at}
 use Rattle.dn_model.specs.Rows.{CoverFrom, holder}
@@ -16,6 +16,7 @@ use Rattle.dn_model.specs.declared.rule.Rule.{Rule}
 use Rattle.dn_model.specs.declared.target.Target.{Target}
 use Rattle.dn_model.proofs.Covers.{holder-rest, starts-below, within-above}
 use Rattle.edge_labels.specs.Labels.{Labels}
+use Rattle.net_engine.specs.Looks.{atoms_begun, atoms_between}
 use Rattle.net_engine.specs.Net.{IsNet, Net}
 use Rattle.net_engine.specs.Numbered.{AreNumbered, GoAlong, does_in, net_of, numbered}
 use Rattle.net_engine.specs.Reruled.{AreCutAt, IsReruledOver}
@@ -23,6 +24,7 @@ use Rattle.net_engine.specs.Segments.{Held, IsInForce, held_at, nothing_held}
 use Rattle.net_engine.specs.Walked.{Follows, IsWalked, is_part}
 use Rattle.net_engine.specs.declared.segment.Segment.{Segment}
 use Rattle.net_engine.proofs.Does.{atom-numbered, begins-numbered, rules-numbered, rules-other, target-numbered}
+use Rattle.net_engine.proofs.Looking.{begun-meet, meets-numbered}
 use Rattle.net_engine.proofs.Rerunning.{cut-along, not-within}
 use Rattle.net_engine.proofs.Segments.{held-in_force, none-in_force}
 use Rattle.net_engine.proofs.Standing.{AllRules, is-net}
@@ -142,6 +144,8 @@ module _ (routers : ℕ) (rows : List AtomRow) (x y : Labels) (owners : AllRules
         other_rules = other-rules;
         other_targets = other-targets;
         other_changes = w.changes;
+        long = length-map rows (numbered y (set owners r.0 made)) ∙ sym (length-map rows (numbered x owners));
+        met = λ low high. meets-numbered y (set owners r.0 made) rows low high ∙ sym (meets-numbered x owners rows low high);
       }
 
 -- ---- as the call needs it
@@ -160,6 +164,17 @@ pub own-along : (routers : ℕ) (rows : List AtomRow) (labels : Labels) (owners 
 own-along routers rows labels owners r lo past own parts h l is c first last =
     cut-along rows labels r own parts lo past (subst (λ ss. GoAlong rows labels r ss) (sym is) (h.along r l)) c first last
 
+pub makes-now : (net : Net) (routers : ℕ) (rows : List AtomRow) (x y : Labels) (owners : AllRules) (own parts made : List Segment) (now : List Change) (r : RouterId) (op : Op) (lo past n : ℕ) → net_of routers rows x owners ≡ net → AreNumbered routers rows x owners → r.0 < net.routers → past ≤ 2 ^ 32 → n ≡ r.0 → own ≡ get_or owners n own → AreCutAt own parts lo past → IsReruledOver rows x y parts made [] now r op lo past → Makes routers rows x y owners own parts made now r op lo past
+makes-now net routers rows x y owners own parts made now r op lo past n e h l end i is cut reruled =
+    let inside : r.0 < routers = router-now net routers rows x owners r.0 e l in
+    record {
+      inside = inside;
+      end = end;
+      own_is = own-found owners n r.0 own i (subst (λ k. r.0 < k) (sym h.each) inside) is;
+      parts_are = cut;
+      made_are = reruled;
+    }
+
 pub walked-now : (net : Net) (routers : ℕ) (rows : List AtomRow) (x y : Labels) (owners ps : AllRules) (own parts made : List Segment) (now : List Change) (r : RouterId) (op : Op) (lo past n : ℕ) → net_of routers rows x owners ≡ net → AreNumbered routers rows x owners → Makes routers rows x y owners own parts made now r op lo past → n ≡ r.0 → ps ≡ set owners n made → IsWalked net.atoms (map (numbered y ps) rows) [] now r op lo past
 walked-now net routers rows x y owners ps own parts made now r op lo past n e h k i is =
     subst (λ (m : Net). IsWalked m.atoms (map (numbered y ps) rows) [] now r op lo past) e
@@ -173,3 +188,8 @@ numbered-now routers rows x y owners ps own parts made now r op lo past n h k i 
 pub net-now : (routers : ℕ) (rows : List AtomRow) (x y : Labels) (owners ps : AllRules) (own parts made : List Segment) (now : List Change) (r : RouterId) (op : Op) (lo past n : ℕ) → AreNumbered routers rows x owners → Makes routers rows x y owners own parts made now r op lo past → n ≡ r.0 → ps ≡ set owners n made → IsNet (net_of routers rows y ps)
 net-now routers rows x y owners ps own parts made now r op lo past n h k i is =
     is-net routers rows y ps (numbered-now routers rows x y owners ps own parts made now r op lo past n h k i is)
+
+-- segments are looked at where atoms begin, and each atom that begins in a span has an address of it
+pub looks-now : (net : Net) (routers : ℕ) (rows : List AtomRow) (labels : Labels) (owners : AllRules) (lo past : ℕ) → net_of routers rows labels owners ≡ net → AreNumbered routers rows labels owners → atoms_begun rows lo past ≤ atoms_between net.atoms lo past
+looks-now net routers rows labels owners lo past e h =
+    subst (λ (n : Net). atoms_begun rows lo past ≤ atoms_between n.atoms lo past) e (begun-meet labels owners 0 rows lo past h.labelled.atoms.cover)

@@ -1,4 +1,5 @@
 pub mod Net
+pub mod Looks
 pub mod Segments
 pub mod Numbered
 pub mod Reruled

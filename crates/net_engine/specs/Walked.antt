@@ -2,7 +2,7 @@
 use Rattle.std.specs.Prelude.{ℕ, Bool, true, false, List, [], length, Option, slice_index_or, slice_set, Contains, IsPermutation, ◌≡◌, ◌+◌, ◌<◌, ◌≤◌, ◌^◌, ◌&&◌, ◌||◌, ◌==◌}
 use Rattle.dn_model.specs.Cidr.{Cidr, size}
 use Rattle.dn_model.specs.Delta.{AreChanges, TellsChange, change_at}
-use Rattle.dn_model.specs.Entry.{is_end_of, op_sets_end}
+use Rattle.dn_model.specs.Entry.{is_end_of, op_sets_end, prefix_of_op}
 use Rattle.dn_model.specs.Rows.{is_within}
 use Rattle.dn_model.specs.Rules.{IsTop, after_rule_op, target_of as target_of_rule}
 use Rattle.dn_model.specs.Table.{after_op}
@@ -14,14 +14,17 @@ use Rattle.dn_model.specs.declared.entry.Route.{Route}
 use Rattle.dn_model.specs.declared.ids.RouterId.{RouterId}
 use Rattle.dn_model.specs.declared.rule.Rule.{Rule}
 use Rattle.dn_model.specs.declared.target.Target.{Target}
+use Rattle.net_engine.specs.Looks.{atoms_added, atoms_between, atoms_met, more_at_ends}
 use Rattle.net_engine.specs.Whole.{IsWhole}
 
 -- The atoms were cut at the ends of a prefix: they begin there too, and each router has the rules that it had at each
--- address, and does what it did.
+-- address, and does what it did. As many atoms as before have addresses of the prefix, since its ends cut the others off.
 pub record IsParted (old new : List Atom) (p : Cidr) : Type 0 where
   pub begins : (a : ℕ) → a < 2 ^ 32 → begins_at new a ≡ (begins_at old a || is_end_of p a)
   pub rules : (r : RouterId) (a : ℕ) → a < 2 ^ 32 → rules_at new r a ≡ rules_at old r a
   pub targets : (r : RouterId) (a : ℕ) → a < 2 ^ 32 → target_at new r a ≡ target_at old r a
+  pub more : length new ≡ length old + more_at_ends old p
+  pub met : atoms_met new p ≡ atoms_met old p
 
 -- whether an address of a router is one from `lo` up to, and without, `hi` of this router
 abbrev pub is_part : RouterId → ℕ → ℕ → RouterId → ℕ → Bool
@@ -52,6 +55,8 @@ pub record IsWalked (old new : List Atom) (was now : List Change) (r : RouterId)
   pub other_rules : (q : RouterId) (a : ℕ) → is_part r lo hi q a ≡ false → rules_at new q a ≡ rules_at old q a
   pub other_targets : (q : RouterId) (a : ℕ) → is_part r lo hi q a ≡ false → target_at new q a ≡ target_at old q a
   pub other_changes : (q : RouterId) (a : ℕ) → is_part r lo hi q a ≡ false → change_at now q a ≡ change_at was q a
+  pub long : length new ≡ length old
+  pub met : (low high : ℕ) → atoms_between new low high ≡ atoms_between old low high
 
 -- a route of a prefix
 pub record HasRouteOf (routes : List Route) (p : Cidr) : Type 0 where
@@ -98,6 +103,8 @@ pub record IsRemade (old new : Kept) (r : RouterId) (op : Op) (changes : List Ch
   pub begins : (a : ℕ) → begins_at new.atoms a ≡ begins_at old.atoms a
   pub form : AreChanges changes
   pub tells : (q : RouterId) (a : ℕ) → a < 2 ^ 32 → TellsChange (target_at old.atoms q a) (target_at new.atoms q a) (change_at changes q a)
+  pub long : length new.atoms ≡ length old.atoms
+  pub met : atoms_met new.atoms (prefix_of_op op) ≡ atoms_met old.atoms (prefix_of_op op)
 
 -- An update of one router was made: its routes are what the update makes of them, atoms begin at the ends of a prefix
 -- that it sets too, and it is told where a router does something else than before.
@@ -108,3 +115,5 @@ pub record IsUpdated (old new : Kept) (r : RouterId) (op : Op) (changes : List C
   pub begins : (a : ℕ) → a < 2 ^ 32 → begins_at new.atoms a ≡ (begins_at old.atoms a || op_sets_end a op)
   pub form : AreChanges changes
   pub tells : (q : RouterId) (a : ℕ) → a < 2 ^ 32 → TellsChange (target_at old.atoms q a) (target_at new.atoms q a) (change_at changes q a)
+  pub added : length new.atoms ≡ length old.atoms + atoms_added old.atoms op
+  pub met : atoms_met new.atoms (prefix_of_op op) ≡ atoms_met old.atoms (prefix_of_op op)

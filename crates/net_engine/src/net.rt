@@ -1,8 +1,9 @@
 //! Atoms with what each router does there and the rules that it has there.
 
-ghost use Rattle.std.specs.Prelude.{◌≡◌, ◌<◌, ◌≤◌, ◌^◌, ◌∷◌, [], true, IfOk, length, slice_index_or, replicate};
+ghost use Rattle.std.specs.Prelude.{◌≡◌, ◌+◌, ◌<◌, ◌≤◌, ◌^◌, ◌∷◌, [], true, IfOk, length, slice_index_or, replicate};
 ghost use Rattle.dn_model.specs.Forwarding.{target_of};
 ghost use Rattle.dn_model.specs.Version.{Atom, begins_at, first_of, past_of};
+ghost use Rattle.net_engine.specs.Looks.{atoms_between};
 ghost use Rattle.net_engine.specs.Net.{cut_atoms, first_atom, IsNet};
 ghost use Rattle.net_engine.specs.Walked.{IsWalked};
 
@@ -15,6 +16,8 @@ use dn_model::{Op, OutOfMemory, RouterId, Target};
 use edge_labels::LabelGraph;
 use std::alloc::Global;
 use std::marker::Model;
+use std::sync::ledger::Ledger;
+use step_count::Steps;
 
 /// The atoms of a network, with what each router does there, which stands by the number of the atom, and its rules there,
 /// which stand by router, between the ends of the prefixes that the router itself has set. A contract sees the number of
@@ -88,12 +91,13 @@ impl Net {
 
     /// Makes an update of a router at the addresses of a span, at whose ends atoms begin, and tells where the router does
     /// something else than before. At `OutOfMemory`, for which alone it fails, all is dropped.
-    pub fn update(
+    pub fn update<L: Ledger>(
         self,
         alloc: Global,
         r: RouterId,
         op: &Op,
         span: Span,
+        steps: &mut Steps<L>,
     ) -> Result<(Net, Delta), OutOfMemory>
         requires router { r.0 < self.routers }
         requires order { span.lo < span.past }
@@ -103,6 +107,7 @@ impl Net {
         ensures routers { IfOk result (λ made. made.0.routers ≡ self.routers) }
         ensures net { IfOk result (λ made. IsNet made.0) }
         ensures walked { IfOk result (λ made. IsWalked self.atoms made.0.atoms [] made.1 r op.now span.lo span.past) }
+        ensures cost { steps.new ≤ steps.old + 2 + atoms_between self.atoms span.lo span.past }
     {
         let Net {
             routers,
@@ -111,9 +116,13 @@ impl Net {
             mut owners,
         } = self;
         let own = &mut owners[usize::from(r.0)];
-        let place = cut_both(alloc, own, span)?;
-        let reach = Reach { place, span };
-        let (labels, delta) = walk_segments(alloc, &atoms, labels, own, r, op, reach)?;
+        let place = cut_both(alloc, own, span, steps)?;
+        let reach = Reach {
+            router: r,
+            place,
+            span,
+        };
+        let (labels, delta) = walk_segments(alloc, &atoms, labels, own, op, reach, steps)?;
         Ok((
             Net {
                 routers,

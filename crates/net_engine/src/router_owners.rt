@@ -10,6 +10,8 @@ use dn_model::{Op, OutOfMemory, Target};
 use owner_tree::Owners;
 use std::alloc::Global;
 use std::marker::Model;
+use std::sync::ledger::Ledger;
+use step_count::Steps;
 use version_pages::Pages;
 
 /// The address after the last.
@@ -143,14 +145,21 @@ impl RouterOwners {
         }
     }
 
-    /// The rules of the segment before a place, and none before the first.
-    fn rules_before(&self, alloc: Global, place: u64) -> Result<(Owners, Target), OutOfMemory>
+    /// The rules of the segment before a place, of which it takes one look, and none before the first.
+    fn rules_before<L: Ledger>(
+        &self,
+        alloc: Global,
+        place: u64,
+        steps: &mut Steps<L>,
+    ) -> Result<(Owners, Target), OutOfMemory>
         requires { place ≤ length self.now }
-        ensures { IfOk result (λ held. IsBefore self.now place held.0 held.1) }
+        ensures before { IfOk result (λ held. IsBefore self.now place held.0 held.1) }
+        ensures cost { steps.new ≤ steps.old + 1 }
     {
         if place == 0 {
             return Ok((Owners::new(alloc), Target::NoRoute));
         }
+        steps.tick();
         match self.segments.get(place - 1) {
             Some(segment) => Ok((segment.rules.copy()?, segment.target)),
             None => unreachable!(),
@@ -159,34 +168,54 @@ impl RouterOwners {
 
     /// Cuts the segment that has an address in two there, if none begins there: both parts have the rules of the whole. It
     /// answers the place of the segment that begins there then. It fails for want of memory alone.
-    pub fn cut(&mut self, alloc: Global, at: u32) -> Result<u64, OutOfMemory>
+    pub fn cut<L: Ledger>(
+        &mut self,
+        alloc: Global,
+        at: u32,
+        steps: &mut Steps<L>,
+    ) -> Result<u64, OutOfMemory>
         ensures cut { OnOk result (IsCutAt self.old self.new at) }
         ensures begins { IfOk result (λ place. BeginsAt self.new place at) }
+        ensures cost { steps.new ≤ steps.old + 1 }
     {
         let spot = self.spot_of(at);
-        self.part(alloc, spot, at)?;
+        self.part(alloc, spot, at, steps)?;
         Ok(spot.place)
     }
 
     /// Cuts at an address too, which it looks for first behind the place of a segment that was cut before. It fails for want
     /// of memory alone.
-    pub fn cut_behind(&mut self, alloc: Global, near: u64, at: u32) -> Result<(), OutOfMemory>
+    pub fn cut_behind<L: Ledger>(
+        &mut self,
+        alloc: Global,
+        near: u64,
+        at: u32,
+        steps: &mut Steps<L>,
+    ) -> Result<(), OutOfMemory>
         ensures cut { OnOk result (IsCutAt self.old self.new at) }
         ensures keeps { OnOk result (KeepsBelow self.old self.new at) }
+        ensures cost { steps.new ≤ steps.old + 1 }
     {
         let spot = self.spot_from(near, at);
-        return self.part(alloc, spot, at);
+        return self.part(alloc, spot, at, steps);
     }
 
     /// Cuts there, where a search for the address ends, and tells the guide.
-    fn part(&mut self, alloc: Global, spot: Spot, at: u32) -> Result<(), OutOfMemory>
+    fn part<L: Ledger>(
+        &mut self,
+        alloc: Global,
+        spot: Spot,
+        at: u32,
+        steps: &mut Steps<L>,
+    ) -> Result<(), OutOfMemory>
         requires { IsSpot self.old at spot.place spot.begins }
         ensures cut { OnOk result (IsCutAt self.old self.new at) }
         ensures begins { OnOk result (BeginsAt self.new spot.place at) }
         ensures keeps { OnOk result (KeepsBelow self.old self.new at) }
+        ensures cost { steps.new ≤ steps.old + 1 }
     {
         let before = self.segments.len();
-        self.cut_at(alloc, spot, at)?;
+        self.cut_at(alloc, spot, at, steps)?;
         self.tell_guide(alloc, before, at);
         Ok(())
     }
@@ -204,17 +233,24 @@ impl RouterOwners {
     }
 
     /// Cuts there, where a search for the address ends.
-    fn cut_at(&mut self, alloc: Global, spot: Spot, at: u32) -> Result<(), OutOfMemory>
+    fn cut_at<L: Ledger>(
+        &mut self,
+        alloc: Global,
+        spot: Spot,
+        at: u32,
+        steps: &mut Steps<L>,
+    ) -> Result<(), OutOfMemory>
         requires { IsSpot self.old at spot.place spot.begins }
         ensures cut { OnOk result (IsCutAt self.old self.new at) }
         ensures begins { OnOk result (BeginsAt self.new spot.place at) }
         ensures keeps { OnOk result (KeepsBelow self.old self.new at) }
+        ensures cost { steps.new ≤ steps.old + 1 }
     {
         let _ = &self.segments;
         if spot.begins {
             return Ok(());
         }
-        let (rules, target) = self.rules_before(alloc, spot.place)?;
+        let (rules, target) = self.rules_before(alloc, spot.place, steps)?;
         let segment = Segment {
             low: at,
             rules,
@@ -223,12 +259,20 @@ impl RouterOwners {
         self.segments.insert_at(alloc, spot.place, segment)
     }
 
-    /// Makes an update to the rules of the segment at a place, which the update's prefix covers. It fails for want of
-    /// memory alone.
-    pub fn change(&mut self, alloc: Global, place: u64, op: &Op) -> Result<Targets, OutOfMemory>
+    /// Makes an update to the rules of the segment at a place, which the update's prefix covers: one look. It fails for
+    /// want of memory alone.
+    pub fn change<L: Ledger>(
+        &mut self,
+        alloc: Global,
+        place: u64,
+        op: &Op,
+        steps: &mut Steps<L>,
+    ) -> Result<Targets, OutOfMemory>
         requires { place < length self.old }
-        ensures { IfOk result (λ targets. IsRerulesAt self.old self.new place op.now targets) }
+        ensures made { IfOk result (λ targets. IsRerulesAt self.old self.new place op.now targets) }
+        ensures cost { steps.new ≡ steps.old + 1 }
     {
+        steps.tick();
         self.segments
             .change(alloc, place, |segment: &mut Segment| rerule(segment, op))?
     }

@@ -1,11 +1,12 @@
 //! What a version keeps.
 
-ghost use Rattle.std.specs.Prelude.{◌≡◌, ◌<◌, ◌++◌, ◌∷◌, [], List, ℕ, IfOk, length};
+ghost use Rattle.std.specs.Prelude.{◌≡◌, ◌+◌, ◌<◌, ◌≤◌, ◌++◌, ◌∷◌, [], List, ℕ, IfOk, length};
 ghost use Rattle.std.specs.Arc.{arc_value};
 ghost use Rattle.dn_model.specs.Delta.{IsDeltaOf};
 ghost use Rattle.dn_model.specs.Entry.{IsEntryOf, IsOpOf, prefix_of_op};
 ghost use Rattle.dn_model.specs.Version.{KeptStandsFor, forwarding_of};
 ghost use Rattle.dn_model.specs.declared.entry.Entry.{Entry as EntryIs};
+ghost use Rattle.net_engine.specs.Looks.{atoms_added, atoms_met};
 ghost use Rattle.net_engine.specs.Walked.{BeginsAtEnds, IsClear, IsCutAt, IsSet, IsRemade, IsUpdated};
 
 use crate::ends::{cut_ends, past_of};
@@ -19,6 +20,8 @@ use route_table::RouteTable;
 use std::alloc::Global;
 use std::marker::Model;
 use std::sync::Arc;
+use std::sync::ledger::Ledger;
+use step_count::Steps;
 
 /// What a version keeps: the topology, the atoms, with what each router does there and its rules there, and each router's
 /// routes. A contract sees the topology, the atoms in order, and the routes.
@@ -76,11 +79,18 @@ impl State {
     }
 
     /// The version after an update of one of its routers, at whose prefix's ends atoms begin.
-    fn update(self, alloc: Global, r: RouterId, op: &Op) -> Result<(State, Delta), OutOfMemory>
+    fn update<L: Ledger>(
+        self,
+        alloc: Global,
+        r: RouterId,
+        op: &Op,
+        steps: &mut Steps<L>,
+    ) -> Result<(State, Delta), OutOfMemory>
         requires router { r.0 < length self.topology.routers }
         requires op { IsOpOf self.topology op.now }
         requires ends { BeginsAtEnds self.atoms (prefix_of_op op.now) }
-        ensures { IfOk result (λ made. IsRemade self made.0 r op.now made.1) }
+        ensures made { IfOk result (λ made. IsRemade self made.0 r op.now made.1) }
+        ensures cost { steps.new ≤ steps.old + 2 + atoms_met self.atoms (prefix_of_op op.now) }
     {
         let State {
             topology,
@@ -93,7 +103,7 @@ impl State {
             past: past_of(prefix),
         };
         update_at(alloc, &mut tables, usize::from(r.0), op)?;
-        let (net, delta) = net.update(alloc, r, op, span)?;
+        let (net, delta) = net.update(alloc, r, op, span, steps)?;
         Ok((
             State {
                 topology,
@@ -105,50 +115,81 @@ impl State {
     }
 
     /// The version after a clearing, which changes nothing where the router has no route of the prefix.
-    fn clear(self, alloc: Global, r: RouterId, op: &Op) -> Result<(State, Delta), OutOfMemory>
+    fn clear<L: Ledger>(
+        self,
+        alloc: Global,
+        r: RouterId,
+        op: &Op,
+        steps: &mut Steps<L>,
+    ) -> Result<(State, Delta), OutOfMemory>
         requires router { r.0 < length self.topology.routers }
         requires op { IsOpOf self.topology op.now }
         requires clears { IsClear op.now }
-        ensures { IfOk result (λ made. IsUpdated self made.0 r op.now made.1) }
+        ensures made { IfOk result (λ made. IsUpdated self made.0 r op.now made.1) }
+        ensures cost { steps.new ≤ steps.old + 2 + atoms_met self.atoms (prefix_of_op op.now) }
     {
         if has_route_of(&self.tables[usize::from(r.0)], op.prefix()) {
-            return self.update(alloc, r, op);
+            return self.update(alloc, r, op, steps);
         }
         Ok((self, Delta::new(alloc)))
     }
 
     /// The version after a setting, which cuts atoms at the ends of the prefix.
-    fn set(self, alloc: Global, r: RouterId, op: &Op) -> Result<(State, Delta), OutOfMemory>
+    fn set<L: Ledger>(
+        self,
+        alloc: Global,
+        r: RouterId,
+        op: &Op,
+        steps: &mut Steps<L>,
+    ) -> Result<(State, Delta), OutOfMemory>
         requires router { r.0 < length self.topology.routers }
         requires op { IsOpOf self.topology op.now }
         requires sets { IsSet op.now }
-        ensures { IfOk result (λ made. IsUpdated self made.0 r op.now made.1) }
+        ensures made { IfOk result (λ made. IsUpdated self made.0 r op.now made.1) }
+        ensures cost { steps.new ≤ steps.old + 2 + atoms_met self.atoms (prefix_of_op op.now) }
     {
         let parted = self.cut(alloc, op.prefix())?;
-        parted.update(alloc, r, op)
+        parted.update(alloc, r, op, steps)
     }
 
     /// The version after an update of one of its routers.
-    fn updated(self, alloc: Global, r: RouterId, op: &Op) -> Result<(State, Delta), OutOfMemory>
+    fn updated<L: Ledger>(
+        self,
+        alloc: Global,
+        r: RouterId,
+        op: &Op,
+        steps: &mut Steps<L>,
+    ) -> Result<(State, Delta), OutOfMemory>
         requires router { r.0 < length self.topology.routers }
         requires op { IsOpOf self.topology op.now }
-        ensures { IfOk result (λ made. IsUpdated self made.0 r op.now made.1) }
+        ensures made { IfOk result (λ made. IsUpdated self made.0 r op.now made.1) }
+        ensures cost { steps.new ≤ steps.old + 2 + atoms_met self.atoms (prefix_of_op op.now) }
     {
         match op {
-            Op::Set { .. } => self.set(alloc, r, op),
-            Op::Clear { .. } => self.clear(alloc, r, op),
+            Op::Set { .. } => self.set(alloc, r, op, steps),
+            Op::Clear { .. } => self.clear(alloc, r, op, steps),
         }
     }
 
     /// The version after an update of one of its routers, and where that changes what the router does. It takes the
     /// version and changes it in place; at `OutOfMemory`, for which alone it fails, it is dropped.
-    pub fn advance(self, alloc: Global, entry: &Entry) -> Result<(State, Delta), OutOfMemory>
+    pub fn advance<L: Ledger>(
+        self,
+        alloc: Global,
+        entry: &Entry,
+        steps: &mut Steps<L>,
+    ) -> Result<(State, Delta), OutOfMemory>
         requires { IsEntryOf self.topology entry.now }
         ensures topology { IfOk result (λ made. made.0.topology ≡ self.topology) }
         ensures stands { IfOk result (λ made. (history : List EntryIs) → KeptStandsFor self history → KeptStandsFor made.0 (history ++ entry.now ∷ [])) }
         ensures delta { IfOk result (λ made. (history : List EntryIs) → KeptStandsFor self history → IsDeltaOf self.topology (history ++ entry.now ∷ []) made.1) }
+        ensures added { IfOk result (λ made.
+            length made.0.atoms ≡ length self.atoms + atoms_added self.atoms entry.now.op) }
+        ensures met { IfOk result (λ made.
+            atoms_met made.0.atoms (prefix_of_op entry.now.op) ≡ atoms_met self.atoms (prefix_of_op entry.now.op)) }
+        ensures cost { steps.new ≤ steps.old + 2 + atoms_met self.atoms (prefix_of_op entry.now.op) }
     {
-        self.updated(alloc, entry.router, &entry.op)
+        self.updated(alloc, entry.router, &entry.op, steps)
     }
 
     /// The same version again.

@@ -1,11 +1,12 @@
 //! A version of a network.
 
-ghost use Rattle.std.specs.Prelude.{◌≡◌, ◌++◌, ◌∷◌, [], List, IfOk, length};
+ghost use Rattle.std.specs.Prelude.{◌≡◌, ◌+◌, ◌≤◌, ◌++◌, ◌∷◌, [], List, IfOk, length};
 ghost use Rattle.std.specs.Arc.{arc_value};
 ghost use Rattle.dn_model.specs.Delta.{IsDeltaOf};
-ghost use Rattle.dn_model.specs.Entry.{IsEntryOf};
+ghost use Rattle.dn_model.specs.Entry.{IsEntryOf, prefix_of_op};
 ghost use Rattle.dn_model.specs.Version.{KeptStandsFor, forwarding_of};
 ghost use Rattle.dn_model.specs.declared.entry.Entry.{Entry as EntryIs};
+ghost use Rattle.net_engine.specs.Looks.{atoms_added, atoms_met};
 
 use crate::state::State;
 use delta_graph::Delta;
@@ -14,6 +15,8 @@ use label_view::LabelView;
 use std::alloc::Global;
 use std::marker::Model;
 use std::sync::Arc;
+use std::sync::ledger::Ledger;
+use step_count::Steps;
 
 /// What all routers do with all addresses after a history of updates: atoms, which are the intervals of addresses
 /// between the ends of the prefixes that were set, with what each router does there and its rules there, and each
@@ -61,26 +64,50 @@ impl Version {
 
     /// The version after an update of one of its routers, and where that changes what the router does. It takes the
     /// version and changes it in place; at `OutOfMemory`, for which alone it fails, it is dropped.
-    pub fn advance(self, alloc: Global, entry: &Entry) -> Result<(Version, Delta), OutOfMemory>
+    ///
+    /// A step is a look at one set of rules: those of the router in one of its segments. It takes at most two more than
+    /// there are atoms that have an address of the prefix, of which there are as many after the update as before it. A
+    /// setting adds an atom for each end of the prefix at which none begins yet, and a clearing adds none.
+    pub fn advance<L: Ledger>(
+        self,
+        alloc: Global,
+        entry: &Entry,
+        steps: &mut Steps<L>,
+    ) -> Result<(Version, Delta), OutOfMemory>
         requires { IsEntryOf self.topology entry.now }
         ensures topology { IfOk result (λ made. made.0.topology ≡ self.topology) }
         ensures stands { IfOk result (λ made. (history : List EntryIs) → KeptStandsFor self history → KeptStandsFor made.0 (history ++ entry.now ∷ [])) }
         ensures delta { IfOk result (λ made. (history : List EntryIs) → KeptStandsFor self history → IsDeltaOf self.topology (history ++ entry.now ∷ []) made.1) }
+        ensures added { IfOk result (λ made.
+            length made.0.atoms ≡ length self.atoms + atoms_added self.atoms entry.now.op) }
+        ensures met { IfOk result (λ made.
+            atoms_met made.0.atoms (prefix_of_op entry.now.op) ≡ atoms_met self.atoms (prefix_of_op entry.now.op)) }
+        ensures cost { steps.new ≤ steps.old + 2 + atoms_met self.atoms (prefix_of_op entry.now.op) }
     {
-        let (state, delta) = self.into_state().advance(alloc, entry)?;
+        let (state, delta) = self.into_state().advance(alloc, entry, steps)?;
         let version = version_of(alloc, state)?;
         Ok((version, delta))
     }
 
     /// The version after an update of one of its routers, and where that changes what the router does. This version
-    /// stands as it is. The two share what the update doesn't change.
-    pub fn apply(&self, alloc: Global, entry: &Entry) -> Result<(Version, Delta), OutOfMemory>
+    /// stands as it is. The two share what the update doesn't change. Its steps are those of `advance`.
+    pub fn apply<L: Ledger>(
+        &self,
+        alloc: Global,
+        entry: &Entry,
+        steps: &mut Steps<L>,
+    ) -> Result<(Version, Delta), OutOfMemory>
         requires { IsEntryOf self.now.topology entry.now }
         ensures topology { IfOk result (λ made. made.0.topology ≡ self.now.topology) }
         ensures stands { IfOk result (λ made. (history : List EntryIs) → KeptStandsFor self.now history → KeptStandsFor made.0 (history ++ entry.now ∷ [])) }
         ensures delta { IfOk result (λ made. (history : List EntryIs) → KeptStandsFor self.now history → IsDeltaOf self.now.topology (history ++ entry.now ∷ []) made.1) }
+        ensures added { IfOk result (λ made.
+            length made.0.atoms ≡ length self.now.atoms + atoms_added self.now.atoms entry.now.op) }
+        ensures met { IfOk result (λ made.
+            atoms_met made.0.atoms (prefix_of_op entry.now.op) ≡ atoms_met self.now.atoms (prefix_of_op entry.now.op)) }
+        ensures cost { steps.new ≤ steps.old + 2 + atoms_met self.now.atoms (prefix_of_op entry.now.op) }
     {
-        self.copy(alloc)?.advance(alloc, entry)
+        self.copy(alloc)?.advance(alloc, entry, steps)
     }
 
     /// The same version again.

@@ -12,9 +12,12 @@ use dn_model::{
 };
 use label_view::LabelView;
 use std::alloc::Global;
+use std::marker::Brand;
 use std::process::Abort;
 use std::sync::Arc;
+use std::sync::ledger::{Blank, Ledger};
 use std::test::Fail;
+use step_count::Steps;
 
 /// The router of all updates.
 const FIRST: RouterId = RouterId(0);
@@ -140,15 +143,38 @@ fn first_version(alloc: Global) -> Result<Version, OutOfMemory>
     Version::empty(alloc, topology)
 }
 
-fn advanced(
+/// The version after an update. Nobody reads the count of looks.
+fn advanced<L: Ledger>(
     alloc: Global,
     version: Version,
     update: Update,
+    blank: Blank,
 ) -> Result<(Version, Delta), OutOfMemory>
-    requires { length version.topology.routers ≡ 3 }
+    requires routers { length version.topology.routers ≡ 3 }
+    requires name { blank.name ≡ L.name }
+    requires parts { blank.parts ≡ L.parts }
+    requires some { 0 < blank.parts }
     ensures { IfOk result (λ made. length made.0.topology.routers ≡ 3) }
 {
-    version.advance(alloc, &entry(update))
+    let mut steps = Steps::<L>::new(blank);
+    version.advance(alloc, &entry(update), &mut steps)
+}
+
+/// The version after an update, beside the one before it.
+fn applied<L: Ledger>(
+    alloc: Global,
+    version: &Version,
+    entry: &Entry,
+    blank: Blank,
+) -> Result<(Version, Delta), OutOfMemory>
+    requires entry { IsEntryOf version.now.topology entry.now }
+    requires name { blank.name ≡ L.name }
+    requires parts { blank.parts ≡ L.parts }
+    requires some { 0 < blank.parts }
+    ensures { IfOk result (λ made. made.0.topology ≡ version.now.topology) }
+{
+    let mut steps = Steps::<L>::new(blank);
+    version.apply(alloc, entry, &mut steps)
 }
 
 /// What a router does with an address by the rows of a view.
@@ -199,8 +225,8 @@ fn compare_told(rt: &impl Abort, old: &Version, new: &Version, changes: &[Change
 fn of_two_metrics_the_lesser_wins(rt: HostRuntime) -> Result<(), Fail> {
     let alloc = rt.alloc();
     let version = first_version(alloc)?;
-    let (version, _) = advanced(alloc, version, set(ten(), 20, 2))?;
-    let (version, better) = advanced(alloc, version, set(ten(), 5, 3))?;
+    let (version, _) = advanced::<Brand>(alloc, version, set(ten(), 20, 2), Blank::new(1))?;
+    let (version, better) = advanced::<Brand>(alloc, version, set(ten(), 5, 3), Blank::new(1))?;
     let run = Run {
         lo: 0x0A00_0000,
         hi: 0x0AFF_FFFF,
@@ -228,7 +254,7 @@ fn as_the_plain_evaluator(rt: HostRuntime) -> Result<(), Fail> {
         let entry = entry(update);
         entries.push(entry)?;
         let after = plain_routes(alloc, entries.as_slice(), FIRST)?;
-        let (new, delta) = old.apply(alloc, &entry)?;
+        let (new, delta) = applied::<Brand>(alloc, &old, &entry, Blank::new(1))?;
         compare(&rt, &old, before.as_slice());
         compare(&rt, &new, after.as_slice());
         compare_told(&rt, &old, &new, delta.changes());

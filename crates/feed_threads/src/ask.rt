@@ -1,6 +1,6 @@
 //! A query of a script is asked over a snapshot.
 
-ghost use Rattle.std.specs.Prelude.{◌≡◌, IfOk, OnOk, OnErr, None, Some};
+ghost use Rattle.std.specs.Prelude.{◌≡◌, ◌<◌, IfOk, OnOk, OnErr, None, Some};
 ghost use Rattle.dn_model.specs.Answer.{IsAnswer};
 ghost use Rattle.dn_model.specs.Entry.{entries};
 ghost use Rattle.dn_model.specs.Query.{unknown_of};
@@ -14,16 +14,29 @@ use dn_formats::{Outcome, Told};
 use dn_io::Gate;
 use dn_model::{Answer, List, OutOfMemory, Query};
 use std::alloc::Global;
+use std::marker::Brand;
 use std::sync::Wait;
+use std::sync::ledger::{Blank, Ledger};
+use step_count::Steps;
 use version_lock::Seat;
 use version_store::{AskRefused, Snapshot};
 
-/// The answer of a snapshot to a query whose names the network has.
-fn answer_of(alloc: Global, snapshot: &Snapshot, query: &Query) -> Result<Answer, OutOfMemory>
+/// The answer of a snapshot to a query whose names the network has. Nobody reads the count of steps, which takes no
+/// bytes.
+fn answer_of<L: Ledger>(
+    alloc: Global,
+    snapshot: &Snapshot,
+    query: &Query,
+    blank: Blank,
+) -> Result<Answer, OutOfMemory>
+    requires name { blank.name ≡ L.name }
+    requires parts { blank.parts ≡ L.parts }
+    requires some { 0 < blank.parts }
     requires known { unknown_of snapshot.now.topology query.now ≡ None }
     ensures { IfOk result (IsAnswer snapshot.now.topology (entries snapshot.now.history) query.now) }
 {
-    match snapshot.answer(alloc, query) {
+    let mut steps = Steps::<L>::new(blank);
+    match snapshot.answer(alloc, query, &mut steps) {
         Ok(answer) => Ok(answer),
         Err(AskRefused::OutOfMemory) => Err(OutOfMemory),
         Err(AskRefused::UnknownRouter(_)) => unreachable!(),
@@ -49,7 +62,7 @@ fn outcome<G: Gate, R: Wait>(
         return Ok(Outcome::Unknown(unknown));
     }
     let snapshot = desk.pin(rt, seat)?;
-    let answer = answer_of(desk.alloc(), &snapshot, query)?;
+    let answer = answer_of::<Brand>(desk.alloc(), &snapshot, query, Blank::new(1))?;
     desk.answered();
     Ok(Outcome::Answered {
         number: snapshot.number(),

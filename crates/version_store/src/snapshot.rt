@@ -1,13 +1,16 @@
 //! A snapshot of a history.
 
-ghost use Rattle.std.specs.Prelude.{◌≡◌, ◌<◌, ◌^◌, IfOk, IfErr, None, OnOk, length};
+ghost use Rattle.std.specs.Prelude.{◌≡◌, ◌+◌, ◌*◌, ◌<◌, ◌≤◌, ◌^◌, [], IfOk, IfErr, None, OnOk, length};
 ghost use Rattle.std.specs.Arc.{arc_value};
 ghost use Rattle.dn_model.specs.Answer.{IsAnswer};
 ghost use Rattle.dn_model.specs.Delta.{IsDeltaOf};
 ghost use Rattle.dn_model.specs.Entry.{entries};
 ghost use Rattle.dn_model.specs.Query.{unknown_of};
+ghost use Rattle.dn_model.specs.declared.query.Ask.TheVariants.{Loops};
+ghost use Rattle.row_answers.specs.Looks.{most_looks};
 ghost use Rattle.version_store.specs.Asked.{IsAskRefusal};
 ghost use Rattle.version_store.specs.Kept.{IsStandingOf};
+ghost use Rattle.version_store.specs.Prefixes.{most_rows, prefixes_set};
 
 use crate::asking::{AskRefused, refusal_of};
 use crate::standing::Standing;
@@ -16,6 +19,8 @@ use dn_model::{Answer, OutOfMemory, Posted, Query, Topology};
 use std::alloc::Global;
 use std::marker::Model;
 use std::sync::Arc;
+use std::sync::ledger::Ledger;
+use step_count::Steps;
 use version_pages::Pages;
 
 /// A snapshot of a network's history: it answers queries over the history as it was, whatever came later. A contract
@@ -74,16 +79,34 @@ impl Snapshot {
 
     /// The answer to a query over the history. It waits for nobody. A name that the topology doesn't have is told
     /// exactly where there is one, and then the first, left to right; no memory is taken for that.
-    pub fn answer(&self, alloc: Global, query: &Query) -> Result<Answer, AskRefused>
+    ///
+    /// A step is a look at what one router does with the addresses of one row. `loops` with no link taken as down is
+    /// told from what is kept, and takes none. Of anything else rows are looked at, of which there are at most two for
+    /// each different prefix that the history ever set, and one more: for a path at most as often as there are routers,
+    /// for the changes of an update not at all, and for all else at most once for each router in each row.
+    pub fn answer<L: Ledger>(
+        &self,
+        alloc: Global,
+        query: &Query,
+        steps: &mut Steps<L>,
+    ) -> Result<Answer, AskRefused>
         ensures answer { IfOk result (IsAnswer self.now.topology (entries self.now.history) query.now) }
         ensures known { OnOk result (unknown_of self.now.topology query.now ≡ None) }
         ensures refused { IfErr result (IsAskRefusal (unknown_of self.now.topology query.now)) }
+        ensures kept { query.now.ask ≡ Loops → query.now.without ≡ [] → steps.new ≡ steps.old }
+        ensures looks { steps.new ≤ steps.old + most_looks query.now.ask (most_rows (entries self.now.history))
+            (length self.now.topology.routers) }
+        ensures cost { steps.new ≤ steps.old + (2 * prefixes_set (entries self.now.history) + 1)
+            * length self.now.topology.routers }
     {
         if let Some(unknown) = query.unknown(&self.topology) {
             return Err(refusal_of(unknown));
         }
         let changes = self.changes.changes();
-        match self.standing.answer(alloc, &self.topology, changes, query) {
+        match self
+            .standing
+            .answer(alloc, &self.topology, changes, query, steps)
+        {
             Ok(answer) => Ok(answer),
             Err(OutOfMemory) => Err(AskRefused::OutOfMemory),
         }

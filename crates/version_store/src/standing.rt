@@ -1,6 +1,6 @@
 //! What stands after a history: its version, and the loops of the network.
 
-ghost use Rattle.std.specs.Prelude.{◌≡◌, ℕ, ◌<◌, ◌++◌, ◌∷◌, [], List, IfOk, IsTrue, None, OnOk, length};
+ghost use Rattle.std.specs.Prelude.{◌≡◌, ℕ, ◌+◌, ◌<◌, ◌≤◌, ◌++◌, ◌∷◌, [], List, IfOk, IsFalse, IsTrue, None, OnOk, length};
 ghost use Rattle.std.specs.Arc.{arc_value};
 ghost use Rattle.dn_model.specs.Answer.{IsAnswer};
 ghost use Rattle.dn_model.specs.Delta.{IsDelta, IsDeltaOf};
@@ -14,17 +14,19 @@ ghost use Rattle.dn_model.specs.declared.query.Ask.TheVariants.{Loops};
 ghost use Rattle.dn_model.specs.declared.target.Target.{Target as TargetIs};
 ghost use Rattle.dn_model.specs.declared.topology.Topology.{Topology as TopologyIs};
 ghost use Rattle.loop_keeper.specs.Kept.{AreKept};
+ghost use Rattle.row_answers.specs.Looks.{most_looks};
 ghost use Rattle.row_answers.specs.Shown.{AreToldIf};
 ghost use Rattle.version_store.specs.Kept.{IsStandingOf};
 
 use delta_graph::Delta;
 use dn_model::{Answer, Ask, Change, Entry, OutOfMemory, Query, Topology};
-use loop_keeper::{KeptLoops, Steps};
+use loop_keeper::KeptLoops;
 use net_engine::Version;
 use std::alloc::Global;
 use std::marker::Brand;
 use std::sync::Arc;
 use std::sync::ledger::{Blank, Ledger};
+use step_count::Steps;
 
 /// The version of a network after a history, and the loops of the network then, which are kept from update to update.
 #[derive(Drop)]
@@ -56,6 +58,7 @@ fn keep<L: Ledger>(
 fn asks_for_loops(query: &Query) -> bool
     ensures ask { IsTrue result → query.now.ask ≡ Loops }
     ensures none { IsTrue result → query.now.without ≡ [] }
+    ensures other { IsFalse result → query.now.ask ≡ Loops → query.now.without ≡ [] → ⊥ }
 {
     match query.ask() {
         Ask::Loops => query.without().is_empty(),
@@ -114,23 +117,27 @@ impl Standing {
 
     /// The answer to a query whose names the topology has, by what stands after a history, of which the changes that
     /// its last entry made are given. `loops` without `without` is told from what is kept, and no row is looked at.
-    pub(crate) fn answer(
+    pub(crate) fn answer<L: Ledger>(
         &self,
         alloc: Global,
         topology: &Topology,
         changes: &[Change],
         query: &Query,
+        steps: &mut Steps<L>,
     ) -> Result<Answer, OutOfMemory>
         requires known { unknown_of topology.now query.now ≡ None }
         requires wide { length self.now.version.topology.routers ≡ length topology.now.routers }
-        ensures { IfOk result (λ answer. (history : List EntryIs) → IsStandingOf topology.now history self.now →
+        ensures answer { IfOk result (λ answer. (history : List EntryIs) → IsStandingOf topology.now history self.now →
             AreToldIf topology.now history changes.now query.now.ask →
             IsAnswer topology.now history query.now answer) }
+        ensures kept { query.now.ask ≡ Loops → query.now.without ≡ [] → steps.new ≡ steps.old }
+        ensures looks { steps.new ≤ steps.old + most_looks query.now.ask (length (forwarding_of self.now.version.atoms))
+            (length self.now.version.topology.routers) }
     {
         if asks_for_loops(query) {
             let cycles = self.loops.answer(alloc)?;
             return Ok(Answer::Loops(cycles));
         }
-        row_answers::answer(alloc, topology, &self.version, changes, query)
+        row_answers::answer(alloc, topology, &self.version, changes, query, steps)
     }
 }

@@ -13,8 +13,11 @@ use dn_model::{
     Query, RouterId, Run, Target, TopoEnd, TopoLink, Topology, plain_answer,
 };
 use std::alloc::Global;
+use std::marker::Brand;
 use std::process::Abort;
 use std::sync::Arc;
+use std::sync::ledger::{Blank, Ledger};
+use step_count::Steps;
 use version_lock::{Book, PostRefused};
 
 /// From r1 to r2 over the link a.
@@ -296,6 +299,26 @@ fn plain(rt: &impl Abort, alloc: Global, entries: &[Entry], query: &Query) -> An
     plain_answer(alloc, &t, entries, query).expect(rt, "memory")
 }
 
+/// The answer of a snapshot to a query, by the bound of the ledger alone.
+fn counted<L: Ledger>(
+    alloc: Global,
+    snapshot: &Snapshot,
+    query: &Query,
+    blank: Blank,
+) -> Result<Answer, AskRefused>
+    requires name { blank.name ≡ L.name }
+    requires parts { blank.parts ≡ L.parts }
+    requires some { 0 < blank.parts }
+{
+    let mut steps = Steps::<L>::new(blank);
+    snapshot.answer(alloc, query, &mut steps)
+}
+
+/// The answer of a snapshot to a query, whose steps nobody reads.
+fn answer_of(alloc: Global, snapshot: &Snapshot, query: &Query) -> Result<Answer, AskRefused> {
+    counted::<Brand>(alloc, snapshot, query, Blank::new(1))
+}
+
 /// A snapshot is of these entries, and answers as the plain evaluator does over them.
 fn compare(rt: &impl Abort, alloc: Global, snapshot: &Snapshot, entries: &[Entry])
     requires { (t : TopologyIs) → length t.routers ≡ 3 → length t.links ≡ 2 → All (IsEntryOf t) entries.now }
@@ -303,7 +326,7 @@ fn compare(rt: &impl Abort, alloc: Global, snapshot: &Snapshot, entries: &[Entry
     assert_eq!(rt; snapshot.number() as usize, entries.len());
     for number in 0..5 {
         let query = question(alloc, number).expect(rt, "memory");
-        let answer = snapshot.answer(alloc, &query).expect(rt, "an answer");
+        let answer = answer_of(alloc, snapshot, &query).expect(rt, "an answer");
         let plain = plain(rt, alloc, entries, &query);
         compare_answers(rt, &answer, &plain);
     }
@@ -354,7 +377,7 @@ fn a_held_snapshot_stays(rt: HostRuntime) {
 /// How many cycles a snapshot tells.
 fn count_loops(rt: &impl Abort, alloc: Global, snapshot: &Snapshot) -> usize {
     let query = Query::of(alloc, Ask::Loops);
-    let answer = snapshot.answer(alloc, &query).expect(rt, "an answer");
+    let answer = answer_of(alloc, snapshot, &query).expect(rt, "an answer");
     cycles_of(&answer).len()
 }
 
@@ -396,7 +419,7 @@ fn events_are_played(rt: HostRuntime) {
 fn refusal(rt: &impl Abort, alloc: Global, ask: Ask) -> Option<AskRefused> {
     let store = store_of(alloc, 10).expect(rt, "memory");
     let snapshot = store.snap().expect(rt, "memory");
-    snapshot.answer(alloc, &Query::of(alloc, ask)).err()
+    answer_of(alloc, &snapshot, &Query::of(alloc, ask)).err()
 }
 
 #[test]

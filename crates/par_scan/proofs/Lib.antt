@@ -1,0 +1,4 @@
+mod Joining
+mod PartRows
+mod RangeBounds
+mod ReachParts

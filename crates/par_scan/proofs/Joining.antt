@@ -128,7 +128,7 @@ joined-form mid (x ∷ y ∷ rest) ys h e k s =
 
 -- ---- runs of two ranges that meet
 
-only-in : (low past a : ℕ) (test : ℕ → Bool) → only_within low past test a ≡ true → (low ≤ a) × (a < past)
+pub only-in : (low past a : ℕ) (test : ℕ → Bool) → only_within low past test a ≡ true → (low ≤ a) × (a < past)
 only-in low past a test so = ⊎_elim
     (λ (l : a < low). absurd (both_ways (only_within low past test a) (ap (λ b. b && test a) (within-below low past a l)) so))
     (λ (l : low ≤ a). ⊎_elim

@@ -1,3 +1,4 @@
+mod HoleParts
 mod Joining
 mod PartRows
 mod RangeBounds

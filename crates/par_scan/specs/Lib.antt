@@ -1,3 +1,4 @@
+pub mod HolesByRange
 pub mod Joined
 pub mod Parts
 pub mod Ranges

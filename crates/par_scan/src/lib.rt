@@ -2,9 +2,13 @@
 //! a view of its own, and what the ranges answer is put together.
 #![tactic(auto)]
 
+mod hole_order;
+mod hole_pieces;
+mod holes;
 mod more_runs;
 mod part;
 mod ranges;
 mod reached;
 
+pub use holes::blackholes;
 pub use reached::reach;

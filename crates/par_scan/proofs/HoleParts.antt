@@ -30,7 +30,7 @@ use Rattle.par_scan.specs.Parts.{ShowsPart}
 use Rattle.par_scan.specs.Ranges.{AreBounds, only_within, range_begin}
 use Rattle.par_scan.proofs.Joining.{all-within, joined-runs, only-in}
 use Rattle.par_scan.proofs.PartRows.{idle-local, idle-stays}
-use Rattle.par_scan.proofs.RangeBounds.{bounds-are, bounds-end}
+use Rattle.par_scan.proofs.RangeBounds.{bounds-are, bounds-end, range-of}
 use Rattle.par_scan.proofs.ReachParts.{test-within}
 
 -- ---- a part
@@ -246,20 +246,6 @@ all-next n does first pieces k piece d old new l is h t = record {
       t.told x (subst Q (sym (is ∙ get_or_default pieces k d e l)) (subst P same i)))
       (cases_lt j k);
 }
-
--- an address is of one range
-range-of : (at : ℕ → ℕ) (m a : ℕ) → at 0 ≡ 0 → a < at m → (k : ℕ) × (k < m) × (at k ≤ a) × (a < at (k + 1))
-range-of at zero a first l = absurd (omega (arith, first))
-range-of at (suc m) a first l = ⊎_elim
-    (λ (before : a < at m).
-    let k = range-of at m a first before in
-    let b : k.0 < m = k.1 in
-    (k.0, (let c : k.0 < suc m = omega arith in c), k.2, k.3))
-    (λ (from : at m ≤ a).
-    let e : suc m ≡ m + 1 = omega arith in
-    let P : ℕ → Type 0 = λ j. a < at j in
-    (m, (let c : m < suc m = omega arith in c), from, subst P e l))
-    (cases_lt a (at m))
 
 has-alike : (holes : List Hole) (r last : RouterId) (c cause : Target) → r.0 ≡ last.0 → cause_rank c ≡ cause_rank cause → HasHole holes r c → HasHole holes last cause
 has-alike holes r last c cause e f h = record { hole = h.hole; among = h.among; router = h.router ∙ e; same = h.same ∙ f }

@@ -1,8 +1,9 @@
 -- Runs, and more after them.
-use Rattle.std.proofs.Common.{◌≡◌, ℕ, ◌+◌, ◌-◌, ◌<◌, ◌≤◌, ◌^◌, ◌∙◌, cond, eqb, Bool, true, false, ◌||◌, ◌&&◌, List, [], ◌∷◌, ◌++◌, append_assoc, length, get_or, take, drop, zero, suc, refl, ap, sym, subst, ⊎_elim, arith}
-use Rattle.std.proofs.lemmas.Bool.{cases_eq, cond-true, cond-false, eq-eqb, ne_eqb, cases_lt, both_ways, or_left, or_right}
+use Rattle.std.proofs.Common.{◌≡◌, ℕ, ◌+◌, ◌-◌, ◌<◌, ◌≤◌, ◌^◌, ◌∙◌, cond, eqb, Bool, true, false, ◌||◌, ◌&&◌, List, [], ◌∷◌, ◌++◌, append_assoc, length, get_or, take, drop, map, zero, suc, refl, ap, sym, subst, ⊎_elim, arith}
+use Rattle.std.proofs.lemmas.Bool.{cases_eq, cond-true, cond-false, cond_both, eq-eqb, eqb-true, ne_eqb, cases_lt, both_ways, or_left, or_right}
 use Rattle.std.specs.List.{list_any}
-use Rattle.dn_model.specs.Runs.{holds, AreApart, AreRuns}
+use Rattle.std.proofs.lemmas.List.Sums.{sum_by-cons}
+use Rattle.dn_model.specs.Runs.{holds, AreApart, AreRuns, addresses_in, run_length}
 use Rattle.dn_model.specs.RunsFrom.{with_run, AreRunsFrom, StartFrom}
 use Rattle.dn_model.specs.declared.run.Run.{Run}
 use Rattle.dn_model.proofs.Covers.{within-above, within-below, within-yes}
@@ -176,3 +177,34 @@ more-runs at test pieces k old new piece d b h l is so_far e =
 -- all addresses are within the first and the last bound
 pub all-within : (past : ℕ) (test : ℕ → Bool) (runs : List Run) → past ≡ 2 ^ 32 → AreRuns runs (only_within 0 past test) → AreRuns runs test
 all-within past test runs e h = record { apart = h.apart; exact = λ a b. h.exact a b ∙ ap (λ z. z && test a) (within-yes 0 past a (omega arith) (omega arith)) }
+
+-- ---- how many addresses joined runs have
+
+count-cons : (x : Run) (xs : List Run) → addresses_in (x ∷ xs) ≡ run_length x + addresses_in xs
+count-cons x xs = sum_by-cons (λ (n : ℕ). n) (run_length x) (map run_length xs)
+
+with-count : (x : Run) (ys : List Run) → x.lo ≤ x.hi → AreApart ys → addresses_in (with_run x ys) ≡ run_length x + addresses_in ys
+with-count x [] l h = count-cons x []
+with-count x (y ∷ ys) l h =
+    let P : List Run → Type 0 = λ rs. addresses_in rs ≡ run_length x + addresses_in (y ∷ ys) in
+    let one : Run = record { lo = x.lo; hi = y.hi } in
+    let low : y.lo ≤ y.hi = apart-head y ys h in
+    let c : addresses_in (y ∷ ys) ≡ run_length y + addresses_in ys = count-cons y ys in
+    cond_both (eqb (x.hi + 1) y.lo) (one ∷ ys) (x ∷ y ∷ ys) P
+    (λ t.
+    let e : x.hi + 1 ≡ y.lo = eqb-true (x.hi + 1) y.lo t in
+    let d : addresses_in (one ∷ ys) ≡ run_length one + addresses_in ys = count-cons one ys in
+    omega arith)
+    (λ f. count-cons x (y ∷ ys))
+
+pub joined-count : (xs ys : List Run) → AreApart xs → AreApart ys → addresses_in (joined xs ys) ≡ addresses_in xs + addresses_in ys
+joined-count [] ys h k = (let e : addresses_in ys ≡ 0 + addresses_in ys = omega arith in e)
+joined-count (x ∷ []) ys h k =
+    let c : addresses_in (x ∷ []) ≡ run_length x + addresses_in [] = count-cons x [] in
+    let d : addresses_in (with_run x ys) ≡ run_length x + addresses_in ys = with-count x ys h.0 k in
+    omega arith
+joined-count (x ∷ y ∷ rest) ys h k =
+    let c : addresses_in (x ∷ y ∷ rest) ≡ run_length x + addresses_in (y ∷ rest) = count-cons x (y ∷ rest) in
+    let d : addresses_in (x ∷ joined (y ∷ rest) ys) ≡ run_length x + addresses_in (joined (y ∷ rest) ys) = count-cons x (joined (y ∷ rest) ys) in
+    let rec : addresses_in (joined (y ∷ rest) ys) ≡ addresses_in (y ∷ rest) + addresses_in ys = joined-count (y ∷ rest) ys h.2 k in
+    omega arith

@@ -1,3 +1,4 @@
+mod CycleParts
 mod HoleParts
 mod Joining
 mod PartRows

@@ -58,6 +58,20 @@ bounds-are n rows size form = record {
 pub bounds-end : (rows : List ForwardingRow) (size k : ℕ) → length rows ≤ size * k → range_begin rows size k ≡ 2 ^ 32
 bounds-end rows size k l = ap (begin_of rows) (outer (length rows) size k l) ∙ begin-end rows (length rows) (omega arith)
 
+-- an address is of one range
+pub range-of : (at : ℕ → ℕ) (m a : ℕ) → at 0 ≡ 0 → a < at m → (k : ℕ) × (k < m) × (at k ≤ a) × (a < at (k + 1))
+range-of at zero a first l = absurd (omega (arith, first))
+range-of at (suc m) a first l = ⊎_elim
+    (λ (before : a < at m).
+    let k = range-of at m a first before in
+    let b : k.0 < m = k.1 in
+    (k.0, (let c : k.0 < suc m = omega arith in c), k.2, k.3))
+    (λ (from : at m ≤ a).
+    let e : suc m ≡ m + 1 = omega arith in
+    let P : ℕ → Type 0 = λ j. a < at j in
+    (m, (let c : m < suc m = omega arith in c), from, subst P e l))
+    (cases_lt a (at m))
+
 -- the part of a range
 pub shows-range : (n : ℕ) (rows part : List ForwardingRow) (total from to size k : ℕ) → total ≡ length rows → from ≡ place_at total size k → to ≡ place_at total size (k + 1) → ShowsPart n rows part (begin_of rows from) (begin_of rows to) → ShowsPart n rows part (range_begin rows size k) (range_begin rows size (k + 1))
 shows-range n rows part total from to size k t f u h =

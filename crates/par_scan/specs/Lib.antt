@@ -1,3 +1,4 @@
+pub mod CyclesByRange
 pub mod HolesByRange
 pub mod Joined
 pub mod Parts

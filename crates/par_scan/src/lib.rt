@@ -2,6 +2,9 @@
 //! a view of its own, and what the ranges answer is put together.
 #![tactic(auto)]
 
+mod cycle_order;
+mod cycle_pieces;
+mod cycles;
 mod hole_order;
 mod hole_pieces;
 mod holes;
@@ -10,5 +13,6 @@ mod part;
 mod ranges;
 mod reached;
 
+pub use cycles::loops;
 pub use holes::blackholes;
 pub use reached::reach;

@@ -1,0 +1,6 @@
+mod CycleParts
+mod HoleParts
+mod Joining
+mod PartRows
+mod RangeBounds
+mod ReachParts

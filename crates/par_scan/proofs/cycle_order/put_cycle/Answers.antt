@@ -1,0 +1,17 @@
+use Rattle.std.proofs.Common.{ℕ, ◌≡◌, ◌<◌, ◌≤◌, false, List, IsTrue, length, slice_index_or, sym, subst}
+use Rattle.dn_model.specs.CyclesFrom.{is_before, IsPutAmong}
+use Rattle.dn_model.specs.declared.answer.Cycle.{Cycle}
+use Rattle.dn_model.proofs.CyclesFrom.{put-among}
+use Rattle.par_scan.proofs.cycle_order.put_cycle.Goals as goal
+
+pub returns : goal.returns
+returns c = λ order other.
+    let P : List Cycle → Type 0 = λ cs. IsPutAmong c.args.cycle c.args.cycles.now.items cs in
+    let L : List Cycle → Type 0 = λ cs. c.place_of-place.result ≤ length cs in
+    let B : List Cycle → Type 0 = λ cs. (k : ℕ) (d : Cycle) → k < c.place_of-place.result → IsTrue (is_before (slice_index_or cs k d) c.args.cycle) in
+    let A : List Cycle → Type 0 = λ cs. (d : Cycle) → c.place_of-place.result < length cs → is_before (slice_index_or cs c.place_of-place.result d) c.args.cycle ≡ false in
+    subst P (sym c.in_ok-insert.ensures.items)
+    (put-among c.args.cycle c.args.cycles.now.items c.place_of-place.result order other
+    (subst L c.as_slice.ensures.value c.place_of-place.ensures.within)
+    (subst B c.as_slice.ensures.value c.place_of-place.ensures.before)
+    (subst A c.as_slice.ensures.value c.place_of-place.ensures.after))

@@ -1,0 +1,17 @@
+use Rattle.std.proofs.Common.{ℕ, ◌≡◌, ◌<◌, ◌≤◌, ◌∙◌, false, List, IsTrue, length, slice_index_or, ap, sym, subst}
+use Rattle.dn_model.specs.HolesFrom.{is_before, IsPutAmong}
+use Rattle.dn_model.specs.declared.answer.Hole.{Hole}
+use Rattle.dn_model.proofs.HolesFrom.{put-among}
+use Rattle.par_scan.proofs.hole_order.put_hole.Goals as goal
+
+pub returns : goal.returns
+returns c = λ order other.
+    let P : List Hole → Type 0 = λ hs. IsPutAmong c.args.hole c.args.holes.now.items hs in
+    let L : List Hole → Type 0 = λ hs. c.place_of-place.result ≤ length hs in
+    let B : List Hole → Type 0 = λ hs. (k : ℕ) (d : Hole) → k < c.place_of-place.result → IsTrue (is_before (slice_index_or hs k d) c.args.hole) in
+    let A : List Hole → Type 0 = λ hs. (d : Hole) → c.place_of-place.result < length hs → is_before (slice_index_or hs c.place_of-place.result d) c.args.hole ≡ false in
+    subst P (sym c.in_ok-insert.ensures.items)
+    (put-among c.args.hole c.args.holes.now.items c.place_of-place.result order other
+    (subst L c.as_slice.ensures.value c.place_of-place.ensures.within)
+    (subst B c.as_slice.ensures.value c.place_of-place.ensures.before)
+    (subst A c.as_slice.ensures.value c.place_of-place.ensures.after))

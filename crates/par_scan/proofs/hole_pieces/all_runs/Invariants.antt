@@ -1,0 +1,12 @@
+use Rattle.std.proofs.Common.{ℕ}
+use Rattle.dn_model.specs.Holes.{falls}
+use Rattle.dn_model.specs.Runs.{AreRuns}
+use Rattle.dn_model.specs.declared.ids.RouterId.{RouterId}
+use Rattle.dn_model.specs.declared.target.Target.{Target}
+use Rattle.par_scan.specs.HolesByRange.{AreHolePieces}
+use Rattle.par_scan.specs.Ranges.{only_within}
+use Rattle.par_scan.proofs.hole_pieces.all_runs.Given as goal
+
+-- the runs of the ranges so far
+abbrev pub invariant-loop-k : goal.invariant-loop-k
+invariant-loop-k l = (n : ℕ) (does : RouterId → ℕ → Target) (first : RouterId) (h : AreHolePieces n does first l.pieces) → AreRuns l.runs.items (only_within 0 (h.at l.k) (falls n does first l.last l.cause))

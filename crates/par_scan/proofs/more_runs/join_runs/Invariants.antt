@@ -1,0 +1,8 @@
+use Rattle.std.proofs.Common.{ℕ, Bool}
+use Rattle.dn_model.specs.Runs.{AreRuns}
+use Rattle.par_scan.specs.Ranges.{AreBounds, AreRunsByRange, only_within}
+use Rattle.par_scan.proofs.more_runs.join_runs.Given as goal
+
+-- the runs of the ranges so far
+abbrev pub invariant-loop-k : goal.invariant-loop-k
+invariant-loop-k l = (at : ℕ → ℕ) (test : ℕ → Bool) → AreBounds at → AreRunsByRange at test l.pieces → AreRuns l.runs.items (only_within 0 (at l.k) test)

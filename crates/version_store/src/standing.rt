@@ -7,7 +7,7 @@ ghost use Rattle.dn_model.specs.Delta.{IsDelta, IsDeltaOf};
 ghost use Rattle.dn_model.specs.Entry.{IsEntryOf};
 ghost use Rattle.dn_model.specs.Forwarding.{does};
 ghost use Rattle.dn_model.specs.Query.{unknown_of};
-ghost use Rattle.dn_model.specs.Version.{forwarding_of};
+ghost use Rattle.dn_model.specs.Version.{KeptStandsFor, forwarding_of};
 ghost use Rattle.dn_model.specs.declared.entry.Entry.{Entry as EntryIs};
 ghost use Rattle.dn_model.specs.declared.ids.RouterId.{RouterId as RouterIs};
 ghost use Rattle.dn_model.specs.declared.query.Ask.TheVariants.{Loops};
@@ -33,6 +33,28 @@ use step_count::Steps;
 pub(crate) struct Standing {
     version: Version,
     loops: KeptLoops,
+}
+
+/// The version after an update, and where that changes what the router does. Nobody reads the count of steps, which takes
+/// no bytes.
+fn update<L: Ledger>(
+    alloc: Global,
+    version: Version,
+    entry: &Entry,
+    blank: Blank,
+) -> Result<(Version, Delta), OutOfMemory>
+    requires name { blank.name ≡ L.name }
+    requires parts { blank.parts ≡ L.parts }
+    requires some { 0 < blank.parts }
+    requires entry { IsEntryOf version.topology entry.now }
+    ensures topology { IfOk result (λ made. made.0.topology ≡ version.topology) }
+    ensures stands { IfOk result (λ made. (history : List EntryIs) → KeptStandsFor version history
+        → KeptStandsFor made.0 (history ++ entry.now ∷ [])) }
+    ensures delta { IfOk result (λ made. (history : List EntryIs) → KeptStandsFor version history
+        → IsDeltaOf version.topology (history ++ entry.now ∷ []) made.1) }
+{
+    let mut steps = Steps::<L>::new(blank);
+    version.advance(alloc, entry, &mut steps)
 }
 
 /// Keeps loops through an update to a version, by its delta. Nobody reads the count of steps, which takes no bytes.
@@ -95,7 +117,7 @@ impl Standing {
             → IsDeltaOf t (history ++ entry.now ∷ []) made.1) }
     {
         let Standing { version, mut loops } = self;
-        let (next, delta) = version.advance(alloc, entry)?;
+        let (next, delta) = update::<Brand>(alloc, version, entry, Blank::new(1))?;
         keep::<Brand>(alloc, &mut loops, &next, &delta, Blank::new(1))?;
         Ok((
             Standing {

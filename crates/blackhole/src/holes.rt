@@ -38,7 +38,8 @@ fn holes_of(alloc: Global, falls: Vec<Fall>) -> Result<List<Hole>, OutOfMemory>
 /// The addresses whose walks from a router end without a way on: for each last router and cause (`NoRoute`, `Dropped`
 /// or `LinkDown`) that has any, their runs; by router, then by cause in the order in which causes are told. A walk that
 /// goes round ends nowhere. Each row is followed once, and only as far as it goes: at most as many looks as there are
-/// routers, so at most as many as rows times routers. Its hole is found among those so far by halves, and touching rows of one hole become one run at once.
+/// routers, so at most as many as rows times routers. Its hole is found among those so far by halves, and touching rows
+/// of one hole become one run at once.
 pub fn blackholes<V: LabelView, L: Ledger>(
     alloc: Global,
     view: &V,

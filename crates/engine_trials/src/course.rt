@@ -11,8 +11,10 @@ use delta_graph::Delta;
 use dn_model::{Answer, Change, Entry, OutOfMemory, Query, Topology, plain_answer};
 use net_engine::Version;
 use std::alloc::Global;
-use std::marker::Model;
+use std::marker::{Brand, Model};
 use std::sync::Arc;
+use std::sync::ledger::{Blank, Ledger};
+use step_count::Steps;
 
 /// A history of a network that has a router, with the version that stands for it. A contract sees the topology and the
 /// entries.
@@ -32,6 +34,26 @@ impl Model for Course {
     ghost view = { λ c. record { topology = arc_value c.topology; entries = c.entries.items } };
 
     ghost invariant = { λ c. IsCourse (arc_value c.topology) c.entries.items c.version };
+}
+
+/// The answer to a query whose names the topology has, by a version. Nobody reads the count of steps, which takes no
+/// bytes.
+fn by_version<L: Ledger>(
+    alloc: Global,
+    topology: &Topology,
+    version: &Version,
+    changes: &[Change],
+    query: &Query,
+    blank: Blank,
+) -> Result<Answer, OutOfMemory>
+    requires name { blank.name ≡ L.name }
+    requires parts { blank.parts ≡ L.parts }
+    requires some { 0 < blank.parts }
+    requires known { unknown_of topology.now query.now ≡ None }
+    requires wide { length version.now.topology.routers ≡ length topology.now.routers }
+{
+    let mut steps = Steps::<L>::new(blank);
+    row_answers::answer(alloc, topology, version, changes, query, &mut steps)
 }
 
 impl Course {
@@ -148,8 +170,15 @@ impl Course {
         ensures { IfOk result (λ answers. IsAnswer self.now.topology self.now.entries query.now answers.1) }
     {
         let topology: &Topology = &self.topology;
-        let by_version = row_answers::answer(alloc, topology, &self.version, changes, query)?;
+        let shown = by_version::<Brand>(
+            alloc,
+            topology,
+            &self.version,
+            changes,
+            query,
+            Blank::new(1),
+        )?;
         let plain = plain_answer(alloc, topology, self.entries.as_slice(), query)?;
-        Ok((by_version, plain))
+        Ok((shown, plain))
     }
 }

@@ -91,7 +91,8 @@ fn waypoint<V: LabelView, L: Ledger>(
     requires to { IsSome (router_of topology.now to.now) }
     requires through { IsSome (router_of topology.now through.now) }
     requires wide { V.width view.now ≡ length topology.now.routers }
-    ensures answer { IfOk result (IsAnswerOf topology.now (does (V.rows view.now)) (Waypoint from.now to.now through.now)) }
+    ensures answer { IfOk result
+        (IsAnswerOf topology.now (does (V.rows view.now)) (Waypoint from.now to.now through.now)) }
     ensures cost { steps.new ≤ steps.old + length (V.rows view.now) * V.width view.now }
 {
     let first = known_router(topology, from);

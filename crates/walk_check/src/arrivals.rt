@@ -23,7 +23,8 @@ fn row_reaches<V: LabelView, L: Ledger>(
 ) -> bool
     requires router { first.0 < V.width view.now }
     requires place { i < length (V.rows view.now) }
-    ensures reaches { (a : ℕ) → IsInRow (V.rows view.now) i a → result ≡ reaches (V.width view.now) (does (V.rows view.now)) first to a }
+    ensures reaches { (a : ℕ) → IsInRow (V.rows view.now) i a
+        → result ≡ reaches (V.width view.now) (does (V.rows view.now)) first to a }
     ensures cost { steps.new ≤ steps.old + V.width view.now }
 {
     let mut router = first;

@@ -24,7 +24,8 @@ fn row_misses<V: LabelView, L: Ledger>(
 ) -> bool
     requires router { first.0 < V.width view.now }
     requires place { i < length (V.rows view.now) }
-    ensures misses { (a : ℕ) → IsInRow (V.rows view.now) i a → result ≡ misses (V.width view.now) (does (V.rows view.now)) first to through a }
+    ensures misses { (a : ℕ) → IsInRow (V.rows view.now) i a
+        → result ≡ misses (V.width view.now) (does (V.rows view.now)) first to through a }
     ensures cost { steps.new ≤ steps.old + V.width view.now }
 {
     let mut router = first;
@@ -62,7 +63,8 @@ pub fn waypoint<V: LabelView, L: Ledger>(
     steps: &mut Steps<L>,
 ) -> Result<List<Run>, OutOfMemory>
     requires { first.0 < V.width view.now }
-    ensures runs { IfOk result (λ runs. AreRuns runs (misses (V.width view.now) (does (V.rows view.now)) first to through)) }
+    ensures runs { IfOk result (λ runs.
+        AreRuns runs (misses (V.width view.now) (does (V.rows view.now)) first to through)) }
     ensures cost { steps.new ≤ steps.old + length (V.rows view.now) * V.width view.now }
 {
     let mut runs = RunList::new(alloc);

@@ -1,10 +1,12 @@
 //! A history with the version that stands for it.
 
-ghost use Rattle.std.specs.Prelude.{◌≡◌, ◌<◌, [], IfOk, None, length};
+ghost use Rattle.std.specs.Prelude.{◌≡◌, ◌<◌, ◌++◌, ◌∷◌, [], List, IfOk, None, length};
 ghost use Rattle.std.specs.Arc.{arc_value};
 ghost use Rattle.dn_model.specs.Answer.{IsAnswer};
 ghost use Rattle.dn_model.specs.Entry.{IsEntryOf};
 ghost use Rattle.dn_model.specs.Query.{unknown_of};
+ghost use Rattle.dn_model.specs.Version.{KeptStandsFor};
+ghost use Rattle.dn_model.specs.declared.entry.Entry.{Entry as EntryIs};
 ghost use Rattle.engine_trials.specs.Past.{more};
 
 use delta_graph::Delta;
@@ -54,6 +56,44 @@ fn by_version<L: Ledger>(
 {
     let mut steps = Steps::<L>::new(blank);
     row_answers::answer(alloc, topology, version, changes, query, &mut steps)
+}
+
+/// The version after an update, made in its own place. Nobody reads the count of looks, which takes no bytes.
+fn advanced<L: Ledger>(
+    alloc: Global,
+    version: Version,
+    entry: &Entry,
+    blank: Blank,
+) -> Result<(Version, Delta), OutOfMemory>
+    requires entry { IsEntryOf version.topology entry.now }
+    requires name { blank.name ≡ L.name }
+    requires parts { blank.parts ≡ L.parts }
+    requires some { 0 < blank.parts }
+    ensures topology { IfOk result (λ made. made.0.topology ≡ version.topology) }
+    ensures stands { IfOk result (λ made. (history : List EntryIs) → KeptStandsFor version history
+        → KeptStandsFor made.0 (history ++ entry.now ∷ [])) }
+{
+    let mut steps = Steps::<L>::new(blank);
+    version.advance(alloc, entry, &mut steps)
+}
+
+/// The version after an update, made beside the one before it. Nobody reads the count of looks.
+fn applied<L: Ledger>(
+    alloc: Global,
+    version: &Version,
+    entry: &Entry,
+    blank: Blank,
+) -> Result<(Version, Delta), OutOfMemory>
+    requires entry { IsEntryOf version.now.topology entry.now }
+    requires name { blank.name ≡ L.name }
+    requires parts { blank.parts ≡ L.parts }
+    requires some { 0 < blank.parts }
+    ensures topology { IfOk result (λ made. made.0.topology ≡ version.now.topology) }
+    ensures stands { IfOk result (λ made. (history : List EntryIs) → KeptStandsFor version.now history
+        → KeptStandsFor made.0 (history ++ entry.now ∷ [])) }
+{
+    let mut steps = Steps::<L>::new(blank);
+    version.apply(alloc, entry, &mut steps)
 }
 
 impl Course {
@@ -122,7 +162,7 @@ impl Course {
             feed_no,
             op,
         } = *entry;
-        let (version, delta) = version.advance(alloc, entry)?;
+        let (version, delta) = advanced::<Brand>(alloc, version, entry, Blank::new(1))?;
         entries.push(Entry {
             router,
             feed_no,
@@ -145,7 +185,7 @@ impl Course {
         ensures { IfOk result (λ made. made.0 ≡ more self.now entry.now) }
     {
         let topology = Arc::try_clone(&self.topology)?;
-        let (version, delta) = self.version.apply(alloc, entry)?;
+        let (version, delta) = applied::<Brand>(alloc, &self.version, entry, Blank::new(1))?;
         let mut entries = Vec::from_slice(alloc, self.entries.as_slice())?;
         entries.push(*entry)?;
         Ok((

@@ -9,9 +9,12 @@ mod hole_order;
 mod hole_pieces;
 mod holes;
 mod more_runs;
+mod one_thread;
 mod part;
 mod ranges;
 mod reached;
+#[cfg(test)]
+mod tests;
 
 pub use cycles::loops;
 pub use holes::blackholes;

@@ -30,7 +30,7 @@ use Rattle.par_scan.specs.CyclesByRange.{AreCyclePieces, AreCyclesByRange, AreCy
 use Rattle.par_scan.specs.Joined.{joined}
 use Rattle.par_scan.specs.Parts.{ShowsPart}
 use Rattle.par_scan.specs.Ranges.{AreBounds, only_within, range_begin}
-use Rattle.par_scan.specs.declared.cycle_order.Share.{Share}
+use Rattle.par_scan.specs.declared.share.Share.{Share}
 use Rattle.par_scan.proofs.Joining.{all-within, joined-count, joined-runs, no-runs, only-in}
 use Rattle.par_scan.proofs.PartRows.{idle-stays}
 use Rattle.par_scan.proofs.RangeBounds.{bounds-are, bounds-end, range-of}

@@ -8,7 +8,7 @@ use Rattle.dn_model.specs.declared.ids.RouterId.{RouterId}
 use Rattle.dn_model.specs.declared.run.Run.{Run}
 use Rattle.dn_model.specs.declared.target.Target.{Target}
 use Rattle.par_scan.specs.Ranges.{AreBounds, only_within}
-use Rattle.par_scan.specs.declared.cycle_order.Share.{Share}
+use Rattle.par_scan.specs.declared.share.Share.{Share}
 
 -- a cycle of some address between two bounds, with the least such address and the number of them
 pub record IsCycleWithin (low past : ℕ) (does : RouterId → ℕ → Target) (c : Cycle) : Type 0 where

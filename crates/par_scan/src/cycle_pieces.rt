@@ -9,8 +9,9 @@ ghost use Rattle.dn_model.specs.declared.target.Target.{Target as TargetIs};
 ghost use Rattle.par_scan.specs.CyclesByRange.{AreCyclePieces, AreCyclesWithin, IsCycleWithin, IsShare, TellsCycleAt, TellsCyclesOf};
 ghost use Rattle.par_scan.specs.Ranges.{only_within};
 
-use crate::cycle_order::{Share, both, has_cycle, is_same, put_cycle};
+use crate::share::{Share, both};
 use dn_model::{Cycle, List, OutOfMemory, RouterId};
+use loop_check::{are_same_routers, has_cycle, put_cycle};
 use std::alloc::Global;
 
 /// The addresses of one range that go round the cycle of these routers.
@@ -20,7 +21,7 @@ fn share_in(cycles: &[Cycle], routers: &[RouterId]) -> Share
 {
     for i in 0..cycles.len() {
         let cycle = &cycles[i];
-        if is_same(cycle.routers.as_slice(), routers) {
+        if are_same_routers(cycle.routers.as_slice(), routers) {
             return Share {
                 least: cycle.least,
                 addresses: cycle.addresses,

@@ -7,6 +7,7 @@ ghost use Rattle.par_scan.specs.CyclesByRange.{AreCyclesByRange, AreCyclesWithin
 ghost use Rattle.par_scan.specs.Ranges.{range_begin};
 
 use crate::cycle_pieces::join_cycles;
+use crate::one_thread::loops_alone;
 use crate::part::Part;
 use crate::ranges::Ranges;
 use dn_model::{Cycle, List, OutOfMemory};
@@ -31,11 +32,11 @@ fn cycles_in<V: LabelView>(
         (does (V.rows view.now))) }
 {
     let part = Part::of_range(view, ranges, k);
-    loop_check::loops(alloc, &part)
+    loops_alone(alloc, &part)
 }
 
 /// The cycles of each range of rows, by as many threads as there are processors.
-fn cycles_by_range<V: LabelView + Sync>(
+pub(crate) fn cycles_by_range<V: LabelView + Sync>(
     rt: &(impl Threads + Sync),
     alloc: Global,
     view: &V,

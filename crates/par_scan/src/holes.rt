@@ -7,6 +7,7 @@ ghost use Rattle.par_scan.specs.HolesByRange.{AreHolesByRange, AreHolesWithin};
 ghost use Rattle.par_scan.specs.Ranges.{range_begin};
 
 use crate::hole_pieces::join_holes;
+use crate::one_thread::holes_alone;
 use crate::part::Part;
 use crate::ranges::Ranges;
 use dn_model::{Hole, List, OutOfMemory, RouterId};
@@ -33,11 +34,11 @@ fn holes_in<V: LabelView>(
         (V.width view.now) (does (V.rows view.now)) first) }
 {
     let part = Part::of_range(view, ranges, k);
-    blackhole::blackholes(alloc, &part, first)
+    holes_alone(alloc, &part, first)
 }
 
 /// The black holes of each range of rows, by as many threads as there are processors.
-fn holes_by_range<V: LabelView + Sync>(
+pub(crate) fn holes_by_range<V: LabelView + Sync>(
     rt: &(impl Threads + Sync),
     alloc: Global,
     view: &V,

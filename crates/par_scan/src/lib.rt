@@ -2,16 +2,19 @@
 //! a view of its own, and what the ranges answer is put together.
 #![tactic(auto)]
 
-mod cycle_order;
 mod cycle_pieces;
 mod cycles;
 mod hole_order;
 mod hole_pieces;
 mod holes;
 mod more_runs;
+mod one_thread;
 mod part;
 mod ranges;
 mod reached;
+mod share;
+#[cfg(test)]
+mod tests;
 
 pub use cycles::loops;
 pub use holes::blackholes;

@@ -7,6 +7,7 @@ ghost use Rattle.dn_model.specs.Runs.{AreRuns};
 ghost use Rattle.par_scan.specs.Ranges.{AreRunsByRange, only_within, range_begin};
 
 use crate::more_runs::join_runs;
+use crate::one_thread::reach_alone;
 use crate::part::Part;
 use crate::ranges::Ranges;
 use dn_model::{List, OutOfMemory, RouterId, Run};
@@ -35,11 +36,11 @@ fn reach_in<V: LabelView>(
         (reaches (V.width view.now) (does (V.rows view.now)) first to))) }
 {
     let part = Part::of_range(view, ranges, k);
-    walk_check::reach(alloc, &part, first, to)
+    reach_alone(alloc, &part, first, to)
 }
 
 /// The runs of each range of rows, by as many threads as there are processors.
-fn reach_by_range<V: LabelView + Sync>(
+pub(crate) fn reach_by_range<V: LabelView + Sync>(
     rt: &(impl Threads + Sync),
     alloc: Global,
     view: &V,

@@ -1,8 +1,0 @@
-use Rattle.std.proofs.Common.{ℕ, ◌<◌, IsTrue, slice_index_or}
-use Rattle.dn_model.specs.CyclesFrom.{is_before}
-use Rattle.dn_model.specs.declared.answer.Cycle.{Cycle}
-use Rattle.par_scan.proofs.cycle_order.place_of.Given as goal
-
--- all so far come before
-abbrev pub invariant-loop-i : goal.invariant-loop-i
-invariant-loop-i l = (k : ℕ) (d : Cycle) → k < l.i → IsTrue (is_before (slice_index_or l.cycles k d) l.cycle)

@@ -2,6 +2,7 @@
 //! and snapshots of it, which answer queries over the history as it was, whatever is posted later.
 #![tactic(auto)]
 
+mod advancing;
 mod asking;
 mod play;
 mod snapshot;

@@ -17,6 +17,7 @@ ghost use Rattle.loop_keeper.specs.Kept.{AreKept};
 ghost use Rattle.row_answers.specs.Shown.{AreToldIf};
 ghost use Rattle.version_store.specs.Kept.{IsStandingOf};
 
+use crate::advancing::advanced;
 use delta_graph::Delta;
 use dn_model::{Answer, Ask, Change, Entry, OutOfMemory, Query, Topology};
 use loop_keeper::{KeptLoops, Steps};
@@ -92,7 +93,7 @@ impl Standing {
             → IsDeltaOf t (history ++ entry.now ∷ []) made.1) }
     {
         let Standing { version, mut loops } = self;
-        let (next, delta) = version.advance(alloc, entry)?;
+        let (next, delta) = advanced::<Brand>(alloc, version, entry, Blank::new(1))?;
         keep::<Brand>(alloc, &mut loops, &next, &delta, Blank::new(1))?;
         Ok((
             Standing {

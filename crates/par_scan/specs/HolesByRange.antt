@@ -16,18 +16,21 @@ pub record IsHoleWithin (low past n : ℕ) (does : RouterId → ℕ → Target) 
   pub some : h.runs ≢ []
 
 -- all holes of the addresses between two bounds
-pub record AreHolesWithin (low past n : ℕ) (does : RouterId → ℕ → Target) (first : RouterId) (holes : List Hole) : Type 0 where
+pub record AreHolesWithin (low past n : ℕ) (does : RouterId → ℕ → Target) (first : RouterId)
+    (holes : List Hole) : Type 0 where
   pub each : (h : Hole) → Contains holes h → IsHoleWithin low past n does first h
   pub all : (last : RouterId) (cause : Target) (a : ℕ) → low ≤ a → a < past → a < 2 ^ 32
       → IsTrue (falls n does first last cause a) → HasHole holes last cause
 
 -- the holes of the addresses between two bounds, for each two in order
-pub record AreHolesByRange (at : ℕ → ℕ) (n : ℕ) (does : RouterId → ℕ → Target) (first : RouterId) (pieces : List (List Hole)) : Type 0 where
+pub record AreHolesByRange (at : ℕ → ℕ) (n : ℕ) (does : RouterId → ℕ → Target) (first : RouterId)
+    (pieces : List (List Hole)) : Type 0 where
   pub each : (k : ℕ) (d : List Hole) → k < length pieces
       → AreHolesWithin (at k) (at (k + 1)) n does first (slice_index_or pieces k d)
 
 -- the holes of all addresses, range by range
-pub record AreHolePieces (n : ℕ) (does : RouterId → ℕ → Target) (first : RouterId) (pieces : List (List Hole)) : Type 0 where
+pub record AreHolePieces (n : ℕ) (does : RouterId → ℕ → Target) (first : RouterId)
+    (pieces : List (List Hole)) : Type 0 where
   pub at : ℕ → ℕ
   pub bounds : AreBounds at
   pub end : at (length pieces) ≡ 2 ^ 32
@@ -39,13 +42,15 @@ hole_runs last cause [] = []
 hole_runs last cause (h ∷ hs) = if is_hole_of last cause h then h.runs else hole_runs last cause hs
 
 -- holes of all addresses told beside others: the one at a router by a cause is among them
-pub record TellsHoleAt (n : ℕ) (does : RouterId → ℕ → Target) (first last : RouterId) (cause : Target) (old new : List Hole) : Type 0 where
+pub record TellsHoleAt (n : ℕ) (does : RouterId → ℕ → Target) (first last : RouterId) (cause : Target)
+    (old new : List Hole) : Type 0 where
   pub form : AreSomeHoles n does first new
   pub told : HasHole new last cause
   pub kept : (x : Hole) → Contains old x → Contains new x
 
 -- the same of each of these holes
-pub record TellsHolesOf (n : ℕ) (does : RouterId → ℕ → Target) (first : RouterId) (piece old new : List Hole) : Type 0 where
+pub record TellsHolesOf (n : ℕ) (does : RouterId → ℕ → Target) (first : RouterId)
+    (piece old new : List Hole) : Type 0 where
   pub form : AreSomeHoles n does first new
   pub told : (h : Hole) → Contains piece h → HasHole new h.router h.cause
   pub kept : (x : Hole) → Contains old x → Contains new x

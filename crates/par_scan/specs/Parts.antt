@@ -18,7 +18,8 @@ idle_rows n low past = if nat_lt low past then idle_row n low past ∷ [] else [
 -- so many rows from a place on; the addresses of all others stay where they are
 abbrev pub part_of : ℕ → List ForwardingRow → ℕ → ℕ → List ForwardingRow
 part_of n rows from count =
-    idle_rows n 0 (begin_of rows from) ++ (take count (drop from rows) ++ idle_rows n (begin_of rows (from + count)) (2 ^ 32))
+    idle_rows n 0 (begin_of rows from)
+    ++ (take count (drop from rows) ++ idle_rows n (begin_of rows (from + count)) (2 ^ 32))
 
 -- what one of so many routers does with an address that stays there; no other has a route
 abbrev pub idle_at : ℕ → RouterId → Target

@@ -63,8 +63,8 @@ pub(crate) fn cycles_by_range<V: LabelView + Sync>(
         .collect::<Result<Vec<List<Cycle>>, OutOfMemory>>(rt, alloc)?
 }
 
-/// The cycles in which addresses go round for ever, as `loop_check::loops` answers them, by as many threads as there are
-/// processors: by least address, then by first router, each once, with the least address that goes round it and the
+/// The cycles in which addresses go round for ever, as `loop_check::loops` answers them, by as many threads as there
+/// are processors: by least address, then by first router, each once, with the least address that goes round it and the
 /// number of all that do. Where no thread can be made, the caller's own does the work.
 pub fn loops<V: LabelView + Sync>(
     rt: &(impl Threads + Sync),

@@ -74,7 +74,8 @@ fn place_of(holes: &[Hole], hole: &Hole) -> usize
 
 /// Puts a hole in its place among others, of which none is at its last router by its cause.
 pub(crate) fn put_hole(holes: &mut Vec<Hole>, hole: Hole) -> Result<(), OutOfMemory>
-    ensures { OnOk result (AreInOrder holes.old.items → list_any (is_hole_of hole.router hole.cause) holes.old.items ≡ false
+    ensures { OnOk result (AreInOrder holes.old.items
+        → list_any (is_hole_of hole.router hole.cause) holes.old.items ≡ false
         → IsPutAmong hole holes.old.items holes.new.items) }
 {
     let place = place_of(holes.as_slice(), &hole);

@@ -40,7 +40,8 @@ fn tell_hole(
     cause: Target,
 ) -> Result<(), OutOfMemory>
     ensures { OnOk result ((n : ℕ) (does : RouterIs → ℕ → TargetIs) (first : RouterIs) (low past : ℕ) (h : HoleIs)
-        → AreHolePieces n does first pieces.now → IsHoleWithin low past n does first h → h.router ≡ last → h.cause ≡ cause
+        → AreHolePieces n does first pieces.now → IsHoleWithin low past n does first h
+        → h.router ≡ last → h.cause ≡ cause
         → AreSomeHoles n does first holes.old.items
         → TellsHoleAt n does first last cause holes.old.items holes.new.items) }
 {

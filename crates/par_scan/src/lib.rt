@@ -1,5 +1,5 @@
-//! Checks of all rows by as many threads as there are processors: the rows are cut into ranges, each range is checked as
-//! a view of its own, and what the ranges answer is put together.
+//! Checks of all rows by as many threads as there are processors: the rows are cut into ranges, each range is checked
+//! as a view of its own, and what the ranges answer is put together.
 #![tactic(auto)]
 
 mod cycle_pieces;

@@ -18,13 +18,18 @@ def build():
 
 
 def run(folder, words, head, end):
-    """Runs `deltanet run` with these words, and stops where it fails or its report hasn't this head and this end.
+    """Runs `deltanet run` with these words, as `run_command` does."""
+    return run_command(folder, ["run", *words], head, end)
+
+
+def run_command(folder, words, head, end):
+    """Runs `deltanet` with these words, and stops where it fails or its report hasn't this head and this end.
 
     Answers seconds on the clock, seconds of the processor, and peak memory in bytes."""
     report = os.path.join(folder, "report")
     with open(report, "wb") as out:
         start = time.monotonic()
-        child = subprocess.Popen([PROGRAM, "run", *words], stdin=subprocess.DEVNULL, stdout=out)
+        child = subprocess.Popen([PROGRAM, *words], stdin=subprocess.DEVNULL, stdout=out)
         _, status, used = os.wait4(child.pid, 0)
         clock = time.monotonic() - start
     child.returncode = os.waitstatus_to_exitcode(status)

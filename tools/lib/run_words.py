@@ -60,7 +60,7 @@ def read_words(words: list[str]) -> RunWords:
     if not words:
         raise Refused("error words", "no words", "a command begins with run and names a topology")
     if words[0] != "run":
-        raise _words_refused(1, words[0], "the first word is the command, and the only command is run")
+        raise _words_refused(1, words[0], "the first word is the command, and the only one that reads files is run")
     plain = _plain_words(words)
     if not plain:
         raise Refused("error words", " ".join(words), "after run stands the topology's file")

@@ -17,7 +17,9 @@ use Rattle.clap.specs.declared.parser.matches.ArgMatches.{ArgMatches}
 use Rattle.clap.specs.declared.parser.matches.ArgMatches.TheViews.{out-ArgMatches}
 use Rattle.clap.specs.declared.parser.matches.Found.{Found}
 use Rattle.clap.proofs.WalkLemmas.{first_value-rows, raw_values-rows}
-use Rattle.dn_run.specs.CommandLine.{command_line, command_of, meaning_of, run_of_rows, unless_refused}
+use Rattle.dn_formats.specs.Decimal.{number_within}
+use Rattle.dn_run.specs.CommandLine.{CommandWords, Make, Run, command_line, command_of, meaning_of, number_of_rows, run_of_rows, unless_refused}
+use Rattle.dn_run.specs.Limits.{most_updates}
 
 -- ---- the command
 
@@ -40,37 +42,54 @@ pub run_in : (f : Found) (topology : Option Text) → topology ≡ first_value f
     → run_of_rows (rows_of f) ≡ option_map (λ text. record { topology = text; parts = unwrap_or (all_of (codes "part") (rows_of f)) [] }) topology
 run_in f topology is = ap (option_map (λ (text : Text). record { topology = text; parts = unwrap_or (all_of (codes "part") (rows_of f)) [] })) (sym (is ∙ first_value-rows f (codes "topology")))
 
+-- ---- the value of `make`
+
+pub number_in : (f : Found) (number : Option Text) → number ≡ first_value f (codes "n") → number_of_rows (rows_of f) ≡ option_and_then (number_within 1 most_updates) number
+number_in f number is = ap (option_and_then (number_within 1 most_updates)) (sym (is ∙ first_value-rows f (codes "n")))
+
 -- ---- the subcommand
 
-named_run : (name : Text) (rows : List Row) → name ≡ codes "run" → meaning_of (name, rows) ≡ run_of_rows rows
+named_run : (name : Text) (rows : List Row) → name ≡ codes "run" → meaning_of (name, rows) ≡ option_map Run (run_of_rows rows)
 named_run name rows is = rw ((bytes_eq-Decides name (codes "run")).1 is) refl
 
-named_other : (name : Text) (rows : List Row) → (name ≡ codes "run" → ⊥) → meaning_of (name, rows) ≡ None
-named_other name rows other = go (bytes_eq name (codes "run")) refl
+named_make : (name : Text) (rows : List Row) → name ≡ codes "make" → meaning_of (name, rows) ≡ option_map Make (number_of_rows rows)
+named_make name rows is = rw is refl
+
+named_other : (name : Text) (rows : List Row) → (name ≡ codes "run" → ⊥) → (name ≡ codes "make" → ⊥) → meaning_of (name, rows) ≡ None
+named_other name rows run make = go (bytes_eq name (codes "run")) (bytes_eq name (codes "make")) refl refl
   where
-    go : (t : Bool) → bytes_eq name (codes "run") ≡ t → (if bytes_eq name (codes "run") then run_of_rows rows else None) ≡ None
-    go true e = absurd (other ((bytes_eq-Decides name (codes "run")).0 e))
-    go false e = rw e refl
+    go : (t u : Bool) → bytes_eq name (codes "run") ≡ t → bytes_eq name (codes "make") ≡ u → meaning_of (name, rows) ≡ None
+    go true u e f = absurd (run ((bytes_eq-Decides name (codes "run")).0 e))
+    go false true e f = absurd (make ((bytes_eq-Decides name (codes "make")).0 f))
+    go false false e f = rw (e, f) refl
 
 -- what is said by an entry that has a name and rows
-entry_run : {B : Type 0} (name : B → Text) (rows : B → List Row) (o : Option B) (rs : List Row) → option_map name o ≡ Some (codes "run")
-    → option_map (λ (p : Text × List Row). p.1) (option_map (λ b. (name b, rows b)) o) ≡ Some rs
-    → option_and_then meaning_of (option_map (λ b. (name b, rows b)) o) ≡ run_of_rows rs
-entry_run name rows None rs named has = cc
-entry_run name rows (Some b) rs named has = named_run (name b) (rows b) (same_Some _ _ named) ∙ ap run_of_rows (same_Some _ _ has)
+module _ {B : Type 0} (name : B → Text) (rows : B → List Row) where
+  abbrev entered : Option B → Option (Text × List Row)
+  entered o = option_map (λ b. (name b, rows b)) o
 
-entry_other : {B : Type 0} (name : B → Text) (rows : B → List Row) (o : Option B) → (option_map name o ≡ Some (codes "run") → ⊥)
-    → option_and_then meaning_of (option_map (λ b. (name b, rows b)) o) ≡ None
-entry_other name rows None other = refl
-entry_other name rows (Some b) other = named_other (name b) (rows b) (λ e. other (ap (λ (t : Text). Some t) e))
+  entry_named : (word : Text) (means : List Row → Option CommandWords) → ((n : Text) (rs : List Row) → n ≡ word → meaning_of (n, rs) ≡ means rs) →
+      (o : Option B) (rs : List Row) → option_map name o ≡ Some word → option_map (λ (p : Text × List Row). p.1) (entered o) ≡ Some rs → option_and_then meaning_of (entered o) ≡ means rs
+  entry_named word means says None rs named has = absurd (cc)
+  entry_named word means says (Some b) rs named has = says (name b) (rows b) (same_Some _ _ named) ∙ ap means (same_Some _ _ has)
+
+  entry_other : (o : Option B) → (option_map name o ≡ Some (codes "run") → ⊥) → (option_map name o ≡ Some (codes "make") → ⊥) → option_and_then meaning_of (entered o) ≡ None
+  entry_other None run make = refl
+  entry_other (Some b) run make = named_other (name b) (rows b) (λ e. run (ap (λ (t : Text). Some t) e)) (λ e. make (ap (λ (t : Text). Some t) e))
 
 pub met_run : (m : ArgMatches) (rows : List Row) → subcommand_name_of m ≡ Some (codes "run")
     → option_map (λ (p : Text × List Row). p.1) (subcommand_rows_of m) ≡ Some rows
-    → option_and_then meaning_of (subcommand_rows_of m) ≡ run_of_rows rows
-met_run m rows named has = entry_run _ _ (out-ArgMatches m).subcommand rows named has
+    → option_and_then meaning_of (subcommand_rows_of m) ≡ option_map Run (run_of_rows rows)
+met_run m rows named has = entry_named _ _ (codes "run") (λ rs. option_map Run (run_of_rows rs)) named_run (out-ArgMatches m).subcommand rows named has
 
-pub met_other : (m : ArgMatches) → (subcommand_name_of m ≡ Some (codes "run") → ⊥) → option_and_then meaning_of (subcommand_rows_of m) ≡ None
-met_other m other = entry_other _ _ (out-ArgMatches m).subcommand other
+pub met_make : (m : ArgMatches) (rows : List Row) → subcommand_name_of m ≡ Some (codes "make")
+    → option_map (λ (p : Text × List Row). p.1) (subcommand_rows_of m) ≡ Some rows
+    → option_and_then meaning_of (subcommand_rows_of m) ≡ option_map Make (number_of_rows rows)
+met_make m rows named has = entry_named _ _ (codes "make") (λ rs. option_map Make (number_of_rows rs)) named_make (out-ArgMatches m).subcommand rows named has
+
+pub met_other : (m : ArgMatches) → (subcommand_name_of m ≡ Some (codes "run") → ⊥) → (subcommand_name_of m ≡ Some (codes "make") → ⊥)
+    → option_and_then meaning_of (subcommand_rows_of m) ≡ None
+met_other m run make = entry_other _ _ (out-ArgMatches m).subcommand run make
 
 -- ---- the words
 

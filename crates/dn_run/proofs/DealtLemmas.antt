@@ -16,7 +16,7 @@ use Rattle.feed_threads.specs.declared.job.JobDone.{JobDone}
 use Rattle.dn_run.specs.Deal.{readers_of, tasks_of, unread_back}
 use Rattle.dn_run.specs.Jobs.{AreNumbered, HasRun, IsFresh, TakeApart}
 use Rattle.dn_run.specs.Ran.{ListRan, RanAs, back_tag, reader_tag}
-use Rattle.dn_run.specs.Run.{history_limit}
+use Rattle.dn_run.specs.Limits.{history_limit}
 use Rattle.dn_run.proofs.BackLemmas.{all-tags, has-run, places-in-order}
 use Rattle.dn_run.proofs.DealLemmas.{readers-dealt}
 use Rattle.dn_run.proofs.LawLemmas.{ran-as}

@@ -15,7 +15,8 @@ use Rattle.dn_formats.specs.declared.error_line.ErrorLine.TheVariants as errors
 use Rattle.dn_run.specs.Ending.{Ending, Ruled, Stopped, IfRuled, OrStops, ending_of}
 use Rattle.dn_run.specs.Feeds.{opened, AreLeft, some_rose, sources_of, AreOpen, Opens}
 use Rattle.dn_run.specs.Jobs.{AreFewJobs, AreNumbered, IsFresh, routers_of_readers, same_router}
-use Rattle.dn_run.specs.Run.{FromFeeds, IsLine, IsUnread, IsUntouched, IsRunOf, feed_files, feed_limit}
+use Rattle.dn_run.specs.Limits.{feed_limit}
+use Rattle.dn_run.specs.Run.{FromFeeds, IsLine, IsUnread, IsUntouched, IsRunOf, feed_files}
 use Rattle.dn_run.specs.Stage.{is_fault}
 use Rattle.dn_model.specs.declared.memory.OutOfMemory.{OutOfMemory}
 use Rattle.dn_run.specs.declared.ruling.Ruling.{Ruling}

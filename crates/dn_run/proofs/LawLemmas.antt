@@ -24,7 +24,7 @@ use Rattle.feed_threads.specs.declared.job.JobDone.{JobDone}
 use Rattle.feed_threads.specs.Feeds.{CountsBy, StandsBy, end_with}
 use Rattle.dn_run.specs.Jobs.{AreNumbered, IsReadAs, TakeApart}
 use Rattle.dn_run.specs.Ran.{RanAs}
-use Rattle.dn_run.specs.Run.{history_limit}
+use Rattle.dn_run.specs.Limits.{history_limit}
 use Rattle.dn_run.proofs.DealLemmas.{jobs-are, readers-dealt, task_job}
 use Rattle.dn_run.proofs.InOrder.{IsFrom}
 use Rattle.dn_run.proofs.MatchLemmas.{AllPieces, AllZip3, matches}

@@ -2,6 +2,7 @@ pub mod ApartLemmas
 pub mod AskedLemmas
 pub mod BackLemmas
 pub mod CallsLemmas
+pub mod CommandLemmas
 pub mod CommandLineLemmas
 pub mod DealLemmas
 pub mod DealSteps
@@ -10,12 +11,15 @@ pub mod FeedsLemmas
 pub mod InOrder
 pub mod LawLemmas
 pub mod LoadLemmas
+pub mod MadeLemmas
+pub mod MadeOnce
 pub mod MatchLemmas
 pub mod PartsLemmas
 pub mod PremiseLemmas
 pub mod ProgramLemmas
 pub mod RanLemmas
 pub mod ReadLemmas
+pub mod RingLemmas
 pub mod RoutersLemmas
 pub mod StepLemmas
 pub mod StopLemmas

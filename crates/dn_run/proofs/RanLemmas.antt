@@ -16,7 +16,8 @@ use Rattle.dn_formats.specs.declared.told.FeedTold.{FeedTold}
 use Rattle.dn_run.specs.Feeds.{opened, AreLeft, some_rose}
 use Rattle.dn_run.specs.Jobs.{AreNumbered, IsReadAs, AreReadAs, HasRun, routers_of_readers}
 use Rattle.feed_threads.specs.Feeds.{CountsBy, StandsBy}
-use Rattle.dn_run.specs.Run.{IsReadOf, IsReadOfBytes, IsToldOf, AreReadOf, IsReadToEnd, IsRunOf, verdict_of, is_faulted, some_faulted, all_well, feed_limit}
+use Rattle.dn_run.specs.Limits.{feed_limit}
+use Rattle.dn_run.specs.Run.{IsReadOf, IsReadOfBytes, IsToldOf, AreReadOf, IsReadToEnd, IsRunOf, verdict_of, is_faulted, some_faulted, all_well}
 use Rattle.dn_run.specs.Stage.{is_fault}
 use Rattle.dn_model.specs.declared.memory.OutOfMemory.{OutOfMemory}
 use Rattle.dn_run.specs.declared.jobs.JobsDone.{JobsDone}

@@ -17,7 +17,8 @@ use Rattle.dn_run.specs.Ending.{Ending, OrStops}
 use Rattle.dn_run.specs.Feeds.{Opens}
 use Rattle.dn_run.specs.Loaded.{SaysTopology, SaysScript}
 use Rattle.dn_run.specs.Opened.{text_limit, FailsWhereTold, OnBytes}
-use Rattle.dn_run.specs.Run.{IsErrorLine, IsLine, FromJobs, FromScripts, FromRouters, FromTopology, OnFile, feed_files, untaken, most_jobs, taken_by_scripts, routers_of}
+use Rattle.dn_run.specs.Limits.{most_jobs}
+use Rattle.dn_run.specs.Run.{IsErrorLine, IsLine, FromJobs, FromScripts, FromRouters, FromTopology, OnFile, feed_files, untaken, taken_by_scripts, routers_of}
 use Rattle.dn_run.specs.Stage.{Stage}
 use Rattle.dn_run.specs.Stops.{AreTaken, from_feeds}
 use Rattle.dn_run.specs.declared.load.Loaded.TheVariants as loaded

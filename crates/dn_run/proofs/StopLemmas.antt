@@ -12,17 +12,17 @@ use Rattle.dn_formats.specs.declared.script.Line.{Line as script_line}
 use Rattle.dn_formats.specs.declared.script.Script.{Script}
 use Rattle.dn_formats.specs.declared.error_line.ErrorLine.{ErrorLine}
 use Rattle.dn_formats.specs.declared.error_line.ErrorLine.TheVariants as errors
-use Rattle.dn_run.specs.CommandLine.{RunWords, command_of}
+use Rattle.dn_run.specs.CommandLine.{RunWords}
 use Rattle.dn_run.specs.Ending.{Ending, Stopped}
 use Rattle.dn_run.specs.Jobs.{AreFewJobs}
 use Rattle.dn_run.specs.Loaded.{LoadsTopology, LoadsScript}
 use Rattle.dn_run.specs.Opened.{MayCallOne}
 use Rattle.dn_run.specs.PartsRead.{ArePartsRefused}
 use Rattle.dn_run.specs.RoutersFound.{AreRoutersRefused}
-use Rattle.dn_run.specs.Run.{IsErrorLine, IsLine, FromScripts, FromRouters, FromTopology, FromParts, feed_files, names_due, names_of_command, names_of_parts, names_of_words, untaken, most_jobs, routers_of, script_files}
+use Rattle.dn_run.specs.Limits.{most_jobs}
+use Rattle.dn_run.specs.Run.{IsErrorLine, IsLine, FromScripts, FromRouters, FromTopology, FromParts, feed_files, names_due, names_of_parts, names_of_run, untaken, routers_of, script_files}
 use Rattle.dn_run.specs.Stage.{Stage, is_fault, may_end_early}
-use Rattle.dn_run.specs.Stops.{AreTaken, Due, EndsWith, GoesOn, Reaches, ScriptEnds, ScriptGoesOn, ScriptsEnd, ScriptsGoOn, Stops, StopsAs, TakeNoneOf, names_left, from_words, from_feeds, from_jobs, from_scripts, stop_of_words, stop_of_parts, stop_of_routers}
-use Rattle.dn_run.specs.WordsRefused.{AreRefused}
+use Rattle.dn_run.specs.Stops.{AreTaken, Due, EndsWith, GoesOn, Reaches, ScriptEnds, ScriptGoesOn, ScriptsEnd, ScriptsGoOn, Stops, StopsAs, TakeNoneOf, names_left, from_feeds, from_jobs, from_run, from_scripts, stop_of_parts, stop_of_routers}
 use Rattle.dn_run.specs.declared.load.Loaded.{Loaded}
 use Rattle.dn_run.specs.declared.load.Loaded.TheVariants.{Read, Refused, Failed}
 use Rattle.dn_run.specs.declared.parts.PartsRefused.{PartsRefused}
@@ -33,8 +33,6 @@ use Rattle.dn_run.specs.declared.status.Verdict.{Verdict}
 use Rattle.dn_run.specs.declared.status.Verdict.TheVariants.{BadWords, BadTopology, BadScript, ReadFault}
 use Rattle.dn_run.specs.declared.stop.Stop.{Stop}
 use Rattle.dn_run.specs.declared.stop.Stop.TheVariants.{Line, OutOfMemory}
-use Rattle.dn_run.specs.declared.words.WordsRefused.{WordsRefused}
-use Rattle.dn_run.specs.declared.words.WordsRefused.TheVariants as words_refused
 use Rattle.dn_run.proofs.ApartLemmas.{clear}
 use Rattle.dn_run.proofs.ProgramLemmas.{on-bytes-out, or-map, stage-line, stage-may, stage-none, stage-read, stage-stops}
 use Rattle.dn_run.proofs.StepLemmas.{match-false, routers-refused, script-failed, script-read, script-refused, too-many, topology-failed, topology-read, topology-refused}
@@ -75,54 +73,31 @@ stage-due ending old new names inner due step stage = record {
   due_is = or-map ending stage.more (inner stage.more) (due stage.more) (step stage.more) stage.due_is;
 }
 
--- ---- the words
-
--- what is due of parts that were read
-abbrev pub from_parts : RunWords → Option Files → Due
-from_parts command files ending calls = FromParts command files calls ending
-
-pub words-read : (words : List (List ℕ)) (files : Option Files) (command : RunWords) → command_of words ≡ Some command →
-    Reaches words files [] (names_of_parts command.topology (parts_of command.parts)) (from_parts command files)
-words-read words files command is = λ ending last stage.
-    subst (λ (said : Option RunWords). Stage [] last (names_of_command said) ending
-    (λ calls. MatchOption said (IsErrorLine ending calls BadWords errors.Words) (λ command. FromParts command files calls ending))) (sym is) stage
-
-pub words-stop : (words : List (List ℕ)) (files : Option Files) (e : WordsRefused) → AreRefused e (command_of words) → Stops words files [] (stop_of_words e)
-words-stop words files words_refused.BadWords none =
-    ends-line [] (names_of_words words) (from_words words files) BadWords errors.Words refl refl
-    (λ ending line. subst (λ (said : Option RunWords). MatchOption said (IsErrorLine ending [] BadWords errors.Words) (λ command. FromParts command files [] ending)) (sym none) (refl, line))
-words-stop words files words_refused.OutOfMemory none = ends-memory [] (names_of_words words) (from_words words files)
-
 -- ---- the parts
 
 abbrev pub from_topology : List ℕ → PartsSaid → Option Files → Due
 from_topology topology said files ending calls = FromTopology topology said files calls ending
 
 parts-read : (command : RunWords) (files : Option Files) (calls : List Call) (said : PartsSaid) → parts_of command.parts ≡ Ok said →
-    GoesOn calls (names_of_parts command.topology (parts_of command.parts)) (from_parts command files) calls (names_due command.topology said) (from_topology command.topology said files)
+    GoesOn calls (names_of_parts command.topology (parts_of command.parts)) (from_run command files) calls (names_due command.topology said) (from_topology command.topology said files)
 parts-read command files calls said is = λ ending last stage.
     subst (λ (r : Result PartsSaid ErrorLine). Stage calls last (names_of_parts command.topology r) ending
     (λ calls. MatchResult r (λ said. FromTopology command.topology said files calls ending) (λ error. IsErrorLine ending calls BadWords error))) (sym is) stage
 
 parts-stop : (command : RunWords) (files : Option Files) (calls : List Call) (e : PartsRefused) → ArePartsRefused e (parts_of command.parts) →
-    EndsWith calls (names_of_parts command.topology (parts_of command.parts)) (from_parts command files) calls (stop_of_parts e)
+    EndsWith calls (names_of_parts command.topology (parts_of command.parts)) (from_run command files) calls (stop_of_parts e)
 parts-stop command files calls (parts_refused.Line error) is =
-    ends-line calls (names_of_parts command.topology (parts_of command.parts)) (from_parts command files) BadWords error refl refl
+    ends-line calls (names_of_parts command.topology (parts_of command.parts)) (from_run command files) BadWords error refl refl
     (λ ending line. subst (λ (r : Result PartsSaid ErrorLine). MatchResult r (λ said. FromTopology command.topology said files [] ending) (λ error. IsErrorLine ending [] BadWords error)) (sym is) (refl, line))
 parts-stop command files calls parts_refused.OutOfMemory is =
-    ends-memory calls (names_of_parts command.topology (parts_of command.parts)) (from_parts command files)
+    ends-memory calls (names_of_parts command.topology (parts_of command.parts)) (from_run command files)
 
-pub reaches-topology : (words : List (List ℕ)) (files : Option Files) (command : RunWords) (said : PartsSaid) → command_of words ≡ Some command → parts_of command.parts ≡ Ok said →
-    Reaches words files [] (names_due command.topology said) (from_topology command.topology said files)
-reaches-topology words files command said is are =
-    goes [] [] [] (names_of_words words) (names_of_parts command.topology (parts_of command.parts)) (names_due command.topology said)
-    (from_words words files) (from_parts command files) (from_topology command.topology said files) (words-read words files command is) (parts-read command files [] said are)
+reaches-topology : (files : Option Files) (command : RunWords) (said : PartsSaid) → parts_of command.parts ≡ Ok said →
+    Reaches command files [] (names_due command.topology said) (from_topology command.topology said files)
+reaches-topology files command said are = parts-read command files [] said are
 
-pub stops-parts : (words : List (List ℕ)) (files : Option Files) (command : RunWords) (e : PartsRefused) → command_of words ≡ Some command → ArePartsRefused e (parts_of command.parts) →
-    Stops words files [] (stop_of_parts e)
-stops-parts words files command e is refused =
-    ends (stop_of_parts e) [] [] [] (names_of_words words) (names_of_parts command.topology (parts_of command.parts)) (from_words words files) (from_parts command files)
-    (words-read words files command is) (parts-stop command files [] e refused)
+pub stops-parts : (files : Option Files) (command : RunWords) (e : PartsRefused) → ArePartsRefused e (parts_of command.parts) → Stops command files [] (stop_of_parts e)
+stops-parts files command e refused = parts-stop command files [] e refused
 
 -- ---- the topology
 
@@ -157,23 +132,23 @@ loaded-one files old new name t loads = inr (Back false loads.0, loads.1, refl)
 abbrev names-after : PartsSaid → List (List ℕ)
 names-after said = script_files said.scripts ++ feed_files said.feeds
 
-pub stops-topology : (words : List (List ℕ)) (files : Option Files) (command : RunWords) (said : PartsSaid) → command_of words ≡ Some command → parts_of command.parts ≡ Ok said →
-    (new : List Call) (x : Loaded Topology) (stop : Stop) → LoadsTopology files [] command.topology new x → StopsAs BadTopology errors.ReadTopology x stop → Stops words files new stop
-stops-topology words files command said is are new x stop loads same =
-    ends stop [] [] new (names_of_words words) (names_due command.topology said) (from_words words files) (from_topology command.topology said files)
-    (reaches-topology words files command said is are) (topology-stop files [] new command.topology (names-after said) said x stop loads same)
+pub stops-topology : (files : Option Files) (command : RunWords) (said : PartsSaid) → parts_of command.parts ≡ Ok said →
+    (new : List Call) (x : Loaded Topology) (stop : Stop) → LoadsTopology files [] command.topology new x → StopsAs BadTopology errors.ReadTopology x stop → Stops command files new stop
+stops-topology files command said are new x stop loads same =
+    ends stop [] [] new (names_of_run command) (names_due command.topology said) (from_run command files) (from_topology command.topology said files)
+    (reaches-topology files command said are) (topology-stop files [] new command.topology (names-after said) said x stop loads same)
 
-pub stops-topology-memory : (words : List (List ℕ)) (files : Option Files) (command : RunWords) (said : PartsSaid) → command_of words ≡ Some command → parts_of command.parts ≡ Ok said →
-    (new : List Call) → MayCallOne [] command.topology new → Stops words files new OutOfMemory
-stops-topology-memory words files command said is are new may =
-    ends OutOfMemory [] [] new (names_of_words words) (names_due command.topology said) (from_words words files) (from_topology command.topology said files)
-    (reaches-topology words files command said is are) (topology-memory files [] new command.topology (names-after said) said may)
+pub stops-topology-memory : (files : Option Files) (command : RunWords) (said : PartsSaid) → parts_of command.parts ≡ Ok said →
+    (new : List Call) → MayCallOne [] command.topology new → Stops command files new OutOfMemory
+stops-topology-memory files command said are new may =
+    ends OutOfMemory [] [] new (names_of_run command) (names_due command.topology said) (from_run command files) (from_topology command.topology said files)
+    (reaches-topology files command said are) (topology-memory files [] new command.topology (names-after said) said may)
 
-pub reaches-routers : (words : List (List ℕ)) (files : Option Files) (command : RunWords) (said : PartsSaid) → command_of words ≡ Some command → parts_of command.parts ≡ Ok said →
-    (new : List Call) (t : Topology) → LoadsTopology files [] command.topology new (Read t) → Reaches words files new (script_files said.scripts ++ feed_files said.feeds) (from_routers said files t)
-reaches-routers words files command said is are new t loads =
-    goes [] [] new (names_of_words words) (names_due command.topology said) (names-after said) (from_words words files) (from_topology command.topology said files) (from_routers said files t)
-    (reaches-topology words files command said is are) (topology-read-on files [] new command.topology (names-after said) said t loads)
+pub reaches-routers : (files : Option Files) (command : RunWords) (said : PartsSaid) → parts_of command.parts ≡ Ok said →
+    (new : List Call) (t : Topology) → LoadsTopology files [] command.topology new (Read t) → Reaches command files new (script_files said.scripts ++ feed_files said.feeds) (from_routers said files t)
+reaches-routers files command said are new t loads =
+    goes [] [] new (names_of_run command) (names_due command.topology said) (names-after said) (from_run command files) (from_topology command.topology said files) (from_routers said files t)
+    (reaches-topology files command said are) (topology-read-on files [] new command.topology (names-after said) said t loads)
 
 -- ---- the routers
 
@@ -189,15 +164,15 @@ routers-stop files calls names said t (routers_refused.Line error) is =
     ends-line calls names (from_routers said files t) BadWords error refl refl (λ ending line. routers-refused files t said error ending is line)
 routers-stop files calls names said t routers_refused.OutOfMemory is = ends-memory calls names (from_routers said files t)
 
-pub stops-routers : (words : List (List ℕ)) (files : Option Files) (new : List Call) (names : List (List ℕ)) (said : PartsSaid) (t : Topology) (e : RoutersRefused) →
+pub stops-routers : (words : RunWords) (files : Option Files) (new : List Call) (names : List (List ℕ)) (said : PartsSaid) (t : Topology) (e : RoutersRefused) →
     Reaches words files new names (from_routers said files t) → AreRoutersRefused e (routers_of t said.feeds) → Stops words files new (stop_of_routers e)
 stops-routers words files new names said t e reaches refused =
-    ends (stop_of_routers e) [] new new (names_of_words words) names (from_words words files) (from_routers said files t) reaches (routers-stop files new names said t e refused)
+    ends (stop_of_routers e) [] new new (names_of_run words) names (from_run words files) (from_routers said files t) reaches (routers-stop files new names said t e refused)
 
-pub reaches-scripts : (words : List (List ℕ)) (files : Option Files) (new : List Call) (names : List (List ℕ)) (said : PartsSaid) (t : Topology) (routers : List RouterId) →
+pub reaches-scripts : (words : RunWords) (files : Option Files) (new : List Call) (names : List (List ℕ)) (said : PartsSaid) (t : Topology) (routers : List RouterId) →
     Reaches words files new names (from_routers said files t) → routers_of t said.feeds ≡ Ok routers → Reaches words files new names (from_scripts files t routers [] said.scripts said.feeds)
 reaches-scripts words files new names said t routers reaches is =
-    goes [] new new (names_of_words words) names names (from_words words files) (from_routers said files t) (from_scripts files t routers [] said.scripts said.feeds)
+    goes [] new new (names_of_run words) names names (from_run words files) (from_routers said files t) (from_scripts files t routers [] said.scripts said.feeds)
     reaches (routers-read files new names said t routers is)
 
 -- ---- a script
@@ -299,33 +274,33 @@ jobs-many files t routers scripts feeds calls many =
     ends-line calls (feed_files feeds) (from_jobs files t routers scripts feeds) BadWords errors.TooManyJobs refl refl
     (λ ending line. too-many files t routers scripts feeds ending many line)
 
-reaches-jobs : (words : List (List ℕ)) (files : Option Files) (mid new : List Call) (t : Topology) (routers : List RouterId) (said : PartsSaid) (scripts : List (List script_line)) →
+reaches-jobs : (words : RunWords) (files : Option Files) (mid new : List Call) (t : Topology) (routers : List RouterId) (said : PartsSaid) (scripts : List (List script_line)) →
     Reaches words files mid (script_files said.scripts ++ feed_files said.feeds) (from_scripts files t routers [] said.scripts said.feeds) →
     GoesOn mid (script_files said.scripts ++ feed_files said.feeds) (from_scripts files t routers [] said.scripts said.feeds) new (feed_files said.feeds) (from_jobs files t routers scripts said.feeds) →
     Reaches words files new (feed_files said.feeds) (from_jobs files t routers scripts said.feeds)
 reaches-jobs words files mid new t routers said scripts reaches on =
-    goes [] mid new (names_of_words words) (script_files said.scripts ++ feed_files said.feeds) (feed_files said.feeds) (from_words words files)
+    goes [] mid new (names_of_run words) (script_files said.scripts ++ feed_files said.feeds) (feed_files said.feeds) (from_run words files)
     (from_scripts files t routers [] said.scripts said.feeds) (from_jobs files t routers scripts said.feeds) reaches on
 
-pub reaches-feeds : (words : List (List ℕ)) (files : Option Files) (mid new : List Call) (t : Topology) (routers : List RouterId) (said : PartsSaid) (scripts : List (List script_line)) →
+pub reaches-feeds : (words : RunWords) (files : Option Files) (mid new : List Call) (t : Topology) (routers : List RouterId) (said : PartsSaid) (scripts : List (List script_line)) →
     Reaches words files mid (script_files said.scripts ++ feed_files said.feeds) (from_scripts files t routers [] said.scripts said.feeds) →
     GoesOn mid (script_files said.scripts ++ feed_files said.feeds) (from_scripts files t routers [] said.scripts said.feeds) new (feed_files said.feeds) (from_jobs files t routers scripts said.feeds) →
     nat_lt most_jobs (length scripts + length (untaken scripts routers)) ≡ false → Reaches words files new (feed_files said.feeds) (from_feeds files t routers scripts said.feeds)
 reaches-feeds words files mid new t routers said scripts reaches on few =
-    goes [] new new (names_of_words words) (feed_files said.feeds) (feed_files said.feeds) (from_words words files)
+    goes [] new new (names_of_run words) (feed_files said.feeds) (feed_files said.feeds) (from_run words files)
     (from_jobs files t routers scripts said.feeds) (from_feeds files t routers scripts said.feeds)
     (reaches-jobs words files mid new t routers said scripts reaches on) (jobs-few files t routers scripts said.feeds new few)
 
-pub stops-jobs : (words : List (List ℕ)) (files : Option Files) (mid new : List Call) (t : Topology) (routers : List RouterId) (said : PartsSaid) (scripts : List (List script_line)) →
+pub stops-jobs : (words : RunWords) (files : Option Files) (mid new : List Call) (t : Topology) (routers : List RouterId) (said : PartsSaid) (scripts : List (List script_line)) →
     Reaches words files mid (script_files said.scripts ++ feed_files said.feeds) (from_scripts files t routers [] said.scripts said.feeds) →
     GoesOn mid (script_files said.scripts ++ feed_files said.feeds) (from_scripts files t routers [] said.scripts said.feeds) new (feed_files said.feeds) (from_jobs files t routers scripts said.feeds) →
     nat_lt most_jobs (length scripts + length (untaken scripts routers)) ≡ true → Stops words files new (Line BadWords errors.TooManyJobs)
 stops-jobs words files mid new t routers said scripts reaches on many =
-    ends (Line BadWords errors.TooManyJobs) [] new new (names_of_words words) (feed_files said.feeds) (from_words words files)
+    ends (Line BadWords errors.TooManyJobs) [] new new (names_of_run words) (feed_files said.feeds) (from_run words files)
     (from_jobs files t routers scripts said.feeds) (reaches-jobs words files mid new t routers said scripts reaches on) (jobs-many files t routers scripts said.feeds new many)
 
-pub stops-scripts : (words : List (List ℕ)) (files : Option Files) (mid new : List Call) (t : Topology) (routers : List RouterId) (said : PartsSaid) (stop : Stop) →
+pub stops-scripts : (words : RunWords) (files : Option Files) (mid new : List Call) (t : Topology) (routers : List RouterId) (said : PartsSaid) (stop : Stop) →
     Reaches words files mid (script_files said.scripts ++ feed_files said.feeds) (from_scripts files t routers [] said.scripts said.feeds) →
     EndsWith mid (script_files said.scripts ++ feed_files said.feeds) (from_scripts files t routers [] said.scripts said.feeds) new stop → Stops words files new stop
 stops-scripts words files mid new t routers said stop reaches ending =
-    ends stop [] mid new (names_of_words words) (script_files said.scripts ++ feed_files said.feeds) (from_words words files) (from_scripts files t routers [] said.scripts said.feeds) reaches ending
+    ends stop [] mid new (names_of_run words) (script_files said.scripts ++ feed_files said.feeds) (from_run words files) (from_scripts files t routers [] said.scripts said.feeds) reaches ending

@@ -25,29 +25,14 @@ use Rattle.dn_formats.specs.declared.script.Line.{Line}
 use Rattle.dn_formats.specs.declared.told.FeedEnd.TheVariants as ends
 use Rattle.dn_formats.specs.declared.told.FeedTold.{FeedTold}
 use Rattle.dn_run.specs.Alike.{AreAlike, AreRunsOfOne}
-use Rattle.dn_run.specs.CommandLine.{RunWords, command_of}
+use Rattle.dn_run.specs.CommandLine.{CommandWords, Make, Run, RunWords, command_of}
 use Rattle.dn_run.specs.Ending.{Ruled}
-use Rattle.dn_run.specs.Run.{AreReadOf, FromFeeds, FromJobs, FromParts, FromRouters, FromScripts, FromTopology, FromWords, IsErrorLine, IsReadOf, IsReadOfBytes, IsRunOf, IsToldOf, OnFile, OnFeed, OpenedFeed, all_well, feed_limit, history_limit, most_jobs, routers_of, some_faulted, taken_by_scripts, untaken, verdict_of}
+use Rattle.dn_run.specs.Limits.{feed_limit, history_limit, most_jobs}
+use Rattle.dn_run.specs.Run.{AreReadOf, FromCommand, FromFeeds, FromJobs, FromParts, FromRouters, FromScripts, FromTopology, FromWords, IsErrorLine, IsReadOf, IsReadOfBytes, IsRunOf, IsToldOf, OnFile, OnFeed, OpenedFeed, all_well, routers_of, some_faulted, taken_by_scripts, untaken, verdict_of}
 use Rattle.dn_run.specs.Stage.{may_end_early, is_fault}
 use Rattle.dn_run.specs.declared.status.Verdict.{Verdict}
 use Rattle.dn_run.specs.declared.status.Verdict.TheVariants.{Done, Refusals, BadWords, BadTopology, BadScript, ReadFault}
-
--- ---- a network is what its parts are
-
-true-prop : (b : Bool) (x y : IsTrue b) → x ≡ y
-true-prop b x y = So-prop b x y
-
-abbrev IsSound : Parts → Type 0
-IsSound p = IsTrue (is_sound_topology p.routers p.links p.edges)
-
-abbrev made-of : (p : Parts) → IsSound p → Topology
-made-of p s = record { routers = p.routers; links = p.links; edges = p.edges; sound = s }
-
-same-made : (p q : Parts) (s : IsSound p) (s' : IsSound q) → p ≡ q → made-of p s ≡ made-of q s'
-same-made p q s s' e = subst (λ (r : Parts). (z : IsSound r) → made-of p s ≡ made-of r z) e (λ z. ap (made-of p) (true-prop _ s z)) s'
-
-same-topology : (t u : Topology) → parts t ≡ parts u → t ≡ u
-same-topology t u e = same-made (parts t) (parts u) t.sound u.sound e
+use Rattle.dn_run.proofs.MadeOnce.{ending-not-full, made-once, same-topology}
 
 -- ---- a feed has one reading
 
@@ -57,14 +42,6 @@ same-read f g a b all every c d =
     rw (a, b, kept, c, d) refl
 
 -- no feed that a run read ends at a full history
-ending-not-full : (k : FrameRest) (o : ℕ) (longer : Bool) → ending k o longer ≡ ends.Full → ⊥
-ending-not-full NoRest o true full = cc
-ending-not-full NoRest o false full = cc
-ending-not-full CutFrame o true full = cc
-ending-not-full CutFrame o false full = cc
-ending-not-full BadVersion o longer full = cc
-ending-not-full BadFrameLength o longer full = cc
-
 bytes-not-full : (t : Topology) (bytes : List ℕ) (state : CallState) (f : FeedRead) → IsReadOfBytes t bytes state f → f.end ≡ ends.Full → ⊥
 bytes-not-full t bytes Out f p full = p
 bytes-not-full t bytes Refused f p full = p
@@ -236,10 +213,11 @@ both-parts : (command : RunWords) (fs : Files) (calls : List Call) (v w : Verdic
 both-parts command fs calls v w x y p q =
     both-results (parts_of command.parts) _ _ _ _ (λ said a b. both-topologies command.topology said fs calls v w x y a b) (λ error a b. both-lines calls BadWords error v w x y a b) p q
 
-both-commands : (command : Option RunWords) (fs : Files) (calls : List Call) (v w : Verdict) (x y : List ℕ) (line line' : Type 0) → (line → line' → AreAlike v x w y) →
-    MatchOption command line (λ c. FromParts c (Some fs) calls (Ruled v x)) → MatchOption command line' (λ c. FromParts c (Some fs) calls (Ruled w y)) → AreAlike v x w y
+both-commands : (command : Option CommandWords) (fs : Files) (calls : List Call) (v w : Verdict) (x y : List ℕ) (line line' : Type 0) → (line → line' → AreAlike v x w y) →
+    MatchOption command line (λ c. FromCommand c (Some fs) calls (Ruled v x)) → MatchOption command line' (λ c. FromCommand c (Some fs) calls (Ruled w y)) → AreAlike v x w y
 both-commands None fs calls v w x y line line' f p q = f p q
-both-commands (Some command) fs calls v w x y line line' f p q = both-parts command fs calls v w x y p q
+both-commands (Some (Run command)) fs calls v w x y line line' f p q = both-parts command fs calls v w x y p q
+both-commands (Some (Make n)) fs calls v w x y line line' f p q = (p.1.0 ∙ sym q.1.0, inl (made-once n x y p.1.1 q.1.1))
 
 pub runs-alike : (words : List (List ℕ)) (fs : Files) (calls : List Call) (v w : Verdict) (x y : List ℕ) →
     FromWords words (Some fs) calls (Ruled v x) → FromWords words (Some fs) calls (Ruled w y) → AreAlike v x w y

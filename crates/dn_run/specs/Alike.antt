@@ -12,6 +12,6 @@ AreRunsOfOne v x w y =
     (t : Topology) × (routers : List RouterId) × (scripts : List (List Line)) × (opened : List OpenedFeed)
     × IsRunOf t routers scripts opened v x × IsRunOf t routers scripts opened w y
 
--- One verdict, and one text too where no job ran.
+-- One verdict, and one text too where no job of a `run` ran.
 abbrev pub AreAlike : Verdict → List ℕ → Verdict → List ℕ → Type 0
 AreAlike v x w y = (v ≡ w) × ((x ≡ y) ⊎ AreRunsOfOne v x w y)

@@ -10,7 +10,8 @@ use Rattle.dn_formats.specs.declared.script.Line.{Line}
 use Rattle.dn_model.specs.declared.topology.Topology.{Topology}
 use Rattle.dn_run.specs.Ending.{Ending, IfRuled, OrStops}
 use Rattle.dn_run.specs.Jobs.{IsFresh, AreNumbered, routers_of_readers, same_router}
-use Rattle.dn_run.specs.Run.{OpenedFeed, FromFeeds, feed_files, feed_limit}
+use Rattle.dn_run.specs.Limits.{feed_limit}
+use Rattle.dn_run.specs.Run.{OpenedFeed, FromFeeds, feed_files}
 use Rattle.dn_run.specs.Stage.{AreAsked, is_fault}
 use Rattle.route_feed.specs.FeedReader.{Reader}
 

@@ -14,7 +14,8 @@ use Rattle.dn_formats.specs.declared.told.FeedTold.{FeedTold}
 use Rattle.dn_formats.specs.declared.told.JobTold.{JobTold}
 use Rattle.route_feed.specs.FeedReader.{Reader, told_so_far}
 use Rattle.feed_threads.specs.Feeds.{CountsBy, StandsBy}
-use Rattle.dn_run.specs.Run.{history_limit, most_jobs, takes_router, untaken}
+use Rattle.dn_run.specs.Limits.{history_limit, most_jobs}
+use Rattle.dn_run.specs.Run.{takes_router, untaken}
 
 -- the lines of scripts
 abbrev pub scripts_of : List Script → List (List Line)

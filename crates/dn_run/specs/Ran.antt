@@ -15,7 +15,7 @@ use Rattle.feed_threads.specs.AllJobs.{AreLawful, told_by}
 use Rattle.feed_threads.specs.Jobs.{Task}
 use Rattle.feed_threads.specs.declared.job.JobDone.{JobDone}
 use Rattle.dn_run.specs.Jobs.{IsReadAs}
-use Rattle.dn_run.specs.Run.{history_limit}
+use Rattle.dn_run.specs.Limits.{history_limit}
 
 -- the number of a reader's feed, and the place of its source
 abbrev pub reader_tag : {S : Type 0} → (S → ℕ) → Reader S → ℕ × ℕ

@@ -25,25 +25,15 @@ use Rattle.dn_formats.specs.declared.told.FeedTold.{FeedTold}
 use Rattle.dn_formats.specs.declared.told.JobTold.{JobTold}
 use Rattle.dn_formats.specs.declared.error_line.ErrorLine.{ErrorLine}
 use Rattle.dn_formats.specs.declared.error_line.ErrorLine.TheVariants as errors
-use Rattle.dn_run.specs.CommandLine.{RunWords, command_of}
+use Rattle.dn_run.specs.CommandLine.{CommandWords, Run, Make, RunWords, command_of}
 use Rattle.dn_run.specs.Ending.{Ending, Ruled, Stopped, IfRuled, OrStops}
+use Rattle.dn_run.specs.Limits.{feed_limit, history_limit, most_jobs}
+use Rattle.dn_run.specs.Made.{IsMade}
 use Rattle.dn_run.specs.Opened.{text_limit, IsReadFront, OnBytes, WithBytes, FailsWhereTold}
 use Rattle.dn_run.specs.declared.status.Verdict.{Verdict}
 use Rattle.dn_run.specs.declared.status.Verdict.TheVariants.{Done, Refusals, BadWords, BadTopology, BadScript, ReadFault}
 use Rattle.dn_run.specs.declared.status.Status.{Status}
 use Rattle.dn_run.specs.declared.status.Status.TheVariants as statuses
-
--- at most so many bytes of a feed are looked at
-abbrev pub feed_limit : ℕ
-feed_limit = 1073741824
-
--- a history has at most so many entries: a position in it has 32 bits
-abbrev pub history_limit : ℕ
-history_limit = 4294967295
-
--- a run has at most so many jobs
-abbrev pub most_jobs : ℕ
-most_jobs = 64
 
 -- this verdict, with this error line
 abbrev pub IsLine : Ending → Verdict → ErrorLine → Type 0
@@ -261,12 +251,21 @@ FromParts command files calls ending =
     (λ said. FromTopology command.topology said files calls ending)
     (λ error. IsErrorLine ending calls BadWords error)
 
+-- the input of so many updates is made and run over: no name is asked for
+abbrev pub FromMade : ℕ → List Call → Ending → Type 0
+FromMade n calls ending = (calls ≡ []) × IfRuled ending (λ verdict text. (verdict ≡ Done) × IsMade n text)
+
+-- one of the commands
+abbrev pub FromCommand : CommandWords → Option Files → List Call → Ending → Type 0
+FromCommand (Run command) files calls ending = FromParts command files calls ending
+FromCommand (Make n) files calls ending = FromMade n calls ending
+
 -- the words are read
 abbrev pub FromWords : List (List ℕ) → Option Files → List Call → Ending → Type 0
 FromWords words files calls ending =
     MatchOption (command_of words)
     (IsErrorLine ending calls BadWords errors.Words)
-    (λ command. FromParts command files calls ending)
+    (λ command. FromCommand command files calls ending)
 
 -- What the words, the files and the states of the calls make of a run. Where memory is wanted, its calls are the first of a
 -- run that goes on like this.
@@ -316,18 +315,24 @@ feed_files feeds = map (λ feed. feed.1.file) feeds
 abbrev pub script_files : List (ℕ × List ℕ) → List (List ℕ)
 script_files scripts = map (λ script. script.1) scripts
 
--- the names that a command's files have, in the order in which they are opened: topology, scripts, feeds
+-- the names that a run's files have, in the order in which they are opened: topology, scripts, feeds
 abbrev pub names_due : List ℕ → PartsSaid → List (List ℕ)
 names_due topology said = topology ∷ (script_files said.scripts ++ feed_files said.feeds)
 
--- those of a command's parts; none where they are refused
+-- those of a run's parts; none where they are refused
 abbrev pub names_of_parts : List ℕ → Result PartsSaid ErrorLine → List (List ℕ)
 names_of_parts topology (Ok said) = names_due topology said
 names_of_parts topology (Err error) = []
 
-abbrev pub names_of_command : Option RunWords → List (List ℕ)
+-- those of a run
+abbrev pub names_of_run : RunWords → List (List ℕ)
+names_of_run command = names_of_parts command.topology (parts_of command.parts)
+
+-- those of a command: of `make` none
+abbrev pub names_of_command : Option CommandWords → List (List ℕ)
 names_of_command None = []
-names_of_command (Some command) = names_of_parts command.topology (parts_of command.parts)
+names_of_command (Some (Run command)) = names_of_run command
+names_of_command (Some (Make n)) = []
 
 -- those of a command line; none where the words are refused
 abbrev pub names_of_words : List (List ℕ) → List (List ℕ)

@@ -6,15 +6,15 @@ use Rattle.dn_io.specs.Calls.{Call}
 use Rattle.dn_io.specs.Files.{Files}
 use Rattle.dn_formats.specs.Words.{FeedWords}
 use Rattle.dn_formats.specs.declared.error_line.ErrorLine.{ErrorLine}
-use Rattle.dn_formats.specs.declared.error_line.ErrorLine.TheVariants as errors
 use Rattle.dn_formats.specs.declared.script.Line.{Line as script_line}
 use Rattle.dn_model.specs.Topology.{all_differ}
 use Rattle.dn_model.specs.declared.ids.RouterId.{RouterId}
 use Rattle.dn_model.specs.declared.topology.Topology.{Topology}
+use Rattle.dn_run.specs.CommandLine.{RunWords}
 use Rattle.dn_run.specs.Ending.{Ending, Stopped}
 use Rattle.dn_run.specs.Jobs.{scripts_of, same_router, AreFewJobs, TakeApart}
 use Rattle.dn_run.specs.PartsRead.{feed_texts}
-use Rattle.dn_run.specs.Run.{FromFeeds, FromJobs, FromScripts, FromWords, IsLine, names_of_words, feed_files, script_files, taken_by_scripts, takes_router}
+use Rattle.dn_run.specs.Run.{FromFeeds, FromJobs, FromParts, FromScripts, FromWords, IsLine, names_of_run, feed_files, script_files, taken_by_scripts, takes_router}
 use Rattle.dn_run.specs.Stage.{Stage}
 use Rattle.dn_run.specs.declared.input.Input.{Input}
 use Rattle.dn_run.specs.declared.load.Loaded.{Loaded}
@@ -27,14 +27,8 @@ use Rattle.dn_run.specs.declared.status.Verdict.{Verdict}
 use Rattle.dn_run.specs.declared.status.Verdict.TheVariants.{BadWords, ReadFault}
 use Rattle.dn_run.specs.declared.stop.Stop.{Stop}
 use Rattle.dn_run.specs.declared.stop.Stop.TheVariants.{Line, OutOfMemory}
-use Rattle.dn_run.specs.declared.words.WordsRefused.{WordsRefused}
-use Rattle.dn_run.specs.declared.words.WordsRefused.TheVariants as words_refused
 
--- what the refusal of words, of parts or of routers ends a run with
-abbrev pub stop_of_words : WordsRefused → Stop
-stop_of_words words_refused.BadWords = Line BadWords errors.Words
-stop_of_words words_refused.OutOfMemory = OutOfMemory
-
+-- what the refusal of parts or of routers ends a run with
 abbrev pub stop_of_parts : PartsRefused → Stop
 stop_of_parts (parts_refused.Line line) = Line BadWords line
 stop_of_parts parts_refused.OutOfMemory = OutOfMemory
@@ -57,17 +51,21 @@ abbrev pub EndsWith : List Call → List (List ℕ) → Due → List Call → St
 EndsWith old names due new (Line verdict error) = (ending : Ending) → IsLine ending verdict error → Stage old new names ending (due ending)
 EndsWith old names due new OutOfMemory = Stage old new names Stopped (due Stopped)
 
--- what is due of a run of these words
+-- what is due of a run
+abbrev pub from_run : RunWords → Option Files → Due
+from_run words files ending calls = FromParts words files calls ending
+
+-- a run came as far as these calls, and this is due then
+abbrev pub Reaches : RunWords → Option Files → List Call → List (List ℕ) → Due → Type 0
+Reaches words files calls rest after = GoesOn [] (names_of_run words) (from_run words files) calls rest after
+
+-- a run ends before its jobs
+abbrev pub Stops : RunWords → Option Files → List Call → Stop → Type 0
+Stops words files calls stop = EndsWith [] (names_of_run words) (from_run words files) calls stop
+
+-- what is due of these words
 abbrev pub from_words : List (List ℕ) → Option Files → Due
 from_words words files ending calls = FromWords words files calls ending
-
--- a run of these words came as far as these calls, and this is due then
-abbrev pub Reaches : List (List ℕ) → Option Files → List Call → List (List ℕ) → Due → Type 0
-Reaches words files calls rest after = GoesOn [] (names_of_words words) (from_words words files) calls rest after
-
--- a run of these words ends before its jobs
-abbrev pub Stops : List (List ℕ) → Option Files → List Call → Stop → Type 0
-Stops words files calls stop = EndsWith [] (names_of_words words) (from_words words files) calls stop
 
 -- what is due once the topology, the routers of the feeds and the scripts were read, and there are no more jobs than may be
 abbrev pub from_feeds : Option Files → Topology → List RouterId → List (List script_line) → List (ℕ × FeedWords) → Due
@@ -119,7 +117,7 @@ from_jobs files t routers scripts feeds ending calls = FromJobs files t routers 
 
 -- The input of a run that came as far as these calls: its feeds, its scripts, of which no two take from one router, its jobs,
 -- no more than may be, and the routers of the feeds, which the topology has and which differ.
-pub record Starts (words : List (List ℕ)) (files : Option Files) (calls : List Call) (input : Input) : Type 0 where
+pub record Starts (words : RunWords) (files : Option Files) (calls : List Call) (input : Input) : Type 0 where
   pub reaches : Reaches words files calls (feed_files (map feed_texts input.feeds.items))
       (from_feeds files (arc_value input.topology) input.routers.items (scripts_of input.scripts.items) (map feed_texts input.feeds.items))
   pub as_many : length input.routers.items ≡ length input.feeds.items

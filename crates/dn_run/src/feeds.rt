@@ -26,7 +26,7 @@ use std::sync::{Arc, Wait};
 use std::thread::Threads;
 
 /// At most this many bytes of a feed are looked at.
-const FEED_LIMIT: u64 = 1073741824;
+pub const FEED_LIMIT: u64 = 1073741824;
 
 /// The report of what the jobs came to.
 fn report_jobs(

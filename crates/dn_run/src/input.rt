@@ -2,11 +2,11 @@
 
 ghost use Rattle.std.specs.Prelude.{◌≡◌, ◌<◌, ◌≤◌, ◌==◌, ◌||◌, ◌+◌, ◌++◌, ◌∷◌, ◌^◌, [], length, map, IfOk, IfErr, OnOk};
 ghost use Rattle.std.specs.List.{flat_map, list_any};
-ghost use Rattle.std.specs.String.{string_bytes};
 ghost use Rattle.dn_run.specs.Jobs.{TakeApart, scripts_of};
 ghost use Rattle.dn_run.specs.PartsRead.{script_texts};
 ghost use Rattle.dn_run.specs.Run.{taken_by_line};
 ghost use Rattle.dn_run.specs.Stops.{AreTaken, ScriptEnds, ScriptGoesOn, ScriptsEnd, ScriptsGoOn, Starts, Stops, StopsAs, TakeNoneOf};
+ghost use Rattle.dn_run.specs.WordsRefused.{run_texts};
 
 use crate::load::{Loaded, load_script, load_topology};
 use crate::parts::{FeedPart, ScriptPart, read_parts};
@@ -14,7 +14,7 @@ use crate::routers::{find_routers, is_among};
 use crate::status::Verdict;
 use crate::stop::Stop;
 use crate::untaken::has_too_many_jobs;
-use crate::words::read_words;
+use crate::words::RunCommand;
 use dn_formats::{ErrorLine, Line, Script};
 use dn_io::World;
 use dn_model::{OutOfMemory, RouterId, Topology};
@@ -141,15 +141,18 @@ fn read_scripts<W: World>(
     Ok(read.scripts)
 }
 
-/// Reads the words, their parts, the topology and the scripts, looks up the feeds' routers, and counts the jobs. The first
-/// that is refused or fails ends the run.
-pub fn read_input<W: World>(alloc: Global, words: &[String], world: &mut W) -> Result<Input, Stop>
+/// Reads the parts of a run's words, the topology and the scripts, looks up the feeds' routers, and counts the jobs. The
+/// first that is refused or fails ends the run.
+pub fn read_input<W: World>(
+    alloc: Global,
+    command: &RunCommand,
+    world: &mut W,
+) -> Result<Input, Stop>
     requires fresh { W.calls world.old ≡ [] }
-    ensures ok { IfOk result (Starts (map string_bytes words.now) (W.files world.old) (W.calls world.new)) }
-    ensures stops { IfErr result (Stops (map string_bytes words.now) (W.files world.old) (W.calls world.new)) }
+    ensures ok { IfOk result (Starts (run_texts command.now) (W.files world.old) (W.calls world.new)) }
+    ensures stops { IfErr result (Stops (run_texts command.now) (W.files world.old) (W.calls world.new)) }
     ensures same_files { W.files world.new ≡ W.files world.old }
 {
-    let command = read_words(alloc, words)?;
     let parts = read_parts(alloc, command.parts.as_slice())?;
     let topology = load_topology(alloc, command.topology.as_str(), world)?.or_stop(
         Verdict::BadTopology,

@@ -11,7 +11,7 @@ ghost use Rattle.dn_run.specs.Deal.{readers_of};
 ghost use Rattle.dn_run.specs.Feeds.{sources_of};
 ghost use Rattle.dn_run.specs.Jobs.{AreFewJobs, AreNumbered, HasRun, HaveRoutersApart, IsFresh, TakeApart, routers_of_readers, scripts_of};
 ghost use Rattle.dn_run.specs.Ran.{ListRan, RanAs, back_tag, reader_tag};
-ghost use Rattle.dn_run.specs.Run.{history_limit};
+ghost use Rattle.dn_run.specs.Limits.{history_limit};
 
 use crate::backs::{append, in_order, part_backs};
 use crate::deal::{Undealt, deal};

@@ -13,10 +13,14 @@ mod input;
 mod jobs;
 mod laws;
 mod load;
+mod made;
+#[cfg(test)]
+mod made_tests;
 mod parts;
 mod program;
 #[cfg(test)]
 mod query_tests;
+mod ring;
 mod routers;
 mod ruling;
 #[cfg(test)]
@@ -27,6 +31,7 @@ mod script_tests;
 mod slow_gate;
 mod status;
 mod stop;
+mod summary;
 mod sure;
 #[cfg(test)]
 mod trial;

@@ -8,15 +8,19 @@ ghost use Rattle.dn_model.specs.Topology.{all_differ};
 ghost use Rattle.dn_run.specs.Ending.{ending_of};
 ghost use Rattle.dn_run.specs.Jobs.{AreFewJobs, TakeApart, scripts_of, same_router};
 ghost use Rattle.dn_run.specs.PartsRead.{feed_texts};
-ghost use Rattle.dn_run.specs.Run.{IsDue, IsWritten, IsFinished, status_of, names_of_words, feed_files};
+ghost use Rattle.dn_run.specs.Run.{IsDue, IsWritten, IsFinished, status_of, names_of_run, names_of_words, feed_files};
 ghost use Rattle.dn_run.specs.Stage.{Stage, AsksFor, AnswersCalls, CountsWrites};
-ghost use Rattle.dn_run.specs.Stops.{from_feeds as feeds_due, from_words as words_due};
+ghost use Rattle.dn_run.specs.Stops.{from_feeds as feeds_due, from_run as run_due, from_words as words_due};
+ghost use Rattle.dn_run.specs.WordsRefused.{run_texts};
 
 use crate::feeds::from_feeds;
 use crate::input::{Input, read_input};
+use crate::made::make;
 use crate::ruling::{Ruling, refusal};
 use crate::status::{Status, Verdict};
 use crate::stop::Stop;
+use crate::words::{Command, RunCommand, WordsRefused, read_words};
+use dn_formats::ErrorLine;
 use dn_io::{Gate, Sink, World};
 use dn_model::OutOfMemory;
 use run_report::write_report;
@@ -65,7 +69,26 @@ fn run_input<W: World, G: Gate, R: Threads + Wait + Sync>(
     ruling
 }
 
-/// What a run of these words comes to.
+/// What a run over files comes to.
+fn run_files<W: World, G: Gate, R: Threads + Wait + Sync>(
+    rt: &R,
+    alloc: Global,
+    command: &RunCommand,
+    world: &mut W,
+    gate: &G,
+) -> Result<Ruling, OutOfMemory>
+    requires fresh { W.calls world.old ≡ [] }
+    ensures { Stage [] (W.calls world.new) (names_of_run (run_texts command.now)) (ending_of result)
+        (run_due (run_texts command.now) (W.files world.old) (ending_of result)) }
+{
+    match read_input(alloc, command, world) {
+        Ok(input) => run_input(rt, alloc, input, world, gate),
+        Err(Stop::Line(verdict, line)) => refusal(alloc, verdict, line),
+        Err(Stop::OutOfMemory) => Err(OutOfMemory),
+    }
+}
+
+/// What these words come to.
 fn rule<W: World, G: Gate, R: Threads + Wait + Sync>(
     rt: &R,
     alloc: Global,
@@ -77,10 +100,11 @@ fn rule<W: World, G: Gate, R: Threads + Wait + Sync>(
     ensures { Stage [] (W.calls world.new) (names_of_words (map string_bytes words.now)) (ending_of result)
         (words_due (map string_bytes words.now) (W.files world.old) (ending_of result)) }
 {
-    match read_input(alloc, words, world) {
-        Ok(input) => run_input(rt, alloc, input, world, gate),
-        Err(Stop::Line(verdict, line)) => refusal(alloc, verdict, line),
-        Err(Stop::OutOfMemory) => Err(OutOfMemory),
+    match read_words(alloc, words) {
+        Ok(Command::Run(command)) => run_files(rt, alloc, &command, world, gate),
+        Ok(Command::Make(n)) => make(rt, alloc, n, gate),
+        Err(WordsRefused::BadWords) => refusal(alloc, Verdict::BadWords, ErrorLine::Words),
+        Err(WordsRefused::OutOfMemory) => Err(OutOfMemory),
     }
 }
 
@@ -110,8 +134,9 @@ fn status_of(verdict: Verdict) -> Status
     }
 }
 
-/// Runs the program over the words of the command line, the program's name first: `run TOPOLOGY [ROUTER=FEED | @SCRIPT]..`.
-/// Reads the files from the world, and writes one report, or one error line, to the sink.
+/// Runs the program over the words of the command line, the program's name first: `run TOPOLOGY [ROUTER=FEED | @SCRIPT]..`
+/// or `make N`. Reads the files from the world, and writes one report, or one error line, to the sink. `make` makes its
+/// input, of 1 to 1,000,000 updates, asks the world for nothing, and writes a summary of three lines.
 ///
 /// The world was asked for no name yet, and no write of the sink has failed yet.
 pub fn run<W: World, K: Sink, G: Gate, R: Threads + Wait + Sync>(

@@ -3,7 +3,6 @@
 use crate::parts::PartsRefused;
 use crate::routers::RoutersRefused;
 use crate::status::Verdict;
-use crate::words::WordsRefused;
 use dn_formats::ErrorLine;
 use dn_model::OutOfMemory;
 use std::alloc::AllocFailed;
@@ -36,20 +35,6 @@ impl<T: Drop> From<AllocFailed<T>> for Stop {
 
     fn from(_error: AllocFailed<T>) -> Self {
         Stop::OutOfMemory
-    }
-}
-
-impl From<WordsRefused> for Stop {
-    ghost use Rattle.std.specs.Prelude.{◌≡◌};
-    ghost use Rattle.dn_run.specs.Stops.{stop_of_words};
-
-    ghost from_gives = { λ refused e. e ≡ stop_of_words refused };
-
-    fn from(refused: WordsRefused) -> Self {
-        match refused {
-            WordsRefused::BadWords => Stop::Line(Verdict::BadWords, ErrorLine::Words),
-            WordsRefused::OutOfMemory => Stop::OutOfMemory,
-        }
     }
 }
 

@@ -4,7 +4,8 @@ ghost use Rattle.std.specs.Prelude.{◌≡◌, ◌+◌, ◌≤◌, nat_lt, not, 
 ghost use Rattle.std.specs.List.{list_any};
 ghost use Rattle.dn_formats.specs.Lawful.{takes};
 ghost use Rattle.dn_run.specs.Jobs.{scripts_of};
-ghost use Rattle.dn_run.specs.Run.{most_jobs, untaken, takes_router};
+ghost use Rattle.dn_run.specs.Limits.{most_jobs};
+ghost use Rattle.dn_run.specs.Run.{untaken, takes_router};
 
 use dn_formats::{Line, Script};
 use dn_model::RouterId;

@@ -16,5 +16,6 @@ returns-in-Ok-clause-refused c =
 pub returns : goal.returns
 returns c = record {
   ok = tt;
+  within = tt;
   refused = command_refused (app_of c.in_ok-command.command) (map string_bytes c.args.words.now) c.in-Err.error c.in_ok-command.ensures c.in-Err.ensures.kinds (search rules);
 }

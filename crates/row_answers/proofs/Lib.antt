@@ -1,3 +1,4 @@
 pub mod LinkEnds
 pub mod Looking
+mod NamesKnown
 pub mod SameAnswers

@@ -4,5 +4,7 @@
 mod answers;
 mod asked;
 mod named;
+mod wide;
 
 pub use answers::answer;
+pub use wide::answer_wide;

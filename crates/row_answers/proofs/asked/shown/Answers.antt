@@ -1,8 +1,9 @@
 use Rattle.std.proofs.Common.{◌∙◌, ◌∷◌, [], sym}
 use Rattle.dn_model.specs.Query.{RouterName, LinkName}
-use Rattle.dn_model.specs.declared.query.Ask.TheVariants.{Path, Reach, Uses, Blackholes, Waypoint}
+use Rattle.dn_model.specs.declared.query.Ask.TheVariants.{Path, Uses, Waypoint}
 use Rattle.dn_model.proofs.Best.{contains-here, contains-there}
 use Rattle.dn_model.proofs.Known.{router-known, link-known}
+use Rattle.row_answers.proofs.NamesKnown.{holes-from, reach-from, reach-to}
 use Rattle.row_answers.proofs.asked.shown.Goals as goal
 
 pub path-requires-clause-name : goal.path-requires-clause-name
@@ -10,13 +11,10 @@ path-requires-clause-name g c =
     router-known c.args.topology.now c.args.query.now (Path c.in-Path.name c.in-Path.address) c.in-Path.name c.requires.known (sym c.ask.ensures.value ∙ c.in-Path.is) (contains-here (RouterName c.in-Path.name) [])
 
 pub reach-requires-clause-from : goal.reach-requires-clause-from
-reach-requires-clause-from g c =
-    router-known c.args.topology.now c.args.query.now (Reach c.in-Reach.from c.in-Reach.to) c.in-Reach.from c.requires.known (sym c.ask.ensures.value ∙ c.in-Reach.is) (contains-here (RouterName c.in-Reach.from) (RouterName c.in-Reach.to ∷ []))
+reach-requires-clause-from g c = reach-from c.args.topology.now c.args.query.now c.in-Reach.from c.in-Reach.to c.requires.known (sym c.ask.ensures.value ∙ c.in-Reach.is)
 
 pub reach-requires-clause-to : goal.reach-requires-clause-to
-reach-requires-clause-to g c =
-    router-known c.args.topology.now c.args.query.now (Reach c.in-Reach.from c.in-Reach.to) c.in-Reach.to c.requires.known (sym c.ask.ensures.value ∙ c.in-Reach.is)
-    (contains-there (RouterName c.in-Reach.from) (RouterName c.in-Reach.to) (RouterName c.in-Reach.to ∷ []) (contains-here (RouterName c.in-Reach.to) []))
+reach-requires-clause-to g c = reach-to c.args.topology.now c.args.query.now c.in-Reach.from c.in-Reach.to c.requires.known (sym c.ask.ensures.value ∙ c.in-Reach.is)
 
 pub uses-requires-clause-name : goal.uses-requires-clause-name
 uses-requires-clause-name g c =
@@ -44,5 +42,4 @@ waypoint-requires-clause-through g c =
     (contains-here (RouterName c.in-Waypoint.through) [])))
 
 pub holes-requires-clause-name : goal.holes-requires-clause-name
-holes-requires-clause-name g c =
-    router-known c.args.topology.now c.args.query.now (Blackholes c.in-Blackholes.name) c.in-Blackholes.name c.requires.known (sym c.ask.ensures.value ∙ c.in-Blackholes.is) (contains-here (RouterName c.in-Blackholes.name) [])
+holes-requires-clause-name g c = holes-from c.args.topology.now c.args.query.now c.in-Blackholes.name c.requires.known (sym c.ask.ensures.value ∙ c.in-Blackholes.is)

@@ -195,6 +195,76 @@ rows_few kept history stands =
     let ends : begin_where (is_end ps) rows ≤ 2 * prefixes_set history = ends-of-all ps rows cover in
     omega arith
 
+-- ---- as many rows as any other version
+
+-- whether one of these rows begins at an address
+abbrev begins : List ForwardingRow → ℕ → Bool
+begins rows a = list_any (λ (row : ForwardingRow). row.low == a) rows
+
+begins-first : (row : ForwardingRow) (rows : List ForwardingRow) → begins (row ∷ rows) row.low ≡ true
+begins-first row rows = or_left (row.low == row.low) _ (eq-eqb row.low row.low refl)
+
+begins-rest : (row : ForwardingRow) (rows : List ForwardingRow) (a : ℕ) → row.low < a → begins (row ∷ rows) a ≡ true → begins rows a ≡ true
+begins-rest row rows a later is = ⊎_elim
+    (λ (t : (row.low == a) ≡ true). let e : row.low ≡ a = eqb-true row.low a t in absurd (omega arith))
+    (λ (f : (row.low == a) ≡ false). sym (ap (λ b. b || begins rows a) f) ∙ is)
+    (cases_Bool (row.low == a))
+
+begins-later : (start a : ℕ) (rows : List ForwardingRow) → CoverFrom row_low row_past start rows → begins rows a ≡ true → start ≤ a
+begins-later start a [] cover is = absurd (both_ways false refl is)
+begins-later start a (row ∷ rows) cover is =
+    let low : row.low ≡ start = cover.0 in
+    let past : row.low < row.past = cover.1 in
+    ⊎_elim
+    (λ (t : (row.low == a) ≡ true). let e : row.low ≡ a = eqb-true row.low a t in omega arith)
+    (λ (f : (row.low == a) ≡ false). let l : row.past ≤ a = begins-later row.past a rows cover.2 (sym (ap (λ b. b || begins rows a) f) ∙ is) in omega arith)
+    (cases_Bool (row.low == a))
+
+begins-below : (start a : ℕ) (rows : List ForwardingRow) → CoverFrom row_low row_past start rows → begins rows a ≡ true → a < 2 ^ 32
+begins-below start a [] cover is = absurd (both_ways false refl is)
+begins-below start a (row ∷ rows) cover is =
+    let past : row.low < row.past = cover.1 in
+    let inside : row.past ≤ 2 ^ 32 = starts-below row_low row_past row.past rows cover.2 in
+    ⊎_elim
+    (λ (t : (row.low == a) ≡ true). let e : row.low ≡ a = eqb-true row.low a t in omega arith)
+    (λ (f : (row.low == a) ≡ false). begins-below row.past a rows cover.2 (sym (ap (λ b. b || begins rows a) f) ∙ is))
+    (cases_Bool (row.low == a))
+
+-- rows that begin only where others do are no more than these
+rows-less : (from to : ℕ) (xs ys : List ForwardingRow) → CoverFrom row_low row_past from xs → CoverFrom row_low row_past to ys →
+    ((a : ℕ) → begins xs a ≡ true → begins ys a ≡ true) → length xs ≤ length ys
+rows-less from to [] ys cover other h = omega arith
+rows-less from to (x ∷ xs) [] cover other h = absurd (both_ways false refl (h x.low (begins-first x xs)))
+rows-less from to (x ∷ xs) (y ∷ ys) cover other h =
+    let low : x.low ≡ from = cover.0 in
+    let past : x.low < x.past = cover.1 in
+    let wide : y.low < y.past = other.1 in
+    ⊎_elim
+    (λ (same : (y.low == x.low) ≡ true).
+    let e : y.low ≡ x.low = eqb-true y.low x.low same in
+    let rest : length xs ≤ length ys = rows-less x.past y.past xs ys cover.2 other.2
+    (λ a is. let later : x.past ≤ a = begins-later x.past a xs cover.2 is in begins-rest y ys a (omega arith) (h a (or_right (x.low == a) _ is))) in
+    omega arith)
+    (λ (differ : (y.low == x.low) ≡ false).
+    let after : begins ys x.low ≡ true = sym (ap (λ b. b || begins ys x.low) differ) ∙ h x.low (begins-first x xs) in
+    let beyond : y.past ≤ x.low = begins-later y.past x.low ys other.2 after in
+    let rest : length (x ∷ xs) ≤ length ys = rows-less from y.past (x ∷ xs) ys cover other.2
+    (λ a is. let later : from ≤ a = begins-later from a (x ∷ xs) cover is in begins-rest y ys a (omega arith) (h a is)) in
+    omega arith)
+    (cases_Bool (y.low == x.low))
+
+rows-within : (kept other : Kept) (history : List Entry) → KeptStandsFor kept history → KeptStandsFor other history → length (forwarding_of kept.atoms) ≤ length (forwarding_of other.atoms)
+rows-within kept other history stands also = rows-less 0 0 (forwarding_of kept.atoms) (forwarding_of other.atoms) stands.rows.form.cover also.rows.form.cover
+    (λ a is. let b : a < 2 ^ 32 = begins-below 0 a (forwarding_of kept.atoms) stands.rows.form.cover is in
+    begin-atoms other.atoms a ∙ also.boundaries a b ∙ sym (stands.boundaries a b) ∙ sym (begin-atoms kept.atoms a) ∙ is)
+
+-- two versions that stand for a history have as many rows
+pub rows_same : (kept other : Kept) (history : List Entry) → KeptStandsFor kept history → KeptStandsFor other history → length (forwarding_of kept.atoms) ≡ length (forwarding_of other.atoms)
+rows_same kept other history stands also =
+    let less : length (forwarding_of kept.atoms) ≤ length (forwarding_of other.atoms) = rows-within kept other history stands also in
+    let more : length (forwarding_of other.atoms) ≤ length (forwarding_of kept.atoms) = rows-within other kept history also stands in
+    omega arith
+
 -- ---- looks at what stands after a history
 
 pub looks_few : (t : Topology) (history : List Entry) (standing : Standing) (ask : Ask) (first now : ℕ) → IsStandingOf t history standing →

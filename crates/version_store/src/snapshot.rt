@@ -6,6 +6,7 @@ ghost use Rattle.dn_model.specs.Answer.{IsAnswer};
 ghost use Rattle.dn_model.specs.Delta.{IsDeltaOf};
 ghost use Rattle.dn_model.specs.Entry.{entries};
 ghost use Rattle.dn_model.specs.Query.{unknown_of};
+ghost use Rattle.dn_model.specs.Version.{Kept, KeptStandsFor, forwarding_of};
 ghost use Rattle.dn_model.specs.declared.query.Ask.TheVariants.{Loops};
 ghost use Rattle.row_answers.specs.Looks.{most_looks};
 ghost use Rattle.version_store.specs.Asked.{IsAskRefusal};
@@ -20,6 +21,7 @@ use std::alloc::Global;
 use std::marker::Model;
 use std::sync::Arc;
 use std::sync::ledger::Ledger;
+use std::thread::Threads;
 use step_count::Steps;
 use version_pages::Pages;
 
@@ -77,6 +79,16 @@ impl Snapshot {
         self.history.len() as u32
     }
 
+    /// How many rows, which are atoms, the version of the history has: as many as any version that stands for it, which
+    /// are at most two for each different prefix that it ever set, and one more. It takes no memory.
+    pub fn atoms(&self) -> u64
+        ensures rows { (version : Kept) → KeptStandsFor version (entries self.now.history)
+            → result ≡ length (forwarding_of version.atoms) }
+        ensures few { result ≤ most_rows (entries self.now.history) }
+    {
+        self.standing.atoms()
+    }
+
     /// The answer to a query over the history. It waits for nobody. A name that the topology doesn't have is told
     /// exactly where there is one, and then the first, left to right; no memory is taken for that.
     ///
@@ -99,9 +111,7 @@ impl Snapshot {
         ensures cost { steps.new ≤ steps.old + (2 * prefixes_set (entries self.now.history) + 1)
             * length self.now.topology.routers }
     {
-        if let Some(unknown) = query.unknown(&self.topology) {
-            return Err(refusal_of(unknown));
-        }
+        self.check_names(query)?;
         let changes = self.changes.changes();
         match self
             .standing
@@ -110,5 +120,40 @@ impl Snapshot {
             Ok(answer) => Ok(answer),
             Err(OutOfMemory) => Err(AskRefused::OutOfMemory),
         }
+    }
+
+    /// The same answers and refusals, by as many threads as there are processors for `reach` and `blackholes`, and for
+    /// `loops` where a link is taken as down; all else is done as `answer` does it. Where no thread can be made, the
+    /// caller's own does the work. It waits for no other caller, and doesn't count its steps.
+    pub fn answer_wide(
+        &self,
+        rt: &(impl Threads + Sync),
+        alloc: Global,
+        query: &Query,
+    ) -> Result<Answer, AskRefused>
+        ensures answer { IfOk result (IsAnswer self.now.topology (entries self.now.history) query.now) }
+        ensures known { OnOk result (unknown_of self.now.topology query.now ≡ None) }
+        ensures refused { IfErr result (IsAskRefusal (unknown_of self.now.topology query.now)) }
+    {
+        self.check_names(query)?;
+        let changes = self.changes.changes();
+        match self
+            .standing
+            .answer_wide(rt, alloc, &self.topology, changes, query)
+        {
+            Ok(answer) => Ok(answer),
+            Err(OutOfMemory) => Err(AskRefused::OutOfMemory),
+        }
+    }
+
+    /// Refuses a query with a name that the topology doesn't have, by the first one, left to right.
+    fn check_names(&self, query: &Query) -> Result<(), AskRefused>
+        ensures known { OnOk result (unknown_of self.now.topology query.now ≡ None) }
+        ensures refused { IfErr result (IsAskRefusal (unknown_of self.now.topology query.now)) }
+    {
+        if let Some(unknown) = query.unknown(&self.topology) {
+            return Err(refusal_of(unknown));
+        }
+        Ok(())
     }
 }

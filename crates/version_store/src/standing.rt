@@ -6,7 +6,7 @@ ghost use Rattle.dn_model.specs.Answer.{IsAnswer};
 ghost use Rattle.dn_model.specs.Delta.{IsDelta, IsDeltaOf};
 ghost use Rattle.dn_model.specs.Entry.{IsEntryOf};
 ghost use Rattle.dn_model.specs.Forwarding.{does};
-ghost use Rattle.dn_model.specs.Query.{unknown_of};
+ghost use Rattle.dn_model.specs.Query.{Question, unknown_of};
 ghost use Rattle.dn_model.specs.Version.{KeptStandsFor, forwarding_of};
 ghost use Rattle.dn_model.specs.declared.entry.Entry.{Entry as EntryIs};
 ghost use Rattle.dn_model.specs.declared.ids.RouterId.{RouterId as RouterIs};
@@ -20,12 +20,14 @@ ghost use Rattle.version_store.specs.Kept.{IsStandingOf};
 
 use delta_graph::Delta;
 use dn_model::{Answer, Ask, Change, Entry, OutOfMemory, Query, Topology};
+use label_view::LabelView;
 use loop_keeper::KeptLoops;
 use net_engine::Version;
 use std::alloc::Global;
 use std::marker::Brand;
 use std::sync::Arc;
 use std::sync::ledger::{Blank, Ledger};
+use std::thread::Threads;
 use step_count::Steps;
 
 /// The version of a network after a history, and the loops of the network then, which are kept from update to update.
@@ -157,9 +159,45 @@ impl Standing {
             (length self.now.version.topology.routers) }
     {
         if asks_for_loops(query) {
-            let cycles = self.loops.answer(alloc)?;
-            return Ok(Answer::Loops(cycles));
+            return self.kept_loops(alloc);
         }
         row_answers::answer(alloc, topology, &self.version, changes, query, steps)
+    }
+
+    /// The same answer, by as many threads as there are processors where many rows are looked at.
+    pub(crate) fn answer_wide(
+        &self,
+        rt: &(impl Threads + Sync),
+        alloc: Global,
+        topology: &Topology,
+        changes: &[Change],
+        query: &Query,
+    ) -> Result<Answer, OutOfMemory>
+        requires known { unknown_of topology.now query.now ≡ None }
+        requires wide { length self.now.version.topology.routers ≡ length topology.now.routers }
+        ensures { IfOk result (λ answer. (history : List EntryIs) → IsStandingOf topology.now history self.now →
+            AreToldIf topology.now history changes.now query.now.ask →
+            IsAnswer topology.now history query.now answer) }
+    {
+        if asks_for_loops(query) {
+            return self.kept_loops(alloc);
+        }
+        row_answers::answer_wide(rt, alloc, topology, &self.version, changes, query)
+    }
+
+    /// The answer to `loops` without `without`: it is told from what is kept, and no row is looked at.
+    fn kept_loops(&self, alloc: Global) -> Result<Answer, OutOfMemory>
+        ensures { IfOk result (λ answer. (t : TopologyIs) → (history : List EntryIs) → (q : Question) → q.ask ≡ Loops →
+            q.without ≡ [] → IsStandingOf t history self.now → IsAnswer t history q answer) }
+    {
+        let cycles = self.loops.answer(alloc)?;
+        Ok(Answer::Loops(cycles))
+    }
+
+    /// How many rows its version has. It takes no memory.
+    pub(crate) fn atoms(&self) -> u64
+        ensures { result ≡ length (forwarding_of self.now.version.atoms) }
+    {
+        self.version.atoms()
     }
 }

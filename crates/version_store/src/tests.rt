@@ -9,7 +9,7 @@ ghost use Rattle.dn_model.specs.declared.topology.Topology.{Topology as Topology
 
 use super::{AskRefused, Event, Snapshot, Store};
 use dn_model::{
-    Answer, Ask, Change, Cycle, DropKind, Entry, LinkId, List, Name, Op, OutOfMemory, Prefix,
+    Answer, Ask, Change, Cycle, DropKind, Entry, Hole, LinkId, List, Name, Op, OutOfMemory, Prefix,
     Query, RouterId, Run, Target, TopoEnd, TopoLink, Topology, plain_answer,
 };
 use std::alloc::Global;
@@ -210,8 +210,18 @@ fn post(store: &mut Store, entry: Entry) -> Result<u32, PostRefused>
     store.post(7, &entry)
 }
 
+/// What is asked with a link taken as down.
+fn asked_without(alloc: Global, link: &[u8], ask: Ask) -> Result<Query, OutOfMemory>
+    requires { IsTrue (is_name_text link.now) }
+{
+    let mut without = List::new(alloc);
+    without.push(Name::from_text(alloc, link)?)?;
+    Ok(Query::new(without, ask))
+}
+
 /// What is asked of a snapshot, by number: a path, which addresses come to r2, the changes of the last entry, the loops,
-/// and which addresses come to r2 with the link a down.
+/// which addresses come to r2 with the link a down, where walks from r1 end without a way on, and the loops with the link
+/// b down.
 fn question(alloc: Global, number: u32) -> Result<Query, OutOfMemory> {
     let first = Name::from_text(alloc, b"r1")?;
     let second = Name::from_text(alloc, b"r2")?;
@@ -220,11 +230,9 @@ fn question(alloc: Global, number: u32) -> Result<Query, OutOfMemory> {
         1 => Ok(Query::of(alloc, Ask::Reach(first, second))),
         2 => Ok(Query::of(alloc, Ask::Delta)),
         3 => Ok(Query::of(alloc, Ask::Loops)),
-        _ => {
-            let mut without = List::new(alloc);
-            without.push(Name::from_text(alloc, b"a")?)?;
-            Ok(Query::new(without, Ask::Reach(first, second)))
-        }
+        4 => asked_without(alloc, b"a", Ask::Reach(first, second)),
+        5 => Ok(Query::of(alloc, Ask::Blackholes(first))),
+        _ => asked_without(alloc, b"b", Ask::Loops),
     }
 }
 
@@ -260,6 +268,14 @@ fn cycles_of(answer: &Answer) -> &[Cycle] {
     }
 }
 
+/// The black holes; none where the answer is another.
+fn holes_of(answer: &Answer) -> &[Hole] {
+    match answer {
+        Answer::Holes(holes) => holes.as_slice(),
+        _ => &[],
+    }
+}
+
 /// The routers of the first of some cycles.
 fn first_routers(cycles: &[Cycle]) -> &[RouterId] {
     match cycles {
@@ -282,12 +298,25 @@ fn compare_loops(rt: &impl Abort, x: &[Cycle], y: &[Cycle]) {
     assert_eq!(rt; first_addresses(x), first_addresses(y));
 }
 
+/// How many black holes there are, and of the first its router, its cause and its runs.
+fn first_hole(holes: &[Hole]) -> (usize, Option<(RouterId, Target)>, &[Run]) {
+    match holes {
+        [] => (0, None, &[]),
+        [first, ..] => (
+            holes.len(),
+            Some((first.router, first.cause)),
+            first.runs.as_slice(),
+        ),
+    }
+}
+
 /// Two answers of one kind are the same.
 fn compare_answers(rt: &impl Abort, x: &Answer, y: &Answer) {
     assert_eq!(rt; hops_of(x), hops_of(y));
     assert_eq!(rt; runs_of(x), runs_of(y));
     assert_eq!(rt; changes_of(x), changes_of(y));
     compare_loops(rt, cycles_of(x), cycles_of(y));
+    assert_eq!(rt; first_hole(holes_of(x)), first_hole(holes_of(y)));
 }
 
 /// The plain evaluator's answer over these entries.
@@ -395,6 +424,25 @@ fn a_held_snapshot_keeps_its_loops(rt: HostRuntime) {
     compare(&rt, rt.alloc(), &held, &[to_second(), back()]);
     let now = store.snap().expect(&rt, "memory");
     compare(&rt, rt.alloc(), &now, &round_and_out());
+}
+
+/// A cycle and a black hole. The loops are asked for as kept, and as threads find them with the link b down.
+#[test]
+fn threads_answer_as_one_does(rt: HostRuntime) {
+    let mut store = store_of(rt.alloc(), 10).expect(&rt, "memory");
+    let _ = post(&mut store, to_second());
+    let _ = post(&mut store, back());
+    let _ = post(&mut store, dropping());
+    let snapshot = store.snap().expect(&rt, "memory");
+    assert_eq!(rt; snapshot.atoms(), 5);
+    for number in 0..7 {
+        let query = question(rt.alloc(), number).expect(&rt, "memory");
+        let wide = snapshot
+            .answer_wide(&rt, rt.alloc(), &query)
+            .expect(&rt, "an answer");
+        let alone = answer_of(rt.alloc(), &snapshot, &query).expect(&rt, "an answer");
+        compare_answers(&rt, &wide, &alone);
+    }
 }
 
 #[test]

@@ -9,7 +9,7 @@ use Rattle.dn_model.specs.declared.entry.Posted.{Posted}
 use Rattle.dn_model.specs.declared.topology.Topology.{Topology}
 use Rattle.fast_pins.specs.declared.issue.Issue.{Issue}
 use Rattle.fast_pins.specs.Known.{Known, published}
-use Rattle.fast_pins.specs.Law.{Ends, IsKept, known_by, line_in, list_in, topology_in, lists_of}
+use Rattle.fast_pins.specs.Law.{Ends, IsKept, IsOfLine, known_by, line_in, list_in, topology_in, lists_of}
 use Rattle.fast_pins.proofs.Prefixes.{prefix_self, prefix_shorter, prefix_whole, prefix_length}
 use Rattle.fast_pins.proofs.Issues.{line_last, list_last, topology_last, lists_last, lists_prefix}
 
@@ -94,3 +94,33 @@ module _ (k k' : Known) (b b' : Book) (log log' both : List Issue) (t t' : Topol
       (λ far. came (omega arith)))
       (λ far. let q = (goes (omega arith)).2 in subst (IsPrefix list') (sym (prefix_whole list list' q no_longer)) (prefix_self list')) in
       rw (mine, theirs) p
+
+-- ---- what was seen of a line ends with a list that begins the line's last one
+
+ends_last : (x : Issue) (xs : List Issue) → (before : List Issue) × (last : Issue) × (x ∷ xs ≡ before ++ last ∷ [])
+ends_last x [] = ([], x, refl)
+ends_last x (y ∷ ys) = let r = ends_last y ys in (x ∷ r.0, r.1, ap (λ (l : List Issue). x ∷ l) r.2)
+
+abbrev last_of : List (List Posted) → List Posted
+last_of lists = fold (λ (x : List Posted) (y : List Posted). y) [] lists
+
+-- the last list of the last issue's line is the last issue's
+last_listed : (log : List Issue) → 0 < length log → last_of (lists_of (line_in log) log) ≡ list_in log
+last_listed [] some = absurd (omega arith)
+last_listed (x ∷ xs) some =
+    let l = ends_last x xs in
+    let line : l.1.line ≡ line_in (x ∷ xs) = sym (ap line_in l.2 ∙ line_last l.0 l.1) in
+    let lists : lists_of (line_in (x ∷ xs)) (x ∷ xs) ≡ lists_of (line_in (x ∷ xs)) l.0 ++ l.1.list ∷ [] = ap (lists_of (line_in (x ∷ xs))) l.2 ∙ lists_last (line_in (x ∷ xs)) l.0 l.1 line in
+    ap last_of lists
+    ∙ (fold-append (λ (x : List Posted) (y : List Posted). y) [] (lists_of (line_in (x ∷ xs)) l.0) (l.1.list ∷ []) ∙ sym (ap list_in l.2 ∙ list_last l.0 l.1))
+
+pub begins_last : (seen log both : List Issue) → IsPrefix seen both → IsPrefix log both → (cs : List Cell) × IsKept cs both → 0 < length log
+    → IsPrefix (lists_of (line_in log) seen) (lists_of (line_in log) log) → IsOfLine seen log → IsPrefix (list_in seen) (list_in log)
+begins_last seen log both pre pre' kept some lists is = dite (dec_le (length log) (length seen))
+    (λ le.
+    let back : IsPrefix (lists_of (line_in log) log) (lists_of (line_in log) seen) = lists_prefix (line_in log) log seen (prefix_shorter log seen both pre' pre le) in
+    let same : lists_of (line_in log) seen ≡ lists_of (line_in log) log = prefix_whole (lists_of (line_in log) seen) (lists_of (line_in log) log) lists (prefix_length (lists_of (line_in log) log) (lists_of (line_in log) seen) back) in
+    let mine : last_of (lists_of (line_in log) seen) ≡ list_in seen = subst (λ (n : ℕ). last_of (lists_of n seen) ≡ list_in seen) is.same_line (last_listed seen is.some_issue) in
+    let it : list_in seen ≡ list_in log = sym mine ∙ (ap last_of same ∙ last_listed log some) in
+    subst (IsPrefix (list_in seen)) it (prefix_self (list_in seen)))
+    (λ less. (kept.1.follows seen log (prefix_shorter seen log both pre pre' (omega arith)) pre' is.some_issue (omega arith) is.same_line).begins)

@@ -68,6 +68,11 @@ pub record Ends (log : List Issue) (topology : Topology) (list : List Posted) : 
   pub topology_is : last.topology ≡ topology
   pub list_is : last.list ≡ list
 
+-- a log has issues, and its last one is of the line of the other log's
+pub record IsOfLine (log other : List Issue) : Type 0 where
+  pub some_issue : 0 < length log
+  pub same_line : line_in log ≡ line_in other
+
 -- ---- steps
 
 abbrev pub issue_in : ℕ → ℕ → Issue → Issue

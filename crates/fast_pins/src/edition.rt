@@ -4,7 +4,7 @@ ghost use Rattle.std.specs.Prelude.{◌≡◌, ◌⊎◌, List, length, IfOk, If
 ghost use Rattle.std.specs.Arc.{arc_value};
 ghost use mathlib.Core.List.{IsPrefix};
 ghost use Rattle.fast_pins.specs.Known.{published};
-ghost use Rattle.fast_pins.specs.Law.{Ends, known_by, line_in, lists_of, origin_of};
+ghost use Rattle.fast_pins.specs.Law.{Ends, known_by, line_in, list_in, lists_of, origin_of};
 
 use crate::law::Front;
 use crate::press::Press;
@@ -72,11 +72,12 @@ impl<S: Shot> Edition<S> {
         self.snap.copy()
     }
 
-    /// What was published up to it is a beginning of what the press added.
+    /// What was published up to it is a beginning of what the press added, and its list begins the last one.
     pub(crate) fn confirm(&self, press: &mut Press)
         requires origin { origin_of press.old.seen.book (line_in press.old.seen.log) ≡ self.now.origin }
         ensures same { press.new.seen ≡ press.old.seen }
         ensures lists { IsPrefix self.now.lists (lists_of (line_in press.old.seen.log) press.old.seen.log) }
+        ensures begins { IsPrefix (published self.now) (list_in press.old.seen.log) }
     {
         press.confirm::<S>(&self.snap, &self.seen);
     }

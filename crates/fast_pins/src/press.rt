@@ -3,7 +3,7 @@
 ghost use Rattle.std.specs.Prelude.{◌≡◌, ◌<◌, ◌++◌, ◌∷◌, [], List, length, Some};
 ghost use mathlib.Core.List.{IsPrefix};
 ghost use Rattle.logbook.specs.Pages.{may_write};
-ghost use Rattle.fast_pins.specs.Law.{head_of, line_in, next_in, topology_in, list_in, lists_of, Ends};
+ghost use Rattle.fast_pins.specs.Law.{head_of, line_in, next_in, topology_in, list_in, lists_of, Ends, IsOfLine};
 
 use crate::law::{Add, Arm, Begin, Draft, Front, Head, Look, Nothing};
 use crate::shot::Shot;
@@ -79,11 +79,12 @@ impl Press {
         self.pen = next;
     }
 
-    /// Whatever was seen of the line is a beginning of it. The snapshot is any.
+    /// Whatever was seen of the line is a beginning of it, and its last list begins the line's. The snapshot is any.
     pub(crate) fn confirm<S: Shot>(&mut self, snap: &S, seen: &Front)
         requires book { seen.now.book ≡ self.old.seen.book }
         ensures same { self.new.seen ≡ self.old.seen }
         ensures lists { IsPrefix (lists_of (line_in self.old.seen.log) seen.now.log) (lists_of (line_in self.old.seen.log) self.old.seen.log) }
+        ensures begins { IsOfLine seen.now.log self.old.seen.log → IsPrefix (list_in seen.now.log) (list_in self.old.seen.log) }
     {
         let about = Snapshot::of(snap);
         let mut both = self.seen.again();

@@ -123,12 +123,13 @@ impl<S: Shot> Publisher<S> {
         Ok(Mark::of(self.own.again()?))
     }
 
-    /// Shows that all that one of its readers knows, and so each list that it pinned, was published. It is there for
-    /// proofs: nothing changes.
+    /// Shows that all that one of its readers knows, and so each list that it pinned, was published, and that the list
+    /// that it knows last is a beginning of the list that was published last. It is there for proofs: nothing changes.
     pub fn confirm(&mut self, reader: &FastReader<S>)
         requires own { reader.now.origin ≡ self.old.origin }
         ensures same { self.new ≡ self.old }
         ensures published { IsPrefix reader.now.lists self.new.lists }
+        ensures begins { IsPrefix (published reader.now) (published self.new) }
     {
         reader.own().confirm(&mut self.press);
     }

@@ -6,6 +6,7 @@ use Rattle.fast_pins.specs.declared.issue.Issue.{Issue}
 use Rattle.fast_pins.specs.Law.{line_in, lists_of}
 use Rattle.fast_pins.proofs.Prefixes.{prefix_trans}
 use Rattle.fast_pins.proofs.Issues.{lists_prefix}
+use Rattle.fast_pins.proofs.Editions.{begins_last}
 use Rattle.fast_pins.proofs.Adding.{looks, exchanged}
 use Rattle.fast_pins.proofs.press.Press.confirm.Goals as goal
 
@@ -32,3 +33,9 @@ returns-clause-lists g c =
     let theirs : IsPrefix c.args.seen.now.log end = prefix_trans c.args.seen.now.log c.learn.new.self.log end c.learn.ensures.3 c.compare_exchange.ensures.6 in
     let all : lists_of line end ≡ lists_of line self.seen.log = c.compare_exchange.ensures.7.1 self.seen.log mine self.some_issue self.pen_is.2 in
     subst (IsPrefix (lists_of line c.args.seen.now.log)) all (lists_prefix line c.args.seen.now.log end theirs)
+
+pub returns-clause-begins : goal.returns-clause-begins
+returns-clause-begins g c is =
+    let self = c.args.self.now in
+    let mine : IsPrefix self.seen.log c.learn.new.self.log = subst (λ (l : List Issue). IsPrefix l c.learn.new.self.log) (ap (λ s. s.log) c.again-both.ensures) c.learn.ensures.2 in
+    begins_last c.args.seen.now.log self.seen.log c.learn.new.self.log c.learn.ensures.3 mine c.learn.ensures.4 self.some_issue (returns-clause-lists g c) is

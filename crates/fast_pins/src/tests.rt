@@ -90,26 +90,27 @@ fn one(alloc: Global, topology: &Arc<Topology, Global>) -> Result<PlainShot, Out
 /// What goes to another thread.
 fn moves<T: Send>(_value: &T) {}
 
-/// How many entries are pinned: before a snapshot of one is published, and after it by a reader that was told of it; by
-/// one without a place that was not told, and then by it when it was; and by the first once the publisher has ended.
-fn pin_around<R: Wait>(rt: &R, alloc: Global) -> Result<[u32; 5], OutOfMemory> {
+/// How many entries two readers pin of a publisher that publishes one entry after none: what `pin_around` tells, and
+/// then what the first pins once the publisher has ended.
+fn pin_to_the_end<R: Wait>(rt: &R, alloc: Global) -> Result<[u32; 6], OutOfMemory> {
     let network = network(alloc)?;
     let snap = one(alloc, &network)?;
     let mut publisher = FastPins::new(rt, alloc, nothing(alloc, &network)?, 1)?;
     moves(&publisher);
-    let pinned = pin_before_and_after(rt, &mut publisher, snap);
+    let pinned = pin_around(rt, &mut publisher, snap);
     publisher.close(rt);
-    let (mut reader, [early, late, untold, told]) = pinned?;
-    Ok([early, late, untold, told, reader.pin()?.number()])
+    let (mut reader, [early, shown, learnt, untold, told]) = pinned?;
+    Ok([early, shown, learnt, untold, told, reader.pin()?.number()])
 }
 
-/// The first four, and the first reader.
-#[tactic(auto, using(crate::proofs::Prefixes::prefix_none))]
-fn pin_before_and_after<R: Wait>(
+/// The first reader has the one place and the second has none. How many entries the first pinned before the publication
+/// and holds after it, pins then untold, and pins when it has learnt a mark; and what `pin_untold_and_told` tells of the
+/// second.
+fn pin_around<R: Wait>(
     rt: &R,
     publisher: &mut Publisher<PlainShot>,
     snap: PlainShot,
-) -> Result<(FastReader<PlainShot>, [u32; 4]), OutOfMemory>
+) -> Result<(FastReader<PlainShot>, [u32; 5]), OutOfMemory>
     requires topology { arc_value snap.topology ≡ publisher.old.topology }
     requires nothing { published publisher.old ≡ [] }
 {
@@ -118,17 +119,31 @@ fn pin_before_and_after<R: Wait>(
     moves(&placed);
     let early = placed.pin()?;
     publisher.publish(rt, snap)?;
+    let shown = placed.pin()?.number();
     placed.learn(publisher.mark()?);
-    let late = placed.pin()?;
-    let untold = placeless.pin()?.number();
-    placeless.learn(publisher.mark()?);
-    let told = placeless.pin()?.number();
-    publisher.confirm(&placeless);
-    Ok((placed, [early.number(), late.number(), untold, told]))
+    let learnt = placed.pin()?.number();
+    let [untold, told] = pin_untold_and_told(publisher, &mut placeless)?;
+    Ok((placed, [early.number(), shown, learnt, untold, told]))
+}
+
+/// How many entries a reader pins before and after it learns a mark of all that was published.
+fn pin_untold_and_told(
+    publisher: &mut Publisher<PlainShot>,
+    reader: &mut FastReader<PlainShot>,
+) -> Result<[u32; 2], OutOfMemory>
+    requires own { reader.old.origin ≡ publisher.old.origin }
+{
+    let untold = reader.pin()?.number();
+    let mark = publisher.mark()?;
+    moves(&mark);
+    reader.learn(mark);
+    let told = reader.pin()?.number();
+    publisher.confirm(reader);
+    Ok([untold, told])
 }
 
 #[test]
-fn a_reader_pins_what_it_was_told_of(rt: HostRuntime) -> Result<(), Fail> {
-    assert_eq!(rt; pin_around(&rt, rt.alloc())?, [0, 1, 0, 1, 1]);
+fn a_reader_pins_what_is_shown_or_told(rt: HostRuntime) -> Result<(), Fail> {
+    assert_eq!(rt; pin_to_the_end(&rt, rt.alloc())?, [0, 1, 1, 0, 1, 1]);
     Ok(())
 }

@@ -1,16 +1,16 @@
 -- The steps of a publisher keep the law of its book.
-use Rattle.std.proofs.Common.{◌≡◌, ◌≢◌, ℕ, ◌+◌, ◌<◌, ◌≤◌, ◌⊎◌, Bool, true, false, List, [], ◌∷◌, ◌++◌, length, set, refl, ap, sym, ◌∙◌, subst, inl, inr, ⊎_elim, arith, length-append, length-set, Some, None}
+use Rattle.std.proofs.Common.{◌≡◌, ◌≢◌, ℕ, ◌<◌, ◌≤◌, true, false, List, [], ◌∷◌, ◌++◌, length, set, refl, ap, sym, ◌∙◌, subst, inl, ⊎_elim, arith, length-append, length-set, Some, None}
 use Rattle.std.proofs.lemmas.List.{append-nil}
 use mathlib.Core.List.{IsPrefix}
 use mathlib.Core.Logic.{dite}
 use native.Mathlib.Decide.{dec_le}
 use prog.Atomic.{either}
 use Rattle.std.specs.Prelude.{◌==◌}
-use Rattle.logbook.specs.Pages.{Cell, cell, Nib, nib, no_nib, may_write, Step, Moves, Away, keeps, gives, adds}
+use Rattle.logbook.specs.Pages.{Cell, cell, Nib, no_nib, may_write, Step, Moves, keeps, gives, adds}
 use Rattle.dn_model.specs.declared.entry.Posted.{Posted}
 use Rattle.fast_pins.specs.declared.issue.Issue.{Issue}
 use Rattle.fast_pins.specs.Law.{IsHome, Follows, IsKept, line_in, next_in, topology_in, list_in, lists_of, issue_in, Arms, Begins, Adds, Looks}
-use Rattle.fast_pins.proofs.Prefixes.{prefix_self, prefix_more, prefix_trans, prefix_shorter, prefix_whole, prefix_length, prefix_snoc}
+use Rattle.fast_pins.proofs.Prefixes.{prefix_more, prefix_trans, prefix_shorter, prefix_whole, prefix_length, prefix_snoc}
 use Rattle.fast_pins.proofs.Homes.{home_there, home_set, home_here, home_more}
 use Rattle.fast_pins.proofs.Issues.{line_last, topology_last, list_last, lists_append, none_of}
 

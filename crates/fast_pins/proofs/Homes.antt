@@ -1,5 +1,5 @@
 -- Cells whose right to write is used up stay so.
-use Rattle.std.proofs.Common.{◌≡◌, ℕ, zero, suc, ◌<◌, ◌≤◌, Bool, true, false, List, [], ◌∷◌, ◌++◌, length, set, refl, ap, arith, length-set}
+use Rattle.std.proofs.Common.{ℕ, zero, suc, ◌<◌, true, List, [], ◌∷◌, ◌++◌, length, set, refl, arith}
 use Rattle.logbook.specs.Pages.{Cell}
 use Rattle.fast_pins.specs.Law.{IsHome}
 

@@ -1,7 +1,7 @@
 -- The last issue of a log, and the lists of a line.
-use Rattle.std.proofs.Common.{◌≡◌, ◌≢◌, ℕ, ◌<◌, Bool, true, false, List, [], ◌∷◌, ◌++◌, length, map, filter, fold, Option, Some, None, refl, ap, sym, ◌∙◌, subst, arith, append_assoc}
+use Rattle.std.proofs.Common.{◌≡◌, ◌≢◌, ℕ, ◌<◌, Bool, true, false, List, [], ◌∷◌, ◌++◌, length, map, filter, Option, Some, None, refl, ap, sym, ◌∙◌, subst, arith, append_assoc}
 use Rattle.std.specs.Prelude.{◌==◌}
-use Rattle.std.proofs.lemmas.List.{append-nil, map-append}
+use Rattle.std.proofs.lemmas.List.{map-append}
 use Rattle.std.proofs.lemmas.List.Elements.{filter-append}
 use Rattle.std.proofs.lemmas.List.Sums.{fold-append}
 use Rattle.std.proofs.lemmas.Bool.Decides.{nat_tests}
@@ -9,14 +9,11 @@ use mathlib.Core.List.{IsPrefix}
 use Rattle.dn_model.specs.declared.entry.Posted.{Posted}
 use Rattle.dn_model.specs.declared.topology.Topology.{Topology}
 use Rattle.fast_pins.specs.declared.issue.Issue.{Issue}
-use Rattle.fast_pins.specs.Law.{line_in, next_in, topology_in, list_in, lists_of}
+use Rattle.fast_pins.specs.Law.{line_in, topology_in, list_in, lists_of}
 use Rattle.fast_pins.proofs.Prefixes.{prefix_more}
 
 pub line_last : (log : List Issue) (a : Issue) → line_in (log ++ a ∷ []) ≡ a.line
 line_last log a = fold-append (λ (n : ℕ) (x : Issue). x.line) 0 log (a ∷ [])
-
-pub next_last : (log : List Issue) (a : Issue) → next_in (log ++ a ∷ []) ≡ a.next
-next_last log a = fold-append (λ (n : ℕ) (x : Issue). x.next) 0 log (a ∷ [])
 
 pub topology_last : (log : List Issue) (a : Issue) → topology_in (log ++ a ∷ []) ≡ Some a.topology
 topology_last log a = fold-append (λ (n : Option Topology) (x : Issue). Some x.topology) None log (a ∷ [])

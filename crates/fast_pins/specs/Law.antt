@@ -53,9 +53,6 @@ head_of b = record { tracked = true; key = 0; book = b }
 abbrev pub origin_of : Book → ℕ → Origin
 origin_of b line = record { number = b.number; log_name = b.log_name; cells_name = b.cells_name; line = line }
 
-abbrev pub book_in : Origin → Book
-book_in o = record { number = o.number; log_name = o.log_name; cells_name = o.cells_name }
-
 -- what a log tells of the line of its last issue
 abbrev pub known_by : Book → List Issue → Topology → Known
 known_by b log topology = record { origin = origin_of b (line_in log); topology = topology; lists = lists_of (line_in log) log }

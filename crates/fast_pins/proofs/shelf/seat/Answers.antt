@@ -1,4 +1,3 @@
-use Rattle.std.proofs.Common.{rules}
 use Rattle.fast_pins.proofs.Shown.{admits, forks, merges}
 use Rattle.fast_pins.proofs.shelf.seat.Goals as goal
 

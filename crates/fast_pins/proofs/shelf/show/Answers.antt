@@ -1,4 +1,4 @@
-use Rattle.std.proofs.Common.{rules, ◌≡◌, ◌∷◌, ◌++◌, [], List, drop, fold, sym, ◌∙◌, ap, Some}
+use Rattle.std.proofs.Common.{◌≡◌, List, drop, fold, sym, ◌∙◌, ap, Some}
 use Rattle.fast_pins.specs.Known.{Known}
 use Rattle.fast_pins.proofs.Shown.{claims, last_shown, if_ok, at_ok}
 use Rattle.fast_pins.proofs.shelf.show.Goals as goal

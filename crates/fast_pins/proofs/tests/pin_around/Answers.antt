@@ -1,4 +1,4 @@
-use Rattle.std.proofs.Common.{rules, ap, ◌∙◌}
+use Rattle.std.proofs.Common.{ap, ◌∙◌}
 use Rattle.fast_pins.specs.Known.{published}
 use Rattle.fast_pins.proofs.Prefixes.{prefix_none}
 use Rattle.fast_pins.proofs.tests.pin_around.Goals as goal

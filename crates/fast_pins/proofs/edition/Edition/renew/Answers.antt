@@ -2,7 +2,6 @@ use Rattle.std.proofs.Common.{◌≡◌, ◌<◌, ◌≤◌, List, length, ap, s
 use mathlib.Core.List.{IsPrefix}
 use Rattle.fast_pins.specs.declared.issue.Issue.{Issue}
 use Rattle.fast_pins.specs.Known.{Known, published}
-use Rattle.fast_pins.specs.Law.{known_by}
 use Rattle.fast_pins.proofs.Editions.{renews, stays}
 use Rattle.fast_pins.proofs.edition.Edition.renew.Goals as goal
 

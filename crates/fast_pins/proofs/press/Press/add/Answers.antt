@@ -1,7 +1,6 @@
-use Rattle.std.proofs.Common.{◌≡◌, List, sym, ◌∙◌, ap, subst, Some}
+use Rattle.std.proofs.Common.{◌≡◌, sym, ◌∙◌, ap, subst, Some}
 use mathlib.Core.List.{IsPrefix}
-use Rattle.dn_model.specs.declared.entry.Posted.{Posted}
-use Rattle.fast_pins.specs.Law.{list_in, topology_in}
+use Rattle.fast_pins.specs.Law.{issue_in, line_in, list_in, topology_in}
 use Rattle.logbook.specs.Pages.{step}
 use Rattle.fast_pins.proofs.Adding.{goes_on, exchanged}
 use Rattle.fast_pins.proofs.press.Press.add.Goals as goal
@@ -26,7 +25,7 @@ returns-clause-ends g c =
     let offer = c.plain-offer.ensures in
     let told = c.compare_exchange.ensures.7 in record {
       before = told.0;
-      last = _;
+      last = issue_in (line_in c.args.self.now.seen.log) c.plain-offer.result.ask.next c.plain-offer.result.ask;
       log_is = told.1;
       topology_is = ap (λ a. a.topology) offer.1 ∙ ap g.S.Shot.shown_topology c.of.ensures;
       list_is = ap (λ a. a.list) offer.1 ∙ ap g.S.Shot.shown c.of.ensures;

@@ -1,5 +1,6 @@
-use Rattle.std.proofs.Common.{◌≡◌, List, sym, ◌∙◌, ap, subst}
+use Rattle.std.proofs.Common.{sym, ◌∙◌, ap}
 use Rattle.logbook.specs.Pages.{step}
+use Rattle.fast_pins.specs.Law.{issue_in}
 use Rattle.fast_pins.proofs.Adding.{opens, begins, exchanged}
 use Rattle.fast_pins.proofs.press.Press.begin.Goals as goal
 
@@ -24,7 +25,7 @@ returns-clause-ends g c =
     let offer = c.plain-offer.ensures in
     let told = c.compare_exchange.ensures.7 in record {
       before = told.0;
-      last = _;
+      last = issue_in c.arm-pen.result.nib.key c.plain-offer.result.ask.next c.plain-offer.result.ask;
       log_is = told.1;
       topology_is = ap (λ a. a.topology) offer.1 ∙ ap g.S.Shot.shown_topology c.of.ensures;
       list_is = ap (λ a. a.list) offer.1 ∙ ap g.S.Shot.shown c.of.ensures;

@@ -1,7 +1,6 @@
 use Rattle.std.proofs.Common.{◌≡◌, List, sym, ◌∙◌, ap, subst}
 use mathlib.Core.List.{IsPrefix}
 use Rattle.logbook.specs.Pages.{step}
-use Rattle.dn_model.specs.declared.entry.Posted.{Posted}
 use Rattle.fast_pins.specs.declared.issue.Issue.{Issue}
 use Rattle.fast_pins.specs.Law.{line_in, lists_of}
 use Rattle.fast_pins.proofs.Prefixes.{prefix_trans}

@@ -4,8 +4,8 @@ use Rattle.dn_model.specs.declared.entry.Posted.{Posted}
 use Rattle.dn_model.specs.declared.topology.Topology.{Topology}
 use Rattle.fast_pins.specs.declared.issue.Origin.{Origin}
 
--- Which publisher it is of, its network, and the lists that it published, in order: of a publisher all of them, of a reader or a
--- mark a beginning that it knows.
+-- Which publisher it is of, its network, and the lists that it published, in order: of a publisher all of them, of a
+-- reader or a mark a beginning that it knows.
 pub record Known : Type 0 where
   pub origin : Origin
   pub topology : Topology

@@ -43,7 +43,8 @@ pub record IsKept (cells : List Cell) (log : List Issue) : Type 0 where
   pub some_cell : 0 < length cells
   pub first_cell : IsHome cells 0
   pub begun : (xs : List Issue) → IsPrefix xs log → 0 < length xs → IsHome cells (line_in xs)
-  pub follows : (xs ys : List Issue) → IsPrefix xs ys → IsPrefix ys log → 0 < length xs → length xs < length ys → line_in xs ≡ line_in ys → Follows cells xs ys
+  pub follows : (xs ys : List Issue) → IsPrefix xs ys → IsPrefix ys log → 0 < length xs → length xs < length ys
+      → line_in xs ≡ line_in ys → Follows cells xs ys
 
 -- ---- a book and what is known by it
 
@@ -55,7 +56,8 @@ origin_of b line = record { number = b.number; log_name = b.log_name; cells_name
 
 -- what a log tells of the line of its last issue
 abbrev pub known_by : Book → List Issue → Topology → Known
-known_by b log topology = record { origin = origin_of b (line_in log); topology = topology; lists = lists_of (line_in log) log }
+known_by b log topology =
+    record { origin = origin_of b (line_in log); topology = topology; lists = lists_of (line_in log) log }
 
 -- the log ends with an issue of this network and this list
 pub record Ends (log : List Issue) (topology : Topology) (list : List Posted) : Type 0 where
@@ -81,13 +83,17 @@ Arms s v found w = w.1.0.right ≡ may_make
 
 -- a line was begun, under the key of the right that was used up
 abbrev pub Begins : Step Issue → View Issue ℕ → ℕ → View Issue ℕ → Type 0
-Begins s v found w = (log : List Issue) × (w.0 ≡ log ++ issue_in v.1.0.key s.ask.next s.ask ∷ []) × (lists_of v.1.0.key log ≡ [])
+Begins s v found w =
+    (log : List Issue) × (w.0 ≡ log ++ issue_in v.1.0.key s.ask.next s.ask ∷ []) × (lists_of v.1.0.key log ≡ [])
 
 -- an issue was added to the line of the last one that was seen, with none between
 abbrev pub Adds : Step Issue → View Issue ℕ → ℕ → View Issue ℕ → Type 0
-Adds s v found w = (log : List Issue) × (w.0 ≡ log ++ issue_in (line_in v.0) s.ask.next s.ask ∷ []) × (lists_of (line_in v.0) log ≡ lists_of (line_in v.0) v.0)
+Adds s v found w =
+    (log : List Issue) × (w.0 ≡ log ++ issue_in (line_in v.0) s.ask.next s.ask ∷ [])
+    × (lists_of (line_in v.0) log ≡ lists_of (line_in v.0) v.0)
 
 -- whoever has the right to follow the last issue of xs has seen all lists of its line, and keeps that right
 abbrev pub Looks : Step Issue → View Issue ℕ → ℕ → View Issue ℕ → Type 0
 Looks s v found w =
-    (w.1.0 ≡ v.1.0) × ((xs : List Issue) → IsPrefix xs v.0 → 0 < length xs → v.1.0.key ≡ next_in xs → lists_of (line_in xs) w.0 ≡ lists_of (line_in xs) xs)
+    (w.1.0 ≡ v.1.0) × ((xs : List Issue) → IsPrefix xs v.0 → 0 < length xs → v.1.0.key ≡ next_in xs
+    → lists_of (line_in xs) w.0 ≡ lists_of (line_in xs) xs)

@@ -59,7 +59,12 @@ impl Play<Issue, u64> for Arm {
 impl<S: Shot> Plain<Snapshot<S>, Issue, u64> for Arm {
     ghost use Rattle.std.specs.Prelude.{None};
 
-    ghost ask = { λ snap. record { line = 0; next = 0; topology = S.shown_topology snap.value; list = S.shown snap.value } };
+    ghost ask = { λ snap. record {
+      line = 0;
+      next = 0;
+      topology = S.shown_topology snap.value;
+      list = S.shown snap.value;
+    } };
 
     ghost state = { λ snap. None };
 }
@@ -76,7 +81,12 @@ impl Play<Issue, u64> for Begin {
 impl<S: Shot> Plain<Draft<S>, Issue, u64> for Begin {
     ghost use Rattle.std.specs.Prelude.{None};
 
-    ghost ask = { λ draft. record { line = 0; next = draft.next.nib.key; topology = S.shown_topology draft.snap.value; list = S.shown draft.snap.value } };
+    ghost ask = { λ draft. record {
+      line = 0;
+      next = draft.next.nib.key;
+      topology = S.shown_topology draft.snap.value;
+      list = S.shown draft.snap.value;
+    } };
 
     ghost state = { λ draft. None };
 }
@@ -93,7 +103,12 @@ impl Play<Issue, u64> for Add {
 impl<S: Shot> Plain<Draft<S>, Issue, u64> for Add {
     ghost use Rattle.std.specs.Prelude.{None};
 
-    ghost ask = { λ draft. record { line = 0; next = draft.next.nib.key; topology = S.shown_topology draft.snap.value; list = S.shown draft.snap.value } };
+    ghost ask = { λ draft. record {
+      line = 0;
+      next = draft.next.nib.key;
+      topology = S.shown_topology draft.snap.value;
+      list = S.shown draft.snap.value;
+    } };
 
     ghost state = { λ draft. None };
 }
@@ -110,7 +125,12 @@ impl Play<Issue, u64> for Look {
 impl<S: Shot> Plain<Snapshot<S>, Issue, u64> for Look {
     ghost use Rattle.std.specs.Prelude.{None};
 
-    ghost ask = { λ snap. record { line = 0; next = 0; topology = S.shown_topology snap.value; list = S.shown snap.value } };
+    ghost ask = { λ snap. record {
+      line = 0;
+      next = 0;
+      topology = S.shown_topology snap.value;
+      list = S.shown snap.value;
+    } };
 
     ghost state = { λ snap. None };
 }

@@ -66,7 +66,8 @@ impl Press {
         ensures book { self.new.seen.book ≡ self.old.seen.book }
         ensures ends { Ends self.new.seen.log (S.shown_topology snap.now) (S.shown snap.now) }
         ensures line { line_in self.new.seen.log ≡ line_in self.old.seen.log }
-        ensures lists { lists_of (line_in self.old.seen.log) self.new.seen.log ≡ lists_of (line_in self.old.seen.log) self.old.seen.log ++ S.shown snap.now ∷ [] }
+        ensures lists { lists_of (line_in self.old.seen.log) self.new.seen.log
+            ≡ lists_of (line_in self.old.seen.log) self.old.seen.log ++ S.shown snap.now ∷ [] }
     {
         let draft = Draft {
             snap: Snapshot::of(snap),
@@ -83,8 +84,10 @@ impl Press {
     pub(crate) fn confirm<S: Shot>(&mut self, snap: &S, seen: &Front)
         requires book { seen.now.book ≡ self.old.seen.book }
         ensures same { self.new.seen ≡ self.old.seen }
-        ensures lists { IsPrefix (lists_of (line_in self.old.seen.log) seen.now.log) (lists_of (line_in self.old.seen.log) self.old.seen.log) }
-        ensures begins { IsOfLine seen.now.log self.old.seen.log → IsPrefix (list_in seen.now.log) (list_in self.old.seen.log) }
+        ensures lists { IsPrefix (lists_of (line_in self.old.seen.log) seen.now.log)
+            (lists_of (line_in self.old.seen.log) self.old.seen.log) }
+        ensures begins { IsOfLine seen.now.log self.old.seen.log
+            → IsPrefix (list_in seen.now.log) (list_in self.old.seen.log) }
     {
         let about = Snapshot::of(snap);
         let mut both = self.seen.again();

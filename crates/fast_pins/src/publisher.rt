@@ -47,7 +47,8 @@ where
 
     ghost view = { λ p. p.own };
 
-    ghost invariant = { λ p. IsPublisher p.own p.press.seen.book p.press.seen.log × IfSome p.shelf (λ w. (w.desk.shown.value.origin ≡ p.own.origin) × (view_of w.desk.place ≡ Some p.own.origin)) };
+    ghost invariant = { λ p. IsPublisher p.own p.press.seen.book p.press.seen.log
+        × IfSome p.shelf (λ w. (w.desk.shown.value.origin ≡ p.own.origin) × (view_of w.desk.place ≡ Some p.own.origin)) };
 }
 
 impl FastPins {

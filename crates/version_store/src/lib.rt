@@ -4,6 +4,7 @@
 
 mod asking;
 mod play;
+mod shot;
 mod snapshot;
 mod standing;
 mod store;

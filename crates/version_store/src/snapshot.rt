@@ -33,6 +33,7 @@ use version_pages::Pages;
 /// snapshots.
 #[derive(Drop)]
 pub struct Snapshot {
+    alloc: Global,
     topology: Arc<Topology, Global>,
     history: Pages<Posted>,
     standing: Standing,
@@ -53,6 +54,7 @@ impl Model for Snapshot {
 impl Snapshot {
     /// The snapshot of a history, by what stands after it and the changes that its last entry made.
     pub(crate) fn of(
+        alloc: Global,
         topology: Arc<Topology, Global>,
         history: Pages<Posted>,
         standing: Standing,
@@ -65,11 +67,23 @@ impl Snapshot {
         ensures history { result.history ≡ history }
     {
         Snapshot {
+            alloc,
             topology,
             history,
             standing,
             changes,
         }
+    }
+
+    /// The same again, which shares all that this one keeps. It fails for want of memory alone.
+    pub(crate) fn again(&self) -> Result<Snapshot, OutOfMemory>
+        ensures { IfOk result (λ snapshot. snapshot ≡ self.now) }
+    {
+        let topology = Arc::try_clone(&self.topology)?;
+        let history = self.history.copy()?;
+        let standing = self.standing.copy(self.alloc)?;
+        let changes = Arc::try_clone(&self.changes)?;
+        Ok(Snapshot::of(self.alloc, topology, history, standing, changes))
     }
 
     /// How many entries the history had.

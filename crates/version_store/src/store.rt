@@ -179,6 +179,6 @@ impl Book for Store {
         let history = self.history.copy()?;
         let changes = Arc::try_clone(&self.changes)?;
         prove!(self.history.len() <= self.limit as u64);
-        Ok(Snapshot::of(topology, history, standing, changes))
+        Ok(Snapshot::of(self.alloc, topology, history, standing, changes))
     }
 }

@@ -12,6 +12,7 @@ use dn_model::{
     Answer, Ask, Change, Cycle, DropKind, Entry, Hole, LinkId, List, Name, Op, OutOfMemory, Prefix,
     Query, RouterId, Run, Target, TopoEnd, TopoLink, Topology, plain_answer,
 };
+use fast_pins::Shot;
 use std::alloc::Global;
 use std::marker::Brand;
 use std::process::Abort;
@@ -210,13 +211,14 @@ fn post(store: &mut Store, entry: Entry) -> Result<u32, PostRefused>
     store.post(7, &entry)
 }
 
-/// What is asked with a link taken as down.
-fn asked_without(alloc: Global, link: &[u8], ask: Ask) -> Result<Query, OutOfMemory>
+/// One link that is taken as down.
+fn down(alloc: Global, link: &[u8]) -> Result<List<Name>, OutOfMemory>
     requires { IsTrue (is_name_text link.now) }
+    ensures { IfOk result (λ names. names ≡ link.now ∷ []) }
 {
-    let mut without = List::new(alloc);
-    without.push(Name::from_text(alloc, link)?)?;
-    Ok(Query::new(without, ask))
+    let mut names = List::new(alloc);
+    names.push(Name::from_text(alloc, link)?)?;
+    Ok(names)
 }
 
 /// What is asked of a snapshot, by number: a path, which addresses come to r2, the changes of the last entry, the loops,
@@ -230,9 +232,9 @@ fn question(alloc: Global, number: u32) -> Result<Query, OutOfMemory> {
         1 => Ok(Query::of(alloc, Ask::Reach(first, second))),
         2 => Ok(Query::of(alloc, Ask::Delta)),
         3 => Ok(Query::of(alloc, Ask::Loops)),
-        4 => asked_without(alloc, b"a", Ask::Reach(first, second)),
+        4 => Ok(Query::new(down(alloc, b"a")?, Ask::Reach(first, second))),
         5 => Ok(Query::of(alloc, Ask::Blackholes(first))),
-        _ => asked_without(alloc, b"b", Ask::Loops),
+        _ => Ok(Query::new(down(alloc, b"b")?, Ask::Loops)),
     }
 }
 
@@ -426,7 +428,8 @@ fn a_held_snapshot_keeps_its_loops(rt: HostRuntime) {
     compare(&rt, rt.alloc(), &now, &round_and_out());
 }
 
-/// A cycle and a black hole. The loops are asked for as kept, and as threads find them with the link b down.
+/// A cycle and a black hole. The loops are asked for as kept, and as threads find them with the link b down. Threads look at
+/// a copy of the snapshot.
 #[test]
 fn threads_answer_as_one_does(rt: HostRuntime) {
     let mut store = store_of(rt.alloc(), 10).expect(&rt, "memory");
@@ -434,10 +437,11 @@ fn threads_answer_as_one_does(rt: HostRuntime) {
     let _ = post(&mut store, back());
     let _ = post(&mut store, dropping());
     let snapshot = store.snap().expect(&rt, "memory");
-    assert_eq!(rt; snapshot.atoms(), 5);
+    let copy = snapshot.copy().expect(&rt, "memory");
+    assert_eq!(rt; (copy.number(), copy.atoms()), (3, 5));
     for number in 0..7 {
         let query = question(rt.alloc(), number).expect(&rt, "memory");
-        let wide = snapshot
+        let wide = copy
             .answer_wide(&rt, rt.alloc(), &query)
             .expect(&rt, "an answer");
         let alone = answer_of(rt.alloc(), &snapshot, &query).expect(&rt, "an answer");

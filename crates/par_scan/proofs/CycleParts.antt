@@ -1,9 +1,8 @@
 -- What a part shows of cycles, and the cycles of all ranges as one.
-use Rattle.std.proofs.Common.{◌≡◌, ◌≢◌, ℕ, zero, suc, ◌+◌, ◌-◌, ◌*◌, ◌<◌, ◌≤◌, ◌^◌, ◌⊎◌, inl, inr, ◌∙◌, ⊎_elim, Bool, true, false, ◌&&◌, cond, eqb, ltb, Some, None, List, [], ◌∷◌, length, map, get_or, refl, ap, sym, subst, arith}
-use Rattle.std.specs.List.{Contains, list_all, list_any}
-use Rattle.std.proofs.lemmas.Bool.{and_parts, and_right, both_ways, cases_Bool, cases_eq, cases_lt, cond_both, eqb-true, true≢false}
+use Rattle.std.proofs.Common.{◌≡◌, ◌≢◌, ℕ, ◌+◌, ◌*◌, ◌<◌, ◌≤◌, ◌^◌, ◌∙◌, ⊎_elim, Bool, true, false, ◌&&◌, eqb, ltb, Some, List, [], ◌∷◌, length, map, get_or, refl, ap, sym, subst, arith}
+use Rattle.std.specs.List.{Contains, list_all}
+use Rattle.std.proofs.lemmas.Bool.{and_parts, and_right, cases_Bool, cases_lt, cond_both, true≢false}
 use Rattle.std.proofs.lemmas.List.{get_or_default}
-use Rattle.std.proofs.lemmas.List.Elements.{Contains-get_or}
 use Rattle.std.proofs.lemmas.List.Sums.{sum_by-cons}
 use Rattle.dn_model.specs.Cycles.{AreCycles, AreInOrder, BeginAt, HasCycle, IsCycle, first_router, go_round, goes_round, goes_to, is_cycle}
 use Rattle.dn_model.specs.CyclesFrom.{AreSomeCycles, IsCycleOf, IsPutAmong}
@@ -11,7 +10,6 @@ use Rattle.dn_model.specs.Forwarding.{AreForwarding, does}
 use Rattle.dn_model.specs.Reach.{is_router}
 use Rattle.dn_model.specs.Rows.{is_within}
 use Rattle.dn_model.specs.Runs.{AreApart, AreRuns, addresses_in, run_length}
-use Rattle.dn_model.specs.RunsFrom.{StartFrom, with_run}
 use Rattle.dn_model.specs.Topology.{all_differ}
 use Rattle.dn_model.specs.Walk.{at_address, on_far}
 use Rattle.dn_model.specs.declared.answer.Cycle.{Cycle}
@@ -29,7 +27,7 @@ use Rattle.dn_model.proofs.Walks.{on_far-last}
 use Rattle.par_scan.specs.CyclesByRange.{AreCyclePieces, AreCyclesByRange, AreCyclesWithin, IsCycleWithin, IsShare, TellsCycleAt, TellsCyclesOf}
 use Rattle.par_scan.specs.Joined.{joined}
 use Rattle.par_scan.specs.Parts.{ShowsPart}
-use Rattle.par_scan.specs.Ranges.{AreBounds, only_within, range_begin}
+use Rattle.par_scan.specs.Ranges.{only_within, range_begin}
 use Rattle.par_scan.specs.declared.share.Share.{Share}
 use Rattle.par_scan.proofs.Joining.{all-within, joined-count, joined-runs, no-runs, only-in}
 use Rattle.par_scan.proofs.PartRows.{idle-stays}

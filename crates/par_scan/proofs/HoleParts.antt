@@ -1,9 +1,8 @@
 -- What a part shows of where addresses fall, and the holes of all ranges as one.
-use Rattle.std.proofs.Common.{◌≡◌, ◌≢◌, ℕ, zero, suc, ◌+◌, ◌*◌, ◌<◌, ◌≤◌, ◌^◌, ◌⊎◌, inl, inr, ◌∙◌, ⊎_elim, Bool, true, false, ◌&&◌, cond, eqb, List, [], ◌∷◌, length, drop, get_or, ◌||◌, refl, ap, sym, subst, arith}
+use Rattle.std.proofs.Common.{◌≡◌, ◌≢◌, ℕ, zero, suc, ◌+◌, ◌*◌, ◌<◌, ◌≤◌, ◌^◌, ◌⊎◌, ◌∙◌, ⊎_elim, Bool, true, false, ◌&&◌, eqb, List, [], ◌∷◌, length, drop, get_or, ◌||◌, refl, ap, sym, subst, arith}
 use Rattle.std.specs.List.{Contains, list_any}
 use Rattle.std.proofs.lemmas.Bool.{and_from, and_parts, and_right, both_ways, or_parts, cases_Bool, cases_lt, cond-true, cond-false, eq-eqb, eqb-true, true≢false}
 use Rattle.std.proofs.lemmas.List.{drop_more, get_or_default}
-use Rattle.std.proofs.lemmas.List.Elements.{Contains-get_or}
 use Rattle.dn_model.specs.Forwarding.{AreForwarding, does}
 use Rattle.dn_model.specs.Holes.{AreHoles, HasHole, IsHole, cause_rank, ends_by, falls, is_cause}
 use Rattle.dn_model.specs.HolesFrom.{AreSomeHoles, IsPutAmong, is_hole_of}
@@ -20,15 +19,15 @@ use Rattle.dn_model.specs.declared.run.Run.{Run}
 use Rattle.dn_model.specs.declared.target.Target.{Target}
 use Rattle.dn_model.specs.declared.target.Target.TheVariants.{Local}
 use Rattle.dn_model.proofs.Best.{contains-here, contains-none, contains-there}
-use Rattle.dn_model.proofs.Covers.{within-above, within-below, within-yes}
+use Rattle.dn_model.proofs.Covers.{within-yes}
 use Rattle.dn_model.proofs.Picks.{any-none, any-some}
 use Rattle.dn_model.proofs.RunsOnce.{apart-bound, apart-head, first-holds}
 use Rattle.dn_model.proofs.Walks.{on_far-same, walk_end-last, walk_end-same}
 use Rattle.par_scan.specs.HolesByRange.{AreHolePieces, AreHolesByRange, AreHolesWithin, IsHoleWithin, TellsHoleAt, TellsHolesOf, hole_runs}
 use Rattle.par_scan.specs.Joined.{joined}
 use Rattle.par_scan.specs.Parts.{ShowsPart}
-use Rattle.par_scan.specs.Ranges.{AreBounds, only_within, range_begin}
-use Rattle.par_scan.proofs.Joining.{all-within, joined-runs, only-in}
+use Rattle.par_scan.specs.Ranges.{only_within, range_begin}
+use Rattle.par_scan.proofs.Joining.{joined-runs, only-in}
 use Rattle.par_scan.proofs.PartRows.{idle-local, idle-stays}
 use Rattle.par_scan.proofs.RangeBounds.{bounds-are, bounds-end, range-of}
 use Rattle.par_scan.proofs.ReachParts.{test-within}

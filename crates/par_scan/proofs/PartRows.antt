@@ -1,18 +1,17 @@
 -- Rows of a part: they cover the addresses once, and show what the whole rows show.
-use Rattle.std.proofs.Common.{◌≡◌, ℕ, zero, suc, ◌+◌, ◌-◌, ◌<◌, ◌≤◌, ◌^◌, ◌⊎◌, inl, inr, ◌∙◌, ⊎_elim, Bool, true, false, cond, ltb, Option, Some, None, List, [], ◌∷◌, ◌++◌, length, take, drop, replicate, get_or, refl, ap, sym, subst, arith}
+use Rattle.std.proofs.Common.{◌≡◌, ℕ, zero, suc, ◌+◌, ◌-◌, ◌<◌, ◌≤◌, ◌^◌, ◌∙◌, ⊎_elim, Bool, true, false, cond, ltb, Option, Some, List, [], ◌∷◌, ◌++◌, length, take, drop, replicate, get_or, refl, ap, sym, subst, arith}
 use Rattle.std.proofs.lemmas.Bool.{cases_lt, cond-true, cond-false, lt-ltb, le-ltb}
 use Rattle.std.proofs.lemmas.List.{length-append, length-drop, length-take-le, get_or-take, get_or-drop, get_or_append_left, get_or-append_right}
-use Rattle.dn_model.specs.Forwarding.{AreEachForwarding, AreForwarding, IsForwarding, row_low, row_past, forwarding_at, does, target_in_row, target_of}
+use Rattle.dn_model.specs.Forwarding.{AreEachForwarding, AreForwarding, IsForwarding, row_low, row_past, forwarding_at, target_in_row, target_of}
 use Rattle.dn_model.specs.Rows.{CoverFrom, is_within}
 use Rattle.dn_model.specs.declared.forwarding_row.ForwardingRow.{ForwardingRow}
 use Rattle.dn_model.specs.declared.ids.LinkId.{LinkId}
 use Rattle.dn_model.specs.declared.ids.RouterId.{RouterId}
-use Rattle.dn_model.specs.declared.target.Target.{Target}
 use Rattle.dn_model.specs.declared.target.Target.TheVariants.{Local, NoRoute, To}
-use Rattle.dn_model.proofs.Covers.{few-rows, holder-first, holder-rest, starts-below, within-above, within-below, within-yes}
+use Rattle.dn_model.proofs.Covers.{few-rows, holder-first, holder-rest, starts-below, within-above, within-yes}
 use Rattle.label_view.specs.Places.{IsInRow, begin_of}
 use Rattle.label_view.proofs.InRow.{in-row}
-use Rattle.par_scan.specs.Parts.{ShowsPart, idle_at, idle_row, idle_rows, part_of}
+use Rattle.par_scan.specs.Parts.{ShowsPart, idle_row, idle_rows, part_of}
 
 abbrev Cover : ℕ → List ForwardingRow → Type 0
 Cover start rows = CoverFrom row_low row_past start rows

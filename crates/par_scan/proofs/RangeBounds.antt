@@ -1,5 +1,5 @@
 -- Where ranges of rows begin.
-use Rattle.std.proofs.Common.{◌≡◌, ℕ, zero, suc, ◌+◌, ◌*◌, ◌<◌, ◌≤◌, ◌^◌, ◌∙◌, ⊎_elim, Bool, true, false, cond, ltb, Result, Ok, Err, List, [], ◌∷◌, length, map, get_or, refl, ap, sym, subst, arith}
+use Rattle.std.proofs.Common.{◌≡◌, ℕ, zero, suc, ◌+◌, ◌*◌, ◌<◌, ◌≤◌, ◌^◌, ◌∙◌, ⊎_elim, Bool, ltb, Result, Ok, Err, List, [], ◌∷◌, length, map, get_or, refl, ap, sym, subst, arith}
 use Rattle.std.specs.Prelude.{IfOk, MatchResult}
 use Rattle.std.specs.List.{AllZip, Contains, range_with_len}
 use Rattle.std.proofs.lemmas.Bool.{cases_lt, cond-true, cond-false, lt-ltb, le-ltb}

@@ -1,17 +1,14 @@
 -- What a part shows of the addresses that come to a router.
-use Rattle.std.proofs.Common.{◌≡◌, ℕ, zero, suc, ◌+◌, ◌<◌, ◌≤◌, ◌^◌, ◌⊎◌, inl, inr, ◌∙◌, ⊎_elim, Bool, true, false, ◌&&◌, List, [], ◌∷◌, refl, ap, sym, subst, arith}
+use Rattle.std.proofs.Common.{◌≡◌, ℕ, ◌<◌, ◌≤◌, ◌^◌, ◌⊎◌, inl, inr, ◌∙◌, ⊎_elim, Bool, true, false, ◌&&◌, List, ap, sym, arith}
 use Rattle.std.specs.List.{list_any}
 use Rattle.std.proofs.lemmas.Bool.{cases_lt}
 use Rattle.dn_model.specs.Forwarding.{does}
 use Rattle.dn_model.specs.Reach.{is_router, reaches}
 use Rattle.dn_model.specs.Runs.{AreRuns}
-use Rattle.dn_model.specs.Walk.{at_address, walk}
+use Rattle.dn_model.specs.Walk.{at_address}
 use Rattle.dn_model.specs.declared.forwarding_row.ForwardingRow.{ForwardingRow}
-use Rattle.dn_model.specs.declared.ids.LinkId.{LinkId}
 use Rattle.dn_model.specs.declared.ids.RouterId.{RouterId}
 use Rattle.dn_model.specs.declared.run.Run.{Run}
-use Rattle.dn_model.specs.declared.target.Target.{Target}
-use Rattle.dn_model.specs.declared.target.Target.TheVariants.{To}
 use Rattle.dn_model.proofs.Covers.{within-above, within-below, within-yes}
 use Rattle.dn_model.proofs.Walks.{walk-same}
 use Rattle.walk_check.proofs.Reaching.{met-here, met-never}

@@ -1,5 +1,5 @@
 -- Black holes of ranges of addresses, and what is put together of them.
-use Rattle.std.specs.Prelude.{ℕ, Bool, List, [], ◌∷◌, ◌≡◌, ◌≢◌, ◌+◌, ◌<◌, ◌≤◌, ◌^◌, IsTrue, Contains, if◌then◌else◌, length, slice_index_or}
+use Rattle.std.specs.Prelude.{ℕ, List, [], ◌∷◌, ◌≡◌, ◌≢◌, ◌+◌, ◌<◌, ◌≤◌, ◌^◌, IsTrue, Contains, if◌then◌else◌, length, slice_index_or}
 use Rattle.dn_model.specs.Holes.{HasHole, falls, is_cause}
 use Rattle.dn_model.specs.HolesFrom.{AreSomeHoles, is_hole_of}
 use Rattle.dn_model.specs.Runs.{AreRuns}

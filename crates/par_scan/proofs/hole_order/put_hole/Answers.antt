@@ -1,4 +1,4 @@
-use Rattle.std.proofs.Common.{ℕ, ◌≡◌, ◌<◌, ◌≤◌, ◌∙◌, false, List, IsTrue, length, slice_index_or, ap, sym, subst}
+use Rattle.std.proofs.Common.{ℕ, ◌≡◌, ◌<◌, ◌≤◌, false, List, IsTrue, length, slice_index_or, sym, subst}
 use Rattle.dn_model.specs.HolesFrom.{is_before, IsPutAmong}
 use Rattle.dn_model.specs.declared.answer.Hole.{Hole}
 use Rattle.dn_model.proofs.HolesFrom.{put-among}

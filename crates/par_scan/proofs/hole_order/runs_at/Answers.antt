@@ -1,4 +1,4 @@
-use Rattle.std.proofs.Common.{◌≡◌, ◌∙◌, ap, sym}
+use Rattle.std.proofs.Common.{◌∙◌, sym}
 use Rattle.par_scan.proofs.HoleParts.{runs-end, runs-here, runs-skip}
 use Rattle.par_scan.proofs.hole_order.runs_at.Goals as goal
 

@@ -1,8 +1,7 @@
-use Rattle.std.proofs.Common.{◌≡◌, ◌∙◌, ◌≤◌, ℕ, List, length, ap, sym, subst, arith}
+use Rattle.std.proofs.Common.{◌≡◌, ◌∙◌, List, length, ap, sym, subst, arith}
 use Rattle.dn_model.specs.Holes.{falls}
 use Rattle.dn_model.specs.Runs.{AreRuns}
 use Rattle.dn_model.specs.declared.run.Run.{Run}
-use Rattle.par_scan.specs.Ranges.{only_within}
 use Rattle.par_scan.proofs.HoleParts.{more-within}
 use Rattle.par_scan.proofs.Joining.{all-within, no-runs}
 use Rattle.par_scan.proofs.hole_pieces.all_runs.Goals as goal

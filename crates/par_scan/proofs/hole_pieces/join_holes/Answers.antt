@@ -1,4 +1,4 @@
-use Rattle.std.proofs.Common.{◌≡◌, ◌∙◌, ◌≤◌, ◌+◌, List, length, sym, subst, arith}
+use Rattle.std.proofs.Common.{◌∙◌, ◌+◌, List, sym, subst}
 use Rattle.dn_model.specs.Holes.{AreHoles}
 use Rattle.dn_model.specs.declared.answer.Hole.{Hole}
 use Rattle.par_scan.specs.HolesByRange.{AreHolesWithin}

@@ -1,4 +1,4 @@
-use Rattle.std.proofs.Common.{◌≡◌, ◌∙◌, sym, arith}
+use Rattle.std.proofs.Common.{arith}
 use Rattle.par_scan.proofs.Joining.{add-apart, add-touching}
 use Rattle.par_scan.proofs.more_runs.add_run.Goals as goal
 

@@ -1,4 +1,4 @@
-use Rattle.std.proofs.Common.{◌≡◌, ◌∙◌, ◌<◌, ◌≤◌, ℕ, Bool, List, length, sym, subst, arith}
+use Rattle.std.proofs.Common.{◌≡◌, ◌∙◌, ℕ, List, length, sym, subst, arith}
 use Rattle.dn_model.specs.Runs.{AreRuns}
 use Rattle.dn_model.specs.declared.run.Run.{Run}
 use Rattle.par_scan.specs.Ranges.{only_within}

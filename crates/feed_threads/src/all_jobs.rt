@@ -19,7 +19,7 @@ use version_lock::{Seat, VersionLock};
 use version_store::Store;
 
 /// Runs a job with a seat, and gives the seat back.
-fn run_seated<S: Source, G: Gate, R: Wait>(
+fn run_seated<S: Source, G: Gate, R: Threads + Wait + Sync>(
     rt: &R,
     alloc: Global,
     lock: &VersionLock<Store>,

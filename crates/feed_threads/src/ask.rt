@@ -1,6 +1,6 @@
 //! A query of a script is asked over a snapshot.
 
-ghost use Rattle.std.specs.Prelude.{◌≡◌, ◌<◌, IfOk, OnOk, OnErr, None, Some};
+ghost use Rattle.std.specs.Prelude.{◌≡◌, ◌<◌, IfOk, IfErr, OnOk, OnErr, None, Some};
 ghost use Rattle.dn_model.specs.Answer.{IsAnswer};
 ghost use Rattle.dn_model.specs.Entry.{entries};
 ghost use Rattle.dn_model.specs.Query.{unknown_of};
@@ -8,6 +8,7 @@ ghost use Rattle.dn_model.specs.declared.query.Unknown.{Unknown as UnknownIs};
 ghost use Rattle.version_lock.specs.Callers.{IsSeatOf};
 ghost use Rattle.feed_threads.specs.Seats.{own_of, SawMore};
 ghost use Rattle.feed_threads.specs.Tells.{Adds, IsOutcomeNow};
+ghost use Rattle.version_store.specs.Asked.{IsAskRefusal};
 
 use crate::desk::Desk;
 use dn_formats::{Outcome, Told};
@@ -17,26 +18,47 @@ use std::alloc::Global;
 use std::marker::Brand;
 use std::sync::Wait;
 use std::sync::ledger::{Blank, Ledger};
+use std::thread::Threads;
 use step_count::Steps;
 use version_lock::Seat;
 use version_store::{AskRefused, Snapshot};
 
-/// The answer of a snapshot to a query whose names the network has. Nobody reads the count of steps, which takes no
-/// bytes.
-fn answer_of<L: Ledger>(
+/// From so many rows on a query is answered by all processors: with fewer a thread costs more than it saves.
+const WIDE: u64 = 2048;
+
+/// The answer of a snapshot by this thread alone. Nobody reads the count of steps, which takes no bytes.
+fn answer_alone<L: Ledger>(
     alloc: Global,
     snapshot: &Snapshot,
     query: &Query,
     blank: Blank,
-) -> Result<Answer, OutOfMemory>
+) -> Result<Answer, AskRefused>
     requires name { blank.name ≡ L.name }
     requires parts { blank.parts ≡ L.parts }
     requires some { 0 < blank.parts }
+    ensures answer { IfOk result (IsAnswer snapshot.now.topology (entries snapshot.now.history) query.now) }
+    ensures refused { IfErr result (IsAskRefusal (unknown_of snapshot.now.topology query.now)) }
+{
+    let mut steps = Steps::<L>::new(blank);
+    snapshot.answer(alloc, query, &mut steps)
+}
+
+/// The answer of a snapshot to a query whose names the network has, by all processors where it has many rows.
+fn answer_of<R: Threads + Sync>(
+    rt: &R,
+    alloc: Global,
+    snapshot: &Snapshot,
+    query: &Query,
+) -> Result<Answer, OutOfMemory>
     requires known { unknown_of snapshot.now.topology query.now ≡ None }
     ensures { IfOk result (IsAnswer snapshot.now.topology (entries snapshot.now.history) query.now) }
 {
-    let mut steps = Steps::<L>::new(blank);
-    match snapshot.answer(alloc, query, &mut steps) {
+    let answer = if snapshot.atoms() < WIDE {
+        answer_alone::<Brand>(alloc, snapshot, query, Blank::new(1))
+    } else {
+        snapshot.answer_wide(rt, alloc, query)
+    };
+    match answer {
         Ok(answer) => Ok(answer),
         Err(AskRefused::OutOfMemory) => Err(OutOfMemory),
         Err(AskRefused::UnknownRouter(_)) => unreachable!(),
@@ -46,7 +68,7 @@ fn answer_of<L: Ledger>(
 
 /// The answer to a query over the history, whose length is its pin; or the query's first unknown name, without a pin: the
 /// seat is as it was.
-fn outcome<G: Gate, R: Wait>(
+fn outcome<G: Gate, R: Threads + Wait + Sync>(
     rt: &R,
     desk: &Desk<'_, G>,
     seat: &mut Seat,
@@ -62,7 +84,7 @@ fn outcome<G: Gate, R: Wait>(
         return Ok(Outcome::Unknown(unknown));
     }
     let snapshot = desk.pin(rt, seat)?;
-    let answer = answer_of::<Brand>(desk.alloc(), &snapshot, query, Blank::new(1))?;
+    let answer = answer_of(rt, desk.alloc(), &snapshot, query)?;
     desk.answered();
     Ok(Outcome::Answered {
         number: snapshot.number(),
@@ -71,7 +93,7 @@ fn outcome<G: Gate, R: Wait>(
 }
 
 /// Asks a query, and adds what is told of it.
-pub(crate) fn ask<G: Gate, R: Wait>(
+pub(crate) fn ask<G: Gate, R: Threads + Wait + Sync>(
     rt: &R,
     desk: &Desk<'_, G>,
     seat: &mut Seat,

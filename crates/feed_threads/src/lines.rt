@@ -15,10 +15,11 @@ use dn_formats::{Line, Told};
 use dn_io::{Gate, Source};
 use dn_model::{List, OutOfMemory};
 use std::sync::Wait;
+use std::thread::Threads;
 use version_lock::Seat;
 
 /// Does a line: takes its frames, or asks its query.
-fn do_line<S: Source, G: Gate, R: Wait>(
+fn do_line<S: Source, G: Gate, R: Threads + Wait + Sync>(
     rt: &R,
     desk: &Desk<'_, G>,
     seat: &mut Seat,
@@ -42,7 +43,7 @@ fn do_line<S: Source, G: Gate, R: Wait>(
 }
 
 /// Does the lines of a script, in order, and tells of each query.
-fn do_lines<S: Source, G: Gate, R: Wait>(
+fn do_lines<S: Source, G: Gate, R: Threads + Wait + Sync>(
     rt: &R,
     desk: &Desk<'_, G>,
     seat: &mut Seat,
@@ -133,7 +134,7 @@ fn take_all<S: Source, G: Gate, R: Wait>(
 
 /// Does what a job of these lines does: the lines in order; then the rest of each feed that they name, in the order in
 /// which they first take it; then that of the others, in order.
-pub(crate) fn do_all<S: Source, G: Gate, R: Wait>(
+pub(crate) fn do_all<S: Source, G: Gate, R: Threads + Wait + Sync>(
     rt: &R,
     desk: &Desk<'_, G>,
     seat: &mut Seat,

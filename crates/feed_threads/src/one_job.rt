@@ -16,6 +16,7 @@ use dn_io::{Gate, Source};
 use dn_model::{List, Topology};
 use std::alloc::Global;
 use std::sync::Wait;
+use std::thread::Threads;
 use version_lock::{Seat, VersionLock};
 use version_store::Store;
 
@@ -49,7 +50,7 @@ fn lines_of_script(script: &Option<Script>) -> &[Line]
 ///
 /// Frames are decoded with no turn of the lock held, and a query is answered after its pin. It returns once the lock has
 /// given it each turn that it asked for. Every source comes back, in any case.
-pub fn run_job<S: Source, G: Gate, R: Wait>(
+pub fn run_job<S: Source, G: Gate, R: Threads + Wait + Sync>(
     rt: &R,
     alloc: Global,
     lock: &VersionLock<Store>,

@@ -4,14 +4,16 @@
 Each frame sets the same route again, so the table stays one route long and the history grows by one entry
 a frame. The reading of a feed is linear in its bytes: the time of a frame at 4N is to be that at N.
 
-Usage: bench/frames.py [N] [RUNS]      N frames (250,000) and runs of each feed (3), of which the fastest counts
+Usage: bench/frames.py [--product BIN] [N] [RUNS]
+       N frames (250,000) and runs of each feed (3), of which the cheapest counts
+       BIN: the program, where it isn't to be built
 """
 
 import os
 import sys
 import tempfile
 
-from program import TOP, build, run
+from program import TOP, cheapest, prepare, run
 
 EXAMPLE = os.path.join(TOP, "examples", "first-path")
 ENTRY = b"feed 1 r1 set 10.0.0.0/8 metric 20 to r2 by a\n"
@@ -33,25 +35,26 @@ def write_feed(folder, frame, count):
 def measure(folder, frame, count, runs):
     write_feed(folder, frame, count)
     words = [os.path.join(EXAMPLE, "topology.toml"), f"r1={folder}/{count}.fpm", "@" + os.path.join(EXAMPLE, "script")]
-    best = min(run(folder, words, *expected(count)) for _ in range(runs))
+    best = cheapest(runs, lambda: run(folder, words, *expected(count)))
     os.remove(os.path.join(folder, f"{count}.fpm"))
     return best
 
 
 def main():
-    n = int(sys.argv[1]) if len(sys.argv) > 1 else 250000
-    runs = int(sys.argv[2]) if len(sys.argv) > 2 else 3
-    build()
+    given = prepare(sys.argv[1:])
+    n = int(given[0]) if given else 250000
+    runs = int(given[1]) if len(given) > 1 else 3
     with open(os.path.join(EXAMPLE, "r1.fpm"), "rb") as it:
         frame = it.read()
     rows = []
     with tempfile.TemporaryDirectory() as folder:
         for count in (n, 2 * n, 4 * n):
-            clock, processor, peak = measure(folder, frame, count, runs)
-            rows.append((clock, peak))
+            cost = measure(folder, frame, count, runs)
+            rows.append((cost.processor, cost.memory))
             print(
-                f"{count} frames: {clock:.3f} s, {processor:.3f} s of the processor, "
-                f"{clock / count * 1e6:.3f} us a frame, peak {peak / 2**20:.1f} MiB, {peak / count:.0f} bytes a frame",
+                f"{count} frames: {cost.clock:.3f} s, {cost.processor:.3f} s of the processor, "
+                f"{cost.processor / count * 1e6:.3f} us a frame, peak {cost.memory / 2**20:.1f} MiB, "
+                f"{cost.memory / count:.0f} bytes a frame",
                 flush=True,
             )
     (first, low), (last, high) = rows[0], rows[-1]

@@ -1,6 +1,7 @@
 #!/usr/bin/env python3
 """Jobs side by side: time of N updates dealt out to 1, 2, 4, 16 and 64 jobs of one feed each, beside one job that takes
-all of the same feeds; and how long a job's updates take while other jobs ask queries.
+all of the same feeds; and how long a job's updates take while other jobs ask queries. User time, that of the program itself,
+is told apart from system time, in which callers are put to sleep and woken.
 
 The network is a ring of 64 routers, and each update sets a prefix that no other one sets. For the second part each of two
 scripts takes half of N prefixes and then asks a hundred queries, while a third job applies N updates more; all feeds are
@@ -8,7 +9,7 @@ named pipes, so that it is seen when a job has taken all of one but its last 64 
 beside it.
 
 Usage: bench/jobs.py [--product BIN] [--processors P] [RUNS [N]]
-       runs of each (1), of which the fastest counts, and N (64000), a multiple of 64, at most 8388608
+       runs of each (1), of which the cheapest counts, and N (64000), a multiple of 64, at most 8388608
        BIN: the program, where it isn't to be built; P: how many processors the runs may use (all)
 """
 
@@ -44,24 +45,31 @@ def feed_lines(counts):
 
 
 def measure_jobs(folder, jobs, count, runs):
-    """Clock and processor of a run whose feeds are jobs of their own, and of one whose only job takes all of them."""
+    """What a run costs whose feeds are jobs of their own, and one whose only job takes all of them; they run turn about."""
     write_feeds(folder, count, lambda j: frame(j, MAIN), jobs)
     write(folder, "all", "".join(f"take m{i} all\n" for i in range(jobs)))
     feeds = [os.path.join(folder, "topology.toml"), *(f"m{i}={folder}/m{i}.fpm" for i in range(jobs))]
     head = feed_lines([count // jobs] * jobs)
     ends = "".join(f"job {j + 1}\n" for j in range(jobs))
-    apart = min(program.run(folder, feeds, head, f"{ends}done\n".encode())[:2] for _ in range(runs))
-    alone = min(program.run(folder, [*feeds, f"@{folder}/all"], head, b"job 1\ndone\n")[:2] for _ in range(runs))
-    return apart, alone
+    apart, alone = [], []
+    for _ in range(runs):
+        apart.append(program.run(folder, feeds, head, f"{ends}done\n".encode()))
+        alone.append(program.run(folder, [*feeds, f"@{folder}/all"], head, b"job 1\ndone\n"))
+    return [min(costs, key=lambda cost: cost.processor) for costs in (apart, alone)]
+
+
+def told(cost):
+    return f"{cost.clock:.3f} s, user {cost.user:.3f} s, system {cost.system:.3f} s"
 
 
 def measure_applying(folder, count, runs):
     for jobs in JOBS:
         apart, alone = measure_jobs(folder, jobs, count, runs)
         print(
-            f"{jobs} jobs, {count} updates: {apart[0]:.3f} s, {apart[1]:.3f} s of the processor; one job with all: "
-            f"{alone[0]:.3f} s, {alone[1]:.3f} s; clock of one over that of {jobs}: {alone[0] / apart[0]:.2f}, "
-            f"processor of {jobs} over that of one: {apart[1] / alone[1]:.2f}",
+            f"{jobs} jobs, {count} updates: {told(apart)}; one job with all: {told(alone)}; "
+            f"clock of one over that of {jobs}: {alone.clock / apart.clock:.2f}, "
+            f"user time of {jobs} over that of one: {apart.user / alone.user:.2f}, "
+            f"user and system: {apart.processor / alone.processor:.2f}",
             flush=True,
         )
 
@@ -139,20 +147,14 @@ def measure_asking(folder, count, runs):
 
 
 def main():
-    words = sys.argv[1:]
-    while words and words[0] in ("--product", "--processors"):
-        option, value = words[:2]
-        words = words[2:]
-        if option == "--product":
-            program.PROGRAM = os.path.abspath(value)
-        else:
-            os.sched_setaffinity(0, sorted(os.sched_getaffinity(0))[: int(value)])
+    processors, words = program.option(sys.argv[1:], "--processors")
+    words = program.prepare(words)
+    if processors:
+        os.sched_setaffinity(0, sorted(os.sched_getaffinity(0))[: int(processors)])
     runs = int(words[0]) if words else 1
     count = int(words[1]) if len(words) > 1 else 64000
     if count % ROUTERS or not 0 < count <= 2**23:
         sys.exit("jobs.py: N is a multiple of 64, at most 8388608")
-    if "--product" not in sys.argv:
-        program.build()
     print(f"{len(os.sched_getaffinity(0))} processors")
     with tempfile.TemporaryDirectory() as folder:
         write_network(folder, [], ROUTERS)

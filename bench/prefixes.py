@@ -4,15 +4,16 @@
 Each frame sets a route of a prefix that no other frame has, so tables and history grow by one a frame. Each feed is
 also read with its routes in another table, which are decoded and skipped: reading and decoding alone.
 
-Usage: bench/prefixes.py [RUNS] [N]..      runs of each feed (1), of which the fastest counts, and the N
-                                           (25000 50000 100000), at most 16777216, multiples of 8
+Usage: bench/prefixes.py [--product BIN] [RUNS] [N]..
+       runs of each feed (1), of which the cheapest counts, and the N (25000 50000 100000), at most 16777216, multiples of 8
+       BIN: the program, where it isn't to be built
 """
 
 import struct
 import sys
 import tempfile
 
-from program import build, run
+from program import cheapest, prepare, run
 from ring import ROUTERS, words, write_feeds, write_network
 
 MAIN, OTHER = 254, 100
@@ -50,27 +51,27 @@ def expected(count, table):
 
 def measure(folder, count, table, runs):
     write_feeds(folder, count, lambda j: frame(j, table))
-    return min(run(folder, words(folder), *expected(count, table)) for _ in range(runs))
+    return cheapest(runs, lambda: run(folder, words(folder), *expected(count, table)))
 
 
 def main():
-    runs = int(sys.argv[1]) if len(sys.argv) > 1 else 1
-    counts = [int(word) for word in sys.argv[2:]] or [25000, 50000, 100000]
+    given = prepare(sys.argv[1:])
+    runs = int(given[0]) if given else 1
+    counts = [int(word) for word in given[1:]] or [25000, 50000, 100000]
     if any(n % ROUTERS or not 0 < n <= 2**24 for n in counts):
         sys.exit("prefixes.py: N is a multiple of 8, at most 16777216")
-    build()
     times = []
     with tempfile.TemporaryDirectory() as folder:
         write_network(folder, ["path m0 0.0.0.1"])
         for n in counts:
             size = n * BYTES_OF_FRAME
-            alone, _, _ = measure(folder, n, OTHER, runs)
-            clock, processor, peak = measure(folder, n, MAIN, runs)
-            times.append(clock / n)
+            alone = measure(folder, n, OTHER, runs).processor
+            cost = measure(folder, n, MAIN, runs)
+            times.append(cost.processor / n)
             print(
-                f"{n} prefixes: {clock:.3f} s, {processor:.3f} s of the processor, {clock / n * 1e6:.3f} us an update, "
-                f"peak {peak / 2**20:.1f} MiB, {peak / n:.0f} bytes an update, {size / clock / 1e6:.1f} MB/s; "
-                f"reading and decoding alone {size / alone / 1e6:.1f} MB/s",
+                f"{n} prefixes: {cost.clock:.3f} s, {cost.processor:.3f} s of the processor, {times[-1] * 1e6:.3f} us an update, "
+                f"peak {cost.memory / 2**20:.1f} MiB, {cost.memory / n:.0f} bytes an update, "
+                f"{size / cost.processor / 1e6:.1f} MB/s; reading and decoding alone {size / alone / 1e6:.1f} MB/s",
                 flush=True,
             )
     print(f"time of an update at {counts[-1]} over that at {counts[0]}: {times[-1] / times[0]:.2f}")

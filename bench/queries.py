@@ -4,18 +4,21 @@
 A row is an interval between two ends of prefixes. Each query is asked several times at the end of a run, and its time is
 what the run takes more than one that asks nothing, by the query and the row. The answers are worked out here and compared.
 
-Usage: bench/queries.py [RUNS] [N]..      runs of each script (1), of which the fastest counts, and the N (10000 100000),
-                                          multiples of 64, at most 16777216
+Usage: bench/queries.py [--product BIN] [--instructions] [RUNS] [N]..
+       runs of each script (1), of which the cheapest counts, and the N (10000 100000), multiples of 64, at most 16777216
+       BIN: the program, where it isn't to be built
+       --instructions: counts instructions, by valgrind, in place of the time of the processor. Where their ratio is 1 and that of
+       time isn't, a row isn't more work: more of it is missing in the processor's caches
 """
 
 import sys
 import tempfile
 
 from prefixes import MAIN, frame, prefix
-from program import build, run
+from program import flag, gauge, prepare
 from ring import words, write_feeds, write_network
 
-ASKED = 4  # how often each query is asked in a run
+ASKED = 4  # how often each query is asked in a run whose time is measured
 WIDTHS = (8, 64)
 LAST = 2**32 - 1
 
@@ -79,38 +82,38 @@ def expected(count, routers, query, answer):
     return f"{feeds}history {count}\n".encode(), f"job 1\n{''.join(asked)}done\n".encode()
 
 
-def processor_time(folder, count, routers, query, answer, runs):
+def cost_of(folder, count, routers, query, answer, measured):
     write_network(folder, [query] * ASKED if query else [], routers)
-    due = expected(count, routers, query, answer)
-    return min(run(folder, words(folder, routers), *due)[1] for _ in range(runs))
+    return measured(folder, ["run", *words(folder, routers)], *expected(count, routers, query, answer))
 
 
-def measure(folder, count, routers, runs):
-    """Microseconds of each query by the row."""
+def measure(folder, count, routers, measured, unit):
+    """What each query takes by the row."""
     write_feeds(folder, count, lambda j: frame(j, MAIN), routers)
-    none = processor_time(folder, count, routers, "", "", runs)
+    none = cost_of(folder, count, routers, "", "", measured)
     rows = rows_of(count)
     costs = {}
     for query, answer in answers(count, routers).items():
-        spent = processor_time(folder, count, routers, query, answer, runs) - none
-        costs[query] = spent / ASKED / rows * 1e6
-        print(f"{routers} routers, {count} prefixes, {rows} rows: {query}: {costs[query]:.4f} us a row", flush=True)
+        costs[query] = (cost_of(folder, count, routers, query, answer, measured) - none) / ASKED / rows
+        print(f"{routers} routers, {count} prefixes, {rows} rows: {query}: {costs[query]:.4f} {unit} a row", flush=True)
     return costs
 
 
 def main():
-    runs = int(sys.argv[1]) if len(sys.argv) > 1 else 1
-    counts = [int(word) for word in sys.argv[2:]] or [10000, 100000]
+    global ASKED
+    is_counted, given = flag(prepare(sys.argv[1:]), "--instructions")
+    ASKED = 1 if is_counted else ASKED
+    measured, unit = gauge(int(given[0]) if given else 1, is_counted)
+    counts = [int(word) for word in given[1:]] or [10000, 100000]
     if any(n % max(WIDTHS) or not 0 < n <= 2**24 for n in counts):
         # 10,000 and 100,000 are rounded down to whole shares.
         counts = [n - n % max(WIDTHS) for n in counts]
-    build()
     for routers in WIDTHS:
         with tempfile.TemporaryDirectory() as folder:
-            costs = [measure(folder, n, routers, runs) for n in counts]
+            costs = [measure(folder, n, routers, measured, unit) for n in counts]
         for query in costs[0]:
-            if query.startswith("path"):
-                continue
+            if query in ("loops", "path m0 0.0.0.1"):
+                continue  # neither looks at all rows
             print(f"{routers} routers, {query}: a row at {counts[-1]} over one at {counts[0]}: {costs[-1][query] / costs[0][query]:.2f}")
 
 

@@ -10,6 +10,7 @@ Usage: bench/scans.py [--product BIN] [RUNS [N]]   runs of each script (3), of w
 """
 
 import os
+import os
 import sys
 import tempfile
 
@@ -28,16 +29,11 @@ def seconds(folder, count, query, answer, runs):
     """The least time by the clock of a run that asks this query several times, or nothing."""
     write_network(folder, [query] * queries.ASKED if query else [], ROUTERS)
     due = queries.expected(count, ROUTERS, query, answer)
-    return min(program.run(folder, words(folder, ROUTERS), *due)[0] for _ in range(runs))
+    return min(program.run(folder, words(folder, ROUTERS), *due).clock for _ in range(runs))
 
 
 def main():
-    given = sys.argv[1:]
-    if given[:1] == ["--product"]:
-        program.PROGRAM = os.path.abspath(given[1])
-        given = given[2:]
-    else:
-        program.build()
+    given = program.prepare(sys.argv[1:])
     runs = int(given[0]) if given else 3
     count = int(given[1]) if len(given) > 1 else 100000
     count -= count % ROUTERS

@@ -5,14 +5,16 @@ Eight routers in a ring; update j is router j mod 8's, of a prefix of 8 to 24 bi
 0 to 3 in turn; every fifth route is local, and the others go on to the next router. At the end the script asks for a
 path and for what the last update changed, which this file works out by itself.
 
-Usage: bench/updates.py [RUNS] [N]..       runs of each feed (1), of which the fastest counts, and the N (500 1000 2000 4000)
+Usage: bench/updates.py [--product BIN] [RUNS] [N]..
+       runs of each feed (1), of which the cheapest counts, and the N (500 1000 2000 4000)
+       BIN: the program, where it isn't to be built
 """
 
 import struct
 import sys
 import tempfile
 
-from program import build, run
+from program import cheapest, prepare, run
 from ring import ROUTERS, words, write_feeds, write_network
 
 MULTIPLIER = 2654435761
@@ -98,22 +100,22 @@ def expected(count):
 
 
 def main():
-    runs = int(sys.argv[1]) if len(sys.argv) > 1 else 1
-    counts = [int(word) for word in sys.argv[2:]] or [500, 1000, 2000, 4000]
+    given = prepare(sys.argv[1:])
+    runs = int(given[0]) if given else 1
+    counts = [int(word) for word in given[1:]] or [500, 1000, 2000, 4000]
     if any(n < ROUTERS for n in counts):
         sys.exit("updates.py: N is at least 8")
-    build()
     times = []
     with tempfile.TemporaryDirectory() as folder:
         write_network(folder, [f"path m0 {address(ADDRESS)}", "delta"])
         for n in counts:
             write_feeds(folder, n, frame)
             head, end, atoms = expected(n)
-            clock, processor, peak = min(run(folder, words(folder), head, end) for _ in range(runs))
-            times.append(clock / n)
+            cost = cheapest(runs, lambda: run(folder, words(folder), head, end))
+            times.append(cost.processor / n)
             print(
-                f"{n} updates, {atoms} atoms: {clock:.3f} s, {processor:.3f} s of the processor, "
-                f"{clock / n * 1e6:.2f} us an update, peak {peak / 2**20:.1f} MiB, {peak / n:.0f} bytes an update",
+                f"{n} updates, {atoms} atoms: {cost.clock:.3f} s, {cost.processor:.3f} s of the processor, "
+                f"{times[-1] * 1e6:.2f} us an update, peak {cost.memory / 2**20:.1f} MiB, {cost.memory / n:.0f} bytes an update",
                 flush=True,
             )
     print(f"time of an update at {counts[-1]} over that at {counts[0]}: {times[-1] / times[0]:.2f}")

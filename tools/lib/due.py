@@ -221,15 +221,17 @@ def answers_faults(network: Network, report: Report, jobs: Sequence[Job]) -> Ite
         yield f"{len(report.jobs)} jobs, due {len(jobs)}"
         return
     due = {update: number for number, job in enumerate(jobs, 1) for update in job.updates}
+    places: dict[int, list[int]] = {number: [] for number in range(1, len(jobs) + 1)}
+    for entry in report.entries:
+        places[due[entry_text(entry)]].append(entry.position)
     for number, job in enumerate(jobs, 1):
-        places = [entry.position for entry in report.entries if due[entry_text(entry)] == number]
         answers = [answer for answer in report.answers if answer.job == number]
         came = [f"line {answer.line} {answer.query}" for answer in answers]
         wrong = list(first_difference(f"the queries of job {number}", came,
                                       [f"line {asked.line} {asked.query}" for asked in job.queries]))
         yield from wrong
         if not wrong:
-            yield from job_faults(network, report.entries, places, list(zip(job.queries, answers)))
+            yield from job_faults(network, report.entries, places[number], list(zip(job.queries, answers)))
 
 
 def job_faults(network: Network, entries: Sequence[Entry], places: Sequence[int],

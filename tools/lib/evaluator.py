@@ -14,6 +14,8 @@ from typing import Iterable, Iterator, Sequence
 from report import NO_ROUTE, Entry, Prefix, Target
 
 LAST_ADDRESS = 2**32 - 1
+# The bits of an address that a prefix of each length fixes, from the longest on.
+FIXED_BITS = tuple((length, LAST_ADDRESS >> (32 - length) << (32 - length)) for length in range(32, -1, -1))
 
 
 @dataclass(frozen=True)
@@ -51,9 +53,8 @@ class Table:
 
     def best(self, address: int) -> Route | None:
         """The route that an address takes: of the longest prefix that covers it, the one of the least metric."""
-        for length in range(32, -1, -1):
-            base = address >> (32 - length) << (32 - length)
-            metrics = self.by_prefix.get(Prefix(base, length))
+        for length, bits in FIXED_BITS:
+            metrics = self.by_prefix.get((address & bits, length))  # such a pair is equal to the Prefix
             if metrics:
                 return metrics[min(metrics)]
         return None

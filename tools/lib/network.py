@@ -9,6 +9,7 @@ from __future__ import annotations
 import re
 import tomllib
 from dataclasses import dataclass, field
+from functools import lru_cache
 from typing import Any
 
 from toml_newer import in_older_toml
@@ -129,8 +130,9 @@ def read_topology(path: str) -> Network:
         return parse_topology(file.read(LONGEST_FILE + 1))
 
 
+@lru_cache(maxsize=4)
 def parse_topology(text: bytes) -> Network:
-    """What the bytes of a topology file say. Raises TopologyFault with the first fault."""
+    """What the bytes of a topology file say; the last few are kept. Raises TopologyFault with the first fault."""
     if len(text) > LONGEST_FILE:
         raise TopologyFault("top", 0, "TooLong", f"the file has more than {LONGEST_FILE} bytes")
     document = _read_document(text)

@@ -9,6 +9,7 @@ from __future__ import annotations
 import re
 import sys
 from dataclasses import dataclass, field
+from functools import lru_cache
 from typing import Iterator, NamedTuple
 
 NAME = r"[a-z0-9_-]{1,32}"
@@ -189,6 +190,7 @@ def read_address(text: str) -> int | None:
     return first << 24 | second << 16 | third << 8 | fourth
 
 
+@lru_cache(maxsize=2**16)
 def address_text(address: int) -> str:
     return ".".join(str(address >> shift & 255) for shift in (24, 16, 8, 0))
 

@@ -31,7 +31,8 @@ class Trial:
     texts: tuple[bytes, ...] = ()
     # The named pipes that are written byte by byte while it runs, and what comes in them.
     pipes: dict[str, bytes] = field(default_factory=dict)
-    # Where the text goes: a file, /dev/full, nowhere (closed), or a pipe whose reader goes away.
+    # Where the text goes: "file", "full" (/dev/full), "closed" (nowhere), or a pipe whose reader is "gone", "leaves" after a byte,
+    # "leaves late" in the middle, or "reads singly", byte by byte.
     output: str = "file"
     # Whether it is run as a user who may not read all, where the tool itself is run as root.
     as_nobody: bool = False
@@ -122,6 +123,9 @@ def all_feeds(folder: str) -> Iterator[Trial]:
     yield Trial("64 feeds at once", ["topology", *feeds])
     yield Trial("64 feeds and a script that takes two", ["topology", *feeds, "@script"])
     yield Trial("64 feeds, and no thread beside the first", ["topology", *feeds], threads=1, as_nobody=True)
+    for place in range(1, 65):
+        write(folder, f"f{place}", b"".join(frame([set_route(place << 24 | low << 8, 24)]) for low in range(1_000)))
+    yield Trial("64 feeds at once, 1,000 updates each", ["topology", *feeds])
 
 
 def cut_feeds(folder: str) -> Iterator[Trial]:
@@ -238,8 +242,17 @@ def slow_pipes(folder: str) -> Iterator[Trial]:
     yield Trial("a feed byte by byte", ["topology", "r1=pipe", "@script"], 0, due, {"pipe": feed})
     yield Trial("a feed, a script and the topology byte by byte", ["pipe1", "r1=pipe2", "@pipe3"], 0, due,
                 {"pipe1": RING.encode(), "pipe2": feed, "pipe3": script})
+    yield from many_pipes(folder)
     yield Trial("a pipe whose writer goes away within a frame", ["topology", "r1=pipe"], 1,
                 (one_feed("updates 0 skipped 0 refused 0 cutshort 0"),), {"pipe": ONE_ROUTE[:63]})
+
+
+def many_pipes(folder: str) -> Iterator[Trial]:
+    write(folder, "many", ring_of(64))
+    feeds = {f"many{place}": b"".join(frame([set_route(place << 24 | low << 8, 24)]) for low in range(3))
+             for place in range(1, 65)}
+    parts = [f"r{place}=many{place}" for place in range(1, 65)]
+    yield Trial("64 feeds at once, each byte by byte", ["many", *parts], pipes=feeds)
 
 
 def broken_outputs(folder: str) -> Iterator[Trial]:
@@ -251,6 +264,11 @@ def broken_outputs(folder: str) -> Iterator[Trial]:
     yield Trial("a reader that is gone", words, 6, (b"",), output="gone")
     yield Trial("a reader that goes away after a byte", words, 6, (b"",), output="leaves")
     yield Trial("no standard output", words, 6, (b"",), output="closed")
+    told = (f"line {line} at 0 path r1 10.0.0.1\nhops r1\nend noroute" for line in range(1, 2_001))
+    yield Trial("a reader that takes single bytes", words, 0, (lines("history 0", "job 1", *told, "done"),),
+                output="reads singly")
+    write(folder, "script", "path r1 10.0.0.1\n" * 20_000)
+    yield Trial("a reader that goes away after 100,000 bytes", words, 6, (b"",), output="leaves late")
 
 
 def little_memory(folder: str) -> Iterator[Trial]:

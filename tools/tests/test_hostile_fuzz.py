@@ -231,17 +231,24 @@ class Programs(unittest.TestCase):
 
     def test_hostile_finds(self) -> None:
         """A program that says nothing, whatever it is given, is wrong on each trial of these groups but those where
-        status 6 is due and no text is compared."""
+        status 6 is due and no text is compared. A reader that takes all is one of the wrong ones."""
         came = subprocess.run([sys.executable, os.path.join(TOP, "tools", "hostile"), "files", "outputs", "--product",
                                self.program("exit 6")], capture_output=True, text=True)
         self.assertEqual((1, ""), (came.returncode, came.stderr))
-        self.assertIn("hostile: 10 trials, 5 WRONG", came.stdout)
+        self.assertIn("hostile: 12 trials, 6 WRONG", came.stdout)
 
     def test_hostile_stops_what_hangs(self) -> None:
         child = HOSTILE.Child(self.program("exec sleep 60"), ".", 0.2)
         ended, _ = child.run(Trial("hangs", []))
         self.assertTrue(child.is_late)
         self.assertEqual(-9, ended.status)
+
+    def test_hostile_reads(self) -> None:
+        """What comes through a pipe is kept where the reader takes all; where it goes away, writing fails."""
+        for output, text, status, due in (("reads singly", "printf %03000d 0", 0, b"0" * 3_000),
+                                          ("leaves", "exec yes", -13, b""), ("leaves late", "exec yes", -13, b"")):
+            ended, _ = HOSTILE.Child(self.program(text), ".", 60).run(Trial(output, [], output=output))
+            self.assertEqual((status, due), (ended.status, ended.text), output)
 
     def test_groups(self) -> None:
         """Each group of small files makes its trials; the large ones are left to the tool."""

@@ -1,5 +1,5 @@
 -- How a run of the program ends by its command.
-use Rattle.std.proofs.Common.{◌≡◌, ℕ, false, Result, Ok, Err, IfOk, List, [], Option, None, Some, MatchOption, refl, ap, sym, subst}
+use Rattle.std.proofs.Common.{◌≡◌, ℕ, Result, Ok, Err, IfOk, List, [], Option, None, Some, MatchOption, refl, ap, sym, subst}
 use Rattle.dn_io.specs.Calls.{Call}
 use Rattle.dn_io.specs.Files.{Files}
 use Rattle.dn_formats.specs.declared.error_line.ErrorLine.TheVariants as errors

@@ -1,5 +1,5 @@
 -- The generated input of so many updates makes one text.
-use Rattle.std.proofs.Common.{◌≡◌, ℕ, ◌+◌, Bool, true, false, ◌||◌, List, [], ◌∷◌, ◌++◌, All, IsTrue, cond, drop, filter, length, map, take, Option, None, Some, refl, ap, ap₂, sym, ◌∙◌, subst, nat_lt}
+use Rattle.std.proofs.Common.{◌≡◌, ℕ, ◌+◌, Bool, true, false, ◌||◌, List, [], ◌∷◌, ◌++◌, All, IsTrue, cond, drop, filter, length, map, take, None, refl, ap, ap₂, sym, ◌∙◌, subst, nat_lt}
 use Rattle.std.specs.List.{AllZip, list_any}
 use Rattle.std.proofs.Math.Bool.{So-prop}
 use Rattle.std.proofs.lemmas.List.{append_cancel_left, append-nil, take-append-drop}
@@ -10,7 +10,6 @@ use Rattle.dn_formats.specs.Lawful.{HoldsWhatWasTaken, IsKept, IsLawful, IsWhole
 use Rattle.dn_formats.specs.Steps.{FeedRead, entries_of, kept_of, updates}
 use Rattle.dn_formats.specs.TopologyText.{Parts, parts}
 use Rattle.dn_formats.specs.declared.script.Line.{Line}
-use Rattle.dn_formats.specs.declared.told.FeedEnd.{FeedEnd}
 use Rattle.dn_formats.specs.declared.told.FeedEnd.TheVariants as ends
 use Rattle.dn_formats.proofs.FeedLemmas.{reading_once}
 use Rattle.dn_formats.proofs.LawfulLemmas.{whole}
@@ -19,13 +18,12 @@ use Rattle.dn_model.specs.Topology.{is_sound_topology}
 use Rattle.dn_model.specs.Walk.{next}
 use Rattle.dn_model.specs.declared.answer.Cycle.{Cycle}
 use Rattle.dn_model.specs.declared.entry.Entry.{Entry}
-use Rattle.dn_model.specs.declared.ids.RouterId.{RouterId}
 use Rattle.dn_model.specs.declared.topology.Topology.{Topology}
 use Rattle.dn_model.proofs.AnswersOnce.{cycles-once}
 use Rattle.made_input.specs.Updates.{made_feed}
 use Rattle.dn_run.specs.Limits.{feed_limit, history_limit}
 use Rattle.dn_run.proofs.MadeLemmas.{all-pass}
-use Rattle.dn_run.specs.Made.{IsMade, IsMadeFeed, IsMadeRun, made_job, made_router, made_take, router_numbers, summary_text, told_cycles}
+use Rattle.dn_run.specs.Made.{IsMade, IsMadeFeed, made_job, made_router, made_take, router_numbers, summary_text, told_cycles}
 
 -- ---- a network is what its parts are
 

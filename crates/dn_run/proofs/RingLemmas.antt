@@ -4,7 +4,6 @@ use Rattle.std.proofs.lemmas.Bool.Decides.{nat_tests}
 use Rattle.std.specs.List.{range_with_len}
 use Rattle.std.proofs.lemmas.List.FromFn.{map-range_with_len_more}
 use Rattle.dn_formats.proofs.Decimals.{decimal_of_one}
-use Rattle.dn_formats.specs.TopologyText.{Parts}
 use Rattle.dn_model.specs.Name.{is_byte_of_name, is_name_text}
 use Rattle.dn_model.specs.Topology.{is_sound_topology}
 use Rattle.dn_run.specs.Made.{made_network, numbered}

@@ -1,6 +1,6 @@
 -- How the steps before the jobs follow one another, and how one of them ends the run.
 use Rattle.std.proofs.lemmas.Bool.Decides.{nat_tests}
-use Rattle.std.proofs.Common.{◌≡◌, ℕ, ◌+◌, arith, true, false, nat_lt, Result, Ok, Err, IfOk, IfErr, MatchResult, List, [], ◌∷◌, ◌++◌, length, Option, Some, MatchOption, refl, sym, inl, inr, subst}
+use Rattle.std.proofs.Common.{◌≡◌, ℕ, ◌+◌, arith, true, false, nat_lt, Result, Ok, Err, IfOk, IfErr, MatchResult, List, [], ◌∷◌, ◌++◌, length, Option, refl, sym, inl, inr, subst}
 use Rattle.std.specs.Result.{IsErrAnd}
 use Rattle.dn_io.specs.Calls.{Call, Back}
 use Rattle.dn_io.specs.Files.{Files}
@@ -20,7 +20,7 @@ use Rattle.dn_run.specs.Opened.{MayCallOne}
 use Rattle.dn_run.specs.PartsRead.{ArePartsRefused}
 use Rattle.dn_run.specs.RoutersFound.{AreRoutersRefused}
 use Rattle.dn_run.specs.Limits.{most_jobs}
-use Rattle.dn_run.specs.Run.{IsErrorLine, IsLine, FromScripts, FromRouters, FromTopology, FromParts, feed_files, names_due, names_of_parts, names_of_run, untaken, routers_of, script_files}
+use Rattle.dn_run.specs.Run.{IsErrorLine, IsLine, FromScripts, FromRouters, FromTopology, feed_files, names_due, names_of_parts, names_of_run, untaken, routers_of, script_files}
 use Rattle.dn_run.specs.Stage.{Stage, is_fault, may_end_early}
 use Rattle.dn_run.specs.Stops.{AreTaken, Due, EndsWith, GoesOn, Reaches, ScriptEnds, ScriptGoesOn, ScriptsEnd, ScriptsGoOn, Stops, StopsAs, TakeNoneOf, names_left, from_feeds, from_jobs, from_run, from_scripts, stop_of_parts, stop_of_routers}
 use Rattle.dn_run.specs.declared.load.Loaded.{Loaded}

@@ -1,21 +1,19 @@
 -- Words, files and the states of the calls fix what a run comes to.
-use Rattle.std.proofs.Common.{◌≡◌, ℕ, suc, Bool, true, false, Result, Ok, Err, IsSomeAnd, MatchResult, MatchOption, IsTrue, List, [], ◌∷◌, ◌++◌, All, Option, None, Some, refl, ap, sym, ◌∙◌, ◌⊎◌, inl, inr, subst, nat_lt, ◌+◌, length, if◌then◌else◌}
+use Rattle.std.proofs.Common.{◌≡◌, ℕ, suc, Bool, true, false, Result, Ok, Err, IsSomeAnd, MatchResult, MatchOption, List, [], ◌∷◌, ◌++◌, All, Option, None, Some, refl, ap, sym, ◌∙◌, ◌⊎◌, inl, inr, subst, nat_lt, ◌+◌, length, if◌then◌else◌}
 use Rattle.std.specs.Bool.{MatchBool}
-use Rattle.std.proofs.Math.Bool.{So-prop}
 use Rattle.std.proofs.lemmas.List.{append_cancel_right}
 use Rattle.std.proofs.lemmas.List.Elements.{All-head, All-tail}
 use Rattle.dn_io.specs.Calls.{Call, CallState, Out, Refused, Back}
 use Rattle.dn_io.specs.Files.{Files, bytes_of}
-use Rattle.dn_formats.specs.Feed.{IsReading, IsFaultedReading, ending}
-use Rattle.dn_formats.specs.Frames.{FrameRest, NoRest, CutFrame, BadVersion, BadFrameLength, frames_text, rest_kind}
+use Rattle.dn_formats.specs.Feed.{IsReading, IsFaultedReading}
+use Rattle.dn_formats.specs.Frames.{frames_text, rest_kind}
 use Rattle.dn_formats.specs.Lawful.{IsWhole, IsKept}
 use Rattle.dn_formats.specs.ScriptText.{script_of}
 use Rattle.dn_formats.specs.Steps.{FeedRead, updates, told_of}
-use Rattle.dn_formats.specs.TopologyText.{Parts, topology_of, parts}
+use Rattle.dn_formats.specs.TopologyText.{topology_of}
 use Rattle.dn_formats.specs.Words.{FeedWords, PartsSaid, parts_of}
 use Rattle.dn_formats.proofs.FeedLemmas.{reading_once, faulted_once}
 use Rattle.dn_formats.proofs.LawfulLemmas.{whole}
-use Rattle.dn_model.specs.Topology.{is_sound_topology}
 use Rattle.dn_model.specs.declared.entry.Entry.{Entry}
 use Rattle.dn_model.specs.declared.ids.RouterId.{RouterId}
 use Rattle.dn_model.specs.declared.topology.Topology.{Topology}

@@ -66,10 +66,12 @@ fn add_job<S: Source>(
 ) -> Result<Dealt<S>, Undealt<S>>
     requires room { length jobs.items + 1 ≤ vec_capacity jobs }
     requires few { length jobs.items ≤ 64 }
-    ensures jobs { IfOk result (λ d. d.jobs.items ≡ jobs.items ++ record { number = length jobs.items + 1; lines = lines_of script; feeds = mine.items } ∷ []) }
+    ensures jobs { IfOk result (λ d. d.jobs.items ≡ jobs.items
+        ++ record { number = length jobs.items + 1; lines = lines_of script; feeds = mine.items } ∷ []) }
     ensures left { IfOk result (λ d. d.left.items ≡ others.items) }
     ensures room { IfOk result (λ d. vec_capacity d.jobs ≡ vec_capacity jobs) }
-    ensures back { IfErr result (λ u. (u.jobs.items ≡ jobs.items) × (u.some.items ≡ mine.items) × (u.others.items ≡ others.items)) }
+    ensures back { IfErr result (λ u. (u.jobs.items ≡ jobs.items) × (u.some.items ≡ mine.items)
+        × (u.others.items ≡ others.items)) }
 {
     let number = jobs.len() as u32 + 1;
     match Job::new(alloc, number, script, mine) {
@@ -90,10 +92,16 @@ fn deal_script<S: Source>(
 ) -> Result<Dealt<S>, Undealt<S>>
     requires room { length dealt.jobs.items + 1 ≤ vec_capacity dealt.jobs }
     requires few { length dealt.jobs.items ≤ 64 }
-    ensures jobs { IfOk result (λ d. d.jobs.items ≡ dealt.jobs.items ++ record { number = length dealt.jobs.items + 1; lines = script.lines; feeds = filter (takes_reader script.lines) dealt.left.items } ∷ []) }
+    ensures jobs { IfOk result (λ d. d.jobs.items ≡ dealt.jobs.items
+        ++ record {
+          number = length dealt.jobs.items + 1;
+          lines = script.lines;
+          feeds = filter (takes_reader script.lines) dealt.left.items;
+        } ∷ []) }
     ensures left { IfOk result (λ d. d.left.items ≡ left_by_lines script.lines dealt.left.items) }
     ensures room { IfOk result (λ d. vec_capacity d.jobs ≡ vec_capacity dealt.jobs) }
-    ensures back { IfErr result (λ u. IsPermutation (readers_of dealt.jobs.items ++ dealt.left.items) (readers_of u.jobs.items ++ (u.some.items ++ u.others.items))) }
+    ensures back { IfErr result (λ u. IsPermutation (readers_of dealt.jobs.items ++ dealt.left.items)
+        (readers_of u.jobs.items ++ (u.some.items ++ u.others.items))) }
 {
     let Dealt { jobs, left } = dealt;
     let Ok(mine) = Vec::with_capacity(alloc, left.len()) else {
@@ -126,7 +134,8 @@ fn deal_scripts<S: Source>(
     ensures jobs { IfOk result (λ d. d.jobs.items ≡ script_tasks 1 (scripts_of scripts.items) dealt.left.items) }
     ensures left { IfOk result (λ d. d.left.items ≡ left_over (scripts_of scripts.items) dealt.left.items) }
     ensures room { IfOk result (λ d. vec_capacity d.jobs ≡ vec_capacity dealt.jobs) }
-    ensures back { IfErr result (λ u. IsPermutation dealt.left.items (readers_of u.jobs.items ++ (u.some.items ++ u.others.items))) }
+    ensures back { IfErr result (λ u. IsPermutation dealt.left.items (readers_of u.jobs.items
+        ++ (u.some.items ++ u.others.items))) }
 {
     let mut dealt = dealt;
     for script in scripts {
@@ -140,12 +149,15 @@ fn deal_own<S: Source>(alloc: Global, dealt: Dealt<S>) -> Result<Dealt<S>, Undea
     requires some { 0 < length dealt.left.items }
     requires few { length dealt.jobs.items ≤ 64 }
     requires room { length dealt.jobs.items + 1 ≤ vec_capacity dealt.jobs }
-    ensures jobs { IfOk result (λ d. d.jobs.items ++ own_tasks (length d.jobs.items + 1) d.left.items ≡ dealt.jobs.items ++ own_tasks (length dealt.jobs.items + 1) dealt.left.items) }
-    ensures readers { IfOk result (λ d. readers_of d.jobs.items ++ d.left.items ≡ readers_of dealt.jobs.items ++ dealt.left.items) }
+    ensures jobs { IfOk result (λ d. d.jobs.items ++ own_tasks (length d.jobs.items + 1) d.left.items ≡ dealt.jobs.items
+        ++ own_tasks (length dealt.jobs.items + 1) dealt.left.items) }
+    ensures readers { IfOk result (λ d. readers_of d.jobs.items ++ d.left.items ≡ readers_of dealt.jobs.items
+        ++ dealt.left.items) }
     ensures more { IfOk result (λ d. length d.jobs.items ≡ length dealt.jobs.items + 1) }
     ensures fewer { IfOk result (λ d. length d.left.items + 1 ≡ length dealt.left.items) }
     ensures room { IfOk result (λ d. vec_capacity d.jobs ≡ vec_capacity dealt.jobs) }
-    ensures back { IfErr result (λ u. readers_of u.jobs.items ++ (u.some.items ++ u.others.items) ≡ readers_of dealt.jobs.items ++ dealt.left.items) }
+    ensures back { IfErr result (λ u. readers_of u.jobs.items ++ (u.some.items ++ u.others.items)
+        ≡ readers_of dealt.jobs.items ++ dealt.left.items) }
 {
     let Dealt { jobs, left } = dealt;
     let mut left = left;
@@ -164,8 +176,10 @@ fn deal_own<S: Source>(alloc: Global, dealt: Dealt<S>) -> Result<Dealt<S>, Undea
 fn deal_owns<S: Source>(alloc: Global, dealt: Dealt<S>) -> Result<Vec<Job<S>>, Undealt<S>>
     requires few { length dealt.jobs.items + length dealt.left.items ≤ 64 }
     requires room { length dealt.jobs.items + length dealt.left.items ≤ vec_capacity dealt.jobs }
-    ensures jobs { IfOk result (λ jobs. jobs.items ≡ dealt.jobs.items ++ own_tasks (length dealt.jobs.items + 1) dealt.left.items) }
-    ensures back { IfErr result (λ u. readers_of u.jobs.items ++ (u.some.items ++ u.others.items) ≡ readers_of dealt.jobs.items ++ dealt.left.items) }
+    ensures jobs { IfOk result (λ jobs. jobs.items ≡ dealt.jobs.items ++ own_tasks (length dealt.jobs.items + 1)
+        dealt.left.items) }
+    ensures back { IfErr result (λ u. readers_of u.jobs.items ++ (u.some.items ++ u.others.items)
+        ≡ readers_of dealt.jobs.items ++ dealt.left.items) }
 {
     let mut dealt = dealt;
     while !dealt.left.is_empty() {
@@ -187,7 +201,8 @@ pub fn deal<S: Source>(
 ) -> Result<JobList<S>, Undealt<S>>
     requires few { length scripts.items + length (left_over (scripts_of scripts.items) readers.items) ≤ 64 }
     ensures jobs { IfOk result (λ list. list ≡ tasks_of (scripts_of scripts.items) readers.items) }
-    ensures back { IfErr result (λ u. IsPermutation readers.items (readers_of u.jobs.items ++ (u.some.items ++ u.others.items))) }
+    ensures back { IfErr result (λ u. IsPermutation readers.items (readers_of u.jobs.items
+        ++ (u.some.items ++ u.others.items))) }
 {
     let Ok(jobs) = Vec::with_capacity(alloc, MOST_JOBS) else {
         return Err(Undealt {
@@ -229,8 +244,10 @@ impl<S: Source> Undealt<S> {
     /// The sources of all readers, with what is told of their feeds, into room that they have.
     pub fn give_back(self, room: Vec<(S, FeedTold)>) -> Vec<(S, FeedTold)>
         requires empty { room.items ≡ [] }
-        requires room { length (readers_of self.jobs.items ++ (self.some.items ++ self.others.items)) ≤ vec_capacity room }
-        ensures { result.items ≡ map unread_back (readers_of self.jobs.items ++ (self.some.items ++ self.others.items)) }
+        requires room { length (readers_of self.jobs.items ++ (self.some.items ++ self.others.items))
+            ≤ vec_capacity room }
+        ensures { result.items ≡ map unread_back (readers_of self.jobs.items
+            ++ (self.some.items ++ self.others.items)) }
     {
         let Undealt { jobs, some, others } = self;
         let backs = append_jobs(room, jobs);

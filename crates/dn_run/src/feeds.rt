@@ -35,7 +35,8 @@ fn report_jobs(
     done: Result<JobsDone, OutOfMemory>,
 ) -> Result<Ruling, OutOfMemory>
     ensures { MatchResult done
-        (λ jobs. IfOk result (λ ruling. (ruling.verdict ≡ verdict_of jobs.feeds.items) × (ruling.text.items ≡ report topology.now jobs.feeds.items (entries jobs.history) jobs.jobs.items)))
+        (λ jobs. IfOk result (λ ruling. (ruling.verdict ≡ verdict_of jobs.feeds.items)
+        × (ruling.text.items ≡ report topology.now jobs.feeds.items (entries jobs.history) jobs.jobs.items)))
         (λ e. IsErr result) }
 {
     let done = done?;
@@ -64,7 +65,8 @@ fn run_readers<S: Source, G: Gate, R: Threads + Wait + Sync>(
     requires room { (room.items ≡ []) × (length readers.items ≤ vec_capacity room) }
     ensures same { map S.place result.1.items ≡ map (λ r. S.place r.source) readers.items }
     ensures ran { IfOk result.0 (λ ruling. (files : List (Option (List ℕ))) → AreLeft S.left readers.items files →
-        IsRunOf (arc_value topology.now) (routers_of_readers readers.items) (scripts_of scripts.items) (opened S.faults S.left files result.1.items) ruling.verdict ruling.text.items) }
+        IsRunOf (arc_value topology.now) (routers_of_readers readers.items) (scripts_of scripts.items)
+        (opened S.faults S.left files result.1.items) ruling.verdict ruling.text.items) }
     ensures faults { IfOk result.0 (λ ruling. some_rose S.faults result.1.items ≡ is_fault ruling.verdict) }
 {
     let (done, sources) = run_jobs(rt, alloc, topology, scripts, readers, room, gate);
@@ -108,8 +110,10 @@ pub fn from_feeds<W: World, G: Gate, R: Threads + Wait + Sync>(
     requires reserved { length readers.items + length feeds.now ≤ vec_capacity readers }
     requires back { (room.items ≡ []) × (length readers.items + length feeds.now ≤ vec_capacity room) }
     ensures same { map W.Src.place result.1.items ≡ map (λ r. W.Src.place r.source) readers.items }
-    ensures opens { Opens (arc_value topology.now) W.Src.faults W.Src.left (W.files world.old) routers.now (scripts_of scripts.items)
-        readers.items result.1.items (map feed_texts feeds.now) (W.calls world.old) (W.calls world.new) (ending_of result.0) }
+    ensures opens { Opens (arc_value topology.now) W.Src.faults W.Src.left (W.files world.old) routers.now
+        (scripts_of scripts.items)
+        readers.items result.1.items (map feed_texts feeds.now) (W.calls world.old) (W.calls world.new)
+        (ending_of result.0) }
     ensures same_files { W.files world.new ≡ W.files world.old }
 {
     let Some((feed, router, later, others)) = first_feed(feeds, routers) else {

@@ -43,7 +43,8 @@ fn append_piece<S: Source>(
 ) -> Result<usize, FileRefused>
     ensures grows { IfOk result (λ n. vec_len out.new ≡ vec_len out.old + n) }
     ensures within { IfOk result (λ n. n ≤ length piece.old) }
-    ensures all { OnOk result (with_front out.new.items (S.left source.new) ≡ with_front out.old.items (S.left source.old)) }
+    ensures all { OnOk result (with_front out.new.items (S.left source.new) ≡ with_front out.old.items
+        (S.left source.old)) }
     ensures end { IfOk result (λ n. n ≡ 0 → 0 < length piece.old → NothingLeft (S.left source.new)) }
     ensures count { OnOk result (S.faults source.new ≡ S.faults source.old) }
     ensures failed { result ≡ Err FileRefused.Failed → Rose (S.faults source.old) (S.faults source.new) }
@@ -117,9 +118,12 @@ pub fn read_file<W: World>(
 ) -> Result<Vec<u8>, FileRefused>
     requires room { length (W.calls world.old) < 2 ^ 32 }
     requires small { limit < 2 ^ 32 }
-    ensures read { IfOk result (λ bytes. WasRead (W.files world.old) limit (W.calls world.old) name.now (W.calls world.new) bytes.items) }
-    ensures failed { result ≡ Err FileRefused.Failed → WasFault (W.files world.old) limit (W.calls world.old) name.now (W.calls world.new) }
-    ensures memory { result ≡ Err FileRefused.OutOfMemory → MayCallOne (W.calls world.old) name.now (W.calls world.new) }
+    ensures read { IfOk result (λ bytes. WasRead (W.files world.old) limit (W.calls world.old) name.now
+        (W.calls world.new) bytes.items) }
+    ensures failed { result ≡ Err FileRefused.Failed → WasFault (W.files world.old) limit (W.calls world.old) name.now
+        (W.calls world.new) }
+    ensures memory { result ≡ Err FileRefused.OutOfMemory → MayCallOne (W.calls world.old) name.now
+        (W.calls world.new) }
     ensures same_files { W.files world.new ≡ W.files world.old }
 {
     let mut source = world.source_of(name)?;

@@ -53,7 +53,8 @@ struct ScriptsRead {
 
 /// Adds the router from which a line takes, if it takes from one that isn't there.
 fn add_taken(taken: &mut Vec<RouterId>, line: &Line) -> Result<(), OutOfMemory>
-    ensures { OnOk result ((r : RouterId) → list_any (λ q. q.0 == r.0) taken.new.items ≡ (list_any (λ q. q.0 == r.0) taken.old.items || list_any (λ q. q.0 == r.0) (taken_by_line line.now))) }
+    ensures { OnOk result ((r : RouterId) → list_any (λ q. q.0 == r.0) taken.new.items
+        ≡ (list_any (λ q. q.0 == r.0) taken.old.items || list_any (λ q. q.0 == r.0) (taken_by_line line.now))) }
 {
     match line {
         Line::Take { router, .. } => {
@@ -68,7 +69,9 @@ fn add_taken(taken: &mut Vec<RouterId>, line: &Line) -> Result<(), OutOfMemory>
 
 /// Adds the routers from which lines take.
 fn add_all_taken(taken: &mut Vec<RouterId>, lines: &[Line]) -> Result<(), OutOfMemory>
-    ensures { OnOk result ((r : RouterId) → list_any (λ q. q.0 == r.0) taken.new.items ≡ (list_any (λ q. q.0 == r.0) taken.old.items || list_any (λ q. q.0 == r.0) (flat_map taken_by_line lines.now))) }
+    ensures { OnOk result ((r : RouterId) → list_any (λ q. q.0 == r.0) taken.new.items
+        ≡ (list_any (λ q. q.0 == r.0) taken.old.items || list_any (λ q. q.0 == r.0)
+        (flat_map taken_by_line lines.now))) }
 {
     for line in lines {
         add_taken(taken, line)?;
@@ -84,7 +87,8 @@ impl ScriptsRead {
         requires clear { TakeNoneOf self.old.taken.items script.lines }
         ensures taken { OnOk result (AreTaken self.new.taken.items (scripts_of self.new.scripts.items)) }
         ensures apart { OnOk result (TakeApart (scripts_of self.new.scripts.items)) }
-        ensures added { OnOk result (scripts_of self.new.scripts.items ≡ scripts_of self.old.scripts.items ++ script.lines ∷ []) }
+        ensures added { OnOk result (scripts_of self.new.scripts.items ≡ scripts_of self.old.scripts.items
+            ++ script.lines ∷ []) }
         ensures len { OnOk result (length self.new.scripts.items ≡ length self.old.scripts.items + 1) }
     {
         add_all_taken(&mut self.taken, script.lines.as_slice())?;
@@ -103,8 +107,10 @@ fn read_part<W: World>(
     world: &mut W,
 ) -> Result<Script, Stop>
     requires room { length (W.calls world.old) < 2 ^ 32 }
-    ensures ok { IfOk result (λ script. ScriptGoesOn (W.files world.old) topology.now routers.now taken.now (W.calls world.old) (script_texts part.now) (W.calls world.new) script.lines) }
-    ensures stops { IfErr result (ScriptEnds (W.files world.old) topology.now routers.now taken.now (W.calls world.old) (script_texts part.now) (W.calls world.new)) }
+    ensures ok { IfOk result (λ script. ScriptGoesOn (W.files world.old) topology.now routers.now taken.now
+        (W.calls world.old) (script_texts part.now) (W.calls world.new) script.lines) }
+    ensures stops { IfErr result (ScriptEnds (W.files world.old) topology.now routers.now taken.now (W.calls world.old)
+        (script_texts part.now) (W.calls world.new)) }
     ensures clear { IfOk result (λ script. TakeNoneOf taken.now script.lines) }
     ensures few { IfOk result (λ script. length (W.calls world.new) ≤ length (W.calls world.old) + 1) }
     ensures same_files { W.files world.new ≡ W.files world.old }
@@ -123,8 +129,10 @@ fn read_scripts<W: World>(
     world: &mut W,
 ) -> Result<Vec<Script>, Stop>
     requires room { length (W.calls world.old) + length parts.now < 2 ^ 32 }
-    ensures ok { IfOk result (λ scripts. ScriptsGoOn (W.files world.old) topology.now routers.now (W.calls world.old) (map script_texts parts.now) (W.calls world.new) (scripts_of scripts.items) []) }
-    ensures stops { IfErr result (ScriptsEnd (W.files world.old) topology.now routers.now (W.calls world.old) (map script_texts parts.now) (W.calls world.new)) }
+    ensures ok { IfOk result (λ scripts. ScriptsGoOn (W.files world.old) topology.now routers.now (W.calls world.old)
+        (map script_texts parts.now) (W.calls world.new) (scripts_of scripts.items) []) }
+    ensures stops { IfErr result (ScriptsEnd (W.files world.old) topology.now routers.now (W.calls world.old)
+        (map script_texts parts.now) (W.calls world.new)) }
     ensures few { IfOk result (λ scripts. length (W.calls world.new) ≤ length (W.calls world.old) + length parts.now) }
     ensures len { IfOk result (λ scripts. length scripts.items ≡ length parts.now) }
     ensures apart { IfOk result (λ scripts. TakeApart (scripts_of scripts.items)) }

@@ -63,7 +63,8 @@ impl<S: Source> Rooms<S> {
     /// Room for so many feeds, and for as many jobs as a run may have.
     fn new(alloc: Global, feeds: usize) -> Result<Rooms<S>, OutOfMemory>
         ensures empty { IfOk result (λ r. (r.backs.items ≡ []) × (r.feeds.items ≡ []) × (r.jobs.items ≡ [])) }
-        ensures room { IfOk result (λ r. (feeds ≤ vec_capacity r.backs) × (feeds ≤ vec_capacity r.feeds) × (64 ≤ vec_capacity r.jobs)) }
+        ensures room { IfOk result (λ r. (feeds ≤ vec_capacity r.backs) × (feeds ≤ vec_capacity r.feeds)
+            × (64 ≤ vec_capacity r.jobs)) }
     {
         Ok(Rooms {
             backs: Vec::with_capacity(alloc, feeds)?,
@@ -140,7 +141,8 @@ fn gather<S: Source>(
 
 /// An empty store over a run's topology.
 fn new_store(alloc: Global, topology: &Arc<Topology, Global>) -> Result<Store, OutOfMemory>
-    ensures basis { IfOk result (λ store. store.basis ≡ record { topology = arc_value topology.now; limit = history_limit }) }
+    ensures basis { IfOk result (λ store. store.basis
+        ≡ record { topology = arc_value topology.now; limit = history_limit }) }
     ensures empty { IfOk result (λ store. store.history ≡ []) }
 {
     Store::new(alloc, Arc::try_clone(topology)?, HISTORY_LIMIT)
@@ -183,7 +185,8 @@ fn run_list<S: Source, G: Gate, R: Threads + Wait + Sync>(
     requires empty { (rooms.0.items ≡ []) × (rooms.1.items ≡ []) }
     requires backs { length (readers_of list) ≤ vec_capacity rooms.0 }
     requires jobs { length list ≤ vec_capacity rooms.1 }
-    ensures ran { IfOk result.0 (λ made. ListRan (arc_value topology.now) S.left S.faults S.place list result.1.items made.0 made.1.items) }
+    ensures ran { IfOk result.0 (λ made. ListRan (arc_value topology.now) S.left S.faults S.place list result.1.items
+        made.0 made.1.items) }
     ensures tags { map (back_tag S.place) result.1.items ≡ map (reader_tag S.place) (readers_of list) }
 {
     let (backs, jobs) = rooms;
@@ -229,7 +232,8 @@ fn run_dealt<S: Source, G: Gate, R: Threads + Wait + Sync>(
     requires apart_scripts { TakeApart (scripts_of scripts.items) }
     requires empty { (rooms.0.items ≡ []) × (rooms.1.items ≡ []) }
     requires room { (length readers.items ≤ vec_capacity rooms.0) × (64 ≤ vec_capacity rooms.1) }
-    ensures ran { IfOk result.0 (λ made. RanAs (arc_value topology.now) S.left S.faults readers.items result.1.items made.0 (scripts_of scripts.items) made.1.items) }
+    ensures ran { IfOk result.0 (λ made. RanAs (arc_value topology.now) S.left S.faults readers.items result.1.items
+        made.0 (scripts_of scripts.items) made.1.items) }
     ensures tags { IsPermutation (map (reader_tag S.place) readers.items) (map (back_tag S.place) result.1.items) }
     ensures count { length result.1.items ≡ length readers.items }
 {
@@ -264,7 +268,8 @@ pub fn run_jobs<S: Source, G: Gate, R: Threads + Wait + Sync>(
     requires jobs { AreFewJobs (scripts_of scripts.items) (routers_of_readers readers.items) }
     requires apart_scripts { TakeApart (scripts_of scripts.items) }
     requires room { (room.items ≡ []) × (length readers.items ≤ vec_capacity room) }
-    ensures ran { IfOk result.0 (λ done. HasRun (arc_value topology.now) S.left S.faults readers.items result.1.items done.feeds.items done.history (scripts_of scripts.items) done.jobs.items) }
+    ensures ran { IfOk result.0 (λ done. HasRun (arc_value topology.now) S.left S.faults readers.items result.1.items
+        done.feeds.items done.history (scripts_of scripts.items) done.jobs.items) }
     ensures same { map S.place result.1.items ≡ map (λ r. S.place r.source) readers.items }
 {
     let Ok(rooms) = Rooms::new(alloc, readers.len()) else {

@@ -14,7 +14,8 @@ ghost use Rattle.dn_run.specs.declared.status.Verdict.{Verdict};
 /// jobs' orders. Of `make` the words alone fix the whole text.
 pub fn runs_have_one_verdict()
     ensures alike { (words : List (List ℕ)) (files : Files) (calls : List Call) (v w : Verdict) (x y : List ℕ)
-        → FromWords words (Some files) calls (Ruled v x) → FromWords words (Some files) calls (Ruled w y) → AreAlike v x w y }
+        → FromWords words (Some files) calls (Ruled v x)
+        → FromWords words (Some files) calls (Ruled w y) → AreAlike v x w y }
     ensures line { (words : List (List ℕ)) (files : Files) (calls : List Call) (v w : Verdict) (x y : List ℕ)
         → FromWords words (Some files) calls (Ruled v x) → FromWords words (Some files) calls (Ruled w y)
         → may_end_early v ≡ true → is_fault v ≡ false → x ≡ y }

@@ -20,6 +20,8 @@ mod parts;
 mod program;
 #[cfg(test)]
 mod query_tests;
+#[cfg(test)]
+mod read_gate;
 mod ring;
 mod routers;
 mod ruling;

@@ -88,7 +88,8 @@ pub fn load_script<W: World>(
     world: &mut W,
 ) -> Result<Loaded<Script>, OutOfMemory>
     requires { length (W.calls world.old) < 2 ^ 32 }
-    ensures loads { IfOk result (LoadsScript topology.now routers.now taken.now part (W.files world.old) (W.calls world.old) name.now (W.calls world.new)) }
+    ensures loads { IfOk result (LoadsScript topology.now routers.now taken.now part (W.files world.old)
+        (W.calls world.old) name.now (W.calls world.new)) }
     ensures memory { OnErr result (MayCallOne (W.calls world.old) name.now (W.calls world.new)) }
     ensures same_files { W.files world.new ≡ W.files world.old }
 {

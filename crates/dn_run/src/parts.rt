@@ -81,7 +81,8 @@ impl<T: Drop> From<AllocFailed<T>> for PartsRefused {
 
 /// The feed that the part of this number is, as `ROUTER=FILE`, if it is one.
 fn read_feed(alloc: Global, part: u32, text: &str) -> Result<Option<FeedPart>, OutOfMemory>
-    ensures { IfOk result (λ feed. option_map feed_texts feed ≡ option_map (λ words. (part, words)) (feed_of_part text.now)) }
+    ensures { IfOk result (λ feed. option_map feed_texts feed ≡ option_map (λ words. (part, words))
+        (feed_of_part text.now)) }
 {
     let Some((router, file)) = text.split_once('=') else {
         return Ok(None);
@@ -108,8 +109,10 @@ impl RunParts {
     fn add_feed(&mut self, alloc: Global, text: &str) -> Result<(), PartsRefused>
         requires feeds { length self.old.feeds.items ≤ 64 }
         requires scripts { length self.old.scripts.items ≤ 64 }
-        ensures ok { OnOk result (with_part (parts_texts self.old) (option_map feed_part (feed_of_part text.now)) ≡ Ok (parts_texts self.new)) }
-        ensures refused { IfErr result (λ e. ArePartsRefused e (with_part (parts_texts self.old) (option_map feed_part (feed_of_part text.now)))) }
+        ensures ok { OnOk result (with_part (parts_texts self.old) (option_map feed_part (feed_of_part text.now))
+            ≡ Ok (parts_texts self.new)) }
+        ensures refused { IfErr result (λ e. ArePartsRefused e
+            (with_part (parts_texts self.old) (option_map feed_part (feed_of_part text.now)))) }
         ensures few { OnOk result ((length self.new.feeds.items ≤ 64) × (length self.new.scripts.items ≤ 64)) }
     {
         let part = self.next_part();
@@ -127,8 +130,10 @@ impl RunParts {
     fn add_script(&mut self, alloc: Global, file: &str) -> Result<(), PartsRefused>
         requires feeds { length self.old.feeds.items ≤ 64 }
         requires scripts { length self.old.scripts.items ≤ 64 }
-        ensures ok { OnOk result (with_part (parts_texts self.old) (script_named file.now) ≡ Ok (parts_texts self.new)) }
-        ensures refused { IfErr result (λ e. ArePartsRefused e (with_part (parts_texts self.old) (script_named file.now))) }
+        ensures ok { OnOk result (with_part (parts_texts self.old) (script_named file.now)
+            ≡ Ok (parts_texts self.new)) }
+        ensures refused { IfErr result (λ e. ArePartsRefused e
+            (with_part (parts_texts self.old) (script_named file.now))) }
         ensures few { OnOk result ((length self.new.feeds.items ≤ 64) × (length self.new.scripts.items ≤ 64)) }
     {
         let part = self.next_part();

@@ -43,8 +43,10 @@ fn run_input<W: World, G: Gate, R: Threads + Wait + Sync>(
     requires known { All (λ r. r.0 < length (arc_value input.topology).routers) input.routers.items }
     requires apart { IsTrue (all_differ same_router input.routers.items) }
     requires room { length (W.calls world.old) ≤ 65 }
-    ensures { Stage (W.calls world.old) (W.calls world.new) (feed_files (map feed_texts input.feeds.items)) (ending_of result)
-        (feeds_due (W.files world.old) (arc_value input.topology) input.routers.items (scripts_of input.scripts.items) (map feed_texts input.feeds.items) (ending_of result)) }
+    ensures { Stage (W.calls world.old) (W.calls world.new) (feed_files (map feed_texts input.feeds.items))
+        (ending_of result)
+        (feeds_due (W.files world.old) (arc_value input.topology) input.routers.items
+        (scripts_of input.scripts.items) (map feed_texts input.feeds.items) (ending_of result)) }
 {
     let Input {
         topology,
@@ -110,7 +112,8 @@ fn rule<W: World, G: Gate, R: Threads + Wait + Sync>(
 
 /// Writes what a run came to, and tells its status.
 fn finish<K: Sink>(sink: &mut K, ruling: &Ruling) -> Status
-    ensures done { IsFinished ruling.now.verdict ruling.now.text.items result (K.written sink.old) (K.written sink.new) }
+    ensures done { IsFinished ruling.now.verdict ruling.now.text.items result (K.written sink.old)
+        (K.written sink.new) }
     ensures counts { CountsWrites result (K.faults sink.old) (K.faults sink.new) }
     ensures not_memory { result ≡ Status.OutOfMemory → ⊥ }
 {
@@ -150,7 +153,8 @@ pub fn run<W: World, K: Sink, G: Gate, R: Threads + Wait + Sync>(
     requires fresh_world { W.calls world.old ≡ [] }
     requires fresh_sink { K.faults sink.old ≡ 0 }
     // What was written is what is due by the words, the files' bytes and what became of each file that was asked for.
-    ensures headline { IsWritten (IsDue (map string_bytes words.now) (W.files world.old) (W.calls world.new)) result (K.written sink.old) (K.written sink.new) }
+    ensures headline { IsWritten (IsDue (map string_bytes words.now) (W.files world.old) (W.calls world.new)) result
+        (K.written sink.old) (K.written sink.new) }
     // The names of the words are asked for in order: all of them at the statuses 0 and 1, else the first of them.
     ensures names { AsksFor result (names_of (W.calls world.new)) (names_of_words (map string_bytes words.now)) }
     // Every source was given back, and one failed exactly where the status says so.

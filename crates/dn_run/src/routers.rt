@@ -61,7 +61,8 @@ fn find_router(
     ensures found { IfOk result (λ r. router_of topology.now feed.now.router ≡ Some r) }
     ensures within { IfOk result (λ r. r.0 < length topology.now.routers) }
     ensures fresh { IfOk result (λ r. list_any (λ q. q.0 == r.0) before.now ≡ false) }
-    ensures refused { IfErr result (λ line. router_faults before.now feed.now.part (router_of topology.now feed.now.router) ≡ line ∷ []) }
+    ensures refused { IfErr result (λ line. router_faults before.now feed.now.part
+        (router_of topology.now feed.now.router) ≡ line ∷ []) }
 {
     let Some(router) = router(topology, &feed.router) else {
         return Err(ErrorLine::UnknownRouter { part: feed.part });

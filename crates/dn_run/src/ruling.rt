@@ -101,7 +101,8 @@ pub fn reported(
     jobs: &[JobTold],
 ) -> Result<Ruling, OutOfMemory>
     ensures verdict { IfOk result (λ ruling. ruling.verdict ≡ verdict_of feeds.now) }
-    ensures text { IfOk result (λ ruling. ruling.text.items ≡ report topology.now feeds.now (entries history.now) jobs.now) }
+    ensures text { IfOk result (λ ruling. ruling.text.items ≡ report topology.now feeds.now (entries history.now)
+        jobs.now) }
 {
     let text = report_text(alloc, topology, feeds, history, jobs)?;
     Ok(Ruling {

@@ -4,6 +4,7 @@ ghost use Rattle.std.specs.Prelude.{◌≤◌, IfOk, All};
 
 use crate::held_gate::HeldGate;
 use crate::program::run;
+use crate::read_gate::ReadGate;
 use crate::run_tests::{RING, file, set_frame};
 use crate::status::Status;
 use dn_io::{Gate, MemFile, MemSink, MemWorld, NoGate};
@@ -129,6 +130,23 @@ fn held_pin(rt: HostRuntime) {
     assert!(rt; !gate.ran_out(), "a job waited in vain");
     assert_eq!(rt; status, Status::Done);
     assert_eq!(rt; written.as_slice(), HELD_PIN.as_bytes());
+}
+
+const SHOWN_LATE: &str =
+    "feed 1 r1 updates 1 skipped 0 refused 0 end\nhistory 1\n1 feed 1 r1 set 10.0.0.0/8 metric 20 to r2 by a\njob 1\nline 1 at 0 path r1 10.1.2.3\nhops r1\nend noroute\nline 2 at 0 path r1 10.1.2.3\nhops r1\nend noroute\njob 2\ndone\n";
+
+/// A job that reads alone beside the one that applies pins what that one shows. Between the only update and its showing both
+/// of its pins are at 0; a pin at the lock would have the update.
+#[test]
+fn a_reader_pins_what_is_shown(rt: HostRuntime) {
+    let alloc = rt.alloc();
+    let scripts = ["path r1 10.1.2.3\npath r1 10.1.2.3\n", "take r1 all\n"];
+    let parts = ["r1=f1", "@s1", "@s2"];
+    let gate = ReadGate::new();
+    let (status, written) = come(&rt, alloc, &parts, scripts, &gate).expect(&rt, "memory");
+    assert!(rt; !gate.ran_out(), "a job waited in vain");
+    assert_eq!(rt; status, Status::Done);
+    assert_eq!(rt; written.as_slice(), SHOWN_LATE.as_bytes());
 }
 
 const SCRIPTS_AND_FEED: &str =

@@ -26,7 +26,8 @@ pub fn run_surely<G: Gate, R: Threads + Wait + Sync>(
     gate: &G,
 ) -> Status
     requires { world.old.calls ≡ [] }
-    ensures headline { IsWritten (IsDue (map string_bytes words.now) (Some (sure_files world.old)) world.new.calls) result None None }
+    ensures headline { IsWritten (IsDue (map string_bytes words.now) (Some (sure_files world.old)) world.new.calls)
+        result None None }
     ensures no_read_fault { result ≡ Status.ReadFault → ⊥ }
     ensures no_write_fault { result ≡ Status.WriteFault → ⊥ }
     ensures names { AsksFor result (names_of world.new.calls) (names_of_words (map string_bytes words.now)) }

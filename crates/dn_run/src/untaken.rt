@@ -55,7 +55,8 @@ pub fn is_own_feed(scripts: &[Script], router: RouterId) -> bool
 pub fn has_too_many_jobs(routers: &[RouterId], scripts: &[Script]) -> bool
     requires feeds { length routers.now ≤ 64 }
     requires scripts { length scripts.now ≤ 64 }
-    ensures { result ≡ nat_lt most_jobs (length (scripts_of scripts.now) + length (untaken (scripts_of scripts.now) routers.now)) }
+    ensures { result ≡ nat_lt most_jobs (length (scripts_of scripts.now) + length
+        (untaken (scripts_of scripts.now) routers.now)) }
 {
     let mut jobs = scripts.len();
     let mut rest = routers;

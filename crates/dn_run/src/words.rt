@@ -96,7 +96,8 @@ pub(crate) fn copied(alloc: Global, texts: &[&str]) -> Result<Vec<String>, Alloc
 
 /// The words that the values of `run` say the parts are.
 fn read_part_words(alloc: Global, run: &ArgMatches) -> Result<Vec<String>, AllocError>
-    ensures { IfOk result (λ parts. map string_bytes parts.items ≡ unwrap_or (all_of (codes "part") (rows_of (found_of run.now))) []) }
+    ensures { IfOk result (λ parts. map string_bytes parts.items
+        ≡ unwrap_or (all_of (codes "part") (rows_of (found_of run.now))) []) }
 {
     match run.get_raw("part") {
         Some(parts) => copied(alloc, parts),
@@ -120,7 +121,8 @@ fn read_run(alloc: Global, run: &ArgMatches) -> Result<Command, WordsRefused>
 
 /// How many updates the values of `make` say.
 fn read_make(make: &ArgMatches) -> Result<Command, WordsRefused>
-    ensures ok { IfOk result (λ c. option_map Make (number_of_rows (rows_of (found_of make.now))) ≡ Some (command_words c)) }
+    ensures ok { IfOk result (λ c. option_map Make (number_of_rows (rows_of (found_of make.now)))
+        ≡ Some (command_words c)) }
     ensures refused { IfErr result (λ e. AreRefused e (number_of_rows (rows_of (found_of make.now)))) }
     ensures within { IfOk result IsWithin }
 {
@@ -135,7 +137,8 @@ fn read_make(make: &ArgMatches) -> Result<Command, WordsRefused>
 
 /// What the subcommand that was met asks for.
 fn read_subcommand(alloc: Global, matches: &ArgMatches) -> Result<Command, WordsRefused>
-    ensures ok { IfOk result (λ c. option_and_then meaning_of (subcommand_rows_of matches.now) ≡ Some (command_words c)) }
+    ensures ok { IfOk result (λ c. option_and_then meaning_of (subcommand_rows_of matches.now)
+        ≡ Some (command_words c)) }
     ensures refused { IfErr result (λ e. AreRefused e (option_and_then meaning_of (subcommand_rows_of matches.now))) }
     ensures within { IfOk result IsWithin }
 {

@@ -29,7 +29,7 @@ use Rattle.feed_threads.proofs.HistoryLemmas.{Shared, TellsOwnJob, feeds_of_all,
 
 -- ---- lists
 
-map-map : {X Y Z : Type 0} (f : Y → Z) (g : X → Y) (xs : List X) → map f (map g xs) ≡ map (λ x. f (g x)) xs
+pub map-map : {X Y Z : Type 0} (f : Y → Z) (g : X → Y) (xs : List X) → map f (map g xs) ≡ map (λ x. f (g x)) xs
 map-map f g [] = refl
 map-map f g (x ∷ xs) = ap (λ ys. f (g x) ∷ ys) (map-map f g xs)
 
@@ -37,7 +37,7 @@ flat-map : {X Y Z : Type 0} (f : Y → List Z) (g : X → Y) (xs : List X) → f
 flat-map f g [] = refl
 flat-map f g (x ∷ xs) = ap (λ ys. f (g x) ++ ys) (flat-map f g xs)
 
-all-unmap : {X Y : Type 0} (P : Y → Type 0) (f : X → Y) (xs : List X) → All P (map f xs) → All (λ x. P (f x)) xs
+pub all-unmap : {X Y : Type 0} (P : Y → Type 0) (f : X → Y) (xs : List X) → All P (map f xs) → All (λ x. P (f x)) xs
 all-unmap P f [] a = All-nil (λ x. P (f x))
 all-unmap P f (x ∷ xs) a = All-cons (λ x. P (f x)) x xs (All-head P (f x) (map f xs) a) (all-unmap P f xs (All-tail P (f x) (map f xs) a))
 

@@ -1,4 +1,6 @@
 pub mod AllLemmas
+pub mod BesideLemmas
+pub mod Crossing
 pub mod DoesLemmas
 pub mod EndLemmas
 pub mod EntriesLemmas
@@ -9,8 +11,10 @@ pub mod LawLemmas
 pub mod ListLemmas
 pub mod OrderLemmas
 pub mod PlaceLemmas
+pub mod ReadLemmas
 pub mod RestLemmas
 pub mod SeatLemmas
+pub mod ShownLemmas
 pub mod StepLemmas
 pub mod StrandLemmas
 pub mod TakeLemmas

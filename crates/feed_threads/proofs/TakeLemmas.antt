@@ -145,6 +145,22 @@ module _ {S : Type 0} (t : Topology) (left : S → Option (List ℕ)) (faults pl
     router = refl;
   }
 
+  -- nor where more is seen, with nothing of the job's own
+  pub gives-still : (number : ℕ) (feed : Feed S) (a b : List Posted) → IsPrefix a b → own_of number b ≡ own_of number a → Gives t left faults place limit number feed feed a b []
+  gives-still number feed a b p same = record {
+    ops = [];
+    stands = λ start steps ops-before st.
+        subst (λ (xs : List FrameStep). Stands t left faults place limit b start feed xs (ops-before ++ [])) (sym (append-nil steps))
+        (subst (λ (xs : List Op). Stands t left faults place limit b start feed steps xs) (sym (append-nil ops-before)) (stands-later a b start feed steps ops-before p st));
+    grows = same ∙ sym (append-nil (own_of number a));
+    whole = λ none. refl;
+    passes = passes-none feed.reader;
+    later = later-nil (end_of_feed feed);
+    ended = λ end is. (refl, refl);
+    feed_no = refl;
+    router = refl;
+  }
+
   -- a feed that wasn't broken off by now never was
   unbroken : (number : ℕ) (old new : Feed S) (a b : List Posted) (xs : List FrameStep) → Gives t left faults place limit number old new a b xs → new.kept ≡ None → old.kept ≡ None
   unbroken number old new a b xs x none = by-kept old.kept refl
@@ -338,6 +354,20 @@ module _ {S : Type 0} (t : Topology) (left : S → Option (List ℕ)) (faults pl
       zero-count None = refl
       zero-count (Some e) = omega arith
 
+  pub took-still : (number : ℕ) (feed : Feed S) (a b : List Posted) → IsPrefix a b → own_of number b ≡ own_of number a → TakesSome t left faults place limit number (Some 0) feed feed a b
+  took-still number feed a b p same = record { more = []; adds = gives-still number feed a b p same; counted = none-counted (end_of_feed feed) }
+    where
+      none-counted : (end : Option FeedEnd) → IsCount (Some 0) 0 end
+      none-counted None = refl
+      none-counted (Some e) = omega arith
+
+  -- what an answer comes to where more was seen before it
+  pub took-after : {A E : Type 0} (result : Result A E) (number m : ℕ) (old new : Feed S) (a b c : List Posted) → m ≡ number → IsPrefix a b → own_of number b ≡ own_of number a →
+      OnOk result (TakesSome t left faults place limit m (Some 1) old new b c) → OnOk result (TakesSome t left faults place limit number (Some 1) old new a c)
+  took-after (Ok x) number m old new a b c is p same took =
+      took-more number 0 1 old old new a b c (took-still number old a b p same) (subst (λ (n : ℕ). TakesSome t left faults place limit n (Some 1) old new b c) is took)
+  took-after (Err e) number m old new a b c is p same took = tt
+
   pub any-start : (number : ℕ) (feed : Feed S) (seen : List Posted) → TakesAny t left faults place limit number feed feed seen seen
   any-start number feed seen = record { more = []; adds = gives-none number feed seen }
 
@@ -476,3 +506,20 @@ module _ {S : Type 0} (t : Topology) (left : S → Option (List ℕ)) (faults pl
               ∙ ap (λ z. own_of number a ++ z) (sym (entries_by-append old.reader.told.feed_no old.reader.told.router (updates xs) (take n (updates y.more))) ∙ ap (λ z. entries_by old.reader.told.feed_no old.reader.told.router z) (sym front));
         };
       }
+
+  -- and where memory was wanting after more was seen
+  pub first-still : {A E : Type 0} (result : Result A E) (number : ℕ) (feed : Feed S) (a b : List Posted) → feed.kept ≡ None → own_of number b ≡ own_of number a →
+      OnErr result (GivesFirst t left faults place limit number feed feed a b)
+  first-still (Ok x) number feed a b none same = tt
+  first-still (Err e) number feed a b none same = record {
+    kept = none;
+    more = [];
+    reads = λ start steps handed. subst (λ (xs : List FrameStep). HandsOut t left faults place start feed.reader xs) (sym (append-nil steps)) handed;
+    took = record { n = 0; few = omega arith; grows = same ∙ sym (append-nil (own_of number a)) };
+  }
+
+  pub first-after : {A E : Type 0} (result : Result A E) (number m : ℕ) (old new : Feed S) (a b c : List Posted) → m ≡ number → IsPrefix a b → own_of number b ≡ own_of number a →
+      OnErr result (GivesFirst t left faults place limit m old new b c) → OnErr result (GivesFirst t left faults place limit number old new a c)
+  first-after (Ok x) number m old new a b c is p same first = tt
+  first-after (Err e) number m old new a b c is p same first =
+      first-more number old old new a b c [] (gives-still number old a b p same) (subst (λ (n : ℕ). GivesFirst t left faults place limit n old new b c) is first)

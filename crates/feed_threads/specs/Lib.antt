@@ -1,8 +1,12 @@
 pub mod AllJobs
+pub mod Beside
 pub mod Feeds
 pub mod Jobs
 pub mod Places
+pub mod Readers
+pub mod Reads
 pub mod Seats
+pub mod Shown
 pub mod Takes
 pub mod Tells
 pub mod Tracks

@@ -8,6 +8,7 @@ ghost use Rattle.feed_threads.specs.AllJobs.{AllEnd};
 ghost use Rattle.feed_threads.specs.Jobs.{AreApart, Ends, IsFresh};
 ghost use Rattle.feed_threads.specs.Seats.{own_of, SawMore};
 
+use crate::beside::{only_applying, run_beside};
 use crate::job::{Job, JobDone, JobList};
 use crate::one_job::run_job;
 use dn_io::{Gate, Source};
@@ -34,7 +35,8 @@ fn run_seated<S: Source, G: Gate, R: Threads + Wait + Sync>(
     requires apart { AreApart job.feeds }
     ensures saw { SawMore seat result.0 }
     ensures number { result.1.number ≡ job.number }
-    ensures ends { Ends topology.now S.left S.faults S.place lock.now.setup.basis.limit seat.number (own_of seat.number seat.seen) result.0.seen job result.1.wanted_memory result.1.told result.1.feeds.items }
+    ensures ends { Ends topology.now S.left S.faults S.place lock.now.setup.basis.limit seat.number
+        (own_of seat.number seat.seen) result.0.seen job result.1.wanted_memory result.1.told result.1.feeds.items }
 {
     let mut seat = seat;
     let done = run_job(rt, alloc, lock, &mut seat, gate, topology, job);
@@ -43,9 +45,9 @@ fn run_seated<S: Source, G: Gate, R: Threads + Wait + Sync>(
 
 /// Jobs, and room for what they come to.
 #[derive(Drop)]
-struct Batch<S: Source> {
-    jobs: Vec<Job<S>>,
-    room: Vec<JobDone<S>>,
+pub(crate) struct Batch<S: Source> {
+    pub(crate) jobs: Vec<Job<S>>,
+    pub(crate) room: Vec<JobDone<S>>,
 }
 
 /// Runs the jobs of a batch side by side, and gives back the seat and what the jobs came to, in order.
@@ -69,7 +71,8 @@ fn run_batch<S: Source, G: Gate, R: Threads + Wait + Sync>(
     requires room { length batch.jobs.items ≤ vec_capacity batch.room }
     requires runtime { IsSync R.row }
     requires gate { IsSync G.row }
-    ensures all { AllEnd topology.now S.left S.faults S.place lock.now.setup.basis.limit lock.now seat batch.jobs.items result.0 result.1.items }
+    ensures all { AllEnd topology.now S.left S.faults S.place lock.now.setup.basis.limit lock.now seat batch.jobs.items
+        result.0 result.1.items }
     ensures count { length result.1.items ≡ length batch.jobs.items }
     ensures room { vec_capacity result.1 ≡ vec_capacity batch.room }
 {
@@ -91,16 +94,23 @@ fn run_batch<S: Source, G: Gate, R: Threads + Wait + Sync>(
     let (before, after) = join(
         rt,
         move || -> (Seat, Vec<JobDone<S>>)
-            requires { IsSync R.row × IsSync G.row × IsSeatOf lock.now seat × (topology.now ≡ lock.now.setup.basis.topology) × (length others.jobs.items ≤ seat.span)
-                × All (λ job. All (IsFresh topology.now S.faults) job.feeds) others.jobs.items × All (λ job. AreApart job.feeds) others.jobs.items
+            requires { IsSync R.row × IsSync G.row × IsSeatOf lock.now seat
+                × (topology.now ≡ lock.now.setup.basis.topology) × (length others.jobs.items ≤ seat.span)
+                × All (λ job. All (IsFresh topology.now S.faults) job.feeds) others.jobs.items
+                × All (λ job. AreApart job.feeds) others.jobs.items
                 × (others.room.items ≡ []) × (length others.jobs.items ≤ vec_capacity others.room) }
-            ensures { AllEnd topology.entry.now S.left S.faults S.place lock.entry.now.setup.basis.limit lock.entry.now seat others.jobs.items result.0 result.1.items
-                × (length result.1.items ≡ length others.jobs.items) × (vec_capacity result.1 ≡ vec_capacity others.room) }
+            ensures { AllEnd topology.entry.now S.left S.faults S.place lock.entry.now.setup.basis.limit lock.entry.now
+                seat others.jobs.items result.0 result.1.items
+                × (length result.1.items ≡ length others.jobs.items)
+                × (vec_capacity result.1 ≡ vec_capacity others.room) }
         { run_batch(rt, alloc, lock, seat, gate, topology, others) },
         move || -> (Seat, JobDone<S>)
-            requires { IsSeatOf lock.now other × (topology.now ≡ lock.now.setup.basis.topology) × All (IsFresh topology.now S.faults) last.feeds × AreApart last.feeds }
+            requires { IsSeatOf lock.now other × (topology.now ≡ lock.now.setup.basis.topology)
+                × All (IsFresh topology.now S.faults) last.feeds × AreApart last.feeds }
             ensures { SawMore other result.0 × (result.1.number ≡ last.number)
-                × Ends topology.entry.now S.left S.faults S.place lock.entry.now.setup.basis.limit other.number (own_of other.number other.seen) result.0.seen last result.1.wanted_memory result.1.told result.1.feeds.items }
+                × Ends topology.entry.now S.left S.faults S.place lock.entry.now.setup.basis.limit other.number
+                (own_of other.number other.seen) result.0.seen last result.1.wanted_memory result.1.told
+                result.1.feeds.items }
         { run_seated(rt, alloc, lock, other, gate, topology, last) },
     );
     let (mut seat, mut dones) = before;
@@ -110,7 +120,7 @@ fn run_batch<S: Source, G: Gate, R: Threads + Wait + Sync>(
     (seat, dones)
 }
 
-/// Runs jobs side by side.
+/// Runs jobs side by side. Where one of them alone applies, the others pin what it shows, and wait for nobody.
 pub fn run_jobs<S: Source, G: Gate, R: Threads + Wait + Sync>(
     rt: &R,
     alloc: Global,
@@ -125,8 +135,14 @@ pub fn run_jobs<S: Source, G: Gate, R: Threads + Wait + Sync>(
     requires span { length jobs ≤ seat.span }
     requires fresh { All (λ job. All (IsFresh topology.now S.faults) job.feeds) jobs }
     requires apart { All (λ job. AreApart job.feeds) jobs }
-    ensures all { AllEnd topology.now S.left S.faults S.place lock.now.setup.basis.limit lock.now seat jobs result.0 result.1.items }
+    ensures all { AllEnd topology.now S.left S.faults S.place lock.now.setup.basis.limit lock.now seat jobs result.0
+        result.1.items }
 {
     let JobList { jobs, room } = jobs;
-    run_batch(rt, alloc, lock, seat, gate, topology, Batch { jobs, room })
+    let applying = only_applying(jobs.as_slice());
+    let batch = Batch { jobs, room };
+    match applying {
+        Some(at) => run_beside(rt, alloc, lock, seat, gate, topology, batch, at),
+        None => run_batch(rt, alloc, lock, seat, gate, topology, batch),
+    }
 }

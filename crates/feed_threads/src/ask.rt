@@ -66,6 +66,23 @@ fn answer_of<R: Threads + Sync>(
     }
 }
 
+/// The outcome of a query whose names the network has, over a snapshot.
+pub(crate) fn outcome_over<R: Threads + Sync>(
+    rt: &R,
+    alloc: Global,
+    snapshot: &Snapshot,
+    query: &Query,
+) -> Result<Outcome, OutOfMemory>
+    requires known { unknown_of snapshot.now.topology query.now ≡ None }
+    ensures { IfOk result (IsOutcomeNow snapshot.now.topology snapshot.now.history query.now) }
+{
+    let answer = answer_of(rt, alloc, snapshot, query)?;
+    Ok(Outcome::Answered {
+        number: snapshot.number(),
+        answer,
+    })
+}
+
 /// The answer to a query over the history, whose length is its pin; or the query's first unknown name, without a pin: the
 /// seat is as it was.
 fn outcome<G: Gate, R: Threads + Wait + Sync>(
@@ -77,19 +94,17 @@ fn outcome<G: Gate, R: Threads + Wait + Sync>(
     requires lock { IsSeatOf desk.now seat.old }
     ensures saw { SawMore seat.old seat.new }
     ensures own { own_of seat.old.number seat.new.seen ≡ own_of seat.old.number seat.old.seen }
-    ensures unpinned { (u : UnknownIs) → unknown_of desk.now.setup.basis.topology query.now ≡ Some u → seat.new ≡ seat.old }
+    ensures unpinned { (u : UnknownIs) → unknown_of desk.now.setup.basis.topology query.now ≡ Some u
+        → seat.new ≡ seat.old }
     ensures good { IfOk result (IsOutcomeNow desk.now.setup.basis.topology seat.new.seen query.now) }
 {
     if let Some(unknown) = query.unknown(desk.topology()) {
         return Ok(Outcome::Unknown(unknown));
     }
     let snapshot = desk.pin(rt, seat)?;
-    let answer = answer_of(rt, desk.alloc(), &snapshot, query)?;
+    let outcome = outcome_over(rt, desk.alloc(), &snapshot, query)?;
     desk.answered();
-    Ok(Outcome::Answered {
-        number: snapshot.number(),
-        answer,
-    })
+    Ok(outcome)
 }
 
 /// Asks a query, and adds what is told of it.
@@ -104,8 +119,10 @@ pub(crate) fn ask<G: Gate, R: Threads + Wait + Sync>(
     requires lock { IsSeatOf desk.now seat.old }
     ensures saw { SawMore seat.old seat.new }
     ensures own { own_of seat.old.number seat.new.seen ≡ own_of seat.old.number seat.old.seen }
-    ensures unpinned { (u : UnknownIs) → unknown_of desk.now.setup.basis.topology query.now ≡ Some u → seat.new ≡ seat.old }
-    ensures told { OnOk result (Adds told.old told.new line query.now (IsOutcomeNow desk.now.setup.basis.topology seat.new.seen query.now)) }
+    ensures unpinned { (u : UnknownIs) → unknown_of desk.now.setup.basis.topology query.now ≡ Some u
+        → seat.new ≡ seat.old }
+    ensures told { OnOk result (Adds told.old told.new line query.now (IsOutcomeNow desk.now.setup.basis.topology
+        seat.new.seen query.now)) }
     ensures err { OnErr result (told.new ≡ told.old) }
 {
     let outcome = outcome(rt, desk, seat, query)?;

@@ -4,17 +4,23 @@ ghost use Rattle.std.specs.Prelude.{◌≡◌, ◌≤◌, ◌++◌, ◌∷◌, [
 ghost use Rattle.dn_model.specs.Entry.{IsEntryOf};
 ghost use Rattle.version_lock.specs.Callers.{IsSeatOf};
 ghost use Rattle.feed_threads.specs.Seats.{own_of, SawMore};
+ghost use Rattle.feed_threads.specs.Shown.{IsShown, ShowsOn};
 
 use dn_io::{Gate, Point};
 use dn_model::{Entry, OutOfMemory, Topology};
+use fast_pins::Publisher;
 use std::alloc::Global;
+use std::cell::Cell;
 use std::marker::Model;
 use std::sync::Wait;
 use version_lock::{PostRefused, Seat, VersionLock};
 use version_store::{Snapshot, Store};
 
-/// What a job works with: the lock and the lock's network, the gate of tests, and the job's number. A contract sees the
-/// lock.
+/// By what a job shows to others what it applies: nothing, where no job reads alone.
+pub(crate) type Shown = Option<Publisher<Snapshot>>;
+
+/// What a job works with: the lock and the lock's network, the gate of tests, the job's number, and whether it applied
+/// something since it last showed what it applies. A contract sees the lock.
 #[derive(Drop)]
 pub(crate) struct Desk<'a, G: Gate> {
     alloc: Global,
@@ -22,6 +28,7 @@ pub(crate) struct Desk<'a, G: Gate> {
     topology: &'a Topology,
     gate: &'a G,
     job: u32,
+    is_behind: Cell<bool>,
 }
 
 impl<'a, G: Gate> Model for Desk<'a, G> {
@@ -53,6 +60,7 @@ impl<'a, G: Gate> Desk<'a, G> {
             topology,
             gate,
             job,
+            is_behind: Cell::new(false),
         }
     }
 
@@ -79,7 +87,8 @@ impl<'a, G: Gate> Desk<'a, G> {
         requires lock { IsSeatOf self.now seat.old }
         requires entry { IsEntryOf self.now.setup.basis.topology entry.now }
         ensures saw { SawMore seat.old seat.new }
-        ensures own { IfOk result (λ taken. own_of seat.old.number seat.new.seen ≡ own_of seat.old.number seat.old.seen ++ (if taken then entry.now ∷ [] else [])) }
+        ensures own { IfOk result (λ taken. own_of seat.old.number seat.new.seen ≡ own_of seat.old.number seat.old.seen
+            ++ (if taken then entry.now ∷ [] else [])) }
         ensures kept { OnErr result (own_of seat.old.number seat.new.seen ≡ own_of seat.old.number seat.old.seen) }
         ensures full { IfOk result (λ taken. taken ≡ false → self.now.setup.basis.limit ≤ length seat.new.seen) }
     {
@@ -87,6 +96,7 @@ impl<'a, G: Gate> Desk<'a, G> {
         self.gate.at(self.job, Point::BeforeApply);
         match self.lock.apply(rt, seat, entry) {
             Ok(_) => {
+                self.is_behind.set(true);
                 self.gate.at(self.job, Point::AfterApply);
                 Ok(true)
             }
@@ -96,7 +106,7 @@ impl<'a, G: Gate> Desk<'a, G> {
     }
 
     /// A snapshot of the history, all of which the seat has then seen.
-    pub(crate) fn pin<R: Wait>(&self, rt: &R, seat: &mut Seat) -> Result<Snapshot, OutOfMemory>
+    fn look<R: Wait>(&self, rt: &R, seat: &mut Seat) -> Result<Snapshot, OutOfMemory>
         requires lock { IsSeatOf self.now seat.old }
         ensures saw { SawMore seat.old seat.new }
         ensures own { own_of seat.old.number seat.new.seen ≡ own_of seat.old.number seat.old.seen }
@@ -105,8 +115,44 @@ impl<'a, G: Gate> Desk<'a, G> {
     {
         let _number = seat.number();
         let pinned = self.lock.pin(rt, seat)?;
-        self.gate.at(self.job, Point::AfterPin);
         Ok(pinned.snap)
+    }
+
+    /// The same for a query, which the gate is told of.
+    pub(crate) fn pin<R: Wait>(&self, rt: &R, seat: &mut Seat) -> Result<Snapshot, OutOfMemory>
+        requires lock { IsSeatOf self.now seat.old }
+        ensures saw { SawMore seat.old seat.new }
+        ensures own { own_of seat.old.number seat.new.seen ≡ own_of seat.old.number seat.old.seen }
+        ensures shown { IfOk result (λ s. s.history ≡ seat.new.seen) }
+        ensures topology { IfOk result (λ s. s.topology ≡ self.now.setup.basis.topology) }
+    {
+        let snapshot = self.look(rt, seat)?;
+        self.gate.at(self.job, Point::AfterPin);
+        Ok(snapshot)
+    }
+
+    /// Shows to the jobs that read alone, where there are such, what the seat sees now, if the job applied something since it
+    /// last did so. After `OutOfMemory` they are shown what they were.
+    pub(crate) fn show<R: Wait>(
+        &self,
+        rt: &R,
+        seat: &mut Seat,
+        shown: &mut Shown,
+    ) -> Result<(), OutOfMemory>
+        requires lock { IsSeatOf self.now seat.old }
+        requires shown { IsShown self.now.setup.basis.topology seat.old.seen shown.old }
+        ensures saw { SawMore seat.old seat.new }
+        ensures own { own_of seat.old.number seat.new.seen ≡ own_of seat.old.number seat.old.seen }
+        ensures shows { ShowsOn self.now.setup.basis.topology seat.new.seen shown.old shown.new }
+    {
+        let Some(publisher) = shown else {
+            return Ok(());
+        };
+        if !self.is_behind.replace(false) {
+            return Ok(());
+        }
+        let snapshot = self.look(rt, seat)?;
+        publisher.publish(rt, snapshot)
     }
 
     /// A query was answered.

@@ -1,6 +1,6 @@
 //! A feed of a job.
 
-ghost use Rattle.std.specs.Prelude.{◌≡◌, ◌+◌, ◌<◌, length, List, ◌++◌, IfOk, OnErr, OnOk, Some};
+ghost use Rattle.std.specs.Prelude.{◌≡◌, ◌+◌, ◌<◌, length, List, ◌++◌, IfOk, OnErr, OnOk, Some, None, IsTrue};
 ghost use Rattle.dn_formats.specs.Steps.{FrameStep, updates};
 ghost use Rattle.dn_formats.specs.declared.told.FeedEnd.{FeedEnd as EndIs};
 ghost use Rattle.dn_model.specs.declared.topology.Topology.{Topology as TopologyIs};
@@ -30,6 +30,13 @@ impl<S: Source> Model for Feed<S> {
 }
 
 impl<S: Source> Feed<S> {
+    /// Whether a job that takes its next frame may wait for bytes.
+    pub(crate) fn waits(&self) -> bool
+        ensures { IsTrue result → self.now.kept ≡ None }
+    {
+        self.kept.is_none() && self.reader.wants_more()
+    }
+
     /// The source, with the bytes that were not read, and what is told.
     pub(crate) fn into_parts(self) -> (S, FeedTold)
         ensures source { result.0 ≡ self.reader.source }
@@ -59,8 +66,10 @@ pub(crate) fn next_step<S: Source>(
         HandsOut topology.now S.left S.faults S.place start reader.old steps →
         HandsOut topology.now S.left S.faults S.place start reader.new steps) }
     ensures end { IfOk result (λ step. reader.new.told.end ≡ end_of step) }
-    ensures again { (end : EndIs) → reader.old.told.end ≡ Some end → (reader.new ≡ reader.old) × IfOk result (λ step. end_of step ≡ Some end) }
-    ensures counted { IfOk result (λ step. reader.new.told.updates ≡ reader.old.told.updates + length (updates (handed_out step))) }
+    ensures again { (end : EndIs) → reader.old.told.end ≡ Some end → (reader.new ≡ reader.old)
+        × IfOk result (λ step. end_of step ≡ Some end) }
+    ensures counted { IfOk result (λ step. reader.new.told.updates ≡ reader.old.told.updates + length
+        (updates (handed_out step))) }
     ensures advances { IfOk result (λ step. Advances step reader.old reader.new) }
     ensures within { IfOk result (AreOpsOf topology.now) }
     ensures limit { reader.new.limit ≡ reader.old.limit }

@@ -46,7 +46,8 @@ pub fn run_history<S: Source, G: Gate, R: Threads + Wait + Sync>(
     requires apart { All (λ job. AreApart job.feeds) jobs }
     requires numbers { AreNumberedApart jobs }
     ensures basis { IfOk result (λ ran. ran.0.basis ≡ store.basis) }
-    ensures ran { IfOk result (λ ran. AllRan topology.now S.left S.faults S.place store.basis.limit jobs ran.0.history ran.1.items) }
+    ensures ran { IfOk result (λ ran. AllRan topology.now S.left S.faults S.place store.basis.limit jobs ran.0.history
+        ran.1.items) }
     ensures back { IfErr result (λ back. back ≡ jobs) }
 {
     let numbers = numbers_for(&jobs);

@@ -29,9 +29,14 @@ impl<S: Source> Model for Job<S> {
 
     ghost Value = { Task S };
 
-    ghost view = { λ j. record { number = j.number; lines = lines_of j.script; feeds = map (λ f. f.reader) j.feeds.items } };
+    ghost view = { λ j. record {
+      number = j.number;
+      lines = lines_of j.script;
+      feeds = map (λ f. f.reader) j.feeds.items;
+    } };
 
-    ghost invariant = { λ j. (j.feeds.items ≡ map (λ f. unread f.reader) j.feeds.items) × (j.room.items ≡ []) × (length j.feeds.items ≤ vec_capacity j.room) };
+    ghost invariant = { λ j. (j.feeds.items ≡ map (λ f. unread f.reader) j.feeds.items) × (j.room.items ≡ [])
+        × (length j.feeds.items ≤ vec_capacity j.room) };
 }
 
 /// What a job came to. Where it wanted memory it ended there: it tells of the first queries of its script, and its feeds
@@ -71,7 +76,11 @@ impl<S: Source> Job<S> {
         script: Option<Script>,
         readers: Vec<FeedReader<S>>,
     ) -> Result<Job<S>, Vec<FeedReader<S>>>
-        ensures job { IfOk result (λ job. job ≡ record { number = number; lines = lines_of script; feeds = readers.items }) }
+        ensures job { IfOk result (λ job. job ≡ record {
+          number = number;
+          lines = lines_of script;
+          feeds = readers.items;
+        }) }
         ensures back { IfErr result (λ back. back.items ≡ readers.items) }
     {
         let Ok(feeds) = Vec::with_capacity(alloc, readers.len()) else {

@@ -3,13 +3,17 @@
 
 mod all_jobs;
 mod ask;
+mod beside;
 mod desk;
 mod feed;
+mod fleet;
 mod history;
 mod job;
 mod lines;
 mod one_job;
 mod places;
+mod read;
+mod readers;
 mod take;
 mod unrun;
 

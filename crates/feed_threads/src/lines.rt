@@ -5,10 +5,11 @@ ghost use Rattle.dn_formats.specs.declared.told.Told.{Told as ToldIs};
 ghost use Rattle.version_lock.specs.Callers.{IsSeatOf};
 ghost use Rattle.feed_threads.specs.Places.{HaveRouters, ReadOn};
 ghost use Rattle.feed_threads.specs.Seats.{SawMore};
+ghost use Rattle.feed_threads.specs.Shown.{IsShown, ShowsOn};
 ghost use Rattle.feed_threads.specs.Tracks.{Does, TellsFrontOf, rest_of, rests_of, rests_by};
 
 use crate::ask::ask;
-use crate::desk::Desk;
+use crate::desk::{Desk, Shown};
 use crate::feed::Feed;
 use crate::places::take_of;
 use dn_formats::{Line, Told};
@@ -23,13 +24,16 @@ fn do_line<S: Source, G: Gate, R: Threads + Wait + Sync>(
     rt: &R,
     desk: &Desk<'_, G>,
     seat: &mut Seat,
+    shown: &mut Shown,
     feeds: &mut Vec<Feed<S>>,
     line: &Line,
     told: &mut List<Told>,
 ) -> Result<(), OutOfMemory>
     requires lock { IsSeatOf desk.now seat.old }
     requires routers { HaveRouters desk.now.setup.basis.topology feeds.old.items }
+    requires shown { IsShown desk.now.setup.basis.topology seat.old.seen shown.old }
     ensures saw { SawMore seat.old seat.new }
+    ensures shows { ShowsOn desk.now.setup.basis.topology seat.new.seen shown.old shown.new }
     ensures does { OnOk result (Does desk.now S.left S.faults S.place seat.old seat.new
         feeds.old.items feeds.new.items told.old told.new (line.now ∷ [])) }
     ensures err { OnErr result (told.new ≡ told.old) }
@@ -37,7 +41,7 @@ fn do_line<S: Source, G: Gate, R: Threads + Wait + Sync>(
     ensures routers { HaveRouters desk.now.setup.basis.topology feeds.new.items }
 {
     match line {
-        Line::Take { router, count, .. } => take_of(rt, desk, seat, feeds, *router, *count),
+        Line::Take { router, count, .. } => take_of(rt, desk, seat, shown, feeds, *router, *count),
         Line::Ask { line, query } => ask(rt, desk, seat, *line, query, told),
     }
 }
@@ -47,13 +51,16 @@ fn do_lines<S: Source, G: Gate, R: Threads + Wait + Sync>(
     rt: &R,
     desk: &Desk<'_, G>,
     seat: &mut Seat,
+    shown: &mut Shown,
     feeds: &mut Vec<Feed<S>>,
     lines: &[Line],
     told: &mut List<Told>,
 ) -> Result<(), OutOfMemory>
     requires lock { IsSeatOf desk.now seat.old }
     requires routers { HaveRouters desk.now.setup.basis.topology feeds.old.items }
+    requires shown { IsShown desk.now.setup.basis.topology seat.old.seen shown.old }
     ensures saw { SawMore seat.old seat.new }
+    ensures shows { ShowsOn desk.now.setup.basis.topology seat.new.seen shown.old shown.new }
     ensures does { OnOk result (Does desk.now S.left S.faults S.place seat.old seat.new
         feeds.old.items feeds.new.items told.old told.new lines.now) }
     ensures front { TellsFrontOf desk.now S.left S.faults S.place seat.old seat.new
@@ -62,7 +69,7 @@ fn do_lines<S: Source, G: Gate, R: Threads + Wait + Sync>(
     ensures routers { HaveRouters desk.now.setup.basis.topology feeds.new.items }
 {
     for line in lines {
-        do_line(rt, desk, seat, feeds, line, told)?;
+        do_line(rt, desk, seat, shown, feeds, line, told)?;
     }
     Ok(())
 }
@@ -72,19 +79,22 @@ fn take_rest_of<S: Source, G: Gate, R: Wait>(
     rt: &R,
     desk: &Desk<'_, G>,
     seat: &mut Seat,
+    shown: &mut Shown,
     feeds: &mut Vec<Feed<S>>,
     line: &Line,
 ) -> Result<(), OutOfMemory>
     requires lock { IsSeatOf desk.now seat.old }
     requires routers { HaveRouters desk.now.setup.basis.topology feeds.old.items }
+    requires shown { IsShown desk.now.setup.basis.topology seat.old.seen shown.old }
     ensures saw { SawMore seat.old seat.new }
+    ensures shows { ShowsOn desk.now.setup.basis.topology seat.new.seen shown.old shown.new }
     ensures does { OnOk result ((told : List ToldIs) → Does desk.now S.left S.faults S.place seat.old seat.new
         feeds.old.items feeds.new.items told told (rest_of line.now)) }
     ensures reads { ReadOn desk.now.setup.basis.topology S.left S.faults S.place feeds.old.items feeds.new.items }
     ensures routers { HaveRouters desk.now.setup.basis.topology feeds.new.items }
 {
     match line {
-        Line::Take { router, .. } => take_of(rt, desk, seat, feeds, *router, None),
+        Line::Take { router, .. } => take_of(rt, desk, seat, shown, feeds, *router, None),
         Line::Ask { .. } => Ok(()),
     }
 }
@@ -94,19 +104,22 @@ fn take_rests<S: Source, G: Gate, R: Wait>(
     rt: &R,
     desk: &Desk<'_, G>,
     seat: &mut Seat,
+    shown: &mut Shown,
     feeds: &mut Vec<Feed<S>>,
     lines: &[Line],
 ) -> Result<(), OutOfMemory>
     requires lock { IsSeatOf desk.now seat.old }
     requires routers { HaveRouters desk.now.setup.basis.topology feeds.old.items }
+    requires shown { IsShown desk.now.setup.basis.topology seat.old.seen shown.old }
     ensures saw { SawMore seat.old seat.new }
+    ensures shows { ShowsOn desk.now.setup.basis.topology seat.new.seen shown.old shown.new }
     ensures does { OnOk result ((told : List ToldIs) → Does desk.now S.left S.faults S.place seat.old seat.new
         feeds.old.items feeds.new.items told told (rests_of lines.now)) }
     ensures reads { ReadOn desk.now.setup.basis.topology S.left S.faults S.place feeds.old.items feeds.new.items }
     ensures routers { HaveRouters desk.now.setup.basis.topology feeds.new.items }
 {
     for line in lines {
-        take_rest_of(rt, desk, seat, feeds, line)?;
+        take_rest_of(rt, desk, seat, shown, feeds, line)?;
     }
     Ok(())
 }
@@ -116,18 +129,21 @@ fn take_all<S: Source, G: Gate, R: Wait>(
     rt: &R,
     desk: &Desk<'_, G>,
     seat: &mut Seat,
+    shown: &mut Shown,
     feeds: &mut Vec<Feed<S>>,
 ) -> Result<(), OutOfMemory>
     requires lock { IsSeatOf desk.now seat.old }
     requires routers { HaveRouters desk.now.setup.basis.topology feeds.old.items }
+    requires shown { IsShown desk.now.setup.basis.topology seat.old.seen shown.old }
     ensures saw { SawMore seat.old seat.new }
+    ensures shows { ShowsOn desk.now.setup.basis.topology seat.new.seen shown.old shown.new }
     ensures does { OnOk result ((told : List ToldIs) → Does desk.now S.left S.faults S.place seat.old seat.new
         feeds.old.items feeds.new.items told told (rests_by feeds.old.items)) }
     ensures reads { ReadOn desk.now.setup.basis.topology S.left S.faults S.place feeds.old.items feeds.new.items }
 {
     for at in 0..feeds.len() {
         let router = feeds[at].reader.told().router;
-        take_of(rt, desk, seat, feeds, router, None)?;
+        take_of(rt, desk, seat, shown, feeds, router, None)?;
     }
     Ok(())
 }
@@ -138,13 +154,16 @@ pub(crate) fn do_all<S: Source, G: Gate, R: Threads + Wait + Sync>(
     rt: &R,
     desk: &Desk<'_, G>,
     seat: &mut Seat,
+    shown: &mut Shown,
     feeds: &mut Vec<Feed<S>>,
     lines: &[Line],
     told: &mut List<Told>,
 ) -> Result<(), OutOfMemory>
     requires lock { IsSeatOf desk.now seat.old }
     requires routers { HaveRouters desk.now.setup.basis.topology feeds.old.items }
+    requires shown { IsShown desk.now.setup.basis.topology seat.old.seen shown.old }
     ensures saw { SawMore seat.old seat.new }
+    ensures shows { ShowsOn desk.now.setup.basis.topology seat.new.seen shown.old shown.new }
     ensures does { OnOk result (Does desk.now S.left S.faults S.place seat.old seat.new
         feeds.old.items feeds.new.items told.old told.new
         ((lines.now ++ rests_of lines.now) ++ rests_by feeds.old.items)) }
@@ -152,7 +171,7 @@ pub(crate) fn do_all<S: Source, G: Gate, R: Threads + Wait + Sync>(
         feeds.old.items told.old told.new lines.now }
     ensures reads { ReadOn desk.now.setup.basis.topology S.left S.faults S.place feeds.old.items feeds.new.items }
 {
-    do_lines(rt, desk, seat, feeds, lines, told)?;
-    take_rests(rt, desk, seat, feeds, lines)?;
-    take_all(rt, desk, seat, feeds)
+    do_lines(rt, desk, seat, shown, feeds, lines, told)?;
+    take_rests(rt, desk, seat, shown, feeds, lines)?;
+    take_all(rt, desk, seat, shown, feeds)
 }

@@ -6,8 +6,9 @@ ghost use Rattle.version_lock.specs.Callers.{IsSeatOf};
 ghost use Rattle.feed_threads.specs.Feeds.{told_with};
 ghost use Rattle.feed_threads.specs.Jobs.{AreApart, Ends, IsFresh, back_of, lines_of};
 ghost use Rattle.feed_threads.specs.Seats.{own_of, SawMore};
+ghost use Rattle.feed_threads.specs.Shown.{IsShown, ShowsOn};
 
-use crate::desk::Desk;
+use crate::desk::{Desk, Shown};
 use crate::feed::Feed;
 use crate::job::{Job, JobDone};
 use crate::lines::do_all;
@@ -37,12 +38,54 @@ pub(crate) fn give_back<S: Source>(
 }
 
 /// The lines of a script, if there is one.
-fn lines_of_script(script: &Option<Script>) -> &[Line]
+pub(crate) fn lines_of_script(script: &Option<Script>) -> &[Line]
     ensures { result.now ≡ lines_of script.now }
 {
     match script {
         Some(script) => script.lines.as_slice(),
         None => &[],
+    }
+}
+
+/// Runs a job, and shows what it applies to the jobs that read alone, where there are such.
+pub(crate) fn run_shown<S: Source, G: Gate, R: Threads + Wait + Sync>(
+    rt: &R,
+    alloc: Global,
+    lock: &VersionLock<Store>,
+    seat: &mut Seat,
+    shown: &mut Shown,
+    gate: &G,
+    topology: &Topology,
+    job: Job<S>,
+) -> JobDone<S>
+    requires lock { IsSeatOf lock.now seat.old }
+    requires topology { topology.now ≡ lock.now.setup.basis.topology }
+    requires fresh { All (IsFresh topology.now S.faults) job.feeds }
+    requires apart { AreApart job.feeds }
+    requires shown { IsShown topology.now seat.old.seen shown.old }
+    ensures saw { SawMore seat.old seat.new }
+    ensures number { result.number ≡ job.number }
+    ensures ends { Ends topology.now S.left S.faults S.place lock.now.setup.basis.limit
+        seat.old.number (own_of seat.old.number seat.old.seen) seat.new.seen
+        job result.wanted_memory result.told result.feeds.items }
+    ensures shows { ShowsOn topology.now seat.new.seen shown.old shown.new }
+{
+    let Job {
+        number,
+        script,
+        feeds,
+        room,
+    } = job;
+    let desk = Desk::new(alloc, lock, topology, gate, number);
+    let mut feeds = feeds;
+    let mut told = List::new(alloc);
+    let lines = lines_of_script(&script);
+    let done = do_all(rt, &desk, seat, shown, &mut feeds, lines, &mut told);
+    JobDone {
+        number,
+        told,
+        feeds: give_back(feeds, room),
+        wanted_memory: done.is_err(),
     }
 }
 
@@ -69,21 +112,10 @@ pub fn run_job<S: Source, G: Gate, R: Threads + Wait + Sync>(
         seat.old.number (own_of seat.old.number seat.old.seen) seat.new.seen
         job result.wanted_memory result.told result.feeds.items }
 {
-    let Job {
-        number,
-        script,
-        feeds,
-        room,
-    } = job;
-    let desk = Desk::new(alloc, lock, topology, gate, number);
-    let mut feeds = feeds;
-    let mut told = List::new(alloc);
-    let lines = lines_of_script(&script);
-    let done = do_all(rt, &desk, seat, &mut feeds, lines, &mut told);
-    JobDone {
-        number,
-        told,
-        feeds: give_back(feeds, room),
-        wanted_memory: done.is_err(),
+    let mut shown = None;
+    let done = run_shown(rt, alloc, lock, seat, &mut shown, gate, topology, job);
+    if let Some(publisher) = shown {
+        publisher.close(rt);
     }
+    done
 }

@@ -4,9 +4,10 @@ ghost use Rattle.std.specs.Prelude.{◌≡◌, ◌<◌, length, OnOk, OnErr};
 ghost use Rattle.std.specs.List.{position};
 ghost use Rattle.version_lock.specs.Callers.{IsSeatOf};
 ghost use Rattle.feed_threads.specs.Seats.{SawMore};
+ghost use Rattle.feed_threads.specs.Shown.{IsShown, ShowsOn};
 ghost use Rattle.feed_threads.specs.Places.{is_feed_of, HaveRouters, ReadOn, TakesFrom, TakesOf, FailsFrom, FailsOf};
 
-use crate::desk::Desk;
+use crate::desk::{Desk, Shown};
 use crate::feed::Feed;
 use crate::take::take_frames;
 use dn_io::{Gate, Source};
@@ -28,6 +29,7 @@ fn take_at<S: Source, G: Gate, R: Wait>(
     rt: &R,
     desk: &Desk<'_, G>,
     seat: &mut Seat,
+    shown: &mut Shown,
     feeds: &mut Vec<Feed<S>>,
     at: usize,
     count: Option<u32>,
@@ -35,13 +37,18 @@ fn take_at<S: Source, G: Gate, R: Wait>(
     requires lock { IsSeatOf desk.now seat.old }
     requires routers { HaveRouters desk.now.setup.basis.topology feeds.old.items }
     requires place { at < length feeds.old.items }
+    requires shown { IsShown desk.now.setup.basis.topology seat.old.seen shown.old }
     ensures saw { SawMore seat.old seat.new }
-    ensures took { OnOk result (TakesFrom desk.now.setup.basis.topology S.left S.faults S.place desk.now.setup.basis.limit seat.old.number at count feeds.old.items feeds.new.items seat.old.seen seat.new.seen) }
-    ensures first { OnErr result (FailsFrom desk.now.setup.basis.topology S.left S.faults S.place desk.now.setup.basis.limit seat.old.number at feeds.old.items feeds.new.items seat.old.seen seat.new.seen) }
+    ensures shows { ShowsOn desk.now.setup.basis.topology seat.new.seen shown.old shown.new }
+    ensures took { OnOk result (TakesFrom desk.now.setup.basis.topology S.left S.faults S.place
+        desk.now.setup.basis.limit seat.old.number at count feeds.old.items feeds.new.items seat.old.seen
+        seat.new.seen) }
+    ensures first { OnErr result (FailsFrom desk.now.setup.basis.topology S.left S.faults S.place
+        desk.now.setup.basis.limit seat.old.number at feeds.old.items feeds.new.items seat.old.seen seat.new.seen) }
     ensures reads { ReadOn desk.now.setup.basis.topology S.left S.faults S.place feeds.old.items feeds.new.items }
     ensures routers { HaveRouters desk.now.setup.basis.topology feeds.new.items }
 {
-    take_frames(rt, desk, seat, &mut feeds[at], count)
+    take_frames(rt, desk, seat, shown, &mut feeds[at], count)
 }
 
 /// Takes frames of this router's feed, where the job has it.
@@ -49,20 +56,25 @@ pub(crate) fn take_of<S: Source, G: Gate, R: Wait>(
     rt: &R,
     desk: &Desk<'_, G>,
     seat: &mut Seat,
+    shown: &mut Shown,
     feeds: &mut Vec<Feed<S>>,
     router: RouterId,
     count: Option<u32>,
 ) -> Result<(), OutOfMemory>
     requires lock { IsSeatOf desk.now seat.old }
     requires routers { HaveRouters desk.now.setup.basis.topology feeds.old.items }
+    requires shown { IsShown desk.now.setup.basis.topology seat.old.seen shown.old }
     ensures saw { SawMore seat.old seat.new }
-    ensures took { OnOk result (TakesOf desk.now.setup.basis.topology S.left S.faults S.place desk.now.setup.basis.limit seat.old.number router count feeds.old.items feeds.new.items seat.old.seen seat.new.seen) }
-    ensures first { OnErr result (FailsOf desk.now.setup.basis.topology S.left S.faults S.place desk.now.setup.basis.limit seat.old.number router feeds.old.items feeds.new.items seat.old.seen seat.new.seen) }
+    ensures shows { ShowsOn desk.now.setup.basis.topology seat.new.seen shown.old shown.new }
+    ensures took { OnOk result (TakesOf desk.now.setup.basis.topology S.left S.faults S.place desk.now.setup.basis.limit
+        seat.old.number router count feeds.old.items feeds.new.items seat.old.seen seat.new.seen) }
+    ensures first { OnErr result (FailsOf desk.now.setup.basis.topology S.left S.faults S.place
+        desk.now.setup.basis.limit seat.old.number router feeds.old.items feeds.new.items seat.old.seen seat.new.seen) }
     ensures reads { ReadOn desk.now.setup.basis.topology S.left S.faults S.place feeds.old.items feeds.new.items }
     ensures routers { HaveRouters desk.now.setup.basis.topology feeds.new.items }
 {
     match place_of(feeds.as_slice(), router) {
-        Some(at) => take_at(rt, desk, seat, feeds, at, count),
+        Some(at) => take_at(rt, desk, seat, shown, feeds, at, count),
         None => Ok(()),
     }
 }

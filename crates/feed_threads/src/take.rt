@@ -6,9 +6,10 @@ ghost use Rattle.dn_model.specs.Entry.{IsOpOf};
 ghost use Rattle.version_lock.specs.Callers.{IsSeatOf};
 ghost use Rattle.feed_threads.specs.Feeds.{ReadsOn, end_of_feed};
 ghost use Rattle.feed_threads.specs.Seats.{own_of, SawMore};
+ghost use Rattle.feed_threads.specs.Shown.{IsShown, ShowsOn};
 ghost use Rattle.feed_threads.specs.Takes.{GivesFirst, HasTaken, TakesSome, TookFirst};
 
-use crate::desk::Desk;
+use crate::desk::{Desk, Shown};
 use crate::feed::{Feed, next_step};
 use dn_io::{Gate, Source};
 use dn_model::{Entry, Op, OutOfMemory, RouterId};
@@ -31,7 +32,8 @@ fn post_all<G: Gate, R: Wait>(
     requires ops { All (IsOpOf desk.now.setup.basis.topology) ops.now }
     ensures saw { SawMore seat.old seat.new }
     ensures few { IfOk result (λ n. n ≤ length ops.now) }
-    ensures own { IfOk result (λ n. own_of seat.old.number seat.new.seen ≡ own_of seat.old.number seat.old.seen ++ entries_by feed_no router (take n ops.now)) }
+    ensures own { IfOk result (λ n. own_of seat.old.number seat.new.seen ≡ own_of seat.old.number seat.old.seen
+        ++ entries_by feed_no router (take n ops.now)) }
     ensures first { OnErr result (TookFirst seat.old.number feed_no router seat.old.seen seat.new.seen ops.now) }
     ensures full { IfOk result (λ n. n < length ops.now → desk.now.setup.basis.limit ≤ length seat.new.seen) }
 {
@@ -64,8 +66,10 @@ fn take_ops<S: Source, G: Gate, R: Wait>(
     requires going { feed.old.kept ≡ None }
     ensures saw { SawMore seat.old seat.new }
     ensures reader { feed.new.reader ≡ feed.old.reader }
-    ensures took { IfOk result (λ more. HasTaken desk.now.setup.basis.limit seat.old.number more feed.new.kept feed.old.reader.told seat.old.seen seat.new.seen ops.now) }
-    ensures first { OnErr result (TookFirst seat.old.number feed.old.reader.told.feed_no feed.old.reader.told.router seat.old.seen seat.new.seen ops.now) }
+    ensures took { IfOk result (λ more. HasTaken desk.now.setup.basis.limit seat.old.number more feed.new.kept
+        feed.old.reader.told seat.old.seen seat.new.seen ops.now) }
+    ensures first { OnErr result (TookFirst seat.old.number feed.old.reader.told.feed_no feed.old.reader.told.router
+        seat.old.seen seat.new.seen ops.now) }
 {
     let feed_no = feed.reader.told().feed_no;
     let router = feed.reader.told().router;
@@ -89,10 +93,13 @@ fn take_frame<S: Source, G: Gate, R: Wait>(
     requires lock { IsSeatOf desk.now seat.old }
     requires router { feed.old.reader.told.router.0 < length desk.now.setup.basis.topology.routers }
     ensures saw { SawMore seat.old seat.new }
-    ensures taken { OnOk result (TakesSome desk.now.setup.basis.topology S.left S.faults S.place desk.now.setup.basis.limit seat.old.number (Some 1) feed.old feed.new seat.old.seen seat.new.seen) }
-    ensures first { OnErr result (GivesFirst desk.now.setup.basis.topology S.left S.faults S.place desk.now.setup.basis.limit seat.old.number feed.old feed.new seat.old.seen seat.new.seen) }
+    ensures taken { OnOk result (TakesSome desk.now.setup.basis.topology S.left S.faults S.place
+        desk.now.setup.basis.limit seat.old.number (Some 1) feed.old feed.new seat.old.seen seat.new.seen) }
+    ensures first { OnErr result (GivesFirst desk.now.setup.basis.topology S.left S.faults S.place
+        desk.now.setup.basis.limit seat.old.number feed.old feed.new seat.old.seen seat.new.seen) }
     ensures more { IfOk result (λ more. more ≡ is_none (end_of_feed feed.new)) }
-    ensures grows { IfOk result (λ more. more ≡ true → (feed.old.reader.passed < feed.new.reader.passed) × (feed.new.reader.passed ≤ feed.new.reader.limit)) }
+    ensures grows { IfOk result (λ more. more ≡ true → (feed.old.reader.passed < feed.new.reader.passed)
+        × (feed.new.reader.passed ≤ feed.new.reader.limit)) }
     ensures reads { ReadsOn desk.now.setup.basis.topology S.left S.faults S.place feed.old.reader feed.new.reader }
     ensures limit { feed.new.reader.limit ≡ feed.old.reader.limit }
 {
@@ -110,24 +117,59 @@ fn take_frame<S: Source, G: Gate, R: Wait>(
     }
 }
 
+/// The same; but where the job may wait for the frame's bytes, what was applied until then is shown before.
+fn take_shown<S: Source, G: Gate, R: Wait>(
+    rt: &R,
+    desk: &Desk<'_, G>,
+    seat: &mut Seat,
+    shown: &mut Shown,
+    feed: &mut Feed<S>,
+) -> Result<bool, OutOfMemory>
+    requires lock { IsSeatOf desk.now seat.old }
+    requires router { feed.old.reader.told.router.0 < length desk.now.setup.basis.topology.routers }
+    requires shown { IsShown desk.now.setup.basis.topology seat.old.seen shown.old }
+    ensures saw { SawMore seat.old seat.new }
+    ensures shows { ShowsOn desk.now.setup.basis.topology seat.new.seen shown.old shown.new }
+    ensures taken { OnOk result (TakesSome desk.now.setup.basis.topology S.left S.faults S.place
+        desk.now.setup.basis.limit seat.old.number (Some 1) feed.old feed.new seat.old.seen seat.new.seen) }
+    ensures first { OnErr result (GivesFirst desk.now.setup.basis.topology S.left S.faults S.place
+        desk.now.setup.basis.limit seat.old.number feed.old feed.new seat.old.seen seat.new.seen) }
+    ensures more { IfOk result (λ more. more ≡ is_none (end_of_feed feed.new)) }
+    ensures grows { IfOk result (λ more. more ≡ true → (feed.old.reader.passed < feed.new.reader.passed)
+        × (feed.new.reader.passed ≤ feed.new.reader.limit)) }
+    ensures reads { ReadsOn desk.now.setup.basis.topology S.left S.faults S.place feed.old.reader feed.new.reader }
+    ensures limit { feed.new.reader.limit ≡ feed.old.reader.limit }
+{
+    if !feed.waits() {
+        return take_frame(rt, desk, seat, feed);
+    }
+    desk.show(rt, seat, shown)?;
+    take_frame(rt, desk, seat, feed)
+}
+
 /// Takes this many frames of a feed, or what is left where they are fewer.
 fn take_some<S: Source, G: Gate, R: Wait>(
     rt: &R,
     desk: &Desk<'_, G>,
     seat: &mut Seat,
+    shown: &mut Shown,
     feed: &mut Feed<S>,
     count: u32,
 ) -> Result<(), OutOfMemory>
     requires lock { IsSeatOf desk.now seat.old }
     requires router { feed.old.reader.told.router.0 < length desk.now.setup.basis.topology.routers }
+    requires shown { IsShown desk.now.setup.basis.topology seat.old.seen shown.old }
     ensures saw { SawMore seat.old seat.new }
-    ensures taken { OnOk result (TakesSome desk.now.setup.basis.topology S.left S.faults S.place desk.now.setup.basis.limit seat.old.number (Some count) feed.old feed.new seat.old.seen seat.new.seen) }
-    ensures first { OnErr result (GivesFirst desk.now.setup.basis.topology S.left S.faults S.place desk.now.setup.basis.limit seat.old.number feed.old feed.new seat.old.seen seat.new.seen) }
+    ensures shows { ShowsOn desk.now.setup.basis.topology seat.new.seen shown.old shown.new }
+    ensures taken { OnOk result (TakesSome desk.now.setup.basis.topology S.left S.faults S.place
+        desk.now.setup.basis.limit seat.old.number (Some count) feed.old feed.new seat.old.seen seat.new.seen) }
+    ensures first { OnErr result (GivesFirst desk.now.setup.basis.topology S.left S.faults S.place
+        desk.now.setup.basis.limit seat.old.number feed.old feed.new seat.old.seen seat.new.seen) }
     ensures reads { ReadsOn desk.now.setup.basis.topology S.left S.faults S.place feed.old.reader feed.new.reader }
 {
     for taken in 0..count {
         let _ = taken;
-        if !take_frame(rt, desk, seat, feed)? {
+        if !take_shown(rt, desk, seat, shown, feed)? {
             return Ok(());
         }
     }
@@ -139,18 +181,23 @@ fn take_rest<S: Source, G: Gate, R: Wait>(
     rt: &R,
     desk: &Desk<'_, G>,
     seat: &mut Seat,
+    shown: &mut Shown,
     feed: &mut Feed<S>,
 ) -> Result<(), OutOfMemory>
     requires lock { IsSeatOf desk.now seat.old }
     requires router { feed.old.reader.told.router.0 < length desk.now.setup.basis.topology.routers }
+    requires shown { IsShown desk.now.setup.basis.topology seat.old.seen shown.old }
     ensures saw { SawMore seat.old seat.new }
-    ensures taken { OnOk result (TakesSome desk.now.setup.basis.topology S.left S.faults S.place desk.now.setup.basis.limit seat.old.number None feed.old feed.new seat.old.seen seat.new.seen) }
-    ensures first { OnErr result (GivesFirst desk.now.setup.basis.topology S.left S.faults S.place desk.now.setup.basis.limit seat.old.number feed.old feed.new seat.old.seen seat.new.seen) }
+    ensures shows { ShowsOn desk.now.setup.basis.topology seat.new.seen shown.old shown.new }
+    ensures taken { OnOk result (TakesSome desk.now.setup.basis.topology S.left S.faults S.place
+        desk.now.setup.basis.limit seat.old.number None feed.old feed.new seat.old.seen seat.new.seen) }
+    ensures first { OnErr result (GivesFirst desk.now.setup.basis.topology S.left S.faults S.place
+        desk.now.setup.basis.limit seat.old.number feed.old feed.new seat.old.seen seat.new.seen) }
     ensures reads { ReadsOn desk.now.setup.basis.topology S.left S.faults S.place feed.old.reader feed.new.reader }
 {
     let mut more = true;
     while more {
-        more = take_frame(rt, desk, seat, feed)?;
+        more = take_shown(rt, desk, seat, shown, feed)?;
     }
     Ok(())
 }
@@ -161,18 +208,23 @@ pub(crate) fn take_frames<S: Source, G: Gate, R: Wait>(
     rt: &R,
     desk: &Desk<'_, G>,
     seat: &mut Seat,
+    shown: &mut Shown,
     feed: &mut Feed<S>,
     count: Option<u32>,
 ) -> Result<(), OutOfMemory>
     requires lock { IsSeatOf desk.now seat.old }
     requires router { feed.old.reader.told.router.0 < length desk.now.setup.basis.topology.routers }
+    requires shown { IsShown desk.now.setup.basis.topology seat.old.seen shown.old }
     ensures saw { SawMore seat.old seat.new }
-    ensures taken { OnOk result (TakesSome desk.now.setup.basis.topology S.left S.faults S.place desk.now.setup.basis.limit seat.old.number count feed.old feed.new seat.old.seen seat.new.seen) }
-    ensures first { OnErr result (GivesFirst desk.now.setup.basis.topology S.left S.faults S.place desk.now.setup.basis.limit seat.old.number feed.old feed.new seat.old.seen seat.new.seen) }
+    ensures shows { ShowsOn desk.now.setup.basis.topology seat.new.seen shown.old shown.new }
+    ensures taken { OnOk result (TakesSome desk.now.setup.basis.topology S.left S.faults S.place
+        desk.now.setup.basis.limit seat.old.number count feed.old feed.new seat.old.seen seat.new.seen) }
+    ensures first { OnErr result (GivesFirst desk.now.setup.basis.topology S.left S.faults S.place
+        desk.now.setup.basis.limit seat.old.number feed.old feed.new seat.old.seen seat.new.seen) }
     ensures reads { ReadsOn desk.now.setup.basis.topology S.left S.faults S.place feed.old.reader feed.new.reader }
 {
     match count {
-        Some(count) => take_some(rt, desk, seat, feed, count),
-        None => take_rest(rt, desk, seat, feed),
+        Some(count) => take_some(rt, desk, seat, shown, feed, count),
+        None => take_rest(rt, desk, seat, shown, feed),
     }
 }

@@ -1,6 +1,6 @@
 //! The reader of a router's feed.
 
-ghost use Rattle.std.specs.Prelude.{◌≡◌, ℕ, ◌+◌, ◌<◌, ◌≤◌, ◌^◌, List, [], ◌++◌, length, Option, None, Some, IfOk, IsOkAnd, OnErr};
+ghost use Rattle.std.specs.Prelude.{◌≡◌, ℕ, ◌+◌, ◌<◌, ◌≤◌, ◌^◌, List, [], ◌++◌, length, Option, None, Some, IfOk, IsOkAnd, OnErr, false};
 ghost use Rattle.dn_io.specs.Told.{with_front};
 ghost use Rattle.dn_formats.specs.Steps.{FrameStep};
 ghost use Rattle.dn_model.specs.declared.topology.Topology.{Topology};
@@ -119,6 +119,13 @@ impl<S: Source> FeedReader<S> {
             Some(end) => Ok(end_with(&mut self.told, end)),
             None => hand_out(alloc, &mut self.intake, &mut self.told, topology),
         }
+    }
+
+    /// Whether the next answer wants more bytes of the source, for which `next_frame` may wait. After an end none does.
+    pub fn wants_more(&self) -> bool
+        ensures ended { (end : FeedEnd) → self.now.told.end ≡ Some end → result ≡ false }
+    {
+        self.told.end.is_none() && self.intake.wants_more()
     }
 
     /// What is told of the feed so far.

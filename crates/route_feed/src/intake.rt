@@ -138,6 +138,17 @@ impl<S: Source> Intake<S> {
         self.cutter.next()
     }
 
+    /// Whether the bytes held are the front of a frame alone, so that the next one wants more of the source.
+    pub fn wants_more(&self) -> bool
+        ensures { IsTrue result ↔ IsFrameFront self.now.held }
+    {
+        match self.cutter.next() {
+            Next::More => true,
+            Next::Frame { .. } => false,
+            Next::Lost { .. } => false,
+        }
+    }
+
     /// Passes the frame at the front of the bytes held.
     pub fn pass(&mut self)
         requires { BeginsFrame self.old.held }

@@ -1,5 +1,5 @@
 use Rattle.std.specs.String.{string_bytes}
-use Rattle.std.proofs.Common.{List, [], map, length, ap, sym, ◌∙◌, subst, arith}
+use Rattle.std.proofs.Common.{List, [], length, ap, sym, ◌∙◌, subst, arith}
 use Rattle.dn_io.specs.Calls.{Call}
 use Rattle.dn_run.specs.PartsRead.{parts_texts}
 use Rattle.dn_run.specs.Jobs.{scripts_of}

@@ -1,5 +1,5 @@
-use Rattle.std.proofs.Common.{◌≡◌, ◌∷◌, [], ◌∙◌, ap, refl, subst, sym}
-use Rattle.dn_run.specs.Made.{IsMadeRun, TellsCycles, summary_text, told_cycles}
+use Rattle.std.proofs.Common.{◌≡◌, ◌∙◌, ap, refl, subst, sym}
+use Rattle.dn_run.specs.Made.{IsMadeRun, TellsCycles, summary_text}
 use Rattle.dn_run.proofs.MadeLemmas.{tells-cycles}
 use Rattle.dn_run.proofs.made.make.Goals as goal
 

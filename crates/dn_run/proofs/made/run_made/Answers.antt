@@ -1,9 +1,7 @@
 use Rattle.std.specs.Arc.{arc_value}
-use Rattle.std.proofs.Common.{◌≡◌, ◌∙◌, ap, subst}
+use Rattle.std.proofs.Common.{◌≡◌}
 use Rattle.dn_formats.specs.TopologyText.{parts}
-use Rattle.dn_run.specs.Jobs.{HasRun, scripts_of}
-use Rattle.dn_run.specs.Made.{made_lines, made_network}
-use Rattle.dn_run.specs.MadeReaders.{made_readers}
+use Rattle.dn_run.specs.Made.{made_network}
 use Rattle.dn_run.proofs.MadeLemmas.{made-run}
 use Rattle.dn_run.proofs.made.run_made.Goals as goal
 

@@ -1,5 +1,6 @@
 use Rattle.feed_threads.proofs.DoesLemmas.{does-all, front-later, read-more}
 use Rattle.feed_threads.proofs.SeatLemmas.{saw-more}
+use Rattle.feed_threads.proofs.ShownLemmas.{shows-more}
 use Rattle.feed_threads.proofs.lines.do_all.Goals as goal
 
 pub returns-in_err-take_rests-clause-saw : goal.returns-in_err-take_rests-clause-saw
@@ -33,3 +34,9 @@ pub returns-clause-reads : goal.returns-clause-reads
 returns-clause-reads g c =
     read-more c.args.desk.now.setup.basis.topology g.S.Source.left g.S.Source.faults g.S.Source.place _ _ _
     (read-more c.args.desk.now.setup.basis.topology g.S.Source.left g.S.Source.faults g.S.Source.place _ _ _ c.do_lines.ensures.reads c.take_rests.ensures.reads) c.take_all.ensures.reads
+
+pub returns-in_err-take_rests-clause-shows : goal.returns-in_err-take_rests-clause-shows
+returns-in_err-take_rests-clause-shows g c = shows-more _ _ _ _ _ _ c.do_lines.ensures.shows c.take_rests.ensures.shows
+
+pub returns-clause-shows : goal.returns-clause-shows
+returns-clause-shows g c = shows-more _ _ _ _ _ _ (shows-more _ _ _ _ _ _ c.do_lines.ensures.shows c.take_rests.ensures.shows) c.take_all.ensures.shows

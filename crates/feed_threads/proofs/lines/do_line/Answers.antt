@@ -1,5 +1,6 @@
 use Rattle.feed_threads.proofs.DoesLemmas.{does-took, does-asked}
 use Rattle.feed_threads.proofs.PlaceLemmas.{read-none}
+use Rattle.feed_threads.proofs.ShownLemmas.{shows-still}
 use Rattle.feed_threads.proofs.lines.do_line.Goals as goal
 
 pub returns-in-Take-clause-does : goal.returns-in-Take-clause-does
@@ -14,3 +15,6 @@ returns-in-Ask-clause-does g c =
 
 pub returns-in-Ask-clause-reads : goal.returns-in-Ask-clause-reads
 returns-in-Ask-clause-reads g c = read-none c.args.desk.now.setup.basis.topology g.S.Source.left g.S.Source.faults g.S.Source.place c.args.desk.now.setup.basis.limit c.args.feeds.now.items
+
+pub returns-in-Ask-clause-shows : goal.returns-in-Ask-clause-shows
+returns-in-Ask-clause-shows g c = shows-still _ _ _ _ c.ask.ensures.saw.seen c.requires.shown

@@ -8,11 +8,13 @@ use Rattle.feed_threads.specs.Tracks.{Does, rest_by, rests_by}
 use Rattle.feed_threads.proofs.DoesLemmas.{does-none, does-more, does-at, rests-at, read-length, read-more}
 use Rattle.feed_threads.proofs.PlaceLemmas.{read-none}
 use Rattle.feed_threads.proofs.SeatLemmas.{saw-none, saw-more}
+use Rattle.feed_threads.proofs.ShownLemmas.{shows-more, shows-none}
 use Rattle.feed_threads.proofs.lines.take_all.Goals as goal
 
 pub loop-at-init : goal.loop-at-init
 loop-at-init g c = record {
   saw = saw-none c.args.seat.now;
+  shows = shows-none _ _ _ c.requires.shown;
   does = λ told. does-none c.args.desk.now g.S.Source.left g.S.Source.faults g.S.Source.place c.args.seat.now c.args.feeds.now.items told;
   reads = read-none c.args.desk.now.setup.basis.topology g.S.Source.left g.S.Source.faults g.S.Source.place c.args.desk.now.setup.basis.limit c.args.feeds.now.items;
   routers = c.requires.routers;
@@ -26,6 +28,7 @@ loop-at-preserved g c =
     c.index.ensures c.told.result.now.router (ap (λ (x : FeedTold). x.router) c.told.ensures ∙ ap (λ (f : Feed _). f.reader.told.router) c.behind-feeds.view_is) in
     record {
       saw = saw-more _ _ _ c.loop-at.invariant.saw c.take_of.ensures.saw;
+      shows = shows-more _ _ _ _ _ _ c.loop-at.invariant.shows c.take_of.ensures.shows;
       does = λ told.
           does-more c.args.desk.now g.S.Source.left g.S.Source.faults g.S.Source.place c.args.seat.now c.loop-at.seat c.take_of.new.seat c.args.feeds.now.items c.loop-at.feeds.items c.take_of.new.feeds.items
           told told told (take c.loop-at.at (rests_by c.args.feeds.now.items)) (line.Take 0 c.told.result.now.router None ∷ []) (take (c.loop-at.at + 1) (rests_by c.args.feeds.now.items))
@@ -46,3 +49,6 @@ pub returns-clause-does : goal.returns-clause-does
 returns-clause-does g c = λ told.
     subst (λ (ls : List Line). Does c.args.desk.now g.S.Source.left g.S.Source.faults g.S.Source.place c.args.seat.now c.loop-at.seat c.args.feeds.now.items c.loop-at.feeds.items told told ls)
     (take_all c.loop-at.at (rests_by c.args.feeds.now.items) (omega (arith, c.loop-at-test.false, c.len-at-end.ensures, length-map c.args.feeds.now.items (rest_by)))) (c.loop-at.invariant.does told)
+
+pub returns-in_err-take_of-clause-shows : goal.returns-in_err-take_of-clause-shows
+returns-in_err-take_of-clause-shows g c = shows-more _ _ _ _ _ _ c.loop-at.invariant.shows c.take_of.ensures.shows

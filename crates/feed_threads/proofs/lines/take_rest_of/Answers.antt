@@ -1,6 +1,7 @@
 use Rattle.feed_threads.proofs.DoesLemmas.{does-rest, does-ask}
 use Rattle.feed_threads.proofs.PlaceLemmas.{read-none}
 use Rattle.feed_threads.proofs.SeatLemmas.{saw-none}
+use Rattle.feed_threads.proofs.ShownLemmas.{shows-none}
 use Rattle.feed_threads.proofs.lines.take_rest_of.Goals as goal
 
 pub returns-in-Take-clause-does : goal.returns-in-Take-clause-does
@@ -17,3 +18,6 @@ returns-in-Ask-clause-reads g c = read-none c.args.desk.now.setup.basis.topology
 
 pub returns-in-Ask-clause-saw : goal.returns-in-Ask-clause-saw
 returns-in-Ask-clause-saw g c = saw-none c.args.seat.now
+
+pub returns-in-Ask-clause-shows : goal.returns-in-Ask-clause-shows
+returns-in-Ask-clause-shows g c = shows-none _ _ _ c.requires.shown

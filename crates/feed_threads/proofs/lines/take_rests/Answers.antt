@@ -5,11 +5,13 @@ use Rattle.feed_threads.specs.Tracks.{Does, rest_of, rests_of}
 use Rattle.feed_threads.proofs.DoesLemmas.{does-none, does-more, rests-push, read-more}
 use Rattle.feed_threads.proofs.PlaceLemmas.{read-none}
 use Rattle.feed_threads.proofs.SeatLemmas.{saw-none, saw-more}
+use Rattle.feed_threads.proofs.ShownLemmas.{shows-more, shows-none}
 use Rattle.feed_threads.proofs.lines.take_rests.Goals as goal
 
 pub loop-line-init : goal.loop-line-init
 loop-line-init g c = record {
   saw = saw-none c.args.seat.now;
+  shows = shows-none _ _ _ c.requires.shown;
   does = λ told. does-none c.args.desk.now g.S.Source.left g.S.Source.faults g.S.Source.place c.args.seat.now c.args.feeds.now.items told;
   reads = read-none c.args.desk.now.setup.basis.topology g.S.Source.left g.S.Source.faults g.S.Source.place c.args.desk.now.setup.basis.limit c.args.feeds.now.items;
   routers = c.requires.routers;
@@ -20,6 +22,7 @@ loop-line-preserved g c =
     let more : take (c.loop-line.line-index + 1) c.args.lines.now ≡ take c.loop-line.line-index c.args.lines.now ++ c.line-item.result ∷ [] = first_of (search rules, grind (arith, common_steps)) in
     record {
       saw = saw-more _ _ _ c.loop-line.invariant.saw c.take_rest_of.ensures.saw;
+      shows = shows-more _ _ _ _ _ _ c.loop-line.invariant.shows c.take_rest_of.ensures.shows;
       does = λ told.
           does-more c.args.desk.now g.S.Source.left g.S.Source.faults g.S.Source.place c.args.seat.now c.loop-line.seat c.take_rest_of.new.seat c.args.feeds.now.items c.loop-line.feeds.items c.take_rest_of.new.feeds.items
           told told told (rests_of (take c.loop-line.line-index c.args.lines.now)) (rest_of c.line-item.result) (rests_of (take (c.loop-line.line-index + 1) c.args.lines.now))
@@ -38,3 +41,6 @@ pub returns-clause-does : goal.returns-clause-does
 returns-clause-does g c = λ told.
     subst (λ (ls : List Line). Does c.args.desk.now g.S.Source.left g.S.Source.faults g.S.Source.place c.args.seat.now c.loop-line.seat c.args.feeds.now.items c.loop-line.feeds.items told told (rests_of ls))
     (take_all c.loop-line.line-index c.args.lines.now c.loop-line-test.false) (c.loop-line.invariant.does told)
+
+pub returns-in_err-take_rest_of-clause-shows : goal.returns-in_err-take_rest_of-clause-shows
+returns-in_err-take_rest_of-clause-shows g c = shows-more _ _ _ _ _ _ c.loop-line.invariant.shows c.take_rest_of.ensures.shows

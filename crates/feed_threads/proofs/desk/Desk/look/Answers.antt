@@ -1,7 +1,7 @@
 use denote.Param.Send.{sendable}
 use Rattle.std.proofs.Crossing.{crosses}
 use Rattle.version_store.proofs.Crossing.{Store-send}
-use Rattle.feed_threads.proofs.desk.Desk.pin.Goals as goal
+use Rattle.feed_threads.proofs.desk.Desk.look.Goals as goal
 
 pub pin-requires-send-B : goal.pin-requires-send-B
 pin-requires-send-B g c κs within = search (Store-send, sendable, crosses) depth 40

@@ -28,6 +28,7 @@ fn run_seated<S: Source, G: Gate, R: Threads + Wait + Sync>(
     gate: &G,
     topology: &Topology,
     job: Job<S>,
+    by_all: bool,
 ) -> (Seat, JobDone<S>)
     requires lock { IsSeatOf lock.now seat }
     requires topology { topology.now ≡ lock.now.setup.basis.topology }
@@ -39,7 +40,7 @@ fn run_seated<S: Source, G: Gate, R: Threads + Wait + Sync>(
         (own_of seat.number seat.seen) result.0.seen job result.1.wanted_memory result.1.told result.1.feeds.items }
 {
     let mut seat = seat;
-    let done = run_job(rt, alloc, lock, &mut seat, gate, topology, job);
+    let done = run_job(rt, alloc, lock, &mut seat, gate, topology, job, by_all);
     (seat, done)
 }
 
@@ -48,6 +49,39 @@ fn run_seated<S: Source, G: Gate, R: Threads + Wait + Sync>(
 pub(crate) struct Batch<S: Source> {
     pub(crate) jobs: Vec<Job<S>>,
     pub(crate) room: Vec<JobDone<S>>,
+}
+
+/// Runs the one job of a batch, which asks by all processors.
+fn run_only<S: Source, G: Gate, R: Threads + Wait + Sync>(
+    rt: &R,
+    alloc: Global,
+    lock: &VersionLock<Store>,
+    seat: Seat,
+    gate: &G,
+    topology: &Topology,
+    batch: Batch<S>,
+) -> (Seat, Vec<JobDone<S>>)
+    requires lock { IsSeatOf lock.now seat }
+    requires topology { topology.now ≡ lock.now.setup.basis.topology }
+    requires one { length batch.jobs.items ≡ 1 }
+    requires span { length batch.jobs.items ≤ seat.span }
+    requires fresh { All (λ job. All (IsFresh topology.now S.faults) job.feeds) batch.jobs.items }
+    requires apart { All (λ job. AreApart job.feeds) batch.jobs.items }
+    requires empty { batch.room.items ≡ [] }
+    requires room { length batch.jobs.items ≤ vec_capacity batch.room }
+    ensures all { AllEnd topology.now S.left S.faults S.place lock.now.setup.basis.limit lock.now seat batch.jobs.items
+        result.0 result.1.items }
+{
+    let Batch { jobs, room } = batch;
+    let mut jobs = jobs;
+    let mut dones = room;
+    let Some(only) = jobs.pop() else {
+        unreachable!();
+    };
+    let _number = seat.number();
+    let (seat, done) = run_seated(rt, alloc, lock, seat, gate, topology, only, true);
+    dones.push_reserved(done);
+    (seat, dones)
 }
 
 /// Runs the jobs of a batch side by side, and gives back the seat and what the jobs came to, in order.
@@ -85,7 +119,7 @@ fn run_batch<S: Source, G: Gate, R: Threads + Wait + Sync>(
     };
     let _number = seat.number();
     if jobs.is_empty() {
-        let (seat, done) = run_seated(rt, alloc, lock, seat, gate, topology, last);
+        let (seat, done) = run_seated(rt, alloc, lock, seat, gate, topology, last, false);
         dones.push_reserved(done);
         return (seat, dones);
     }
@@ -111,7 +145,7 @@ fn run_batch<S: Source, G: Gate, R: Threads + Wait + Sync>(
                 × Ends topology.entry.now S.left S.faults S.place lock.entry.now.setup.basis.limit other.number
                 (own_of other.number other.seen) result.0.seen last result.1.wanted_memory result.1.told
                 result.1.feeds.items }
-        { run_seated(rt, alloc, lock, other, gate, topology, last) },
+        { run_seated(rt, alloc, lock, other, gate, topology, last, false) },
     );
     let (mut seat, mut dones) = before;
     let (other, done) = after;
@@ -120,7 +154,8 @@ fn run_batch<S: Source, G: Gate, R: Threads + Wait + Sync>(
     (seat, dones)
 }
 
-/// Runs jobs side by side. Where one of them alone applies, the others pin what it shows, and wait for nobody.
+/// Runs jobs side by side. Where one of them alone applies, the others pin what it shows, and wait for nobody. A job asks by
+/// all processors where it is the only one, and else by its own thread.
 pub fn run_jobs<S: Source, G: Gate, R: Threads + Wait + Sync>(
     rt: &R,
     alloc: Global,
@@ -139,6 +174,9 @@ pub fn run_jobs<S: Source, G: Gate, R: Threads + Wait + Sync>(
         result.1.items }
 {
     let JobList { jobs, room } = jobs;
+    if jobs.len() == 1 {
+        return run_only(rt, alloc, lock, seat, gate, topology, Batch { jobs, room });
+    }
     let applying = only_applying(jobs.as_slice());
     let batch = Batch { jobs, room };
     match applying {

@@ -23,7 +23,7 @@ use step_count::Steps;
 use version_lock::Seat;
 use version_store::{AskRefused, Snapshot};
 
-/// From so many rows on a query is answered by all processors: with fewer a thread costs more than it saves.
+/// From so many rows on a query may be answered by all processors: with fewer a thread costs more than it saves.
 const WIDE: u64 = 2048;
 
 /// The answer of a snapshot by this thread alone. Nobody reads the count of steps, which takes no bytes.
@@ -43,20 +43,21 @@ fn answer_alone<L: Ledger>(
     snapshot.answer(alloc, query, &mut steps)
 }
 
-/// The answer of a snapshot to a query whose names the network has, by all processors where it has many rows.
+/// The answer of a snapshot to a query whose names the network has, by all processors if it may be and has many rows.
 fn answer_of<R: Threads + Sync>(
     rt: &R,
     alloc: Global,
     snapshot: &Snapshot,
     query: &Query,
+    by_all: bool,
 ) -> Result<Answer, OutOfMemory>
     requires known { unknown_of snapshot.now.topology query.now ≡ None }
     ensures { IfOk result (IsAnswer snapshot.now.topology (entries snapshot.now.history) query.now) }
 {
-    let answer = if snapshot.atoms() < WIDE {
-        answer_alone::<Brand>(alloc, snapshot, query, Blank::new(1))
-    } else {
+    let answer = if by_all && snapshot.atoms() >= WIDE {
         snapshot.answer_wide(rt, alloc, query)
+    } else {
+        answer_alone::<Brand>(alloc, snapshot, query, Blank::new(1))
     };
     match answer {
         Ok(answer) => Ok(answer),
@@ -66,17 +67,18 @@ fn answer_of<R: Threads + Sync>(
     }
 }
 
-/// The outcome of a query whose names the network has, over a snapshot.
+/// The outcome of a query whose names the network has, over a snapshot, by all processors if it may be.
 pub(crate) fn outcome_over<R: Threads + Sync>(
     rt: &R,
     alloc: Global,
     snapshot: &Snapshot,
     query: &Query,
+    by_all: bool,
 ) -> Result<Outcome, OutOfMemory>
     requires known { unknown_of snapshot.now.topology query.now ≡ None }
     ensures { IfOk result (IsOutcomeNow snapshot.now.topology snapshot.now.history query.now) }
 {
-    let answer = answer_of(rt, alloc, snapshot, query)?;
+    let answer = answer_of(rt, alloc, snapshot, query, by_all)?;
     Ok(Outcome::Answered {
         number: snapshot.number(),
         answer,
@@ -102,7 +104,7 @@ fn outcome<G: Gate, R: Threads + Wait + Sync>(
         return Ok(Outcome::Unknown(unknown));
     }
     let snapshot = desk.pin(rt, seat)?;
-    let outcome = outcome_over(rt, desk.alloc(), &snapshot, query)?;
+    let outcome = outcome_over(rt, desk.alloc(), &snapshot, query, desk.asks_by_all())?;
     desk.answered();
     Ok(outcome)
 }

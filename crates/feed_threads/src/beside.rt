@@ -95,7 +95,7 @@ fn run_applying<S: Source, G: Gate, R: Threads + Wait + Sync>(
     ensures shows { ShowsOn topology.now seat.new.seen shown.old shown.new }
 {
     match job.take() {
-        Some(job) => run_shown(rt, alloc, lock, seat, shown, gate, topology, job),
+        Some(job) => run_shown(rt, alloc, lock, seat, shown, gate, topology, job, false),
         None => unreachable!(),
     }
 }

@@ -19,8 +19,8 @@ use version_store::{Snapshot, Store};
 /// By what a job shows to others what it applies: nothing, where no job reads alone.
 pub(crate) type Shown = Option<Publisher<Snapshot>>;
 
-/// What a job works with: the lock and the lock's network, the gate of tests, the job's number, and whether it applied
-/// something since it last showed what it applies. A contract sees the lock.
+/// What a job works with: the lock and the lock's network, the gate of tests, the job's number, whether it may ask by all
+/// processors, and whether it applied something since it last showed what it applies. A contract sees the lock.
 #[derive(Drop)]
 pub(crate) struct Desk<'a, G: Gate> {
     alloc: Global,
@@ -28,6 +28,7 @@ pub(crate) struct Desk<'a, G: Gate> {
     topology: &'a Topology,
     gate: &'a G,
     job: u32,
+    by_all: bool,
     is_behind: Cell<bool>,
 }
 
@@ -43,13 +44,14 @@ impl<'a, G: Gate> Model for Desk<'a, G> {
 }
 
 impl<'a, G: Gate> Desk<'a, G> {
-    /// The desk of a job.
+    /// The desk of a job, which may ask by all processors, or by its own thread alone.
     pub(crate) fn new(
         alloc: Global,
         lock: &'a VersionLock<Store>,
         topology: &'a Topology,
         gate: &'a G,
         job: u32,
+        by_all: bool,
     ) -> Desk<'a, G>
         requires { topology.now ≡ lock.now.setup.basis.topology }
         ensures { result ≡ lock.now }
@@ -60,6 +62,7 @@ impl<'a, G: Gate> Desk<'a, G> {
             topology,
             gate,
             job,
+            by_all,
             is_behind: Cell::new(false),
         }
     }
@@ -67,6 +70,11 @@ impl<'a, G: Gate> Desk<'a, G> {
     /// What memory comes from.
     pub(crate) fn alloc(&self) -> Global {
         self.alloc
+    }
+
+    /// Whether the job may ask by all processors.
+    pub(crate) fn asks_by_all(&self) -> bool {
+        self.by_all
     }
 
     /// The lock's network.

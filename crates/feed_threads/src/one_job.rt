@@ -57,6 +57,7 @@ pub(crate) fn run_shown<S: Source, G: Gate, R: Threads + Wait + Sync>(
     gate: &G,
     topology: &Topology,
     job: Job<S>,
+    by_all: bool,
 ) -> JobDone<S>
     requires lock { IsSeatOf lock.now seat.old }
     requires topology { topology.now ≡ lock.now.setup.basis.topology }
@@ -76,7 +77,7 @@ pub(crate) fn run_shown<S: Source, G: Gate, R: Threads + Wait + Sync>(
         feeds,
         room,
     } = job;
-    let desk = Desk::new(alloc, lock, topology, gate, number);
+    let desk = Desk::new(alloc, lock, topology, gate, number, by_all);
     let mut feeds = feeds;
     let mut told = List::new(alloc);
     let lines = lines_of_script(&script);
@@ -92,7 +93,8 @@ pub(crate) fn run_shown<S: Source, G: Gate, R: Threads + Wait + Sync>(
 /// Runs a job: its script's lines in order, and then the rest of its feeds. Its entries bear the seat's number.
 ///
 /// Frames are decoded with no turn of the lock held, and a query is answered after its pin. It returns once the lock has
-/// given it each turn that it asked for. Every source comes back, in any case.
+/// given it each turn that it asked for. Every source comes back, in any case. `by_all` says whether it may ask by all
+/// processors, as where no other job runs beside it.
 pub fn run_job<S: Source, G: Gate, R: Threads + Wait + Sync>(
     rt: &R,
     alloc: Global,
@@ -101,6 +103,7 @@ pub fn run_job<S: Source, G: Gate, R: Threads + Wait + Sync>(
     gate: &G,
     topology: &Topology,
     job: Job<S>,
+    by_all: bool,
 ) -> JobDone<S>
     requires lock { IsSeatOf lock.now seat.old }
     requires topology { topology.now ≡ lock.now.setup.basis.topology }
@@ -113,7 +116,9 @@ pub fn run_job<S: Source, G: Gate, R: Threads + Wait + Sync>(
         job result.wanted_memory result.told result.feeds.items }
 {
     let mut shown = None;
-    let done = run_shown(rt, alloc, lock, seat, &mut shown, gate, topology, job);
+    let done = run_shown(
+        rt, alloc, lock, seat, &mut shown, gate, topology, job, by_all,
+    );
     if let Some(publisher) = shown {
         publisher.close(rt);
     }

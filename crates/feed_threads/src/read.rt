@@ -53,7 +53,7 @@ impl<'a, G: Gate> Bench<'a, G> {
         }
         let snapshot = reader.pin()?;
         self.gate.at(self.job, Point::AfterPin);
-        let outcome = outcome_over(rt, self.alloc, &snapshot, query)?;
+        let outcome = outcome_over(rt, self.alloc, &snapshot, query, false)?;
         self.gate.at(self.job, Point::AfterAnswer);
         Ok(outcome)
     }

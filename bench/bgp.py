@@ -239,8 +239,10 @@ def write_input(folder, name, count):
             out.writelines(frames)
     with open(os.path.join(folder, "script"), "w") as out:
         out.writelines([*feeds.takes, "loops\n"])
-    words = [os.path.join(folder, "topology.toml"), *(f"m{i}={folder}/m{i}.fpm" for i in range(routers)), f"@{folder}/script"]
-    head = "".join(f"feed {i + 1} m{i} updates {len(frames)} skipped 0 refused 0 end\n" for i, frames in enumerate(feeds.frames))
+    parts = [f"m{i}={folder}/m{i}.fpm" for i in range(routers)]
+    words = [os.path.join(folder, "topology.toml"), *parts, f"@{folder}/script"]
+    sizes = map(len, feeds.frames)
+    head = "".join(f"feed {i + 1} m{i} updates {size} skipped 0 refused 0 end\n" for i, size in enumerate(sizes))
     end = f"line {len(feeds.takes) + 1} at {feeds.count} loops\nnone\ndone\n"
     return feeds.count, ["run", *words], f"{head}history {feeds.count}\n".encode(), end.encode()
 
@@ -286,8 +288,8 @@ def main():
         for place, one in enumerate(programs if len(seen) > 1 else []):
             (least, first), (most, last) = seen[0], seen[-1]
             exponent = math.log(last[place].processor / first[place].processor) / math.log(most / least)
-            print(f"{name}, {'the other' if place else 'the program'}: growth from {least} to {most} updates as a power {exponent:.2f}",
-                  flush=True)
+            who = "the other" if place else "the program"
+            print(f"{name}, {who}: growth from {least} to {most} updates as a power {exponent:.2f}", flush=True)
 
 
 if __name__ == "__main__":

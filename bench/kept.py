@@ -1,13 +1,13 @@
 #!/usr/bin/env python3
 """What it costs to keep the loops of the network from update to update, and to ask for them after each.
 
-The first part needs a second program, which keeps none: of the same sources, but that `Standing::advance` of `version_store` doesn't
-call `keep`. What its instructions, and its time, are less than the program's is what keeping costs. The inputs are distinct prefixes
-of 8 routers in a ring, where no address ever goes round, and those of `bgp.py`, where some do now and then, since a prefix comes to
-one router after the other.
+The first part needs a second program, which keeps none: of the same sources, but that `Standing::advance` of `version_store`
+doesn't call `keep`. What its instructions, and its time, are less than the program's is what keeping costs. The inputs are
+distinct prefixes of 8 routers in a ring, where no address ever goes round, and those of `bgp.py`, where some do now and then,
+since a prefix comes to one router after the other.
 
-The second part sets N distinct prefixes in a ring, and then sends M of them the other way round, one after the other, with `loops`
-asked after each. What this takes more than the N prefixes alone is compared with the same without asking.
+The second part sets N distinct prefixes in a ring, and then sends M of them the other way round, one after the other, with
+`loops` asked after each. What this takes more than the N prefixes alone is compared with the same without asking.
 
 Usage: bench/kept.py [--product BIN] [--without BIN] [--instructions] [RUNS [N [M]]]
        runs of each (1), of which the cheapest counts, N (100000), a multiple of 64, and M (10000), at most N
@@ -42,10 +42,9 @@ def distinct(folder, count):
 
 
 def measure_keeping(count, without, measured, unit):
-    inputs = {"distinct": distinct, **{name: lambda folder, n, name=name: bgp.write_input(folder, name, n) for name in bgp.INPUTS}}
-    for name, write in inputs.items():
+    for name in ("distinct", *bgp.INPUTS):
         with tempfile.TemporaryDirectory() as folder:
-            made, *given = write(folder, count)
+            made, *given = distinct(folder, count) if name == "distinct" else bgp.write_input(folder, name, count)
             kept, bare = (measured(folder, *given, one) for one in (program.PROGRAM, without))
         print(f"{name}, {made} updates: {kept / made:.2f} {unit} an update, {bare / made:.2f} without keeping: "
               f"keeping is {(kept - bare) / kept:.3f} of it", flush=True)
@@ -99,8 +98,8 @@ def measure_asking(count, changes, measured, unit):
             table = cost_of_changes(folder, routers, count, 0, False, measured)
             bare = cost_of_changes(folder, routers, count, changes, False, measured) - table
             asked = cost_of_changes(folder, routers, count, changes, True, measured) - table
-        print(f"{routers} routers, {count} prefixes, {changes} updates: {asked / changes:.2f} {unit} an update with loops asked "
-              f"after it, {bare / changes:.2f} without: {asked / bare:.2f}", flush=True)
+        print(f"{routers} routers, {count} prefixes, {changes} updates: {asked / changes:.2f} {unit} an update with loops "
+              f"asked after it, {bare / changes:.2f} without: {asked / bare:.2f}", flush=True)
 
 
 def main():

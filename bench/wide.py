@@ -1,6 +1,6 @@
 #!/usr/bin/env python3
-"""Time and peak memory of N distinct prefixes over 1,024 routers in a ring, of which 64 have feeds, each at the same distance from
-the next: what a network costs whose other routers do nothing.
+"""Time and peak memory of N distinct prefixes over 1,024 routers in a ring, of which 64 have feeds, each at the same distance
+from the next: what a network costs whose other routers do nothing.
 
 Usage: bench/wide.py [--product BIN] [RUNS [N]]    runs (1), of which the cheapest counts, and N (100000), a multiple of 64
        BIN: the program, where it isn't to be built
@@ -44,7 +44,8 @@ def main():
         cost = cheapest(runs, lambda: run(folder, *files))
     print(
         f"{ROUTERS} routers, {FEEDS} feeds, {count} prefixes: {cost.clock:.3f} s, {cost.processor:.3f} s of the processor, "
-        f"{cost.processor / count * 1e6:.2f} us an update, peak {cost.memory / 2**20:.1f} MiB, {cost.memory / count:.0f} bytes an update"
+        f"{cost.processor / count * 1e6:.2f} us an update, peak {cost.memory / 2**20:.1f} MiB, "
+        f"{cost.memory / count:.0f} bytes an update"
     )
 
 

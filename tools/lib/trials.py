@@ -31,8 +31,8 @@ class Trial:
     texts: tuple[bytes, ...] = ()
     # The named pipes that are written byte by byte while it runs, and what comes in them.
     pipes: dict[str, bytes] = field(default_factory=dict)
-    # Where the text goes: "file", "full" (/dev/full), "closed" (nowhere), or a pipe whose reader is "gone", "leaves" after a byte,
-    # "leaves late" in the middle, or "reads singly", byte by byte.
+    # Where the text goes: "file", "full" (/dev/full), "closed" (nowhere), or a pipe whose reader is "gone", "leaves"
+    # after a byte, "leaves late" in the middle, or "reads singly", byte by byte.
     output: str = "file"
     # Whether it is run as a user who may not read all, where the tool itself is run as root.
     as_nobody: bool = False

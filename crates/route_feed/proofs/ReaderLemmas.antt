@@ -26,6 +26,11 @@ front_of_front : (xs ys : List ℕ) (o : Option (List ℕ)) → with_front (xs +
 front_of_front xs ys None = refl
 front_of_front xs ys (Some zs) = ap Some (append_assoc xs ys zs)
 
+-- what stands before more of a frame's front is a frame's front
+pub front_before : (xs ys : List ℕ) → IsFrameFront (xs ++ ys) → IsFrameFront xs
+front_before xs ys (f, more, fits, some, e) =
+    (f, ys ++ more, fits, omega (arith, length-append ys more), sym (append_assoc xs ys more) ∙ e)
+
 -- what is told to be all bytes is all bytes
 pub told_rest : (bytes front : List ℕ) (left : Option (List ℕ)) → Some bytes ≡ with_front front left → (rest : List ℕ) × (left ≡ Some rest) × (bytes ≡ front ++ rest)
 told_rest bytes front None e = cc

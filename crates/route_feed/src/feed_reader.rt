@@ -2,6 +2,7 @@
 
 ghost use Rattle.std.specs.Prelude.{◌≡◌, ℕ, ◌+◌, ◌<◌, ◌≤◌, ◌^◌, List, [], ◌++◌, length, Option, None, Some, IfOk, IsOkAnd, OnErr, false};
 ghost use Rattle.dn_io.specs.Told.{with_front};
+ghost use Rattle.dn_formats.specs.Frames.{IsFrameFront};
 ghost use Rattle.dn_formats.specs.Steps.{FrameStep};
 ghost use Rattle.dn_model.specs.declared.topology.Topology.{Topology};
 ghost use Rattle.route_feed.specs.FeedReader.{Reader, IsAt, IsOutcome, FaultsAt, told_then, told_so_far, end_of, IsReadersEnd, Advances, AreOpsOf};
@@ -121,9 +122,12 @@ impl<S: Source> FeedReader<S> {
         }
     }
 
-    /// Whether the next answer wants more bytes of the source, for which `next_frame` may wait. After an end none does.
+    /// Whether the next answer wants more bytes of the source, for which `next_frame` may wait. After an end none does,
+    /// nor where the bytes held begin with a whole frame, or with a header that loses the framing.
+    #[tactic(auto, using(crate::proofs::ReaderLemmas::front_before))]
     pub fn wants_more(&self) -> bool
         ensures ended { (end : FeedEnd) → self.now.told.end ≡ Some end → result ≡ false }
+        ensures enough { result ≡ false → self.now.told.end ≡ None → IsFrameFront self.now.held → ⊥ }
     {
         self.told.end.is_none() && self.intake.wants_more()
     }

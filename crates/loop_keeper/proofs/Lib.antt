@@ -5,6 +5,7 @@ pub mod Meeting
 pub mod Parts
 pub mod Putting
 pub mod Runs
+pub mod Starting
 pub mod Taking
 pub mod Told
 pub mod Turning

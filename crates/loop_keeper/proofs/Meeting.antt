@@ -2,7 +2,7 @@
 use Rattle.std.proofs.Common.{◌≡◌, ℕ, zero, suc, ◌+◌, ◌-◌, ◌*◌, ◌<◌, ◌≤◌, ◌^◌, ◌∙◌, Bool, true, false, nat_le, nat_lt, Option, List, [], ◌∷◌, ◌++◌, length, get_or, take, drop, ap, sym, subst, ⊎_elim, arith}
 use Rattle.std.specs.Prelude.{Contains, cond, count_by}
 use Rattle.std.proofs.Math.Nat.{mul-add}
-use Rattle.std.proofs.lemmas.Bool.{and_from, and_parts, cases_eq, cases_lt, false≢true, le-leb, leb-true, lt-ltb, or_cases}
+use Rattle.std.proofs.lemmas.Bool.{and_from, and_parts, both_ways, cases_eq, cases_lt, false≢true, le-leb, leb-true, lt-ltb, or_cases}
 use Rattle.std.proofs.lemmas.List.{take-append-drop, take_more}
 use Rattle.std.proofs.lemmas.List.Elements.{Contains-append_left, Contains-push, Contains-push_cases}
 use Rattle.std.proofs.lemmas.List.Sums.{sum_by-cons}
@@ -14,13 +14,16 @@ use Rattle.dn_model.specs.Runs.{holds}
 use Rattle.dn_model.specs.Walk.{at_address}
 use Rattle.dn_model.specs.declared.change.Change.{Change}
 use Rattle.dn_model.specs.declared.forwarding_row.ForwardingRow.{ForwardingRow}
+use Rattle.dn_model.specs.declared.ids.LinkId.{LinkId}
 use Rattle.dn_model.specs.declared.ids.RouterId.{RouterId}
 use Rattle.dn_model.proofs.Covers.{first-low, high-at, holder-at, last-high, low-at, ordered-at, some-row}
 use Rattle.label_view.proofs.InRow.{some_row}
 use Rattle.dn_model.specs.declared.target.Target.{Target}
+use Rattle.dn_model.specs.declared.target.Target.TheVariants.{To}
+use Rattle.label_view.proofs.Found.{each-at}
 use Rattle.loop_check.specs.Following.{IsInNone, is_among}
-use Rattle.loop_check.proofs.Rounds.{goes-on, one-shared}
-use Rattle.loop_keeper.specs.Finding.{FindTouched, FindsAt, FindsBetween, FindsMore, is_touched, touches}
+use Rattle.loop_check.proofs.Rounds.{goes-nowhere, goes-on, one-shared}
+use Rattle.loop_keeper.specs.Finding.{AllInside, FindTouched, FindsAt, TellsAfter, FindsBetween, FindsMore, is_touched, touches}
 use Rattle.loop_keeper.specs.Following.{ComesBack, IsTurned}
 use Rattle.loop_keeper.specs.Looks.{meets, rows_met}
 use Rattle.loop_keeper.specs.declared.found.Found.{Found}
@@ -58,6 +61,19 @@ one-goes n rows i router path one rs a form l back turn low past is from to =
     let cycle : is_cycle (target_of (get_or rows i some_row)) rs ≡ true = subst C is (turned-cycle (target_of (get_or rows i some_row)) router path one.routers (back some_row) turn).0 in
     let b : a < 2 ^ 32 = omega arith in
     (b, row-cycle n rows i some_row a rs form l (omega arith) (omega arith) ∙ cycle)
+
+-- what was found beside others are addresses
+pub inside-one : (n : ℕ) (rows : List ForwardingRow) (i : ℕ) (one : Found) (old new : List Found) → AreForwarding n rows → i < length rows → ((d : ForwardingRow) → one.past ≡ (get_or rows i d).past) → new ≡ old ++ one ∷ [] → AllInside old → AllInside new
+inside-one n rows i one old new form l past e before =
+    let P : List Found → Type 0 = λ v. AllInside v in
+    let lo : one.past ≡ (get_or rows i some_row).past = past some_row in
+    let o : (get_or rows i some_row).past ≤ 2 ^ 32 = high-at row_low row_past 0 rows i some_row form.cover l in
+    let bound : one.past ≤ 2 ^ 32 = omega arith in
+    let B : Found → Type 0 = λ v. v.past ≤ 2 ^ 32 in
+    subst P (sym e) (λ x j. ⊎_elim
+    (λ (k : Contains old x). before x k)
+    (λ (k : one ≡ x). subst B k bound)
+    (Contains-push_cases old one x j))
 
 pub finds-one : (n : ℕ) (rows : List ForwardingRow) (i : ℕ) (router : RouterId) (path : List RouterId) (one : Found) (old new : List Found) → AreForwarding n rows → i < length rows → ((d : ForwardingRow) → ComesBack (target_of (get_or rows i d)) router path) → IsTurned path one.routers → ((d : ForwardingRow) → one.low ≡ (get_or rows i d).low) → ((d : ForwardingRow) → one.past ≡ (get_or rows i d).past) → new ≡ old ++ one ∷ [] → FindsAt rows i router old new
 finds-one n rows i router path one old new form l back turn low past e =
@@ -210,6 +226,19 @@ goes-below n rows rs r a form b goes m =
     let on : (y : RouterId) × (goes_to (target_of (get_or rows at.place some_row)) r y ≡ true) = goes-on (target_of (get_or rows at.place some_row)) rs r cycle m in
     goes-within n rows at.place some_row form.each l r on.0 on.1
 
+-- a router goes on to one of so many
+goes-inside : (n : ℕ) (rows : List ForwardingRow) (r : RouterId) (a : ℕ) (s : RouterId) (k : LinkId) → AreForwarding n rows → a < 2 ^ 32 → does rows r a ≡ To s k → s.0 < n
+goes-inside n rows r a s k form b to =
+    let two : 0 < 2 ^ 32 = pow_pos 32 in
+    let some : 0 < length rows = some-row row_low row_past 0 rows form.cover two in
+    let low : (get_or rows 0 some_row).low ≡ 0 = first-low row_low row_past 0 rows some_row form.cover some in
+    let end : (get_or rows (length rows - 1) some_row).past ≡ 2 ^ 32 = last-high row_low row_past 0 rows (length rows - 1) some_row form.cover (omega arith) in
+    let at : IsBetween rows 0 (length rows - 1) a some_row = row-between 0 rows 0 (length rows - 1) a some_row form.cover some (omega arith) (omega arith) (omega arith) in
+    let t : at.place ≤ length rows - 1 = at.to in
+    let l : at.place < length rows = omega arith in
+    let here : does rows r a ≡ target_of (get_or rows at.place some_row) r = ap (λ (o : Option ForwardingRow). target_in_row o r) (holder-at row_low row_past 0 rows at.place some_row a form.cover l at.low at.past) in
+    (each-at n rows at.place some_row form.each l).within r s k (sym here ∙ to)
+
 pub finds-nothing : (n : ℕ) (rows : List ForwardingRow) (c : Change) (found : List Found) → AreForwarding n rows → n ≤ c.router.0 → FindsMore (does rows) (c ∷ []) found found
 finds-nothing n rows c found form far = record {
   sound = λ h. h;
@@ -218,6 +247,32 @@ finds-nothing n rows c found form far = record {
   found = λ rs a b goes t.
       let near : c.router.0 < n = goes-below n rows rs c.router a form b goes (touched-one c rs a t).0 in
       absurd (omega arith);
+}
+
+-- a router that goes on to none is in no cycle
+pub finds-nowhere : (n : ℕ) (rows : List ForwardingRow) (c : Change) (found : List Found) → AreForwarding n rows → TellsAfter (does rows) c → ((s : RouterId) (k : LinkId) → c.after ≡ To s k → ⊥) → FindsMore (does rows) (c ∷ []) found found
+finds-nowhere n rows c found form tells none = record {
+  sound = λ h. h;
+  inside = λ h. h;
+  kept = λ rs a h. h;
+  found = λ rs a b goes t.
+      let is = touched-one c rs a t in
+      let told : does rows c.router a ≡ c.after = tells a is.1 is.2 in
+      let on : (y : RouterId) × (goes_to (at_address (does rows) a) c.router y ≡ true) = goes-on (at_address (does rows) a) rs c.router goes is.0 in
+      absurd (both_ways (goes_to (at_address (does rows) a) c.router on.0) (goes-nowhere (at_address (does rows) a) c.router on.0 (λ s k e. none s k (sym told ∙ e))) on.1);
+}
+
+-- nor goes one on to a router that is not there
+pub finds-outside : (n : ℕ) (rows : List ForwardingRow) (c : Change) (far : RouterId) (k : LinkId) (found : List Found) → AreForwarding n rows → TellsAfter (does rows) c → c.after ≡ To far k → nat_lt far.0 n ≡ false → FindsMore (does rows) (c ∷ []) found found
+finds-outside n rows c far k found form tells to out = record {
+  sound = λ h. h;
+  inside = λ h. h;
+  kept = λ rs a h. h;
+  found = λ rs a b goes t.
+      let is = touched-one c rs a t in
+      let told : does rows c.router a ≡ c.after = tells a is.1 is.2 in
+      let inside : far.0 < n = goes-inside n rows c.router a far k form b (told ∙ to) in
+      absurd (both_ways (nat_lt far.0 n) out (lt-ltb far.0 n inside));
 }
 
 pub finds-along : (n : ℕ) (rows : List ForwardingRow) (c : Change) (first last : ℕ) (old new : List Found) → AreForwarding n rows → first < length rows → last < length rows → ((d : ForwardingRow) → (get_or rows first d).low ≤ c.run.lo) → ((d : ForwardingRow) → c.run.hi < (get_or rows last d).past) → FindsBetween rows first (last + 1) c.router old new → FindsMore (does rows) (c ∷ []) old new

@@ -115,6 +115,12 @@ pub record IsWay (f : RouterId → Target) (first last : RouterId) (path : List 
   pub round : (s : RouterId) → goes_to f last s ≡ true → go_round f s (first ∷ rest) ≡ true
   pub follows : Follows f first last
 
+-- a way so far, to a router that does this
+pub record HasWay (f : RouterId → Target) (first : RouterId) (target : Target) (path : List RouterId) : Type 0 where
+  pub last : RouterId
+  pub way : IsWay f first last path
+  pub does : f last ≡ target
+
 pub way-start : (f : RouterId → Target) (first : RouterId) (path : List RouterId) → path ≡ first ∷ [] → IsWay f first first path
 way-start f first path is = record {
   rest = [];

@@ -1,5 +1,5 @@
 -- The cycles that rows show where changes meet them.
-use Rattle.std.specs.Prelude.{ℕ, Bool, List, ◌≡◌, ◌<◌, ◌≤◌, ◌^◌, ◌&&◌, Contains, IsTrue, slice_index_or}
+use Rattle.std.specs.Prelude.{ℕ, Bool, List, ◌≡◌, ◌<◌, ◌≤◌, ◌^◌, ◌&&◌, Contains, IsTrue, length, slice_index_or}
 use Rattle.std.specs.List.{list_any}
 use Rattle.dn_model.specs.Cycles.{goes_round}
 use Rattle.dn_model.specs.Runs.{holds}
@@ -26,6 +26,14 @@ pub record HasFound (found : List Found) (routers : List RouterId) (a : ℕ) : T
   pub is : one.routers ≡ routers
   pub from : one.low ≤ a
   pub to : a < one.past
+
+-- a change tells what its router does on its run
+abbrev pub TellsAfter : (RouterId → ℕ → Target) → Change → Type 0
+TellsAfter does c = (a : ℕ) → c.run.lo ≤ a → a ≤ c.run.hi → does c.router a ≡ c.after
+
+-- so do these changes
+abbrev pub AllTellAfter : (RouterId → ℕ → Target) → List Change → Type 0
+AllTellAfter does changes = (k : ℕ) (d : Change) → k < length changes → TellsAfter does (slice_index_or changes k d)
 
 -- what was found goes round
 abbrev pub AllGoRound : (RouterId → ℕ → Target) → List Found → Type 0

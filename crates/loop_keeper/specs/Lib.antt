@@ -6,3 +6,4 @@ pub mod Kept
 pub mod Looks
 pub mod Nodes
 pub mod Numbers
+pub mod Starts

@@ -1,10 +1,11 @@
 //! The cycle of one row that has a router.
 
-ghost use Rattle.std.specs.Prelude.{ℕ, ◌+◌, ◌<◌, ◌≤◌, IfOk, length, slice_index_or};
+ghost use Rattle.std.specs.Prelude.{ℕ, ◌+◌, ◌<◌, ◌≤◌, IfOk, OnOk, length, slice_index_or};
 ghost use Rattle.dn_model.specs.Forwarding.{AreForwarding, target_of};
 ghost use Rattle.dn_model.specs.declared.forwarding_row.ForwardingRow.{ForwardingRow as Row};
 ghost use Rattle.dn_model.specs.declared.ids.RouterId.{RouterId as Router};
 ghost use Rattle.loop_keeper.specs.Following.{IsFollowed, IsTurned};
+ghost use Rattle.loop_keeper.specs.Starts.{DoesSo, IsStartOf};
 
 use dn_model::{List, OutOfMemory, RouterId, Target};
 use label_view::LabelView;
@@ -12,36 +13,45 @@ use std::alloc::Global;
 use std::sync::ledger::Ledger;
 use step_count::Steps;
 
-/// Follows the row at a place from a router on until it comes back to that router, or ends. The routers passed are left
-/// in `path`. It makes as many hops as there are routers at most, and each is one look.
+/// A router, and what it does in a row.
+#[derive(Clone, Copy, Debug, PartialEq, Eq)]
+pub(crate) struct Start {
+    pub(crate) router: RouterId,
+    pub(crate) target: Target,
+}
+
+/// Follows the row at a place from a router on until it comes back to that router, or ends. What the router does there
+/// is given, so that each hop but the first is one look; there are as many hops as there are routers at most. The routers
+/// passed are left in `path`.
 pub(crate) fn follow<V: LabelView, L: Ledger>(
     view: &V,
     i: u64,
-    first: RouterId,
+    start: Start,
     path: &mut Vec<RouterId>,
     steps: &mut Steps<L>,
 ) -> Result<bool, OutOfMemory>
     requires form { AreForwarding (V.width view.now) (V.rows view.now) }
     requires place { i < length (V.rows view.now) }
-    requires router { first.0 < V.width view.now }
-    ensures followed { IfOk result (λ found. (d : Row)
-        → IsFollowed (target_of (slice_index_or (V.rows view.now) i d)) first path.new.items found) }
+    requires start { IsStartOf (V.width view.now) start }
+    ensures followed { IfOk result (λ found. DoesSo (V.rows view.now) start i → (d : Row)
+        → IsFollowed (target_of (slice_index_or (V.rows view.now) i d)) start.router path.new.items found) }
+    ensures some { OnOk result (0 < length path.new.items) }
     ensures cost { steps.new ≤ steps.old + V.width view.now }
 {
     path.clear();
-    path.push(first)?;
-    let mut last = first;
+    path.push(start.router)?;
+    let mut target = start.target;
     let mut left = view.routers();
     'hops: while left > 0 {
-        steps.tick();
-        let Target::To(far, _) = view.target(last, i) else {
+        let Target::To(far, _) = target else {
             return Ok(false);
         };
-        if far.0 == first.0 {
+        if far.0 == start.router.0 {
             return Ok(true);
         }
         path.push(far)?;
-        last = far;
+        steps.tick();
+        target = view.target(far, i);
         left -= 1;
     }
     Ok(false)

@@ -7,6 +7,7 @@ use Rattle.edge_labels.specs.contracts.atom_set.AtomSet as AtomSet
 use Rattle.edge_labels.specs.contracts.codes.Edge as Edge
 use Rattle.edge_labels.specs.contracts.code_book.CodeBook as CodeBook
 use Rattle.edge_labels.specs.contracts.label_graph.LabelGraph as LabelGraph
+use Rattle.edge_labels.specs.contracts.target_rows.TargetRows as TargetRows
 
 pub AtomSet-send : IsSend AtomSet.the_row
 AtomSet-send = search (sendable, crosses, knot.crosses) depth 40
@@ -31,3 +32,9 @@ LabelGraph-send = search (AtomSet-send, AtomSet-sync, CodeBook-send, sendable, c
 
 pub LabelGraph-sync : IsSync LabelGraph.the_row
 LabelGraph-sync = search (AtomSet-send, AtomSet-sync, CodeBook-sync, sendable, crosses, knot.crosses) depth 40
+
+pub TargetRows-send : IsSend TargetRows.the_row
+TargetRows-send = search (CodeBook-send, sendable, crosses, knot.crosses) depth 40
+
+pub TargetRows-sync : IsSync TargetRows.the_row
+TargetRows-sync = search (CodeBook-sync, sendable, crosses, knot.crosses) depth 40

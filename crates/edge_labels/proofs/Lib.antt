@@ -6,5 +6,6 @@ pub mod EdgeOrder
 pub mod MemberLemmas
 pub mod GraphLemmas
 pub mod RowLemmas
+pub mod TargetLemmas
 pub mod SetLemmas
 pub mod Swapped

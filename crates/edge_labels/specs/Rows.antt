@@ -1,5 +1,5 @@
--- How labels are kept: for each atom's number a row of codes, one for each router, and for each code the set of the atoms
--- that have it.
+-- How it is kept what routers do with atoms: for each atom's number a row of codes, one for each router. Where labels are
+-- kept too, for each code the set of the atoms that have it.
 use Rattle.std.specs.Prelude.{ℕ, List, [], length, map, take, drop, nat_lt, slice_index, slice_index_or, ◌≡◌, ◌==◌, ◌&&◌, ◌||◌, not, ◌+◌, ◌*◌, ◌<◌, ◌≤◌, ◌^◌}
 use Rattle.std.specs.List.{list_any, range_with_len}
 use Rattle.dn_model.specs.declared.target.Target.{Target}
@@ -33,12 +33,16 @@ pub record IsCodeOf (edges : List Edge) (r c : ℕ) : Type 0 where
   pub there : c < length edges
   pub router : (edge_at edges c).router ≡ r
 
--- rows, edges and sets say the same
-pub record AreKept (routers atoms : ℕ) (codes : List ℕ) (edges : List Edge) (sets : List (List ℕ)) (none : List ℕ) : Type 0 where
+-- each code in a row is one of the row's router, and no other router has a code
+pub record AreRows (routers atoms : ℕ) (codes : List ℕ) (edges : List Edge) : Type 0 where
   pub long : length codes ≡ atoms * routers
   pub few : atoms ≤ 2 ^ 32
   pub own : (a r : ℕ) → a < atoms → r < routers → IsCodeOf edges r (code_at routers codes a r)
   pub within : (c : ℕ) → c < length edges → (edge_at edges c).router < routers
+
+-- rows, edges and sets say the same
+pub record AreKept (routers atoms : ℕ) (codes : List ℕ) (edges : List Edge) (sets : List (List ℕ)) (none : List ℕ) : Type 0 where
+  pub rows : AreRows routers atoms codes edges
   pub each : length sets ≡ length edges
   pub labels : (c a : ℕ) → c < length edges → has_atom (slice_index_or sets c []) a ≡ (nat_lt a atoms && (code_at routers codes a (edge_at edges c).router == c))
   pub empty : none ≡ []
@@ -63,11 +67,14 @@ pub record AreReached (old new : List (List ℕ)) (n : ℕ) : Type 0 where
   pub long : length new ≡ n
   pub exact : (c a : ℕ) → has_atom (slice_index_or new c []) a ≡ has_atom (slice_index_or old c []) a
 
--- so far each router has its own code for no route, in order, and the sets of these codes have the one atom 0
-pub record AreFirst (r : ℕ) (codes : List ℕ) (edges : List Edge) (sets : List (List ℕ)) : Type 0 where
+-- so far each router has its own code for no route, in order
+pub record AreFirst (r : ℕ) (codes : List ℕ) (edges : List Edge) : Type 0 where
   pub long_codes : length codes ≡ r
   pub long_edges : length edges ≡ r
-  pub long_sets : length sets ≡ r
   pub each_code : (c : ℕ) → c < r → slice_index codes c ≡ c
   pub each_edge : (c : ℕ) → c < r → edge_at edges c ≡ record { router = c; target = NoRoute }
-  pub each_set : (c a : ℕ) → c < r → has_atom (slice_index_or sets c []) a ≡ (a == 0)
+
+-- so many sets, each of the one atom 0
+pub record AreFirstSets (r : ℕ) (sets : List (List ℕ)) : Type 0 where
+  pub long : length sets ≡ r
+  pub each : (c a : ℕ) → c < r → has_atom (slice_index_or sets c []) a ≡ (a == 0)

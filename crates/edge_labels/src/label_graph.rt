@@ -1,13 +1,16 @@
 //! The labels of all routers.
 
-ghost use Rattle.std.specs.Prelude.{◌≡◌, ◌+◌, ◌*◌, ◌^◌, ◌<◌, [], length, IfOk, IsTrue};
+ghost use Rattle.std.specs.Prelude.{◌≡◌, ◌<◌, length, IfOk};
 ghost use Rattle.edge_labels.specs.Labels.{first_labels, inherited, IsLabel, moved, target_at};
-ghost use Rattle.edge_labels.specs.Rows.{AreFirst};
+ghost use Rattle.edge_labels.specs.Rows.{AreFirstSets};
 
 use crate::atom_set::AtomSet;
 use crate::code_book::CodeBook;
+use crate::code_rows::{
+    FirstRow, codes_from, first_row, is_same, place_of, push_row, read, row_of,
+};
 use crate::codes::Edge;
-use crate::sets::{codes_from, join, join_row, leave, push_row, reach, read, set_of, swap};
+use crate::sets::{join, join_row, leave, reach, set_of, swap};
 use dn_model::{AtomId, OutOfMemory, RouterId, Target};
 use std::alloc::Global;
 use std::marker::Model;
@@ -37,20 +40,13 @@ impl Model for LabelGraph {
     ghost invariant = { λ g. AreKept g.routers g.atoms g.codes g.book g.sets g.none };
 }
 
-/// What routers do first: for each a code, and the set of the code.
-#[derive(Drop)]
-struct First {
-    codes: Pages<u32>,
-    book: CodeBook,
-    sets: Pages<AtomSet>,
-}
-
 impl LabelGraph {
     /// The labels of this number of routers, which have no route for the one atom 0.
     pub fn new(alloc: Global, routers: u32) -> Result<LabelGraph, OutOfMemory>
         ensures { IfOk result (λ graph. graph ≡ first_labels routers) }
     {
-        let First { codes, book, sets } = first_codes(alloc, routers)?;
+        let FirstRow { codes, book } = first_row(alloc, routers)?;
+        let sets = first_sets(alloc, routers)?;
         Ok(LabelGraph {
             routers,
             atoms: 1,
@@ -196,45 +192,13 @@ impl LabelGraph {
     }
 }
 
-/// Whether two targets are the same.
-fn is_same(first: &Target, second: &Target) -> bool
-    ensures { IsTrue result → first.now ≡ second.now }
+/// For the first code of each router the set of the one atom 0.
+fn first_sets(alloc: Global, routers: u32) -> Result<Pages<AtomSet>, OutOfMemory>
+    ensures { IfOk result (λ sets. AreFirstSets routers sets) }
 {
-    *first == *second
-}
-
-/// Where the row of an atom begins.
-fn row_of(routers: u32, atom: AtomId) -> u64
-    ensures at { result ≡ atom.0 * routers }
-    ensures fits { result + routers < 2 ^ 64 }
-{
-    atom.0 as u64 * routers as u64
-}
-
-/// Where the code of a router stands at an atom.
-fn place_of(routers: u32, r: RouterId, atom: AtomId) -> u64
-    requires { r.0 < routers }
-    ensures { result ≡ atom.0 * routers + r.0 }
-{
-    atom.0 as u64 * routers as u64 + r.0 as u64
-}
-
-/// A code for no route for each router, and its set, which has the one atom 0.
-fn first_codes(alloc: Global, routers: u32) -> Result<First, OutOfMemory>
-    ensures { IfOk result (λ first. AreFirst routers first.codes first.book first.sets) }
-{
-    let mut codes = Pages::new();
-    let mut book = CodeBook::new(alloc)?;
     let mut sets = Pages::new();
-    for r in 0..routers {
-        let edge = Edge {
-            router: r,
-            target: Target::NoRoute,
-        };
-        let (next, code) = book.code_of(alloc, edge)?;
-        book = next;
-        codes.push(alloc, code)?;
+    for _router in 0..routers {
         sets.push(alloc, AtomSet::of(alloc, &[AtomId(0)])?)?;
     }
-    Ok(First { codes, book, sets })
+    Ok(sets)
 }

@@ -6,11 +6,14 @@ mod atom_set;
 mod bits;
 mod chunk;
 mod code_book;
+mod code_rows;
 mod codes;
 mod label_graph;
 mod sets;
+mod target_rows;
 #[cfg(test)]
 mod tests;
 
 pub use atom_set::AtomSet;
 pub use label_graph::LabelGraph;
+pub use target_rows::TargetRows;

@@ -1,23 +1,12 @@
 //! Sets of atoms by code.
 
-ghost use Rattle.std.specs.Prelude.{◌≡◌, ◌+◌, ◌<◌, ◌≤◌, ◌++◌, ◌^◌, ℕ, List, length, take, drop, All, IfOk, OnOk, set, slice_index_or};
+ghost use Rattle.std.specs.Prelude.{◌≡◌, ◌+◌, ◌<◌, ◌≤◌, ℕ, List, length, All, IfOk, OnOk, set, slice_index_or};
 ghost use Rattle.edge_labels.specs.Rows.{AreJoined, AreLeft, AreReached, AreRowJoined};
 
 use crate::atom_set::AtomSet;
 use dn_model::{AtomId, OutOfMemory};
 use std::alloc::Global;
 use version_pages::Pages;
-
-/// The element at a place of a list in pages.
-pub fn read(codes: &Pages<u32>, i: u64) -> u32
-    requires { i < length codes.now }
-    ensures { (d : ℕ) → result ≡ slice_index_or codes.now i d }
-{
-    match codes.get(i) {
-        Some(code) => *code,
-        None => unreachable!(),
-    }
-}
 
 /// The set of a code.
 pub fn set_of(sets: &Pages<AtomSet>, code: u32) -> &AtomSet
@@ -62,27 +51,6 @@ pub fn leave(
     Ok(())
 }
 
-/// So many codes from a place on. It goes down to each page of them once.
-pub fn codes_from(
-    alloc: Global,
-    codes: &Pages<u32>,
-    from: u64,
-    count: u32,
-) -> Result<Vec<u32>, OutOfMemory>
-    requires inside { from + count ≤ length codes.now }
-    requires fits { from + count < 2 ^ 64 }
-    ensures { IfOk result (λ row. row.items ≡ take count (drop from codes.now)) }
-{
-    let count = count as usize;
-    let mut row = Vec::with_capacity(alloc, count)?;
-    'pages: while row.len() < count {
-        let run = codes.run_from(from + row.len() as u64);
-        let more = run.len().min(count - row.len());
-        row.extend_from_slice(&run[..more])?;
-    }
-    Ok(row)
-}
-
 /// Adds an atom to the set of each code of a row.
 pub fn join_row(
     alloc: Global,
@@ -95,16 +63,6 @@ pub fn join_row(
 {
     for code in row {
         join(alloc, sets, *code, atom)?;
-    }
-    Ok(())
-}
-
-/// Adds a row of codes at the end.
-pub fn push_row(alloc: Global, codes: &mut Pages<u32>, row: &[u32]) -> Result<(), OutOfMemory>
-    ensures { OnOk result (codes.new ≡ codes.old ++ row.now) }
-{
-    for code in row {
-        codes.push(alloc, *code)?;
     }
     Ok(())
 }

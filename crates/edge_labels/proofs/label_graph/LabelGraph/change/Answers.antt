@@ -1,7 +1,8 @@
 use Rattle.std.proofs.Common.{◌<◌, set, subst, ap, ◌∙◌, arith}
 use Rattle.edge_labels.specs.Rows.{AreReached}
 use Rattle.edge_labels.proofs.RowLemmas.{row-fits}
-use Rattle.edge_labels.proofs.GraphLemmas.{atoms-of, code-known, moved-kept, moved-labels, routers-of}
+use Rattle.edge_labels.proofs.GraphLemmas.{moved-kept}
+use Rattle.edge_labels.proofs.TargetLemmas.{atoms-of, code-known, moved-labels, routers-of}
 use Rattle.edge_labels.proofs.label_graph.LabelGraph.change.Goals as goal
 
 pub place_of-place-requires : goal.place_of-place-requires
@@ -12,12 +13,12 @@ swap-requires c =
     let s = c.self.inside in
     let la : c.args.atom.0 < c.self.inside.atoms = omega (arith, atoms-of s.routers s.atoms s.codes s.book c.args.self c.self.view_is) in
     let lr : c.args.r.0 < c.self.inside.routers = omega (arith, routers-of s.routers s.atoms s.codes s.book c.args.self c.self.view_is) in
-    omega (arith, row-fits c.args.atom.0 s.atoms s.routers la, c.self.invariant.long, c.place_of-place.ensures)
+    omega (arith, row-fits c.args.atom.0 s.atoms s.routers la, c.self.invariant.rows.long, c.place_of-place.ensures)
 
 pub leave-requires : goal.leave-requires
 leave-requires c =
     let s = c.self.inside in
-    let known = code-known s.routers s.atoms c.args.r.0 c.args.atom.0 c.place_of-place.result c.in_ok-old.old s.codes s.book s.sets s.none c.args.self c.self.view_is c.self.invariant c.requires.router c.requires.atom c.place_of-place.ensures (c.in_ok-old.ensures.old 0) in
+    let known = code-known s.routers s.atoms c.args.r.0 c.args.atom.0 c.place_of-place.result c.in_ok-old.old s.codes s.book c.args.self c.self.view_is c.self.invariant.rows c.requires.router c.requires.atom c.place_of-place.ensures (c.in_ok-old.ensures.old 0) in
     omega (arith, known.0, c.in_ok-reach.ensures.long, c.len.ensures, c.in_ok-book.ensures.many)
 
 pub invariant_of-result : goal.invariant_of-result
@@ -25,7 +26,7 @@ invariant_of-result c =
     let s = c.self.inside in
     let la : c.args.atom.0 < c.self.inside.atoms = omega (arith, atoms-of s.routers s.atoms s.codes s.book c.args.self c.self.view_is) in
     let lr : c.args.r.0 < c.self.inside.routers = omega (arith, routers-of s.routers s.atoms s.codes s.book c.args.self c.self.view_is) in
-    let known = code-known s.routers s.atoms c.args.r.0 c.args.atom.0 c.place_of-place.result c.in_ok-old.old s.codes s.book s.sets s.none c.args.self c.self.view_is c.self.invariant c.requires.router c.requires.atom c.place_of-place.ensures (c.in_ok-old.ensures.old 0) in
+    let known = code-known s.routers s.atoms c.args.r.0 c.args.atom.0 c.place_of-place.result c.in_ok-old.old s.codes s.book c.args.self c.self.view_is c.self.invariant.rows c.requires.router c.requires.atom c.place_of-place.ensures (c.in_ok-old.ensures.old 0) in
     moved-kept s.routers s.atoms c.args.r.0 c.args.atom.0 c.in_ok-old.old c.in_ok-book.new s.codes c.swap.new.codes s.book c.in_ok-book.book s.sets c.reach.new.sets c.leave.new.sets c.join.new.sets s.none c.args.after
     c.self.invariant c.in_ok-book.ensures (subst (AreReached s.sets c.reach.new.sets) c.len.ensures c.in_ok-reach.ensures) known.2 c.in_ok-leave.ensures c.in_ok-join.ensures (c.in_ok-old.ensures.new ∙ ap (λ i. set s.codes i c.in_ok-book.new) c.place_of-place.ensures) lr la
 
@@ -34,5 +35,5 @@ returns c =
     let s = c.self.inside in
     let la : c.args.atom.0 < c.self.inside.atoms = omega (arith, atoms-of s.routers s.atoms s.codes s.book c.args.self c.self.view_is) in
     let lr : c.args.r.0 < c.self.inside.routers = omega (arith, routers-of s.routers s.atoms s.codes s.book c.args.self c.self.view_is) in
-    moved-labels s.routers s.atoms c.args.r.0 c.args.atom.0 c.in_ok-book.new s.codes c.swap.new.codes s.book c.in_ok-book.book s.sets s.none c.args.after c.args.self c.self.view_is
-    c.self.invariant c.in_ok-book.ensures (c.in_ok-old.ensures.new ∙ ap (λ i. set s.codes i c.in_ok-book.new) c.place_of-place.ensures) lr la
+    moved-labels s.routers s.atoms c.args.r.0 c.args.atom.0 c.in_ok-book.new s.codes c.swap.new.codes s.book c.in_ok-book.book c.args.after c.args.self c.self.view_is
+    c.self.invariant.rows c.in_ok-book.ensures (c.in_ok-old.ensures.new ∙ ap (λ i. set s.codes i c.in_ok-book.new) c.place_of-place.ensures) lr la

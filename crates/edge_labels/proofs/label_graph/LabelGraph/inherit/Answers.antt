@@ -3,14 +3,15 @@ use Rattle.std.specs.List.{All}
 use Rattle.std.proofs.lemmas.List.Elements.{All-drop, All-take}
 use Rattle.edge_labels.specs.Rows.{AreRowJoined, codes_of}
 use Rattle.edge_labels.proofs.RowLemmas.{row-fits}
-use Rattle.edge_labels.proofs.GraphLemmas.{atoms-of, codes-known, inherited-kept, inherited-labels}
+use Rattle.edge_labels.proofs.GraphLemmas.{codes-known, inherited-kept}
+use Rattle.edge_labels.proofs.TargetLemmas.{atoms-of, inherited-labels}
 use Rattle.edge_labels.proofs.label_graph.LabelGraph.inherit.Goals as goal
 
 pub codes_from-requires-clause-inside : goal.codes_from-requires-clause-inside
 codes_from-requires-clause-inside c =
     let s = c.self.inside in
     let la : c.args.old_atom.0 < c.self.inside.atoms = omega (arith, atoms-of s.routers s.atoms s.codes s.book c.args.self c.self.view_is) in
-    omega (arith, row-fits c.args.old_atom.0 s.atoms s.routers la, c.self.invariant.long, c.row_of-from.ensures.at)
+    omega (arith, row-fits c.args.old_atom.0 s.atoms s.routers la, c.self.invariant.rows.long, c.row_of-from.ensures.at)
 
 pub join_row-requires : goal.join_row-requires
 join_row-requires c =
@@ -36,5 +37,5 @@ returns c =
     let s = c.self.inside in
     let la : c.args.old_atom.0 < c.self.inside.atoms = omega (arith, atoms-of s.routers s.atoms s.codes s.book c.args.self c.self.view_is) in
     let row : c.in_ok-row.row.items ≡ codes_of s.routers s.codes c.args.old_atom.0 = c.in_ok-row.ensures ∙ ap (λ from. take s.routers (drop from s.codes)) c.row_of-from.ensures.at in
-    inherited-labels s.routers s.atoms c.args.old_atom.0 s.codes c.push_row.new.codes s.book c.args.self c.self.view_is c.self.invariant.long la
+    inherited-labels s.routers s.atoms c.args.old_atom.0 s.codes c.push_row.new.codes s.book c.args.self c.self.view_is c.self.invariant.rows.long la
     (c.in_ok-push_row.ensures ∙ ap (λ xs. s.codes ++ xs) (c.deref-2.ensures.value ∙ row))

@@ -13,7 +13,7 @@ use crate::walk::{Reach, cut_both, walk_segments};
 use atom_map::AtomMap;
 use delta_graph::Delta;
 use dn_model::{Op, OutOfMemory, RouterId, Target};
-use edge_labels::LabelGraph;
+use edge_labels::TargetRows;
 use std::alloc::Global;
 use std::marker::Model;
 use std::sync::ledger::Ledger;
@@ -26,7 +26,7 @@ use step_count::Steps;
 pub struct Net {
     routers: u32,
     atoms: AtomMap,
-    labels: LabelGraph,
+    labels: TargetRows,
     owners: Vec<RouterOwners>,
 }
 
@@ -49,7 +49,7 @@ impl Net {
         ensures form { IfOk result (λ net. IsNet net) }
     {
         let atoms = AtomMap::new(alloc)?;
-        let labels = LabelGraph::new(alloc, routers)?;
+        let labels = TargetRows::new(alloc, routers)?;
         let owners = no_owners(alloc, routers)?;
         Ok(Net {
             routers,

@@ -10,7 +10,7 @@ use crate::segment::Targets;
 use crate::span::Span;
 use atom_map::AtomMap;
 use dn_model::{AtomRow, OutOfMemory, RouterId};
-use edge_labels::LabelGraph;
+use edge_labels::TargetRows;
 use std::alloc::Global;
 
 /// The atoms from a place on to the end of a page: those that are at hand, or, where none of them is left, those that are
@@ -43,11 +43,11 @@ fn next<'a>(atoms: &'a AtomMap, run: &'a [AtomRow], place: u64) -> (AtomRow, &'a
 pub fn relabel(
     alloc: Global,
     atoms: &AtomMap,
-    labels: LabelGraph,
+    labels: TargetRows,
     r: RouterId,
     span: Span,
     targets: Targets,
-) -> Result<LabelGraph, OutOfMemory>
+) -> Result<TargetRows, OutOfMemory>
     requires router { r.0 < labels.routers }
     requires labelled { AreLabelled atoms.now labels }
     requires order { span.lo < span.past }

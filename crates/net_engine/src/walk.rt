@@ -15,7 +15,7 @@ use crate::span::Span;
 use atom_map::AtomMap;
 use delta_graph::Delta;
 use dn_model::{Change, Op, OutOfMemory, RouterId, Run};
-use edge_labels::LabelGraph;
+use edge_labels::TargetRows;
 use std::alloc::Global;
 use std::sync::ledger::Ledger;
 use step_count::Steps;
@@ -56,7 +56,7 @@ pub fn cut_both<L: Ledger>(
 /// Where a walk over segments stands: at this place and address, with the labels and the changes so far.
 #[derive(Drop)]
 struct Walk {
-    labels: LabelGraph,
+    labels: TargetRows,
     delta: Delta,
     place: u64,
     at: u64,
@@ -135,12 +135,12 @@ fn step<L: Ledger>(
 pub fn walk_segments<L: Ledger>(
     alloc: Global,
     atoms: &AtomMap,
-    labels: LabelGraph,
+    labels: TargetRows,
     owners: &mut RouterOwners,
     op: &Op,
     reach: Reach,
     steps: &mut Steps<L>,
-) -> Result<(LabelGraph, Delta), OutOfMemory>
+) -> Result<(TargetRows, Delta), OutOfMemory>
     requires router { reach.router.0 < labels.routers }
     requires labelled { AreLabelled atoms.now labels }
     requires along { GoAlong atoms.now labels reach.router.0 owners.old }

@@ -1,6 +1,6 @@
 //! A book of codes.
 
-ghost use Rattle.std.specs.Prelude.{◌≡◌, ℕ, ◌<◌, None, IfOk, IfSome, OnOk, length, if◌then◌else◌, Some, []};
+ghost use Rattle.std.specs.Prelude.{◌≡◌, ℕ, ◌<◌, None, IfOk, IfSome, IsTrue, OnOk, length, if◌then◌else◌, Some, []};
 ghost use Rattle.std.specs.Arc.{arc_value};
 ghost use Rattle.std.specs.BTreeMap.{is_at};
 ghost use Rattle.edge_labels.specs.declared.codes.Edge.{Edge};
@@ -85,6 +85,31 @@ impl CodeBook {
             return Ok((self, code));
         }
         self.add(alloc, edge)
+    }
+
+    /// The code of an edge, as from `code_of`; a guess is looked at first, which costs less than to look the edge up.
+    pub fn code_near(
+        self,
+        alloc: Global,
+        edge: Edge,
+        guess: u32,
+    ) -> Result<(CodeBook, u32), OutOfMemory>
+        ensures { IfOk result (λ made. IsCoded self made.0 edge made.1) }
+    {
+        if self.is_code_of(guess, edge) {
+            return Ok((self, guess));
+        }
+        self.code_of(alloc, edge)
+    }
+
+    /// Whether a number is the code of an edge.
+    fn is_code_of(&self, code: u32, edge: Edge) -> bool
+        ensures { IsTrue result → (code < length self.now) × (edge_at self.now code ≡ edge) }
+    {
+        match self.edges.get(code as u64) {
+            Some(held) => *held == edge,
+            None => false,
+        }
     }
 
     /// Gives an edge that has no code a new one.

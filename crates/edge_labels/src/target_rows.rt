@@ -15,13 +15,15 @@ use version_pages::Pages;
 
 /// What each router does with each atom, as a row of codes by the atom's number. A contract sees the number of routers and,
 /// for the number of each atom, the targets by router. Each router with a target has a code. No set of atoms is kept, so
-/// that a move writes one code, and a new atom one row. A copy is a few counts.
+/// that a move writes one code, and a new atom one row. A copy is a few counts. The code that was written last is a guess of
+/// the next one, since an update writes the same at many atoms; no clause and no invariant speaks of it.
 #[derive(Drop)]
 pub struct TargetRows {
     routers: u32,
     atoms: u64,
     codes: Pages<u32>,
     book: CodeBook,
+    last: u32,
 }
 
 impl Model for TargetRows {
@@ -46,6 +48,7 @@ impl TargetRows {
             atoms: 1,
             codes,
             book,
+            last: 0,
         })
     }
 
@@ -96,19 +99,21 @@ impl TargetRows {
             atoms,
             mut codes,
             book,
+            last,
         } = self;
         let place = place_of(routers, r, atom);
         let edge = Edge {
             router: r.0 as u32,
             target: after,
         };
-        let (book, code) = book.code_of(alloc, edge)?;
+        let (book, code) = book.code_near(alloc, edge, last)?;
         codes.put(alloc, place, code)?;
         Ok(TargetRows {
             routers,
             atoms,
             codes,
             book,
+            last: code,
         })
     }
 
@@ -129,6 +134,7 @@ impl TargetRows {
             atoms,
             mut codes,
             book,
+            last,
         } = self;
         let from = row_of(routers, old_atom);
         let row = codes_from(alloc, &codes, from, routers)?;
@@ -138,6 +144,7 @@ impl TargetRows {
             atoms: atoms + 1,
             codes,
             book,
+            last,
         })
     }
 
@@ -150,6 +157,7 @@ impl TargetRows {
             atoms: self.atoms,
             codes: self.codes.copy()?,
             book: self.book.copy()?,
+            last: self.last,
         })
     }
 }

@@ -1,3 +1,4 @@
+pub mod Appended
 pub mod Deep
 pub mod Edits
 pub mod Ending

@@ -1,5 +1,5 @@
--- One element of a list changed by a call.
-use Rattle.std.specs.Prelude.{ℕ, ◌≡◌, List, set, slice_index_or}
+-- One element of a list changed by a call, and more elements at its end.
+use Rattle.std.specs.Prelude.{ℕ, ◌≡◌, ◌≤◌, ◌++◌, List, length, set, slice_index_or, take}
 use Rattle.std.specs.Fn.{FnOnceReturnsAtMut}
 use denote.Param.Members.{Once}
 use denote.Ref.{MutBor}
@@ -9,3 +9,9 @@ pub record Changes {F T R : Type 0} (g : Once F (MutBor T × Unit {0}) (R × (Mu
   pub value : T
   pub called : (d : T) → FnOnceReturnsAtMut g f (slice_index_or old i d) r value
   pub list : new ≡ set old i value
+
+-- the first of some elements were put at the end of a list
+pub record IsExtended {T : Type 0} (old new items : List T) : Type 0 where
+  pub count : ℕ
+  pub few : count ≤ length items
+  pub list : new ≡ old ++ take count items

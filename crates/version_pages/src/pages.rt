@@ -1,8 +1,8 @@
 //! A list in shared pages.
 
 ghost use Rattle.std.specs.Prelude.{◌≡◌, ◌+◌, ◌*◌, ◌<◌, ◌≤◌, ◌^◌, ◌↔◌, ◌++◌, ◌∷◌, []};
-ghost use Rattle.std.specs.Prelude.{IfErr, IfOk, OnErr, IfSome, IsSome, is_ok, if◌then◌else◌, length, set, insert, take, drop, slice_index_or};
-ghost use Rattle.version_pages.specs.Changes.{Changes};
+ghost use Rattle.std.specs.Prelude.{IfErr, IfOk, OnErr, OnOk, IfSome, IsSome, is_ok, if◌then◌else◌, length, set, insert, take, drop, slice_index_or};
+ghost use Rattle.version_pages.specs.Changes.{Changes, IsExtended};
 ghost use Rattle.version_pages.specs.Growth.{grown, CanGrow};
 ghost use Rattle.version_pages.specs.Search.{EndsBelow};
 
@@ -217,6 +217,55 @@ impl<T: Keyed + Clone> Pages<T> {
             pages.push(alloc, item)?;
         }
         Ok(pages)
+    }
+}
+
+impl<T: Keyed + Copy> Pages<T> {
+    /// Puts the first of some elements at the end, as many as the last page has room for. It answers how many.
+    fn extend_alone(&mut self, items: &[T]) -> usize
+        ensures within { result ≤ length items.now }
+        ensures items { self.new ≡ self.old ++ take result items.now }
+    {
+        let Some(root) = &mut self.root else {
+            return 0;
+        };
+        if root.len() >= LONG - 64 {
+            return 0;
+        }
+        return root.extend_alone(items);
+    }
+
+    /// Puts the first of some elements at the end, one at least. It answers how many. After `OutOfMemory` the list is
+    /// as before.
+    fn extend_some(&mut self, alloc: Global, items: &[T]) -> Result<usize, OutOfMemory>
+        requires some { 0 < length items.now }
+        requires clones { (x y : T) → T.is_clone x y → y ≡ x }
+        ensures some { IfOk result (λ count. 0 < count) }
+        ensures within { IfOk result (λ count. count ≤ length items.now) }
+        ensures items { IfOk result (λ count. self.new ≡ self.old ++ take count items.now) }
+        ensures same { OnErr result (self.new ≡ self.old) }
+    {
+        let count = self.extend_alone(items);
+        if count > 0 {
+            return Ok(count);
+        }
+        let len = self.len();
+        self.insert_at(alloc, len, items[0])?;
+        Ok(1)
+    }
+
+    /// Puts some elements at the end. It goes down once for all that the last page has room for, where nobody else
+    /// holds it. After `OutOfMemory` the first of them may be there.
+    pub fn extend(&mut self, alloc: Global, items: &[T]) -> Result<(), OutOfMemory>
+        requires { (x y : T) → T.is_clone x y → y ≡ x }
+        ensures all { OnOk result (self.new ≡ self.old ++ items.now) }
+        ensures front { IsExtended self.old self.new items.now }
+    {
+        let mut at = 0;
+        'pages: while at < items.len() {
+            at += self.extend_some(alloc, &items[at..])?;
+        }
+        Ok(())
     }
 }
 

@@ -341,3 +341,44 @@ fn insertions_all_over(rt: HostRuntime) -> Result<(), Fail> {
     compare(&rt, &held, &old);
     Ok(())
 }
+
+/// The numbers from one on below another, as a `Vec`.
+fn numbers(alloc: Global, first: u64, past: u64) -> Result<Vec<u64>, OutOfMemory> {
+    let mut numbers = Vec::new(alloc);
+    for k in first..past {
+        numbers.push(k)?;
+    }
+    Ok(numbers)
+}
+
+/// Puts the numbers from one on below another at the end of a list.
+fn extend(rt: &impl Abort, alloc: Global, pages: &mut Pages<u64>, first: u64, past: u64) {
+    let numbers = numbers(alloc, first, past).expect(rt, "memory");
+    pages.extend(alloc, numbers.as_slice()).expect(rt, "memory");
+}
+
+/// The list has the numbers below a count, in order.
+fn compare_rising(rt: &impl Abort, pages: &Pages<u64>, len: u64) {
+    assert_eq!(rt; pages.len(), len);
+    for k in 0..len {
+        assert_eq!(rt; pages.get(k).copied(), Some(k));
+    }
+}
+
+/// Numbers in order go in at the end, some at once: none, fewer than a page has room for, and many pages of them, also
+/// where a copy holds the last page. A search finds each of them at its place, and the copy has what it had.
+#[test]
+fn some_elements_at_the_end(rt: HostRuntime) {
+    let alloc = rt.alloc();
+    let mut pages: Pages<u64> = Pages::new();
+    extend(&rt, alloc, &mut pages, 0, 0);
+    extend(&rt, alloc, &mut pages, 0, 50);
+    extend(&rt, alloc, &mut pages, 50, 60);
+    let copy = pages.copy().expect(&rt, "memory");
+    extend(&rt, alloc, &mut pages, 60, 1_000);
+    extend(&rt, alloc, &mut pages, 1_000, 1_001);
+    extend(&rt, alloc, &mut pages, 1_001, 10_000);
+    are_found(&rt, &pages, 10_000);
+    are_found(&rt, &copy, 60);
+    compare_rising(&rt, &pages, 10_000);
+}

@@ -1,6 +1,6 @@
-//! One more element at the end, where that takes no more than room in the last page.
+//! More elements at the end, where that takes no more than room in the last page.
 
-ghost use Rattle.std.specs.Prelude.{◌≡◌, ◌+◌, ◌<◌, ◌^◌, is_ok, if◌then◌else◌, IfErr, insert, length};
+ghost use Rattle.std.specs.Prelude.{◌≡◌, ◌+◌, ◌<◌, ◌≤◌, ◌^◌, ◌++◌, is_ok, if◌then◌else◌, IfErr, insert, length, take};
 ghost use Rattle.version_pages.specs.Shape.{IsDeep};
 
 use super::{FULL, Kid, Node, Tree, key_after};
@@ -15,6 +15,67 @@ fn push_on<T>(page: &mut Vec<T>, value: T) -> Result<(), T>
     match page.push(value) {
         Ok(()) => Ok(()),
         Err(refused) => Err(refused.value),
+    }
+}
+
+/// Puts the first of some elements at a page's end, as many as it has room for. It answers how many: none where there
+/// is no memory.
+fn extend_on<T: Copy>(page: &mut Vec<T>, items: &[T]) -> usize
+    requires { length page.old.items ≤ FULL }
+    ensures most { result ≤ FULL }
+    ensures within { result ≤ length items.now }
+    ensures items { page.new.items ≡ page.old.items ++ take result items.now }
+    ensures few { length page.new.items ≤ FULL }
+{
+    let count = items.len().min(FULL - page.len());
+    match page.extend_from_slice(&items[..count]) {
+        Ok(()) => count,
+        Err(_) => 0,
+    }
+}
+
+impl<T: Keyed + Copy> Kid<T> {
+    /// Puts the first of some elements at the end, as many as the last page has room for, where nobody else holds a
+    /// node on the way. It answers how many.
+    #[cycle(extend)]
+    pub fn extend_alone(&mut self, items: &[T]) -> usize
+        requires few { length self.old.items + 64 < 2 ^ 62 }
+        ensures most { result ≤ FULL }
+        ensures within { result ≤ length items.now }
+        ensures items { self.new.items ≡ self.old.items ++ take result items.now }
+        ensures level { self.new.height ≡ self.old.height }
+        ensures deep { IsDeep self.old → IsDeep self.new }
+    {
+        let Some(tree) = Arc::get_mut(&mut self.tree) else {
+            return 0;
+        };
+        let count = tree.extend_alone(items);
+        let _height = tree.height();
+        self.key = key_after(tree, self.len, self.key);
+        self.len += count as u64;
+        count
+    }
+}
+
+impl<T: Keyed + Copy> Tree<T> {
+    /// Puts the first of some elements at the end, as many as the last page has room for, where nobody else holds a
+    /// node on the way. It answers how many.
+    #[cycle(extend)]
+    fn extend_alone(&mut self, items: &[T]) -> usize
+        requires few { length self.old.items + 64 < 2 ^ 62 }
+        ensures most { result ≤ FULL }
+        ensures within { result ≤ length items.now }
+        ensures items { self.new.items ≡ self.old.items ++ take result items.now }
+        ensures level { self.new.height ≡ self.old.height }
+    {
+        match &mut self.node {
+            Node::Page(page) => extend_on(page, items),
+            Node::Fork { kids, .. } => {
+                let end = kids.len() - 1;
+                let kid = &mut kids[end];
+                return kid.extend_alone(items);
+            }
+        }
     }
 }
 

@@ -93,8 +93,5 @@ pub fn codes_from(
 pub fn push_row(alloc: Global, codes: &mut Pages<u32>, row: &[u32]) -> Result<(), OutOfMemory>
     ensures { OnOk result (codes.new ≡ codes.old ++ row.now) }
 {
-    for code in row {
-        codes.push(alloc, *code)?;
-    }
-    Ok(())
+    codes.extend(alloc, row)
 }

@@ -1,6 +1,7 @@
 -- A version goes on with a history.
-use Rattle.std.proofs.Common.{◌≡◌, ℕ, ◌<◌, ◌+◌, ◌∷◌, ◌++◌, [], List, Option, Some, length, get_or, take, ap, sym, ◌∙◌, subst, arith}
-use Rattle.std.proofs.lemmas.List.{length-append, map-append, take_more}
+use Rattle.std.proofs.Common.{◌≡◌, ℕ, ◌<◌, ◌≤◌, ◌+◌, ◌∷◌, ◌++◌, [], List, Option, Some, length, get_or, drop, min, take, ap, sym, ◌∙◌, subst, arith}
+use Rattle.std.proofs.Math.Seq.{take-append-add}
+use Rattle.std.proofs.lemmas.List.{length-append, length-take, map-append, take-append-drop}
 use Rattle.std.proofs.lemmas.List.Elements.{All-push}
 use Rattle.dn_model.specs.Delta.{IsDeltaOf}
 use Rattle.dn_model.specs.Entry.{IsEntryOf, entries}
@@ -27,11 +28,6 @@ delta-more t es e old changes is on =
     let P : Topology → Type 0 = λ s. IsDeltaOf s (es ++ e ∷ []) changes in
     subst P is.topology (on es is.stands)
 
--- the first entries of a history, with the one after them
-pub list-read : (h made new : List Posted) (i : ℕ) (p : Posted) → i < length h → p ≡ get_or h i p → made ≡ take i h → new ≡ made ++ p ∷ [] → new ≡ take (i + 1) h
-list-read h made new i p inside is so longer =
-    longer ∙ ap (λ (g : List Posted). g ++ p ∷ []) so ∙ ap (λ (q : Posted). take i h ++ q ∷ []) is ∙ sym (take_more h i p inside)
-
 -- an entry of the network is one of the version's network
 pub entry-of : (t : Topology) (es : List Entry) (old : Kept) (e : Entry) → IsVersionOf t es old → IsEntryOf t e → IsEntryOf old.topology e
 entry-of t es old e is own = let P : Topology → Type 0 = λ s. IsEntryOf s e in subst P (sym is.topology) own
@@ -45,3 +41,16 @@ kept-more t limit h p old standing before changes kept room own stands delta = r
   stands = subst (λ (es : List Entry). IsStandingOf t es standing) (sym (entries-more h p)) stands;
   delta = subst (λ (es : List Entry). IsDeltaOf t es changes) (sym (entries-more h p)) delta;
 }
+
+-- the first entries of a history, with those of a page that follow them
+pub page-read : (h made run new : List Posted) → made ≡ take (length made) h → take (length run) (drop (length made) h) ≡ run → new ≡ made ++ run → (length new ≤ length h) × (new ≡ take (length new) h)
+page-read h made run new front page longer =
+    let rest : List Posted = drop (length made) h in
+    let whole : made ++ rest ≡ h = ap (λ (f : List Posted). f ++ rest) front ∙ take-append-drop (length made) h in
+    let size : length run ≡ min (length run) (length rest) = sym (ap length page) ∙ length-take (length run) rest in
+    let few : length run ≤ length rest = omega (arith, size) in
+    let long : length new ≡ length made + length run = ap length longer ∙ length-append made run in
+    let all : length made + length rest ≡ length h = sym (length-append made rest) ∙ ap length whole in
+    let taken : take (length made + length run) h ≡ made ++ run =
+    ap (take (length made + length run)) (sym whole) ∙ take-append-add made rest (length run) ∙ ap (λ (f : List Posted). made ++ f) page in
+    (omega (arith, few, long, all), longer ∙ sym taken ∙ ap (λ (n : ℕ). take n h) (sym long))

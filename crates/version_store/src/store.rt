@@ -86,14 +86,13 @@ impl Store {
         ensures few { length self.now.history ≤ self.now.basis.limit }
         ensures own { AreOf self.now.basis.topology self.now.history }
     {
-        let mut history = List::new(alloc);
-        for i in 0..self.history.len() {
-            let Some(posted) = self.history.get(i) else {
-                unreachable!()
-            };
-            history.push(*posted)?;
+        let count = self.history.len() as usize;
+        let mut history = Vec::with_capacity(alloc, count)?;
+        'pages: while history.len() < count {
+            let run = self.history.run_from(history.len() as u64);
+            history.extend_from_slice(run)?;
         }
-        Ok(history)
+        Ok(List::from_vec(history))
     }
 
     /// Plays events, of which each entry is one of the network's, under a seat's number: a snapshot for each Pin, in

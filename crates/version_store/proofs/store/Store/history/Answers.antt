@@ -1,7 +1,14 @@
-use Rattle.std.proofs.Common.{arith}
-use Rattle.version_store.proofs.GoingOn.{list-read}
+use Rattle.std.proofs.Common.{◌≡◌, ◌≤◌, ◌∙◌, ℕ, List, length, drop, take, subst, sym}
+use Rattle.dn_model.specs.declared.entry.Posted.{Posted}
+use Rattle.version_store.proofs.GoingOn.{page-read}
 use Rattle.version_store.proofs.store.Store.history.Goals as goal
 
-pub loop-i-preserved : goal.loop-i-preserved
-loop-i-preserved c =
-    list-read c.self.inside.history c.loop-i.history c.push.new.self c.loop-i.i c.in-Some.posted.now (omega arith) (c.in-Some.ensures.element _) c.loop-i.invariant c.in_ok-push.ensures.ok
+pub pages-preserved : goal.pages-preserved
+pages-preserved c =
+    let h : List Posted = c.self.inside.history in
+    let made : List Posted = c.pages.history.items in
+    let run : List Posted = c.run_from-run.result.now in
+    let page : take (length run) (drop (length made) h) ≡ run = subst (λ (n : ℕ). take (length run) (drop n h) ≡ run) (c.len-in-pages.ensures ∙ c.pages.history.ok.0) c.run_from-run.ensures.run in
+    let new : List Posted = c.extend_from_slice.new.self.items in
+    let read : (length new ≤ length h) × (new ≡ take (length new) h) = page-read h made run new c.pages.invariant.1 page c.in_ok-extend_from_slice.ensures.items in
+    (subst (λ (n : ℕ). length new ≤ n) (sym c.len-count.ensures) read.0, read.1)

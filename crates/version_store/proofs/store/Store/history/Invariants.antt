@@ -1,6 +1,9 @@
-use Rattle.std.proofs.Common.{◌≡◌, take}
+use Rattle.std.proofs.Common.{◌≡◌, ◌≤◌, ◌-◌, length, take}
 use Rattle.version_store.proofs.store.Store.history.Given as goal
 
--- the entries so far
-abbrev pub invariant-loop-i : goal.invariant-loop-i
-invariant-loop-i l = l.history ≡ take l.i l.self-inside.history
+-- the entries of the first pages
+abbrev pub invariant-pages : goal.invariant-pages
+invariant-pages l = (length l.history.items ≤ l.count) × (l.history.items ≡ take (length l.history.items) l.self-inside.history)
+
+abbrev pub decreases-pages : goal.decreases-pages
+decreases-pages l = l.count - length l.history.items

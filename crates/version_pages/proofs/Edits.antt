@@ -1,8 +1,9 @@
 -- An edit of one child of a fork is an edit of the fork.
-use Rattle.std.proofs.Common.{◌≡◌, ℕ, ◌+◌, ◌<◌, List, length, get_or, set, take, ap, sym, subst, ◌∙◌, IfOk, OnErr, is_ok, if◌then◌else◌}
+use Rattle.std.proofs.Common.{◌≡◌, ℕ, ◌+◌, ◌<◌, List, length, get_or, set, take, ap, sym, subst, ◌∙◌, IfOk, OnErr, IsErr, is_ok, if◌then◌else◌}
 use Rattle.std.specs.declared.result.Result.{Result}
 use Rattle.std.specs.declared.result.Result.TheVariants.{Ok, Err}
 use Rattle.std.specs.Fn.{FnOnceReturnsAtMut}
+use Rattle.std.proofs.lemmas.List.{length-set}
 use denote.Param.Members.{Once}
 use denote.Ref.{MutBor}
 use Rattle.version_pages.specs.Shape.{Shape, items_of, joined}
@@ -18,6 +19,11 @@ module _ {F T R E : Type 0} (g : Once F (MutBor T × Unit {0}) (R × (MutBor T �
   }
   changed-in kids all k i j kid x (Err r) e is l place in' h = tt
 
+-- there are as many elements as before
+pub changed-long : {F T R E : Type 0} (g : Once F (MutBor T × Unit {0}) (R × (MutBor T × Unit {0}))) (f : F) (old new : List T) (i : ℕ) (res : Result R E) → IfOk res (Changes g f old new i) → OnErr res (new ≡ old) → length new ≡ length old
+changed-long g f old new i (Ok r) changed same = ap length changed.list ∙ length-set old i changed.value
+changed-long g f old new i (Err e) changed same = ap length same
+
 -- the elements stay where those of the child do
 pub same-kept : {T R E : Type 0} (kids : List (Shape T)) (all : List T) (k : ℕ) (kid x : Shape T) (res : Result R E) → joined kids ≡ all → kid ≡ get_or kids k kid → k < length kids → OnErr res (items_of x ≡ items_of kid) → OnErr res (joined (set kids k x) ≡ all)
 same-kept kids all k kid x (Ok r) e is l h = tt
@@ -27,3 +33,8 @@ same-kept kids all k kid x (Err r) e is l h = same-in kids k kid x l (h ∙ ap i
 pub put-kept : {F T R E : Type 0} (g : Once F (MutBor T × Unit {0}) (R × (MutBor T × Unit {0}))) (f : F) (old new : List T) (i : ℕ) (v : T) (res : Result R E) → ((x y : T) (r : R) → FnOnceReturnsAtMut g f x r y → y ≡ v) → IfOk res (Changes g f old new i) → OnErr res (new ≡ old) → new ≡ (if is_ok res then set old i v else old)
 put-kept g f old new i v (Ok r) puts changed same = changed.list ∙ ap (λ y. set old i y) (puts (get_or old i v) changed.value r (changed.called v))
 put-kept g f old new i v (Err e) puts changed same = same
+
+-- where it failed a list is as before
+pub err-kept : {X R E : Type 0} (res : Result R E) (new more old : List X) → IsErr res → new ≡ old → new ≡ (if is_ok res then more else old)
+err-kept (Ok r) new more old failed same = subst (λ b. new ≡ (if b then more else old)) failed same
+err-kept (Err e) new more old failed same = same

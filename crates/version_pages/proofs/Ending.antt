@@ -1,7 +1,7 @@
 -- Where a search ends in a fork, from where it ends in a child.
 use Rattle.std.proofs.Common.{◌≡◌, ℕ, zero, suc, ◌+◌, ◌-◌, ◌<◌, ◌≤◌, ⊎_elim, List, [], ◌∷◌, ◌++◌, length, get_or, take, drop, refl, ap, sym, subst, ◌∙◌, arith, length-append}
 use Rattle.std.proofs.lemmas.Bool.{cases_lt}
-use Rattle.std.proofs.lemmas.List.{append-nil, get_or-drop, get_or-take, get_or_default, take-append-drop, take_more}
+use Rattle.std.proofs.lemmas.List.{append-nil, get_or_default, take-append-drop, take_more}
 use Rattle.std.proofs.lemmas.List.Elements.{All-get_or}
 use Rattle.std.proofs.lemmas.List.Concat.{flat_map-append}
 use Rattle.std.proofs.lemmas.Nat.{pow_pos}
@@ -23,30 +23,6 @@ joined-more kids k e l =
     ∙ ap length (flat_map-append items_of (take k kids) (get_or kids k e ∷ []))
     ∙ length-append (joined (take k kids)) (items_of (get_or kids k e) ++ [])
     ∙ ap (λ t. length (joined (take k kids)) + length t) (append-nil (items_of (get_or kids k e)))
-
--- one of four children that stand together
-pub one-of-four : {T : Type 0} (kids same : List (Shape T)) (k m n : ℕ) (x : Shape T) → same ≡ kids → m < 4 → x ≡ get_or (take (k + 4 - k) (drop k same)) m x → n ≡ length (items_of x) → n ≡ length (items_of (get_or kids (k + m) x))
-one-of-four kids same k m n x v l is long =
-    let inside : m < k + 4 - k = omega arith in
-    long
-    ∙ ap (λ (s : Shape _). length (items_of s)) (is
-    ∙ ap (λ (t : List (Shape _)). get_or (take (k + 4 - k) (drop k t)) m x) v
-    ∙ get_or-take (k + 4 - k) (drop k kids) m x inside
-    ∙ get_or-drop k kids m x)
-
--- and four more
-pub joined-four : {T : Type 0} (kids : List (Shape T)) (k a b c d : ℕ) (x y z w : Shape T) → k + 4 ≤ length kids → a ≡ length (items_of (get_or kids (k + 0) x)) → b ≡ length (items_of (get_or kids (k + 1) y)) → c ≡ length (items_of (get_or kids (k + 2) z)) → d ≡ length (items_of (get_or kids (k + 3) w)) → length (joined (take (k + 4) kids)) ≡ length (joined (take k kids)) + (a + b + c + d)
-joined-four kids k a b c d x y z w l one two three four =
-    let zeroth : k + 0 ≡ k = omega arith in
-    let second : k + 1 + 1 ≡ k + 2 = omega arith in
-    let third : k + 2 + 1 ≡ k + 3 = omega arith in
-    let fourth : k + 3 + 1 ≡ k + 4 = omega arith in
-    let o : a ≡ length (items_of (get_or kids k x)) = one ∙ ap (λ m. length (items_of (get_or kids m x))) zeroth in
-    let p = joined-more kids k x (omega arith) in
-    let q = ap (λ m. length (joined (take m kids))) (sym second) ∙ joined-more kids (k + 1) y (omega arith) in
-    let r = ap (λ m. length (joined (take m kids))) (sym third) ∙ joined-more kids (k + 2) z (omega arith) in
-    let s = ap (λ m. length (joined (take m kids))) (sym fourth) ∙ joined-more kids (k + 3) w (omega arith) in
-    omega (arith, o, p, q, r, s)
 
 -- no child follows the last
 pub joined-last : {T : Type 0} (kids : List (Shape T)) (k : ℕ) (e : Shape T) → k < length kids → length (joined kids) ≡ length (joined (take k kids)) + (length (items_of (get_or kids k e)) + length (joined (drop (k + 1) kids)))

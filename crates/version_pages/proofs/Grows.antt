@@ -1,15 +1,14 @@
 -- A fork that grows by what one of its children grows.
-use Rattle.std.proofs.Common.{◌≡◌, ℕ, ◌+◌, ◌-◌, ◌<◌, ◌≤◌, List, ◌++◌, length, get_or, set, take, drop, length-append, ap, sym, subst, ◌∙◌, arith, is_ok, if◌then◌else◌}
-use Rattle.std.specs.List.{All}
+use Rattle.std.proofs.Common.{◌≡◌, ℕ, ◌+◌, ◌-◌, ◌<◌, ◌≤◌, List, ◌++◌, length, get_or, set, take, drop, length-append, ap, sym, subst, ◌∙◌, arith}
+use Rattle.std.specs.List.{All, insert}
 use Rattle.std.proofs.lemmas.List.{length-set}
+use Rattle.std.proofs.lemmas.List.Edits.{length-insert}
 use Rattle.std.proofs.lemmas.List.Elements.{All-set, All-get_or}
-use Rattle.std.specs.declared.result.Result.{Result}
-use Rattle.std.specs.declared.result.Result.TheVariants.{Ok, Err}
 use Rattle.version_pages.specs.declared.growth.Growth.{Growth}
 use Rattle.version_pages.specs.declared.growth.Growth.TheVariants.{Before, Parts}
 use Rattle.version_pages.specs.Growth.{grown, CanGrow}
 use Rattle.version_pages.specs.Shape.{Shape, items_of, joined, AreKids, IsAt, IsDeep, IsUnder}
-use Rattle.version_pages.proofs.Joined.{insert-in, joined-at, same-in, two-in}
+use Rattle.version_pages.proofs.Joined.{insert-in, joined-at, two-in}
 
 pub can-at : {T : Type 0} (kids : List (Shape T)) (all : List T) (i k j : ℕ) (kid : Shape T) (growth : Growth T) → joined kids ≡ all → IsAt kids i k j → kid ≡ get_or kids k kid → CanGrow growth all i → CanGrow growth (items_of kid) j
 can-at kids all i k j kid (Before v) e at is can = rw is (at.within kid (rw e can))
@@ -19,10 +18,10 @@ pub grown-in : {T : Type 0} (kids : List (Shape T)) (all : List T) (i k j : ℕ)
 grown-in kids all i k j kid x (Before v) e at is can made = rw (← e) (insert-in kids k i j kid x v at.child at.place (rw is at can) (rw is at made))
 grown-in kids all i k j kid x (Parts u v) e at is can made = rw (← e) (two-in kids k i j kid x u v at.child at.place (rw is at can) (rw is at made))
 
--- the elements grow where those of the child do, and stay where they stay
-pub grown-kept : {T R E : Type 0} (kids : List (Shape T)) (all : List T) (i k j : ℕ) (kid x : Shape T) (growth : Growth T) (res : Result R E) → joined kids ≡ all → IsAt kids i k j → kid ≡ get_or kids k kid → CanGrow growth (items_of kid) j → items_of x ≡ (if is_ok res then grown growth (items_of kid) j else items_of kid) → joined (set kids k x) ≡ (if is_ok res then grown growth all i else all)
-grown-kept kids all i k j kid x growth (Ok r) e at is can made = grown-in kids all i k j kid x growth e at is can made
-grown-kept kids all i k j kid x growth (Err r) e at is can made = same-in kids k kid x at.child (made ∙ ap items_of is) ∙ e
+-- there is one element more
+pub length-grown : {T : Type 0} (growth : Growth T) (xs : List T) (i : ℕ) → CanGrow growth xs i → length (grown growth xs i) ≡ length xs + 1
+length-grown (Before v) xs i can = length-insert xs i v can
+length-grown (Parts u v) xs i can = length-set (insert xs (i + 1) v) i u ∙ length-insert xs (i + 1) v (omega (arith, can))
 
 -- one child in the place of one of the same height
 pub kids-set : {T : Type 0} (h k : ℕ) (kids : List (Shape T)) (kid x : Shape T) → AreKids h kids → k < length kids → kid ≡ get_or kids k kid → x.height ≡ kid.height → (IsDeep kid → IsDeep x) → AreKids h (set kids k x)
@@ -36,9 +35,9 @@ kids-set h k kids kid x kept l is level deep =
       under = All-set (IsUnder h) kids k x new kept.under;
     }
 
--- the elements alone tell how deep pages of one height may stand
-pub deep-same : {T : Type 0} (s t : Shape T) → t.items ≡ s.items → t.height ≡ s.height → IsDeep s → IsDeep t
-deep-same s t e h d = record { many = rw h (rw e d.many); few = rw h (rw e d.few) }
+-- the number of the elements alone tells how deep pages of one height may stand
+pub deep-long : {T : Type 0} (s t : Shape T) → length t.items ≡ length s.items → t.height ≡ s.height → IsDeep s → IsDeep t
+deep-long s t e h d = record { many = rw h (rw e d.many); few = rw h (rw e d.few) }
 
 -- a fork with at most one child more
 pub kids-ready : {T : Type 0} (h : ℕ) (old new : List (Shape T)) → AreKids h old → 0 < 32 - length old → length old ≤ length new → length new ≤ length old + 1 → ((n : ℕ) → All (IsUnder n) old → All (IsUnder n) new) → AreKids h new

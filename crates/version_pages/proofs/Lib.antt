@@ -2,6 +2,7 @@ pub mod Appended
 pub mod Deep
 pub mod Edits
 pub mod Ending
+pub mod Ends
 pub mod FirstKeys
 pub mod Grows
 pub mod Joined

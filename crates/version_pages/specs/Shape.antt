@@ -1,5 +1,5 @@
 -- What a tree of pages is seen as, and what always holds of it.
-use Rattle.std.specs.Prelude.{ℕ, ◌≡◌, ◌+◌, ◌*◌, ◌^◌, ◌-◌, ◌<◌, ◌≤◌, List, [], ◌∷◌, ◌++◌, length, take, slice_index_or, All}
+use Rattle.std.specs.Prelude.{ℕ, zero, suc, ◌≡◌, ◌+◌, ◌*◌, ◌^◌, ◌-◌, ◌<◌, ◌≤◌, List, [], ◌∷◌, ◌++◌, length, take, slice_index_or, All}
 use Rattle.std.specs.List.{flat_map}
 
 -- the elements in order, how many forks stand above each page, how many more elements or children the top node may take, and
@@ -39,6 +39,28 @@ pub record AreKids {T : Type 0} (height : ℕ) (kids : List (Shape T)) : Type 0 
   pub two : 2 ≤ length kids
   pub most : length kids ≤ 32
   pub under : All (IsUnder height) kids
+
+-- how many elements each child and those before it have together
+pub record AreEnds {T : Type 0} (ends : List ℕ) (kids : List (Shape T)) : Type 0 where
+  pub count : length ends ≡ length kids
+  pub each : (k d : ℕ) → k < length kids → slice_index_or ends k d ≡ length (joined (take (k + 1) kids))
+
+-- the same of the first children
+pub record AreEndsTo {T : Type 0} (ends : List ℕ) (kids : List (Shape T)) (to : ℕ) : Type 0 where
+  pub count : length ends ≡ to
+  pub each : (k d : ℕ) → k < to → slice_index_or ends k d ≡ length (joined (take (k + 1) kids))
+
+-- how many elements stand before a child
+abbrev pub end_before : List ℕ → ℕ → ℕ
+end_before ends zero = 0
+end_before ends (suc k) = slice_index_or ends k 0
+
+-- the numbers from one place to another are one more than they were
+pub record AreLonger (old new : List ℕ) (from to : ℕ) : Type 0 where
+  pub count : length new ≡ length old
+  pub before : (n d : ℕ) → n < from → slice_index_or new n d ≡ slice_index_or old n d
+  pub within : (n d : ℕ) → from ≤ n → n < to → slice_index_or new n d ≡ slice_index_or old n d + 1
+  pub after : (n d : ℕ) → to ≤ n → slice_index_or new n d ≡ slice_index_or old n d
 
 -- a part of a list, in which a place of the list is this one
 pub record IsWithin {T : Type 0} (all part : List T) (i j : ℕ) : Type 0 where

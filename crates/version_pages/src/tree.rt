@@ -1,9 +1,9 @@
 //! A tree of pages (Bayer and McCreight 1972). All pages stand equally deep; a node has one pointer for each list that
 //! holds it.
 
-ghost use Rattle.std.specs.Prelude.{◌≡◌, ◌+◌, ◌-◌, ◌<◌, ◌≤◌, ◌^◌, ◌*◌, ◌↔◌, ◌++◌, IfOk, IsTrue, length, take, slice_index_or, All, Contains};
+ghost use Rattle.std.specs.Prelude.{ℕ, ◌≡◌, ◌+◌, ◌-◌, ◌<◌, ◌≤◌, ◌^◌, ◌*◌, ◌↔◌, ◌++◌, IfOk, IsTrue, length, take, slice_index_or, All, Contains};
 ghost use Rattle.std.specs.Arc.{arc_value};
-ghost use Rattle.version_pages.specs.Shape.{Shape, IsDeep, IsUnder, AreKids, IsAt, IsWithin, joined};
+ghost use Rattle.version_pages.specs.Shape.{Shape, IsDeep, IsUnder, AreKids, AreEnds, IsAt, IsWithin, end_before, joined};
 ghost use Rattle.version_pages.specs.Keys.{first_key};
 
 mod change;
@@ -22,7 +22,7 @@ use std::sync::Arc;
 /// The most elements that a page has.
 pub const FULL: usize = 64;
 
-/// A list is shorter than this, so that the lengths of four children can be added.
+/// A list is shorter than this, so that lengths can be added.
 pub const LONG: u64 = 1 << 62;
 
 /// The most children that a fork has.
@@ -47,6 +47,8 @@ enum Node<T: Keyed> {
         kids: Vec<Kid<T>>,
         /// How many forks stand above each page, this one among them.
         height: u64,
+        /// How many elements each child and those before it have together.
+        ends: Vec<u64>,
     },
 }
 
@@ -122,61 +124,80 @@ impl<T: Keyed> Kid<T> {
     }
 }
 
-/// How many elements a child and the three after it have together.
-fn four_len<T: Keyed>(kids: &Vec<Kid<T>>, k: usize) -> u64
-    requires { k + 4 ≤ length kids.now.items }
-    ensures { length (joined (take (k + 4) kids.now.items)) ≡ length (joined (take k kids.now.items)) + result }
+/// How many elements stand before a child.
+fn start(ends: &Vec<u64>, k: usize) -> u64
+    requires { k ≤ length ends.now.items }
+    ensures { result ≡ end_before ends.now.items k }
 {
-    let four = &kids[k..k + 4];
-    four[0].len() + four[1].len() + four[2].len() + four[3].len()
+    if k == 0 {
+        return 0;
+    }
+    ends[k - 1]
 }
 
-/// A child at or before the one that has the element at a place, with how many elements the place is behind its first.
-/// It looks at four children at once, as long as one follows them.
-fn skip<T: Keyed>(kids: &Vec<Kid<T>>, i: u64) -> (usize, u64)
-    requires some { 0 < length kids.now.items }
-    ensures child { result.0 < length kids.now.items }
-    ensures place { i ≡ length (joined (take result.0 kids.now.items)) + result.1 }
+/// A child that may have the element at a place, guessed as if all had equally many. A wrong guess costs time alone.
+fn guess(ends: &Vec<u64>, last: usize, i: u64) -> usize
+    requires { last < length ends.now.items }
+    ensures { result ≤ last }
 {
-    let mut k = 0;
-    let mut j = i;
-    'fours: while kids.len() - k > 4 {
-        let len = four_len(kids, k);
-        if j < len {
+    let k = i.wrapping_mul(ends.len() as u64) / ends[last].max(1);
+    k.min(last as u64) as usize
+}
+
+/// A child at or before this one that starts no later than at a place.
+fn back(ends: &Vec<u64>, from: usize, i: u64) -> usize
+    requires { from < length ends.now.items }
+    ensures child { result ≤ from }
+    ensures start { end_before ends.now.items result ≤ i }
+{
+    let mut k = from;
+    'back: while start(ends, k) > i {
+        k -= 1;
+    }
+    k
+}
+
+/// The first child from this one on that ends behind a place, or the last.
+fn on(ends: &Vec<u64>, last: usize, from: usize, i: u64) -> usize
+    requires last { last + 1 ≡ length ends.now.items }
+    requires child { from ≤ last }
+    requires start { end_before ends.now.items from ≤ i }
+    ensures child { result ≤ last }
+    ensures start { end_before ends.now.items result ≤ i }
+    ensures end { (d : ℕ) → result < last → i < slice_index_or ends.now.items result d }
+{
+    let mut k = from;
+    'on: while k < last {
+        if i < ends[k] {
             break;
         }
-        j -= len;
-        k += 4;
+        k += 1;
     }
-    (k, j)
+    k
 }
 
-/// The child that has the element at a place, or the last where there is none, with the element's place in it.
-fn find<T: Keyed>(kids: &Vec<Kid<T>>, i: u64) -> (usize, u64)
+/// The child that has the element at a place, or the last where there is none, with the element's place in it. It looks
+/// first where it would be if all children had equally many elements.
+fn find<T: Keyed>(kids: &Vec<Kid<T>>, ends: &Vec<u64>, i: u64) -> (usize, u64)
     requires some { 0 < length kids.now.items }
+    requires ends { AreEnds ends.now.items kids.now.items }
     ensures { IsAt kids.now.items i result.0 result.1 }
 {
     let last = kids.len() - 1;
-    let (mut k, mut j) = skip(kids, i);
-    'kids: while k < last {
-        let len = kids[k].len();
-        if j < len {
-            break;
-        }
-        j -= len;
-        k += 1;
-    }
-    (k, j)
+    let near = back(ends, guess(ends, last, i), i);
+    let k = on(ends, last, near, i);
+    (k, i - start(ends, k))
 }
 
 /// The child that has the element at a place, with the element's place in it.
-fn child_at<T: Keyed>(kids: &Vec<Kid<T>>, i: u64) -> (&Tree<T>, u64)
-    requires { i < length (joined kids.now.items) }
+fn child_at<'a, T: Keyed>(kids: &'a Vec<Kid<T>>, ends: &Vec<u64>, i: u64) -> (&'a Tree<T>, u64)
+    requires inside { i < length (joined kids.now.items) }
+    requires ends { AreEnds ends.now.items kids.now.items }
     ensures inside { result.1 < length result.0.now.items }
     ensures within { IsWithin (joined kids.now.items) result.0.now.items i result.1 }
     ensures kid { Contains kids.now.items result.0.now }
 {
-    let (k, j) = find(kids, i);
+    let (k, j) = find(kids, ends, i);
     (kids[k].tree(), j)
 }
 
@@ -209,8 +230,8 @@ impl<T: Keyed> Tree<T> {
     {
         match &self.node {
             Node::Page(items) => &items[i as usize],
-            Node::Fork { kids, .. } => {
-                let (child, j) = child_at(kids, i);
+            Node::Fork { kids, ends, .. } => {
+                let (child, j) = child_at(kids, ends, i);
                 child.get(j)
             }
         }
@@ -224,8 +245,8 @@ impl<T: Keyed> Tree<T> {
     {
         match &self.node {
             Node::Page(items) => &items[i as usize..],
-            Node::Fork { kids, .. } => {
-                let (child, j) = child_at(kids, i);
+            Node::Fork { kids, ends, .. } => {
+                let (child, j) = child_at(kids, ends, i);
                 child.run_from(j)
             }
         }

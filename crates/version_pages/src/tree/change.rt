@@ -36,8 +36,8 @@ impl<T: Keyed + Clone> Tree<T> {
     {
         match &mut self.node {
             Node::Page(items) => Ok(call_at(change, &mut items[i as usize])),
-            Node::Fork { kids, .. } => {
-                let (k, j) = find(kids, i);
+            Node::Fork { kids, ends, .. } => {
+                let (k, j) = find(kids, ends, i);
                 let kid = &mut kids[k];
                 unshare(alloc, &mut kid.tree)?;
                 let Some(child) = Arc::get_mut(&mut kid.tree) else {

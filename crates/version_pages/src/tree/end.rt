@@ -70,10 +70,12 @@ impl<T: Keyed + Copy> Tree<T> {
     {
         match &mut self.node {
             Node::Page(page) => extend_on(page, items),
-            Node::Fork { kids, .. } => {
+            Node::Fork { kids, ends, .. } => {
                 let end = kids.len() - 1;
                 let kid = &mut kids[end];
-                return kid.extend_alone(items);
+                let count = kid.extend_alone(items);
+                ends[end] += count as u64;
+                return count;
             }
         }
     }
@@ -118,10 +120,12 @@ impl<T: Keyed> Tree<T> {
                 }
                 return push_on(items, value);
             }
-            Node::Fork { kids, .. } => {
+            Node::Fork { kids, ends, .. } => {
                 let last = kids.len() - 1;
                 let kid = &mut kids[last];
-                return kid.push_alone(value);
+                kid.push_alone(value)?;
+                ends[last] += 1;
+                return Ok(());
             }
         }
     }

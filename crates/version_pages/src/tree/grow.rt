@@ -1,8 +1,8 @@
 //! A tree that grows by one element. Each full node on the way is parted before anything grows, so that all memory is
 //! taken first, and no node is filled beyond its most.
 
-ghost use Rattle.std.specs.Prelude.{◌≡◌, ◌+◌, ◌<◌, ◌≤◌, ◌^◌, ℕ, IfOk, OnOk, OnErr, is_ok, if◌then◌else◌, length, slice_index_or, All};
-ghost use Rattle.version_pages.specs.Shape.{Shape, AreHalves, IsAt, IsDeep, IsParted, IsUnder, joined};
+ghost use Rattle.std.specs.Prelude.{◌≡◌, ◌+◌, ◌<◌, ◌≤◌, ◌^◌, ℕ, IfOk, OnOk, OnErr, is_ok, if◌then◌else◌, length, take, slice_index_or, All};
+ghost use Rattle.version_pages.specs.Shape.{Shape, AreEnds, AreHalves, AreLonger, IsAt, IsDeep, IsParted, IsUnder, joined};
 ghost use Rattle.version_pages.specs.Growth.{grown, CanGrow};
 
 use super::own::unshare;
@@ -13,21 +13,47 @@ use dn_model::OutOfMemory;
 use std::alloc::Global;
 use std::sync::Arc;
 
-/// Puts the two halves of a child in its place.
+/// Puts the two halves of a child in its place, the first of which ends here.
 fn part<T: Keyed + Drop>(
     kids: &mut Vec<Kid<T>>,
+    ends: &mut Vec<u64>,
     k: usize,
+    end: u64,
     lower: Kid<T>,
     upper: Kid<T>,
 ) -> Result<(), OutOfMemory>
     requires child { k < length kids.old.items }
     requires halves { (d : Shape T) → AreHalves lower upper (slice_index_or kids.old.items k d) }
+    requires ends { AreEnds ends.old.items kids.old.items }
+    requires end { end ≡ length (joined (take k kids.old.items)) + length lower.items }
     ensures parted { OnOk result (IsParted kids.old.items kids.new.items k lower upper) }
     ensures same { OnErr result (kids.new.items ≡ kids.old.items) }
+    ensures ends { AreEnds ends.new.items kids.new.items }
 {
-    kids.insert(k + 1, upper)?;
-    kids[k] = lower;
-    Ok(())
+    ends.insert(k, end)?;
+    match kids.insert(k + 1, upper) {
+        Ok(()) => {
+            kids[k] = lower;
+            return Ok(());
+        }
+        Err(_) => {
+            ends.remove(k);
+            return Err(OutOfMemory);
+        }
+    }
+}
+
+/// One more element is in a child.
+fn lengthen(ends: &mut [u64], k: usize)
+    requires child { k ≤ length ends.old }
+    requires few { (n d : ℕ) → n < length ends.old → slice_index_or ends.old n d + 1 < 2 ^ 64 }
+    ensures { AreLonger ends.old ends.new k (length ends.old) }
+{
+    let mut n = k;
+    'ends: while n < ends.len() {
+        ends[n] += 1;
+        n += 1;
+    }
 }
 
 /// The child that has the element at a place, with the element's place in it. It has room for one more: a full one is
@@ -35,25 +61,29 @@ fn part<T: Keyed + Drop>(
 fn ready<T: Keyed + Clone>(
     alloc: Global,
     kids: &mut Vec<Kid<T>>,
+    ends: &mut Vec<u64>,
     i: u64,
 ) -> Result<(usize, u64), OutOfMemory>
     requires some { 0 < length kids.old.items }
+    requires ends { AreEnds ends.old.items kids.old.items }
+    requires few { length (joined kids.old.items) < 2 ^ 62 }
     requires clones { (x y : T) → T.is_clone x y → y ≡ x }
     ensures same { joined kids.new.items ≡ joined kids.old.items }
     ensures under { (h : ℕ) → All (IsUnder h) kids.old.items → All (IsUnder h) kids.new.items }
+    ensures ends { AreEnds ends.new.items kids.new.items }
     ensures least { length kids.old.items ≤ length kids.new.items }
     ensures most { length kids.new.items ≤ length kids.old.items + 1 }
     ensures child { IfOk result (λ p. IsAt kids.new.items i p.0 p.1) }
     ensures room { IfOk result (λ p. (d : Shape T) → 0 < (slice_index_or kids.new.items p.0 d).room) }
 {
-    let (k, j) = find(kids, i);
+    let (k, j) = find(kids, ends, i);
     let kid = &kids[k];
     if kid.tree.has_room() {
         return Ok((k, j));
     }
     let (lower, upper) = kid.halves(alloc, j == kid.len)?;
     let len = lower.len();
-    part(kids, k, lower, upper)?;
+    part(kids, ends, k, i - j + len, lower, upper)?;
     if j < len {
         return Ok((k, j));
     }
@@ -119,10 +149,12 @@ impl<T: Keyed + Clone> Tree<T> {
     {
         match &mut self.node {
             Node::Page(items) => grow_page(items, i as usize, growth),
-            Node::Fork { kids, .. } => {
-                let (k, j) = ready(alloc, kids, i)?;
+            Node::Fork { kids, ends, .. } => {
+                let (k, j) = ready(alloc, kids, ends, i)?;
                 let kid = &mut kids[k];
-                return kid.grow(alloc, j, growth);
+                kid.grow(alloc, j, growth)?;
+                lengthen(ends, k);
+                return Ok(());
             }
         }
     }

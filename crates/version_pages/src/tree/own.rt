@@ -36,12 +36,15 @@ impl<T: Keyed + Clone> Tree<T> {
                     node: Node::Page(items),
                 })
             }
-            Node::Fork { kids, height } => {
-                let kids = page_of(alloc, (2 * kids.len()).min(WIDE), kids)?;
+            Node::Fork { kids, height, ends } => {
+                let room = (2 * kids.len()).min(WIDE);
+                let kids = page_of(alloc, room, kids)?;
+                let ends = page_of(alloc, room, ends)?;
                 Ok(Tree {
                     node: Node::Fork {
                         kids,
                         height: *height,
+                        ends,
                     },
                 })
             }

@@ -1,7 +1,7 @@
 //! A full node in two parts.
 
 ghost use Rattle.std.specs.Prelude.{◌≡◌, ◌<◌, ◌≤◌, ◌^◌, ◌++◌, ◌↔◌, IfOk, OnOk, IsTrue, length};
-ghost use Rattle.version_pages.specs.Shape.{AreHalves, IsDeep, IsUnder, AreKids, joined, page_shape, fork_shape};
+ghost use Rattle.version_pages.specs.Shape.{AreHalves, IsDeep, IsUnder, AreKids, AreEnds, joined, page_shape, fork_shape};
 
 use super::{FULL, Kid, LONG, Node, Tree, WIDE};
 use crate::keyed::Keyed;
@@ -20,6 +20,20 @@ pub fn len_of<T: Keyed>(kids: &[Kid<T>]) -> u64
         len += kid.len();
     }
     len
+}
+
+/// How many elements each child and those before it have together.
+fn ends_of<T: Keyed>(alloc: Global, kids: &[Kid<T>]) -> Result<Vec<u64>, OutOfMemory>
+    requires { length (joined kids.now) < 2 ^ 64 }
+    ensures { IfOk result (λ ends. AreEnds ends.items kids.now) }
+{
+    let mut ends = Vec::with_capacity(alloc, WIDE)?;
+    let mut end = 0;
+    for kid in kids {
+        end += kid.len();
+        ends.push(end)?;
+    }
+    Ok(ends)
 }
 
 /// A page, to be shared.
@@ -51,8 +65,9 @@ pub fn fork_kid<T: Keyed + Drop>(
     ensures deep { IfOk result IsDeep }
 {
     let len = len_of(&kids);
+    let ends = ends_of(alloc, &kids)?;
     let tree = Tree {
-        node: Node::Fork { kids, height },
+        node: Node::Fork { kids, height, ends },
     };
     let _height = tree.height();
     let key = tree.key();
@@ -88,7 +103,7 @@ impl<T: Keyed + Clone> Tree<T> {
                 let upper = page_kid(alloc, page_of(alloc, FULL, upper)?)?;
                 return Ok((lower, upper));
             }
-            Node::Fork { kids, height } => {
+            Node::Fork { kids, height, .. } => {
                 let at = if at_end { WIDE - 2 } else { WIDE / 2 };
                 let (lower, upper) = kids.split_at(at);
                 let lower = fork_kid(alloc, page_of(alloc, WIDE, lower)?, *height)?;

@@ -6,8 +6,7 @@ ghost use Rattle.version_pages.specs.Keys.{first_key};
 ghost use Rattle.version_pages.specs.Shape.{Shape};
 ghost use Rattle.version_pages.specs.Search.{EndsBelow, EndsIn};
 
-use super::parts::len_of;
-use super::{Kid, Node, Tree};
+use super::{Kid, Node, Tree, start};
 use crate::keyed::Keyed;
 
 /// Where the elements of a page end that have a key below this one.
@@ -68,10 +67,9 @@ impl<T: Keyed> Tree<T> {
     {
         match &self.node {
             Node::Page(items) => search_page(items, key) as u64,
-            Node::Fork { kids, .. } => {
+            Node::Fork { kids, ends, .. } => {
                 let k = search_kids(kids, key);
-                let before = len_of(&kids[..k]);
-                before + kids[k].tree().count_below(key)
+                start(ends, k) + kids[k].tree().count_below(key)
             }
         }
     }

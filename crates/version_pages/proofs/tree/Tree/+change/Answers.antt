@@ -1,8 +1,10 @@
-use Rattle.std.proofs.Common.{◌≡◌, ap, sym, ◌∙◌, ◌<◌, length, arith, get_or, set}
+use Rattle.std.proofs.Common.{◌≡◌, ap, sym, subst, ◌∙◌, ◌<◌, length, arith, get_or, set}
 use Rattle.std.proofs.lemmas.Grind.{common_steps}
-use Rattle.version_pages.specs.Nodes.{shape_of}
-use Rattle.version_pages.specs.Shape.{items_of, joined}
-use Rattle.version_pages.proofs.Edits.{changed-in, same-kept}
+use Rattle.version_pages.specs.Nodes.{shape_of, IsKept}
+use Rattle.version_pages.specs.Shape.{Shape, items_of, joined, AreEnds, AreKids}
+use Rattle.version_pages.proofs.Edits.{changed-in, changed-long, same-kept}
+use Rattle.version_pages.proofs.Ends.{ends-same}
+use Rattle.version_pages.proofs.Grows.{deep-long, kids-set}
 use Rattle.version_pages.proofs.tree.Tree.+change.Goals as goal
 
 pub returns-in-Fork-clause-changed : goal.returns-in-Fork-clause-changed
@@ -26,3 +28,12 @@ returns-clause-changed g t c =
       called = λ d. let v : c.index_mut.result.now ≡ get_or c.args.self.now.items c.args.i d = grind (arith, common_steps, c.index_mut.ensures.value) in rw v at c.call_at.ensures;
       list = ap (λ l. set l c.args.i c.call_at.new.value) e;
     }
+
+pub invariant_of-self-in-Fork : goal.invariant_of-self-in-Fork
+invariant_of-self-in-Fork g t c =
+    let both : AreKids c.in-Fork.height c.in-Fork.kids.items × AreEnds c.in-Fork.ends.items c.in-Fork.kids.items = subst IsKept c.in-Fork.is c.self.invariant in
+    let a : c.in-Some.child.now ≡ c.index_mut-kid.result.now = grind (arith, common_steps) in
+    let is = c.index_mut-kid.ensures.value in
+    let level : c.change-answer.new.self.height ≡ c.index_mut-kid.result.now.height = c.change-answer.ensures.level ∙ ap (λ (s : Shape _). s.height) a in
+    let long : length c.change-answer.new.self.items ≡ length c.index_mut-kid.result.now.items = changed-long _ _ _ _ _ _ c.change-answer.ensures.changed c.change-answer.ensures.same ∙ ap (λ (s : Shape _). length (items_of s)) a in
+    (kids-set _ _ _ c.index_mut-kid.result.now _ both.0 c.find-k.ensures.child is level (deep-long _ _ long level), ends-same _ _ _ c.index_mut-kid.result.now _ both.1 c.find-k.ensures.child is long)

@@ -1,5 +1,5 @@
 -- The order of edges tells edges apart, and edges have one code each.
-use Rattle.std.proofs.Common.{◌≡◌, ℕ, ◌+◌, ◌<◌, ◌≤◌, ltb, cond, Bool, true, false, List, [], ◌∷◌, ◌++◌, Option, None, Some, IfSome, length, refl, rules, arith, ap, sym, ◌∙◌}
+use Rattle.std.proofs.Common.{◌≡◌, ℕ, ◌+◌, ◌<◌, ◌≤◌, ltb, cond, Bool, true, false, List, [], ◌∷◌, ◌++◌, Option, None, Some, IfSome, length, refl, rules, arith, ap, subst, sym, ◌∙◌}
 use Rattle.std.specs.declared.cmp.Ordering.{Ordering}
 use Rattle.std.specs.declared.cmp.Ordering.TheVariants.{Less, Equal, Greater}
 use Rattle.std.specs.BTreeMap.{is_at}
@@ -113,3 +113,26 @@ coded-old edges e code h = record { many = omega arith; few = omega arith; only 
 
 pub fresh-inside : (edges now : List Edge) (e : Edge) → edges ≡ now → ((c : ℕ) → c < length now → edge_at now c ≡ e → ⊥) → (c : ℕ) → c < length edges → edge_at edges c ≡ e → ⊥
 fresh-inside edges now e is fresh c l same = fresh c (let long : length edges ≡ length now = ap length is in omega arith) (ap (λ es. edge_at es c) (sym is) ∙ same)
+
+-- the same edges, and the same codes under them
+pub indexed-again : (edges new : List Edge) (index now : List (Edge × ℕ)) → IsIndexed edges index → new ≡ edges → ((q : Edge) → code_in now q ≡ code_in index q) → IsIndexed new now
+indexed-again edges new index now k is same = subst (λ (es : List Edge). IsIndexed es now) (sym is) (record {
+  sound = λ c l. same (edge_at edges c) ∙ k.sound c l;
+  exact = λ q c h. k.exact q c (sym (same q) ∙ h);
+})
+
+-- nothing stands under an edge that has no code
+pub unknown : (edges now : List Edge) (index : List (Edge × ℕ)) (e : Edge) → IsIndexed edges index → edges ≡ now → ((c : ℕ) → c < length now → edge_at now c ≡ e → ⊥) → code_in index e ≡ None
+unknown edges now index e k is fresh = from (code_in index e) refl
+  where
+    from : (o : Option ℕ) → code_in index e ≡ o → code_in index e ≡ None
+    from None h = h
+    from (Some c) h = absurd (fresh-inside edges now e is fresh c (k.exact e c h).0 (k.exact e c h).1)
+
+-- what was put under an edge, and is taken away again
+pub forgotten : (index mid new : List (Edge × ℕ)) (e : Edge) (code : ℕ) → code_in index e ≡ None → ((q : Edge) → code_in mid q ≡ cond (is_at (cmp-value.it e) q) (Some code) (code_in index q)) → ((q : Edge) → code_in new q ≡ cond (is_at (cmp-value.it e) q) None (code_in mid q)) → (q : Edge) → code_in new q ≡ code_in index q
+forgotten index mid new e code none noted gone q = from (is_at (cmp-value.it e) q) refl
+  where
+    from : (t : Bool) → is_at (cmp-value.it e) q ≡ t → code_in new q ≡ code_in index q
+    from true t = gone q ∙ ap (λ b. cond b None (code_in mid q)) t ∙ sym none ∙ ap (code_in index) (at-exact e q t)
+    from false t = gone q ∙ ap (λ b. cond b None (code_in mid q)) t ∙ noted q ∙ ap (λ b. cond b (Some code) (code_in index q)) t

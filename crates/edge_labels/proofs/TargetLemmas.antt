@@ -100,12 +100,22 @@ code-other n r a code b q codes now is lr lq ne = ap (λ cs. get_or cs (b * n + 
 pub still : (edges new : List Edge) (e : Edge) (q c code : ℕ) → IsCoded edges new e code → IsCodeOf edges q c → IsCodeOf new q c
 still edges new e q c code coded k = record { there = omega (arith, k.there, coded.many); router = ap (λ x. x.router) (coded.same c k.there) ∙ k.router }
 
+coded-within : (n r code : ℕ) (edges new : List Edge) (t : Target) → ((c : ℕ) → c < length edges → (edge_at edges c).router < n) → IsCoded edges new (record { router = r; target = t }) code → r < n → (c : ℕ) → c < length new → (edge_at new c).router < n
+coded-within n r code edges new t within coded lr c l = from (ltb c (length edges)) refl
+  where
+    from : (u : Bool) → ltb c (length edges) ≡ u → (edge_at new c).router < n
+    from true e = let lc : c < length edges = below-from c (length edges) e in subst (λ (x : Edge). x.router < n) (sym (coded.same c lc)) (within c lc)
+    from false e =
+        let high : length edges ≤ c = grind (arith, nat_tests) in
+        let router : (edge_at new c).router ≡ r = ap (λ x. (edge_at new x).router) (coded.only c high l) ∙ ap (λ x. x.router) coded.is in
+        omega (arith, router, lr)
+
 pub moved-rows : (n atoms r a code : ℕ) (codes now : List ℕ) (edges new : List Edge) (t : Target) → AreRows n atoms codes edges → IsCoded edges new (record { router = r; target = t }) code → now ≡ set codes (a * n + r) code → r < n → a < atoms → AreRows n atoms now new
 moved-rows n atoms r a code codes now edges new t kept coded is lr la = record {
   long = ap length is ∙ length-set codes (a * n + r) code ∙ kept.long;
   few = kept.few;
   own = own;
-  within = within;
+  within = λ c l. coded-within n r code edges new t kept.within coded lr c l;
 }
   where
     own : (b q : ℕ) → b < atoms → q < n → IsCodeOf new q (code_at n now b q)
@@ -121,15 +131,23 @@ moved-rows n atoms r a code codes now edges new t kept coded is lr la = record {
         from true false e f = other (λ s u. false≢true (sym f ∙ itself q r u))
         from false v e f = other (λ s u. false≢true (sym e ∙ itself b a s))
 
-    within : (c : ℕ) → c < length new → (edge_at new c).router < n
-    within c l = from (ltb c (length edges)) refl
-      where
-        from : (u : Bool) → ltb c (length edges) ≡ u → (edge_at new c).router < n
-        from true e = let lc : c < length edges = below-from c (length edges) e in subst (λ (x : Edge). x.router < n) (sym (coded.same c lc)) (kept.within c lc)
-        from false e =
-            let high : length edges ≤ c = grind (arith, nat_tests) in
-            let router : (edge_at new c).router ≡ r = ap (λ x. (edge_at new x).router) (coded.only c high l) ∙ ap (λ x. x.router) coded.is in
-            omega (arith, router, lr)
+-- a code more changes no row
+pub coded-rows : (n atoms r code : ℕ) (codes : List ℕ) (edges new : List Edge) (t : Target) → AreRows n atoms codes edges → IsCoded edges new (record { router = r; target = t }) code → r < n → AreRows n atoms codes new
+coded-rows n atoms r code codes edges new t kept coded lr = record {
+  long = kept.long;
+  few = kept.few;
+  own = λ b q lb lq. still edges new (record { router = r; target = t }) q (code_at n codes b q) code coded (kept.own b q lb lq);
+  within = λ c l. coded-within n r code edges new t kept.within coded lr c l;
+}
+
+-- no rows are kept
+pub rows-gone : (n atoms : ℕ) (codes now : List ℕ) (edges : List Edge) → AreRows n atoms codes edges → now ≡ [] → AreRows n 0 now edges
+rows-gone n atoms codes now edges kept gone = record {
+  long = let none : length now ≡ 0 = ap length gone in omega arith;
+  few = lit≤ tt;
+  own = λ b q lb lq. absurd (let no : ⊥ = omega arith in no);
+  within = kept.within;
+}
 
 pub moved-labels : (n atoms r a code : ℕ) (codes now : List ℕ) (edges new : List Edge) (t : Target) (g : Labels) → labels_of n atoms codes edges ≡ g → AreRows n atoms codes edges → IsCoded edges new (record { router = r; target = t }) code → now ≡ set codes (a * n + r) code → r < n → a < atoms → labels_of n atoms now new ≡ moved g r a t
 unfolding labels_of

@@ -1,6 +1,6 @@
 //! A book of codes.
 
-ghost use Rattle.std.specs.Prelude.{◌≡◌, ℕ, ◌<◌, None, IfOk, IfSome, IsTrue, OnOk, length, if◌then◌else◌, Some, []};
+ghost use Rattle.std.specs.Prelude.{◌≡◌, ℕ, ◌<◌, ◌++◌, ◌∷◌, None, IfOk, IfSome, IsTrue, OnOk, OnErr, length, if◌then◌else◌, Some, []};
 ghost use Rattle.std.specs.Arc.{arc_value};
 ghost use Rattle.std.specs.BTreeMap.{is_at};
 ghost use Rattle.edge_labels.specs.declared.codes.Edge.{Edge};
@@ -76,28 +76,25 @@ impl CodeBook {
         look_up(&self.index, edge)
     }
 
-    /// The code of an edge, which is a new one where it has none. At `OutOfMemory`, for which alone it fails, all is
-    /// dropped.
-    pub fn code_of(self, alloc: Global, edge: Edge) -> Result<(CodeBook, u32), OutOfMemory>
-        ensures { IfOk result (λ made. IsCoded self made.0 edge made.1) }
+    /// The code of an edge, which is a new one where it has none. After `OutOfMemory`, for which alone it fails, the codes
+    /// are as before.
+    pub fn code_of(&mut self, alloc: Global, edge: Edge) -> Result<u32, OutOfMemory>
+        ensures ok { IfOk result (λ code. IsCoded self.old self.new edge code) }
+        ensures err { OnErr result (self.new ≡ self.old) }
     {
         if let Some(code) = self.find(edge) {
-            return Ok((self, code));
+            return Ok(code);
         }
         self.add(alloc, edge)
     }
 
     /// The code of an edge, as from `code_of`; a guess is looked at first, which costs less than to look the edge up.
-    pub fn code_near(
-        self,
-        alloc: Global,
-        edge: Edge,
-        guess: u32,
-    ) -> Result<(CodeBook, u32), OutOfMemory>
-        ensures { IfOk result (λ made. IsCoded self made.0 edge made.1) }
+    pub fn code_near(&mut self, alloc: Global, edge: Edge, guess: u32) -> Result<u32, OutOfMemory>
+        ensures ok { IfOk result (λ code. IsCoded self.old self.new edge code) }
+        ensures err { OnErr result (self.new ≡ self.old) }
     {
         if self.is_code_of(guess, edge) {
-            return Ok((self, guess));
+            return Ok(guess);
         }
         self.code_of(alloc, edge)
     }
@@ -112,26 +109,22 @@ impl CodeBook {
         }
     }
 
-    /// Gives an edge that has no code a new one.
-    fn add(self, alloc: Global, edge: Edge) -> Result<(CodeBook, u32), OutOfMemory>
-        requires { (c : ℕ) → c < length self → edge_at self c ≡ edge → ⊥ }
-        ensures { IfOk result (λ made. IsCoded self made.0 edge made.1) }
+    /// Gives an edge that has no code a new one. After `OutOfMemory` the codes are as before.
+    fn add(&mut self, alloc: Global, edge: Edge) -> Result<u32, OutOfMemory>
+        requires { (c : ℕ) → c < length self.old → edge_at self.old c ≡ edge → ⊥ }
+        ensures ok { IfOk result (λ code. IsCoded self.old self.new edge code) }
+        ensures err { OnErr result (self.new ≡ self.old) }
     {
-        let CodeBook {
-            mut edges,
-            mut index,
-        } = self;
-        let code = edges.len();
+        let code = self.edges.len();
         if code > u32::MAX as u64 {
             return Err(OutOfMemory);
         }
-        edges.push(alloc, edge)?;
-        unshare(alloc, &mut index)?;
-        let Some(own) = Arc::get_mut(&mut index) else {
+        unshare(alloc, &mut self.index)?;
+        let Some(own) = Arc::get_mut(&mut self.index) else {
             return Err(OutOfMemory);
         };
-        note(own, edge, code as u32)?;
-        Ok((CodeBook { edges, index }, code as u32))
+        put_in(alloc, &mut self.edges, own, edge, code as u32)?;
+        Ok(code as u32)
     }
 
     /// The same codes again.
@@ -151,12 +144,45 @@ fn look_up(index: &BTreeMap<Edge, u32>, edge: Edge) -> Option<u32>
     index.get(&edge).copied()
 }
 
-/// Puts a code under an edge.
+/// Puts a code under an edge. After `OutOfMemory` all stands as before.
 fn note(index: &mut BTreeMap<Edge, u32>, edge: Edge, code: u32) -> Result<(), OutOfMemory>
-    ensures { OnOk result ((e : Edge) → code_in index.new.entries e ≡ (if is_at (cmp-value.it edge) e then Some code else code_in index.old.entries e)) }
+    ensures ok { OnOk result ((e : Edge) → code_in index.new.entries e ≡ (if is_at (cmp-value.it edge) e then Some code else code_in index.old.entries e)) }
+    ensures err { OnErr result (index.new.entries ≡ index.old.entries) }
 {
     let _before = index.insert(edge, code)?;
     Ok(())
+}
+
+/// Takes away what stands under an edge.
+fn forget(index: &mut BTreeMap<Edge, u32>, edge: Edge)
+    ensures { (e : Edge) → code_in index.new.entries e ≡ (if is_at (cmp-value.it edge) e then None else code_in index.old.entries e) }
+{
+    let _code = index.remove(&edge);
+}
+
+/// Puts an edge at the end of the list, and a code under it. It is put into the map first, since it can be taken out of
+/// that again without memory; so after `OutOfMemory` the list and what stands under edges are as before.
+fn put_in(
+    alloc: Global,
+    edges: &mut Pages<Edge>,
+    index: &mut BTreeMap<Edge, u32>,
+    edge: Edge,
+    code: u32,
+) -> Result<(), OutOfMemory>
+    requires { code_in index.old.entries edge ≡ None }
+    ensures edges { OnOk result (edges.new ≡ edges.old ++ edge ∷ []) }
+    ensures index { OnOk result ((e : Edge) → code_in index.new.entries e ≡ (if is_at (cmp-value.it edge) e then Some code else code_in index.old.entries e)) }
+    ensures same_edges { OnErr result (edges.new ≡ edges.old) }
+    ensures same_index { OnErr result ((e : Edge) → code_in index.new.entries e ≡ code_in index.old.entries e) }
+{
+    note(index, edge, code)?;
+    match edges.push(alloc, edge) {
+        Ok(()) => Ok(()),
+        Err(OutOfMemory) => {
+            forget(index, edge);
+            Err(OutOfMemory)
+        }
+    }
 }
 
 /// The same map again.

@@ -27,8 +27,7 @@ pub fn first_row(alloc: Global, routers: u32) -> Result<FirstRow, OutOfMemory>
             router: r,
             target: Target::NoRoute,
         };
-        let (next, code) = book.code_of(alloc, edge)?;
-        book = next;
+        let code = book.code_of(alloc, edge)?;
         codes.push(alloc, code)?;
     }
     Ok(FirstRow { codes, book })

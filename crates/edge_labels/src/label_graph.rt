@@ -104,7 +104,7 @@ impl LabelGraph {
             routers,
             atoms,
             mut codes,
-            book,
+            mut book,
             mut sets,
             none,
         } = self;
@@ -113,7 +113,7 @@ impl LabelGraph {
             router: r.0 as u32,
             target: after,
         };
-        let (book, new) = book.code_of(alloc, edge)?;
+        let new = book.code_of(alloc, edge)?;
         reach(alloc, &mut sets, book.len())?;
         let old = swap(alloc, &mut codes, place, new)?;
         leave(alloc, &mut sets, old, atom)?;

@@ -1,6 +1,6 @@
 //! What each router does with each atom.
 
-ghost use Rattle.std.specs.Prelude.{◌≡◌, ◌<◌, length, IfOk};
+ghost use Rattle.std.specs.Prelude.{◌≡◌, ◌<◌, length, IfOk, OnOk};
 ghost use Rattle.edge_labels.specs.Labels.{first_labels, inherited, moved, target_at};
 
 use crate::code_book::CodeBook;
@@ -62,90 +62,75 @@ impl TargetRows {
         self.book.edge(code).target
     }
 
-    /// A router does something else with an atom. At `OutOfMemory`, for which alone it fails, all is dropped.
+    /// A router does something else with an atom. It fails for want of memory alone, and then nothing is said of the rows.
     pub fn move_atom(
-        self,
+        &mut self,
         alloc: Global,
         r: RouterId,
         atom: AtomId,
         before: Target,
         after: Target,
-    ) -> Result<TargetRows, OutOfMemory>
-        requires router { r.0 < self.routers }
-        requires atom { atom.0 < length self.rows }
-        requires before { target_at self r.0 atom.0 ≡ before }
-        ensures { IfOk result (λ rows. rows ≡ moved self r.0 atom.0 after) }
+    ) -> Result<(), OutOfMemory>
+        requires router { r.0 < self.old.routers }
+        requires atom { atom.0 < length self.old.rows }
+        requires before { target_at self.old r.0 atom.0 ≡ before }
+        ensures { OnOk result (self.new ≡ moved self.old r.0 atom.0 after) }
     {
         if is_same(&before, &after) {
-            return Ok(self);
+            return Ok(());
         }
         self.change(alloc, r, atom, after)
     }
 
-    /// A router does something else with an atom.
+    /// A router does something else with an atom. Where memory is wanting after its code was found, a code more than
+    /// before may stand in the book, which no atom has.
     fn change(
-        self,
+        &mut self,
         alloc: Global,
         r: RouterId,
         atom: AtomId,
         after: Target,
-    ) -> Result<TargetRows, OutOfMemory>
-        requires router { r.0 < self.routers }
-        requires atom { atom.0 < length self.rows }
-        ensures { IfOk result (λ rows. rows ≡ moved self r.0 atom.0 after) }
+    ) -> Result<(), OutOfMemory>
+        requires router { r.0 < self.old.routers }
+        requires atom { atom.0 < length self.old.rows }
+        ensures { OnOk result (self.new ≡ moved self.old r.0 atom.0 after) }
     {
-        let TargetRows {
-            routers,
-            atoms,
-            mut codes,
-            book,
-            last,
-        } = self;
-        let place = place_of(routers, r, atom);
+        let place = place_of(self.routers, r, atom);
         let edge = Edge {
             router: r.0 as u32,
             target: after,
         };
-        let (book, code) = book.code_near(alloc, edge, last)?;
-        codes.put(alloc, place, code)?;
-        Ok(TargetRows {
-            routers,
-            atoms,
-            codes,
-            book,
-            last: code,
-        })
+        let code = self.book.code_near(alloc, edge, self.last)?;
+        self.codes.put(alloc, place, code)?;
+        self.last = code;
+        Ok(())
     }
 
-    /// Adds an atom, with which each router does what it does with an old one. At `OutOfMemory`, for which alone it
-    /// fails, all is dropped.
+    /// Adds an atom, with which each router does what it does with an old one. It fails for want of memory alone, and then
+    /// the rows may be gone, since a part of the new one can't be taken away again.
     pub fn inherit(
-        self,
+        &mut self,
         alloc: Global,
         old_atom: AtomId,
         new_atom: AtomId,
-    ) -> Result<TargetRows, OutOfMemory>
-        requires there { old_atom.0 < length self.rows }
-        requires next { new_atom.0 ≡ length self.rows }
-        ensures { IfOk result (λ rows. rows ≡ inherited self old_atom.0) }
+    ) -> Result<(), OutOfMemory>
+        requires there { old_atom.0 < length self.old.rows }
+        requires next { new_atom.0 ≡ length self.old.rows }
+        ensures { OnOk result (self.new ≡ inherited self.old old_atom.0) }
     {
-        let TargetRows {
-            routers,
-            atoms,
-            mut codes,
-            book,
-            last,
-        } = self;
-        let from = row_of(routers, old_atom);
-        let row = codes_from(alloc, &codes, from, routers)?;
-        push_row(alloc, &mut codes, &row)?;
-        Ok(TargetRows {
-            routers,
-            atoms: atoms + 1,
-            codes,
-            book,
-            last,
-        })
+        let from = row_of(self.routers, old_atom);
+        let row = codes_from(alloc, &self.codes, from, self.routers)?;
+        match push_row(alloc, &mut self.codes, &row) {
+            Ok(()) => {
+                self.atoms += 1;
+                Ok(())
+            }
+            Err(OutOfMemory) => {
+                self.atoms = 0;
+                self.codes = Pages::new();
+                Err(OutOfMemory)
+            }
+        }
     }
 
     /// The same rows again, which share all that they keep with these.

@@ -1,6 +1,6 @@
 //! Sets that were worked out by hand or are compared with a plain list, and a network of one router.
 
-ghost use Rattle.std.specs.Prelude.{◌≡◌, ◌<◌, ◌∷◌, [], IfOk};
+ghost use Rattle.std.specs.Prelude.{◌≡◌, ◌<◌, ◌∷◌, [], IfOk, OnOk};
 ghost use Rattle.dn_model.specs.declared.target.Target.TheVariants.{Exit, Local};
 ghost use Rattle.edge_labels.specs.Labels.{Labels};
 
@@ -143,22 +143,22 @@ fn inherited_rows(alloc: Global) -> Result<TargetRows, OutOfMemory>
     ensures { IfOk result
         (λ rows. rows ≡ record { routers = 1; rows = (Exit 1 ∷ []) ∷ (Exit 1 ∷ []) ∷ [] }) }
 {
-    let rows = TargetRows::new(alloc, 1)?;
-    let rows = rows.move_atom(
+    let mut rows = TargetRows::new(alloc, 1)?;
+    rows.move_atom(
         alloc,
         RouterId(0),
         AtomId(0),
         Target::NoRoute,
         Target::Exit(1),
     )?;
-    rows.inherit(alloc, AtomId(0), AtomId(1))
+    rows.inherit(alloc, AtomId(0), AtomId(1))?;
+    Ok(rows)
 }
 
-/// The rows of which the atom 0 is the first router's own.
-fn with_own_rows(alloc: Global, rows: TargetRows) -> Result<TargetRows, OutOfMemory>
-    requires { rows ≡ record { routers = 1; rows = (Exit 1 ∷ []) ∷ (Exit 1 ∷ []) ∷ [] } }
-    ensures { IfOk result
-        (λ rows. rows ≡ record { routers = 1; rows = (Local ∷ []) ∷ (Exit 1 ∷ []) ∷ [] }) }
+/// The atom 0 of the rows becomes the first router's own.
+fn with_own_rows(alloc: Global, rows: &mut TargetRows) -> Result<(), OutOfMemory>
+    requires { rows.old ≡ record { routers = 1; rows = (Exit 1 ∷ []) ∷ (Exit 1 ∷ []) ∷ [] } }
+    ensures { OnOk result (rows.new ≡ record { routers = 1; rows = (Local ∷ []) ∷ (Exit 1 ∷ []) ∷ [] }) }
 {
     rows.move_atom(
         alloc,
@@ -171,9 +171,9 @@ fn with_own_rows(alloc: Global, rows: TargetRows) -> Result<TargetRows, OutOfMem
 
 #[test]
 fn a_copy_keeps_its_rows(rt: HostRuntime) {
-    let rows = inherited_rows(rt.alloc()).expect(&rt, "memory");
+    let mut rows = inherited_rows(rt.alloc()).expect(&rt, "memory");
     let copy = rows.copy().expect(&rt, "memory");
-    let rows = with_own_rows(rt.alloc(), rows).expect(&rt, "memory");
+    with_own_rows(rt.alloc(), &mut rows).expect(&rt, "memory");
     assert_eq!(rt; rows.target(RouterId(0), AtomId(0)), Target::Local);
     assert_eq!(rt; rows.target(RouterId(0), AtomId(1)), Target::Exit(1));
     assert_eq!(rt; copy.target(RouterId(0), AtomId(0)), Target::Exit(1));

@@ -69,7 +69,7 @@ impl Net {
         let Net {
             routers,
             mut atoms,
-            labels,
+            mut labels,
             owners,
         } = self;
         let Some((old, new)) = atoms.cut(alloc, at)? else {
@@ -80,7 +80,7 @@ impl Net {
                 owners,
             });
         };
-        let labels = labels.inherit(alloc, old, new)?;
+        labels.inherit(alloc, old, new)?;
         Ok(Net {
             routers,
             atoms,
@@ -112,7 +112,7 @@ impl Net {
         let Net {
             routers,
             atoms,
-            labels,
+            mut labels,
             mut owners,
         } = self;
         let own = &mut owners[usize::from(r.0)];
@@ -122,7 +122,7 @@ impl Net {
             place,
             span,
         };
-        let (labels, delta) = walk_segments(alloc, &atoms, labels, own, op, reach, steps)?;
+        let delta = walk_segments(alloc, &atoms, &mut labels, own, op, reach, steps)?;
         Ok((
             Net {
                 routers,

@@ -1,6 +1,6 @@
 //! What a router does with the atoms of a span.
 
-ghost use Rattle.std.specs.Prelude.{◌≡◌, ℕ, ◌+◌, ◌<◌, ◌≤◌, ◌^◌, true, IfOk, length, take, drop, slice_index_or};
+ghost use Rattle.std.specs.Prelude.{◌≡◌, ℕ, ◌+◌, ◌<◌, ◌≤◌, ◌^◌, true, OnOk, length, take, drop, slice_index_or};
 ghost use Rattle.dn_model.specs.declared.atom_row.AtomRow.{AtomRow};
 ghost use Rattle.dn_model.specs.Atoms.{is_boundary};
 ghost use Rattle.net_engine.specs.Numbered.{AreLabelled, does_at};
@@ -39,37 +39,37 @@ fn next<'a>(atoms: &'a AtomMap, run: &'a [AtomRow], place: u64) -> (AtomRow, &'a
 }
 
 /// A router does something else with each atom of a span, at whose ends atoms begin. It looks at these atoms alone,
-/// a page of them at a time, and at none where nothing changes. At `OutOfMemory`, for which alone it fails, all is dropped.
+/// a page of them at a time, and at none where nothing changes. It fails for want of memory alone, and then nothing is said
+/// of the labels.
 pub fn relabel(
     alloc: Global,
     atoms: &AtomMap,
-    labels: TargetRows,
+    labels: &mut TargetRows,
     r: RouterId,
     span: Span,
     targets: Targets,
-) -> Result<TargetRows, OutOfMemory>
-    requires router { r.0 < labels.routers }
-    requires labelled { AreLabelled atoms.now labels }
+) -> Result<(), OutOfMemory>
+    requires router { r.0 < labels.old.routers }
+    requires labelled { AreLabelled atoms.now labels.old }
     requires order { span.lo < span.past }
     requires end { span.past ≤ 2 ^ 32 }
     requires first { is_boundary atoms.now span.lo ≡ true }
     requires last { span.past < 2 ^ 32 → is_boundary atoms.now span.past ≡ true }
-    requires before { (a : ℕ) → span.lo ≤ a → a < span.past → does_at atoms.now labels r.0 a ≡ targets.before }
-    ensures { IfOk result (λ made. IsRelabelled atoms.now labels made r.0 span.lo span.past targets.after) }
+    requires before { (a : ℕ) → span.lo ≤ a → a < span.past → does_at atoms.now labels.old r.0 a ≡ targets.before }
+    ensures { OnOk result (IsRelabelled atoms.now labels.old labels.new r.0 span.lo span.past targets.after) }
 {
     if targets.before == targets.after {
-        return Ok(labels);
+        return Ok(());
     }
-    let mut labels = labels;
     let mut place = atoms.place_of(span.lo);
     let mut run = atoms.run_from(place);
     let mut at = u64::from(span.lo);
     'atoms: while at < span.past {
         let (row, rest) = next(atoms, run, place);
-        labels = labels.move_atom(alloc, r, row.atom, targets.before, targets.after)?;
+        labels.move_atom(alloc, r, row.atom, targets.before, targets.after)?;
         at = row.past;
         place += 1;
         run = rest;
     }
-    Ok(labels)
+    Ok(())
 }

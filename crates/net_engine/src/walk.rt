@@ -53,11 +53,9 @@ pub fn cut_both<L: Ledger>(
     Ok(place)
 }
 
-/// Where a walk over segments stands: at this place and address, with the labels and the changes so far.
-#[derive(Drop)]
+/// Where a walk over segments stands: at this place and address.
+#[derive(Clone, Copy, Debug, PartialEq, Eq)]
 struct Walk {
-    labels: TargetRows,
-    delta: Delta,
     place: u64,
     at: u64,
 }
@@ -88,43 +86,38 @@ fn tell(delta: &mut Delta, r: RouterId, span: Span, targets: Targets) -> Result<
 fn step<L: Ledger>(
     alloc: Global,
     atoms: &AtomMap,
+    labels: &mut TargetRows,
     owners: &mut RouterOwners,
+    delta: &mut Delta,
     walk: Walk,
     r: RouterId,
     op: &Op,
     steps: &mut Steps<L>,
 ) -> Result<Walk, OutOfMemory>
-    requires router { r.0 < walk.labels.routers }
+    requires router { r.0 < labels.old.routers }
     requires below { walk.at < 2 ^ 32 }
-    requires labelled { AreLabelled atoms.now walk.labels }
-    requires along { GoAlong atoms.now walk.labels r.0 owners.old }
+    requires labelled { AreLabelled atoms.now labels.old }
+    requires along { GoAlong atoms.now labels.old r.0 owners.old }
     requires begins { BeginsAt owners.old walk.place walk.at }
-    requires form { AreChanges walk.delta }
-    requires free { (a : ℕ) → walk.at ≤ a → change_at walk.delta r a ≡ None }
+    requires form { AreChanges delta.old }
+    requires free { (a : ℕ) → walk.at ≤ a → change_at delta.old r a ≡ None }
     ensures moves { IfOk result (λ next. walk.at < next.at) }
     ensures stays { IfOk result (λ next. (hi : ℕ) → walk.at < hi → hi ≤ 2 ^ 32 → (hi < 2 ^ 32 → begins_in owners.old hi ≡ true) → next.at ≤ hi) }
     ensures begins { IfOk result (λ next. next.at < 2 ^ 32 → BeginsAt owners.new next.place next.at) }
-    ensures made { IfOk result (λ next. IsReruledOver atoms.now walk.labels next.labels owners.old owners.new walk.delta next.delta r op.now walk.at next.at) }
+    ensures made { IfOk result (λ next. IsReruledOver atoms.now labels.old labels.new owners.old owners.new delta.old delta.new
+        r op.now walk.at next.at) }
     ensures cost { steps.new ≡ steps.old + 1 }
 {
-    let Walk {
-        labels,
-        mut delta,
-        place,
-        at,
-    } = walk;
-    let past = owners.past(place);
+    let past = owners.past(walk.place);
     let span = Span {
-        lo: at as u32,
+        lo: walk.at as u32,
         past,
     };
-    let targets = owners.change(alloc, place, op, steps)?;
-    let labels = relabel(alloc, atoms, labels, r, span, targets)?;
-    tell(&mut delta, r, span, targets)?;
+    let targets = owners.change(alloc, walk.place, op, steps)?;
+    relabel(alloc, atoms, labels, r, span, targets)?;
+    tell(delta, r, span, targets)?;
     Ok(Walk {
-        labels,
-        delta,
-        place: place + 1,
+        place: walk.place + 1,
         at: past,
     })
 }
@@ -135,37 +128,40 @@ fn step<L: Ledger>(
 pub fn walk_segments<L: Ledger>(
     alloc: Global,
     atoms: &AtomMap,
-    labels: TargetRows,
+    labels: &mut TargetRows,
     owners: &mut RouterOwners,
     op: &Op,
     reach: Reach,
     steps: &mut Steps<L>,
-) -> Result<(TargetRows, Delta), OutOfMemory>
-    requires router { reach.router.0 < labels.routers }
-    requires labelled { AreLabelled atoms.now labels }
-    requires along { GoAlong atoms.now labels reach.router.0 owners.old }
+) -> Result<Delta, OutOfMemory>
+    requires router { reach.router.0 < labels.old.routers }
+    requires labelled { AreLabelled atoms.now labels.old }
+    requires along { GoAlong atoms.now labels.old reach.router.0 owners.old }
     requires order { reach.span.lo < reach.span.past }
     requires end { reach.span.past ≤ 2 ^ 32 }
     requires first { BeginsAt owners.old reach.place reach.span.lo }
     requires last { reach.span.past < 2 ^ 32 → begins_in owners.old reach.span.past ≡ true }
-    ensures made { IfOk result (λ made. IsReruledOver atoms.now labels made.0 owners.old owners.new [] made.1
+    ensures made { IfOk result (λ delta. IsReruledOver atoms.now labels.old labels.new owners.old owners.new [] delta
         reach.router op.now reach.span.lo reach.span.past) }
     ensures cost { steps.new ≤ steps.old + atoms_begun atoms.now reach.span.lo reach.span.past }
 {
+    let mut delta = Delta::new(alloc);
     let mut walk = Walk {
-        labels,
-        delta: Delta::new(alloc),
         place: reach.place,
         at: u64::from(reach.span.lo),
     };
     'segments: while walk.at < reach.span.past {
-        walk = step(alloc, atoms, owners, walk, reach.router, op, steps)?;
+        walk = step(
+            alloc,
+            atoms,
+            labels,
+            owners,
+            &mut delta,
+            walk,
+            reach.router,
+            op,
+            steps,
+        )?;
     }
-    let Walk {
-        labels,
-        delta,
-        place: _,
-        at: _,
-    } = walk;
-    Ok((labels, delta))
+    Ok(delta)
 }

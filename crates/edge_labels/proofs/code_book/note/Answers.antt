@@ -1,6 +1,6 @@
 use Rattle.edge_labels.specs.Codes.{code_in}
 use Rattle.edge_labels.proofs.code_book.note.Goals as goal
 
-pub returns : goal.returns
+pub returns-clause-ok : goal.returns-clause-ok
 unfolding code_in
-returns c = c.in_ok-_before.ensures.updates.0
+returns-clause-ok c = c.in_ok-_before.ensures.updates.0

@@ -15,8 +15,8 @@ atoms-init c =
       begins = λ l. subst (λ n. AtomBegins c.args.atoms.now c.place_of-place.result n) (sym same)
           (atom-begins c.args.atoms.now c.place_of-place.result c.args.span.lo c.requires.labelled.atoms c.place_of-place.ensures.inside c.place_of-place.ensures.from c.place_of-place.ensures.to c.requires.first);
       run = c.run_from-run.ensures.run;
-      made = subst (λ n. IsRelabelled c.args.atoms.now c.args.labels c.args.labels c.args.r.0 c.args.span.lo n c.args.targets.after) (sym same)
-          (relabelled-none c.args.atoms.now c.args.labels c.args.r.0 c.args.span.lo c.args.targets.after c.requires.labelled);
+      made = subst (λ n. IsRelabelled c.args.atoms.now c.args.labels.now c.args.labels.now c.args.r.0 c.args.span.lo n c.args.targets.after) (sym same)
+          (relabelled-none c.args.atoms.now c.args.labels.now c.args.r.0 c.args.span.lo c.args.targets.after c.requires.labelled);
     }
 
 pub move_atom-requires-clause-atom : goal.move_atom-requires-clause-atom
@@ -29,7 +29,7 @@ pub move_atom-requires-clause-before : goal.move_atom-requires-clause-before
 move_atom-requires-clause-before c =
     let below : c.atoms.at < 2 ^ 32 = omega (arith, c.atoms-test.true, c.requires.end) in
     let s : Stands c.args.atoms.now c.atoms.place c.atoms.at c.next.result.0 = stands-at c.args.atoms.now c.atoms.place c.atoms.at c.next.result.0 c.requires.labelled.atoms (c.atoms.invariant.begins below) c.next.ensures.row in
-    not-yet c.args.atoms.now c.args.labels c.atoms.labels c.args.r.0 c.args.span.lo c.atoms.at c.atoms.place c.args.targets.after c.args.targets.before c.next.result.0 c.atoms.invariant.made s
+    not-yet c.args.atoms.now c.args.labels.now c.atoms.labels c.args.r.0 c.args.span.lo c.atoms.at c.atoms.place c.args.targets.after c.args.targets.before c.next.result.0 c.atoms.invariant.made s
     (c.requires.before c.atoms.at c.atoms.invariant.from c.atoms-test.true)
 
 pub overflow_add-place : goal.overflow_add-place
@@ -60,5 +60,5 @@ atoms-preserved c =
       to = s.within c.args.span.past c.atoms-test.true c.requires.end c.requires.last;
       begins = s.next;
       run = c.next.ensures.rest;
-      made = relabelled-more c.args.atoms.now c.args.labels c.atoms.labels c.in_ok-labels.labels c.args.r.0 c.args.span.lo c.atoms.at c.atoms.place c.args.targets.after c.next.result.0 from c.atoms.invariant.made s c.requires.router c.in_ok-labels.ensures;
+      made = relabelled-more c.args.atoms.now c.args.labels.now c.atoms.labels c.move_atom.new.self c.args.r.0 c.args.span.lo c.atoms.at c.atoms.place c.args.targets.after c.next.result.0 from c.atoms.invariant.made s c.requires.router c.in_ok-move_atom.ensures;
     }

@@ -9,7 +9,7 @@ invariant-segments g l = record {
   from : l.reach.span.lo ≤ l.walk.at;
   to : l.walk.at ≤ l.reach.span.past;
   begins : l.walk.at < 2 ^ 32 → BeginsAt l.owners l.walk.place l.walk.at;
-  made : IsReruledOver l.atoms l.fn.labels l.walk.labels l.fn.owners l.owners [] l.walk.delta l.reach.router l.op l.reach.span.lo l.walk.at;
+  made : IsReruledOver l.atoms l.fn.labels l.labels l.fn.owners l.owners [] l.delta l.reach.router l.op l.reach.span.lo l.walk.at;
   cost : l.steps ≤ l.initial.steps + atoms_begun l.atoms l.reach.span.lo l.walk.at;
 }
 

@@ -12,16 +12,16 @@ walk_segments-requires-clause-along g c =
     (λ l. boundary-now c.args.self c.self.inside.routers c.self.inside.atoms c.self.inside.labels c.self.inside.owners.items c.args.span.past c.self.view_is (c.requires.last l))
 
 pub invariant_of-result : goal.invariant_of-result
-invariant_of-result g c = numbered-now c.self.inside.routers c.self.inside.atoms c.self.inside.labels c.in_ok-labels.labels c.self.inside.owners.items (set c.self.inside.owners.items c.from.result c.walk_segments.new.owners) c.index_mut-own.result.now c.cut_both.new.owners c.walk_segments.new.owners c.in_ok-labels.delta c.args.r c.args.op.now c.args.span.lo c.args.span.past c.from.result c.self.invariant (makes-now c.args.self c.self.inside.routers c.self.inside.atoms c.self.inside.labels c.in_ok-labels.labels c.self.inside.owners.items c.index_mut-own.result.now c.cut_both.new.owners c.walk_segments.new.owners c.in_ok-labels.delta c.args.r c.args.op.now c.args.span.lo c.args.span.past c.from.result c.self.view_is c.self.invariant c.requires.router c.requires.end c.from.ensures c.index_mut-own.ensures.value c.in_ok-place.ensures.cut c.in_ok-labels.ensures.made) c.from.ensures refl
+invariant_of-result g c = numbered-now c.self.inside.routers c.self.inside.atoms c.self.inside.labels c.walk_segments.new.labels c.self.inside.owners.items (set c.self.inside.owners.items c.from.result c.walk_segments.new.owners) c.index_mut-own.result.now c.cut_both.new.owners c.walk_segments.new.owners c.in_ok-delta.delta c.args.r c.args.op.now c.args.span.lo c.args.span.past c.from.result c.self.invariant (makes-now c.args.self c.self.inside.routers c.self.inside.atoms c.self.inside.labels c.walk_segments.new.labels c.self.inside.owners.items c.index_mut-own.result.now c.cut_both.new.owners c.walk_segments.new.owners c.in_ok-delta.delta c.args.r c.args.op.now c.args.span.lo c.args.span.past c.from.result c.self.view_is c.self.invariant c.requires.router c.requires.end c.from.ensures c.index_mut-own.ensures.value c.in_ok-place.ensures.cut c.in_ok-delta.ensures.made) c.from.ensures refl
 
 pub returns-clause-net : goal.returns-clause-net
-returns-clause-net g c = net-now c.self.inside.routers c.self.inside.atoms c.self.inside.labels c.in_ok-labels.labels c.self.inside.owners.items (set c.self.inside.owners.items c.from.result c.walk_segments.new.owners) c.index_mut-own.result.now c.cut_both.new.owners c.walk_segments.new.owners c.in_ok-labels.delta c.args.r c.args.op.now c.args.span.lo c.args.span.past c.from.result c.self.invariant (makes-now c.args.self c.self.inside.routers c.self.inside.atoms c.self.inside.labels c.in_ok-labels.labels c.self.inside.owners.items c.index_mut-own.result.now c.cut_both.new.owners c.walk_segments.new.owners c.in_ok-labels.delta c.args.r c.args.op.now c.args.span.lo c.args.span.past c.from.result c.self.view_is c.self.invariant c.requires.router c.requires.end c.from.ensures c.index_mut-own.ensures.value c.in_ok-place.ensures.cut c.in_ok-labels.ensures.made) c.from.ensures refl
+returns-clause-net g c = net-now c.self.inside.routers c.self.inside.atoms c.self.inside.labels c.walk_segments.new.labels c.self.inside.owners.items (set c.self.inside.owners.items c.from.result c.walk_segments.new.owners) c.index_mut-own.result.now c.cut_both.new.owners c.walk_segments.new.owners c.in_ok-delta.delta c.args.r c.args.op.now c.args.span.lo c.args.span.past c.from.result c.self.invariant (makes-now c.args.self c.self.inside.routers c.self.inside.atoms c.self.inside.labels c.walk_segments.new.labels c.self.inside.owners.items c.index_mut-own.result.now c.cut_both.new.owners c.walk_segments.new.owners c.in_ok-delta.delta c.args.r c.args.op.now c.args.span.lo c.args.span.past c.from.result c.self.view_is c.self.invariant c.requires.router c.requires.end c.from.ensures c.index_mut-own.ensures.value c.in_ok-place.ensures.cut c.in_ok-delta.ensures.made) c.from.ensures refl
 
 pub returns-clause-walked : goal.returns-clause-walked
-returns-clause-walked g c = walked-now c.args.self c.self.inside.routers c.self.inside.atoms c.self.inside.labels c.in_ok-labels.labels c.self.inside.owners.items (set c.self.inside.owners.items c.from.result c.walk_segments.new.owners) c.index_mut-own.result.now c.cut_both.new.owners c.walk_segments.new.owners c.in_ok-labels.delta c.args.r c.args.op.now c.args.span.lo c.args.span.past c.from.result c.self.view_is c.self.invariant (makes-now c.args.self c.self.inside.routers c.self.inside.atoms c.self.inside.labels c.in_ok-labels.labels c.self.inside.owners.items c.index_mut-own.result.now c.cut_both.new.owners c.walk_segments.new.owners c.in_ok-labels.delta c.args.r c.args.op.now c.args.span.lo c.args.span.past c.from.result c.self.view_is c.self.invariant c.requires.router c.requires.end c.from.ensures c.index_mut-own.ensures.value c.in_ok-place.ensures.cut c.in_ok-labels.ensures.made) c.from.ensures refl
+returns-clause-walked g c = walked-now c.args.self c.self.inside.routers c.self.inside.atoms c.self.inside.labels c.walk_segments.new.labels c.self.inside.owners.items (set c.self.inside.owners.items c.from.result c.walk_segments.new.owners) c.index_mut-own.result.now c.cut_both.new.owners c.walk_segments.new.owners c.in_ok-delta.delta c.args.r c.args.op.now c.args.span.lo c.args.span.past c.from.result c.self.view_is c.self.invariant (makes-now c.args.self c.self.inside.routers c.self.inside.atoms c.self.inside.labels c.walk_segments.new.labels c.self.inside.owners.items c.index_mut-own.result.now c.cut_both.new.owners c.walk_segments.new.owners c.in_ok-delta.delta c.args.r c.args.op.now c.args.span.lo c.args.span.past c.from.result c.self.view_is c.self.invariant c.requires.router c.requires.end c.from.ensures c.index_mut-own.ensures.value c.in_ok-place.ensures.cut c.in_ok-delta.ensures.made) c.from.ensures refl
 
 pub returns-clause-cost : goal.returns-clause-cost
 returns-clause-cost g c = omega (arith, c.cut_both.ensures.cost, c.walk_segments.ensures.cost, looks-now c.args.self c.self.inside.routers c.self.inside.atoms c.self.inside.labels c.self.inside.owners.items c.args.span.lo c.args.span.past c.self.view_is c.self.invariant)
 
-pub returns-in_err-labels-clause-cost : goal.returns-in_err-labels-clause-cost
-returns-in_err-labels-clause-cost g c = omega (arith, c.cut_both.ensures.cost, c.walk_segments.ensures.cost, looks-now c.args.self c.self.inside.routers c.self.inside.atoms c.self.inside.labels c.self.inside.owners.items c.args.span.lo c.args.span.past c.self.view_is c.self.invariant)
+pub returns-in_err-delta-clause-cost : goal.returns-in_err-delta-clause-cost
+returns-in_err-delta-clause-cost g c = omega (arith, c.cut_both.ensures.cost, c.walk_segments.ensures.cost, looks-now c.args.self c.self.inside.routers c.self.inside.atoms c.self.inside.labels c.self.inside.owners.items c.args.span.lo c.args.span.past c.self.view_is c.self.invariant)

@@ -15,9 +15,11 @@ use Rattle.dn_model.specs.declared.target.Target.TheVariants.{NoRoute}
 use Rattle.atom_map.specs.Index.{one_atom}
 use Rattle.atom_map.proofs.Begun.{below-at, one-indexed}
 use Rattle.edge_labels.specs.Labels.{Labels, first_labels, target_at, targets_of}
+use Rattle.net_engine.specs.Held.{IsNumbered, net_in}
 use Rattle.net_engine.specs.Net.{AreWide, IsNet, IsWide, Net, first_atom}
 use Rattle.net_engine.specs.Numbered.{AreNumbered, GoAlong, does_in, net_of, numbered, owners_at}
 use Rattle.net_engine.specs.Segments.{held_at}
+use Rattle.net_engine.specs.declared.net.Net.{Net as NetFields}
 use Rattle.net_engine.specs.declared.segment.Segment.{Segment}
 
 -- each router's segments
@@ -67,6 +69,15 @@ is-net-again routers rows new x y os ps h r l o =
     is-net-now (net_of routers new y ps) routers rows x os
     (sym (ap (λ (zs : List AtomRow). net_of routers zs y ps) r ∙ ap (λ (z : Labels). net_of routers rows z ps) l ∙ ap (λ (zs : AllRules). net_of routers rows x zs) o))
     h
+
+pub net-form : (n : NetFields) → IsNumbered n → IsNet (net_in n)
+net-form n h = is-net n.routers n.atoms n.labels n.owners.items h
+
+pub numbered-again : (routers : ℕ) (rows new : List AtomRow) (x y : Labels) (os ps : AllRules) → AreNumbered routers rows x os → new ≡ rows → y ≡ x → ps ≡ os → AreNumbered routers new y ps
+numbered-again routers rows new x y os ps h r l o =
+    subst (λ (zs : List AtomRow). AreNumbered routers zs y ps) (sym r)
+    (subst (λ (z : Labels). AreNumbered routers rows z ps) (sym l)
+    (subst (λ (zs : AllRules). AreNumbered routers rows x zs) (sym o) h))
 
 -- ---- numbers
 

@@ -1,3 +1,4 @@
+pub mod Held
 pub mod Net
 pub mod Looks
 pub mod Segments

@@ -1,8 +1,8 @@
 //! The two ends of a prefix, at which its atoms begin and end.
 
-ghost use Rattle.std.specs.Prelude.{◌≡◌, ◌+◌, ◌≤◌, ◌^◌, IfOk};
+ghost use Rattle.std.specs.Prelude.{◌≡◌, ◌+◌, ◌≤◌, ◌^◌, OnOk};
 ghost use Rattle.dn_model.specs.Cidr.{IsCidr, size};
-ghost use Rattle.net_engine.specs.Net.{IsNet};
+ghost use Rattle.net_engine.specs.Held.{IsNumbered, net_in};
 ghost use Rattle.net_engine.specs.Walked.{IsParted};
 
 use crate::net::Net;
@@ -21,18 +21,19 @@ pub fn past_of(prefix: Prefix) -> u64
     u64::from(prefix.base()) + (1u64 << (32 - prefix.len()))
 }
 
-/// Cuts atoms at both ends of a prefix.
-pub fn cut_ends(net: Net, alloc: Global, prefix: Prefix) -> Result<Net, OutOfMemory>
-    requires { IsNet net }
-    ensures routers { IfOk result (λ parted. parted.routers ≡ net.routers) }
-    ensures form { IfOk result IsNet }
-    ensures parted { IfOk result (λ parted. IsParted net.atoms parted.atoms prefix) }
+/// Cuts atoms at both ends of a prefix. It fails for want of memory alone, and then nothing is said of them.
+pub fn cut_ends(net: &mut Net, alloc: Global, prefix: Prefix) -> Result<(), OutOfMemory>
+    requires { IsNumbered net.old }
+    ensures routers { OnOk result (net.new.routers ≡ net.old.routers) }
+    ensures numbered { OnOk result (IsNumbered net.new) }
+    ensures parted { OnOk result (IsParted (net_in net.old).atoms (net_in net.new).atoms prefix) }
     ensures sound { IsCidr prefix }
 {
     let past = past_of(prefix);
-    let first = net.cut(alloc, prefix.base())?;
+    net.cut(alloc, prefix.base())?;
     if past == END {
-        return Ok(first);
+        return Ok(());
     }
-    first.cut(alloc, past as u32)
+    net.cut(alloc, past as u32)?;
+    Ok(())
 }

@@ -1,6 +1,7 @@
 //! A network of two routers, whose answers were worked out by hand.
 
 ghost use Rattle.std.specs.Prelude.{◌≡◌, IfOk};
+ghost use Rattle.net_engine.specs.Held.{IsNumbered};
 
 use crate::net::Net;
 use dn_model::{OutOfMemory, RouterId, Target};
@@ -9,11 +10,13 @@ use std::test::Fail;
 
 /// Two routers, and atoms that begin at 0.0.0.0, 10.0.0.0 and 11.0.0.0.
 fn three_atoms(alloc: Global) -> Result<Net, OutOfMemory>
-    ensures { IfOk result (λ net. net.routers ≡ 2) }
+    ensures routers { IfOk result (λ net. net.routers ≡ 2) }
+    ensures numbered { IfOk result IsNumbered }
 {
-    let whole = Net::new(alloc, 2)?;
-    let halves = whole.cut(alloc, 0x0A00_0000)?;
-    halves.cut(alloc, 0x0B00_0000)
+    let mut net = Net::new(alloc, 2)?;
+    net.cut(alloc, 0x0A00_0000)?;
+    net.cut(alloc, 0x0B00_0000)?;
+    Ok(net)
 }
 
 #[test]
@@ -28,7 +31,8 @@ fn a_new_network_has_one_atom_of_all_addresses(rt: HostRuntime) -> Result<(), Fa
 
 #[test]
 fn a_cut_is_made_once(rt: HostRuntime) -> Result<(), Fail> {
-    let net = three_atoms(rt.alloc())?.cut(rt.alloc(), 0x0A00_0000)?;
+    let mut net = three_atoms(rt.alloc())?;
+    net.cut(rt.alloc(), 0x0A00_0000)?;
     let copy = net.copy(rt.alloc())?;
     assert_eq!(rt; copy.count(), 3);
     assert_eq!(rt; copy.place_of(0x0AFF_FFFF), 1);

@@ -30,18 +30,13 @@ pub struct Version {
 
 impl Model for Version {
     ghost use Rattle.dn_model.specs.Version.{Kept};
+    ghost use Rattle.net_engine.specs.Held.{IsSound, kept_in};
 
     ghost Value = { Kept };
 
-    ghost view = { λ v. v.state.value };
-}
+    ghost view = { λ v. kept_in v.state.value };
 
-/// The version that keeps this.
-fn version_of(alloc: Global, state: State) -> Result<Version, OutOfMemory>
-    ensures { IfOk result (λ version. version ≡ state) }
-{
-    let state = Box::new(alloc, state)?;
-    Ok(Version { state })
+    ghost invariant = { λ v. IsSound v.state.value };
 }
 
 impl Version {
@@ -51,15 +46,8 @@ impl Version {
         ensures stands { IfOk result (λ version. KeptStandsFor version []) }
     {
         let state = State::empty(alloc, t)?;
-        let version = version_of(alloc, state)?;
-        Ok(version)
-    }
-
-    /// What it keeps, for a change in place.
-    fn into_state(self) -> State
-        ensures { result ≡ self }
-    {
-        Box::into_inner(self.state)
+        let state = Box::new(alloc, state)?;
+        Ok(Version { state })
     }
 
     /// The version after an update of one of its routers, and where that changes what the router does. It takes the
@@ -84,9 +72,9 @@ impl Version {
             atoms_met made.0.atoms (prefix_of_op entry.now.op) ≡ atoms_met self.atoms (prefix_of_op entry.now.op)) }
         ensures cost { steps.new ≤ steps.old + 2 + atoms_met self.atoms (prefix_of_op entry.now.op) }
     {
-        let (state, delta) = self.into_state().advance(alloc, entry, steps)?;
-        let version = version_of(alloc, state)?;
-        Ok((version, delta))
+        let Version { mut state } = self;
+        let delta = state.advance(alloc, entry, steps)?;
+        Ok((Version { state }, delta))
     }
 
     /// The version after an update of one of its routers, and where that changes what the router does. This version
@@ -115,8 +103,8 @@ impl Version {
         ensures { IfOk result (λ version. version ≡ self.now) }
     {
         let state = self.state.copy(alloc)?;
-        let version = version_of(alloc, state)?;
-        Ok(version)
+        let state = Box::new(alloc, state)?;
+        Ok(Version { state })
     }
 }
 
@@ -126,22 +114,22 @@ impl LabelView for Version {
     ghost rows = { λ v. forwarding_of v.atoms };
 
     fn routers(&self) -> u32 {
-        self.state.routers()
+        self.state.net.routers()
     }
 
     fn atoms(&self) -> u64 {
-        self.state.atoms()
+        self.state.net.count()
     }
 
     fn bounds(&self, i: u64) -> (u64, u64) {
-        self.state.bounds(i)
+        self.state.net.bounds(i)
     }
 
     fn atom_of(&self, a: u32) -> u64 {
-        self.state.atom_of(a)
+        self.state.net.place_of(a)
     }
 
     fn target(&self, r: RouterId, i: u64) -> Target {
-        self.state.target(r, i)
+        self.state.net.target(r, i)
     }
 }

@@ -1,14 +1,25 @@
 -- What is cut is whole still, and atoms begin at both ends.
-use Rattle.std.proofs.Common.{◌∙◌}
-use Rattle.net_engine.proofs.Making.{cut-made, wide-for}
+use Rattle.std.proofs.Common.{◌∙◌, refl}
+use Rattle.std.specs.Arc.{arc_value}
+use Rattle.net_engine.specs.Held.{kept_in, net_in}
+use Rattle.net_engine.specs.Walked.{IsCutAt}
+use Rattle.net_engine.proofs.Making.{cut-made, kept_of, wide-for}
+use Rattle.net_engine.proofs.Standing.{net-form}
 use Rattle.net_engine.proofs.state.State.cut.Goals as goal
+use Rattle.net_engine.proofs.state.State.cut.Goals.{In_ok-cut_ends}
 
-pub invariant_of-result : goal.invariant_of-result
-invariant_of-result c = (
-  (cut-made c.args.self _ _ _ _ c.args.prefix c.self.view_is c.self.invariant.0 c.in_ok-net.ensures.form.cover (wide-for _ _ _ (c.in_ok-net.ensures.routers ∙ c.self.invariant.1) c.in_ok-net.ensures.form.wide) c.cut_ends.ensures.sound c.in_ok-net.ensures.parted).whole,
-  c.in_ok-net.ensures.routers ∙ c.self.invariant.1,
-)
+made : (c : In_ok-cut_ends) → IsCutAt (kept_in c.args.self.now) (kept_of (arc_value c.args.self.now.topology) (net_in c.cut_ends.new.net).atoms c.args.self.now.tables.items) c.args.prefix
+made c =
+    let form = net-form c.cut_ends.new.net c.in_ok-cut_ends.ensures.numbered in
+    cut-made (kept_in c.args.self.now) (arc_value c.args.self.now.topology) (net_in c.args.self.now.net).atoms (net_in c.cut_ends.new.net).atoms c.args.self.now.tables.items c.args.prefix refl c.requires.whole form.cover
+    (wide-for _ _ _ (c.in_ok-cut_ends.ensures.routers ∙ c.requires.routers) form.wide) c.cut_ends.ensures.sound c.in_ok-cut_ends.ensures.parted
 
-pub returns : goal.returns
-returns c =
-    cut-made c.args.self _ _ _ _ c.args.prefix c.self.view_is c.self.invariant.0 c.in_ok-net.ensures.form.cover (wide-for _ _ _ (c.in_ok-net.ensures.routers ∙ c.self.invariant.1) c.in_ok-net.ensures.form.wide) c.cut_ends.ensures.sound c.in_ok-net.ensures.parted
+pub returns-clause-made : goal.returns-clause-made
+returns-clause-made c = made c
+
+pub returns-clause-sound : goal.returns-clause-sound
+returns-clause-sound c = record {
+  whole = (made c).whole;
+  numbered = c.in_ok-cut_ends.ensures.numbered;
+  routers = c.in_ok-cut_ends.ensures.routers ∙ c.requires.routers;
+}

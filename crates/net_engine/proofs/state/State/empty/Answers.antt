@@ -3,12 +3,14 @@ use Rattle.dn_model.specs.declared.topology.Topology.{Topology}
 use Rattle.net_engine.proofs.Making.{empty-stands, empty-whole}
 use Rattle.net_engine.proofs.state.State.empty.Goals as goal
 
-pub invariant_of-result : goal.invariant_of-result
-invariant_of-result c =
-    let count = c.router_count-routers.ensures.value ∙ ap (λ (t : Topology). length t.routers) c.deref.ensures in (
-      empty-whole _ c.router_count-routers.result _ _ c.router_count-routers.ensures.few count c.in_ok-net.ensures.atoms c.in_ok-tables.ensures,
-      c.in_ok-net.ensures.routers ∙ count,
-    )
+pub returns-clause-sound : goal.returns-clause-sound
+returns-clause-sound c =
+    let count = c.router_count-routers.ensures.value ∙ ap (λ (t : Topology). length t.routers) c.deref.ensures in
+    record {
+      whole = empty-whole _ c.router_count-routers.result _ _ c.router_count-routers.ensures.few count c.in_ok-net.ensures.atoms c.in_ok-tables.ensures;
+      numbered = c.in_ok-net.ensures.numbered;
+      routers = c.in_ok-net.ensures.routers ∙ count;
+    }
 
 pub returns-clause-stands : goal.returns-clause-stands
 returns-clause-stands c =

@@ -1,5 +1,0 @@
-use Rattle.net_engine.proofs.RowsOfAtoms.{are-forwarding-now}
-use Rattle.net_engine.proofs.state.StateLabelView.routers.Goals as goal
-
-pub returns-clause-form : goal.returns-clause-form
-returns-clause-form c = are-forwarding-now _ _ c.self.view_is c.self.invariant.0

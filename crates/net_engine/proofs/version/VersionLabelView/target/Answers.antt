@@ -1,0 +1,13 @@
+use Rattle.std.proofs.Common.{◌≡◌, ◌<◌, length, ap, subst, sym, ◌∙◌}
+use Rattle.dn_model.specs.Forwarding.{target_of}
+use Rattle.dn_model.specs.declared.forwarding_row.ForwardingRow.{ForwardingRow}
+use Rattle.net_engine.specs.Held.{IsSound, kept_in}
+use Rattle.net_engine.specs.declared.state.State.{State}
+use Rattle.net_engine.proofs.RowsOfAtoms.{atom_with, row-at}
+use Rattle.net_engine.proofs.version.VersionLabelView.target.Goals as goal
+
+pub target-requires-clause-numbered : goal.target-requires-clause-numbered
+target-requires-clause-numbered c = (subst (λ (s : State). IsSound s) (sym c.deref.ensures) c.self.invariant).numbered
+
+pub returns : goal.returns
+returns c d = row-at (λ (row : ForwardingRow). c.target.result ≡ target_of row c.args.r) (kept_in c.deref.result.now) _ c.args.i d (ap kept_in c.deref.ensures ∙ c.self.view_is) (c.target.ensures (atom_with d))

@@ -76,8 +76,8 @@ impl CodeBook {
         look_up(&self.index, edge)
     }
 
-    /// The code of an edge, which is a new one where it has none. After `OutOfMemory`, for which alone it fails, the codes
-    /// are as before.
+    /// The code of an edge, which is a new one where it has none. After `OutOfMemory`, for which alone it fails, the
+    /// codes are as before.
     pub fn code_of(&mut self, alloc: Global, edge: Edge) -> Result<u32, OutOfMemory>
         ensures ok { IfOk result (λ code. IsCoded self.old self.new edge code) }
         ensures err { OnErr result (self.new ≡ self.old) }
@@ -146,7 +146,8 @@ fn look_up(index: &BTreeMap<Edge, u32>, edge: Edge) -> Option<u32>
 
 /// Puts a code under an edge. After `OutOfMemory` all stands as before.
 fn note(index: &mut BTreeMap<Edge, u32>, edge: Edge, code: u32) -> Result<(), OutOfMemory>
-    ensures ok { OnOk result ((e : Edge) → code_in index.new.entries e ≡ (if is_at (cmp-value.it edge) e then Some code else code_in index.old.entries e)) }
+    ensures ok { OnOk result ((e : Edge) → code_in index.new.entries e ≡
+        (if is_at (cmp-value.it edge) e then Some code else code_in index.old.entries e)) }
     ensures err { OnErr result (index.new.entries ≡ index.old.entries) }
 {
     let _before = index.insert(edge, code)?;
@@ -155,7 +156,8 @@ fn note(index: &mut BTreeMap<Edge, u32>, edge: Edge, code: u32) -> Result<(), Ou
 
 /// Takes away what stands under an edge.
 fn forget(index: &mut BTreeMap<Edge, u32>, edge: Edge)
-    ensures { (e : Edge) → code_in index.new.entries e ≡ (if is_at (cmp-value.it edge) e then None else code_in index.old.entries e) }
+    ensures { (e : Edge) → code_in index.new.entries e ≡
+        (if is_at (cmp-value.it edge) e then None else code_in index.old.entries e) }
 {
     let _code = index.remove(&edge);
 }
@@ -171,7 +173,8 @@ fn put_in(
 ) -> Result<(), OutOfMemory>
     requires { code_in index.old.entries edge ≡ None }
     ensures edges { OnOk result (edges.new ≡ edges.old ++ edge ∷ []) }
-    ensures index { OnOk result ((e : Edge) → code_in index.new.entries e ≡ (if is_at (cmp-value.it edge) e then Some code else code_in index.old.entries e)) }
+    ensures index { OnOk result ((e : Edge) → code_in index.new.entries e ≡
+        (if is_at (cmp-value.it edge) e then Some code else code_in index.old.entries e)) }
     ensures same_edges { OnErr result (edges.new ≡ edges.old) }
     ensures same_index { OnErr result ((e : Edge) → code_in index.new.entries e ≡ code_in index.old.entries e) }
 {

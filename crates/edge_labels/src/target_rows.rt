@@ -62,7 +62,8 @@ impl TargetRows {
         self.book.edge(code).target
     }
 
-    /// A router does something else with an atom. It fails for want of memory alone, and then nothing is said of the rows.
+    /// A router does something else with an atom. It fails for want of memory alone, and then nothing is said of the
+    /// rows.
     pub fn move_atom(
         &mut self,
         alloc: Global,
@@ -106,8 +107,8 @@ impl TargetRows {
         Ok(())
     }
 
-    /// Adds an atom, with which each router does what it does with an old one. It fails for want of memory alone, and then
-    /// the rows may be gone, since a part of the new one can't be taken away again.
+    /// Adds an atom, with which each router does what it does with an old one. It fails for want of memory alone, and
+    /// then the rows may be gone, since a part of the new one can't be taken away again.
     pub fn inherit(
         &mut self,
         alloc: Global,

@@ -210,9 +210,6 @@ ends-of_update atoms p op is ends = subst (λ (q : Cidr). BeginsAtEnds atoms q) 
 pub wide-for : (n m : ℕ) (atoms : List Atom) → n ≡ m → AreWide n atoms → AreWide m atoms
 wide-for n m atoms e h = subst (λ k. AreWide k atoms) e h
 
-pub whole-now : (kept now : Kept) → kept ≡ now → IsWhole kept → IsWhole now
-whole-now kept now view h = subst (λ (k : Kept). IsWhole k) view h
-
 -- a table that was read at a place
 pub read-now : (kept now : Kept) (r : RouterId) (at : ℕ) (routes : List Route) → kept ≡ now → at ≡ r.0 → routes ≡ get_or kept.routes at routes → routes ≡ get_or now.routes r.0 routes
 read-now kept now r at routes view e h = h ∙ ap (λ n. get_or kept.routes n routes) e ∙ ap (λ (k : Kept). get_or k.routes r.0 routes) view

@@ -61,15 +61,6 @@ is-net routers rows labels owners h = record {
   wide = wide-numbered routers (length rows) labels owners rows (wide-for_all routers rows labels owners h) h.each h.labelled.atoms.below;
 }
 
-pub is-net-now : (net : Net) (routers : ℕ) (rows : List AtomRow) (labels : Labels) (owners : AllRules) → net_of routers rows labels owners ≡ net → AreNumbered routers rows labels owners → IsNet net
-is-net-now net routers rows labels owners e h = subst (λ (n : Net). IsNet n) e (is-net routers rows labels owners h)
-
-pub is-net-again : (routers : ℕ) (rows new : List AtomRow) (x y : Labels) (os ps : AllRules) → AreNumbered routers rows x os → new ≡ rows → y ≡ x → ps ≡ os → IsNet (net_of routers new y ps)
-is-net-again routers rows new x y os ps h r l o =
-    is-net-now (net_of routers new y ps) routers rows x os
-    (sym (ap (λ (zs : List AtomRow). net_of routers zs y ps) r ∙ ap (λ (z : Labels). net_of routers rows z ps) l ∙ ap (λ (zs : AllRules). net_of routers rows x zs) o))
-    h
-
 pub net-form : (n : NetFields) → IsNumbered n → IsNet (net_in n)
 net-form n h = is-net n.routers n.atoms n.labels n.owners.items h
 

@@ -17,7 +17,7 @@ use Rattle.dn_model.specs.declared.target.Target.{Target}
 use Rattle.dn_model.proofs.Covers.{holder-rest, starts-below, within-above}
 use Rattle.edge_labels.specs.Labels.{Labels}
 use Rattle.net_engine.specs.Looks.{atoms_begun, atoms_between}
-use Rattle.net_engine.specs.Net.{IsNet, Net}
+use Rattle.net_engine.specs.Net.{Net}
 use Rattle.net_engine.specs.Numbered.{AreNumbered, GoAlong, does_in, net_of, numbered}
 use Rattle.net_engine.specs.Reruled.{AreCutAt, IsReruledOver}
 use Rattle.net_engine.specs.Segments.{Held, IsInForce, held_at, nothing_held}
@@ -27,7 +27,7 @@ use Rattle.net_engine.proofs.Does.{atom-numbered, begins-numbered, rules-numbere
 use Rattle.net_engine.proofs.Looking.{begun-meet, meets-numbered}
 use Rattle.net_engine.proofs.Rerunning.{cut-along, not-within}
 use Rattle.net_engine.proofs.Segments.{held-in_force, none-in_force}
-use Rattle.net_engine.proofs.Standing.{AllRules, is-net}
+use Rattle.net_engine.proofs.Standing.{AllRules}
 
 -- no row has an address past all of them
 beyond : {X : Type 0} (low high : X → ℕ) (start : ℕ) (xs : List X) (a : ℕ) → CoverFrom low high start xs → 2 ^ 32 ≤ a → holder low high xs a ≡ None
@@ -184,10 +184,6 @@ walked-now net routers rows x y owners ps own parts made now r op lo past n e h 
 pub numbered-now : (routers : ℕ) (rows : List AtomRow) (x y : Labels) (owners ps : AllRules) (own parts made : List Segment) (now : List Change) (r : RouterId) (op : Op) (lo past n : ℕ) → AreNumbered routers rows x owners → Makes routers rows x y owners own parts made now r op lo past → n ≡ r.0 → ps ≡ set owners n made → AreNumbered routers rows y ps
 numbered-now routers rows x y owners ps own parts made now r op lo past n h k i is =
     subst (λ zs. AreNumbered routers rows y zs) (sym (is ∙ ap (λ j. set owners j made) i)) (numbered-after-update routers rows x y owners own parts made now r op lo past h k)
-
-pub net-now : (routers : ℕ) (rows : List AtomRow) (x y : Labels) (owners ps : AllRules) (own parts made : List Segment) (now : List Change) (r : RouterId) (op : Op) (lo past n : ℕ) → AreNumbered routers rows x owners → Makes routers rows x y owners own parts made now r op lo past → n ≡ r.0 → ps ≡ set owners n made → IsNet (net_of routers rows y ps)
-net-now routers rows x y owners ps own parts made now r op lo past n h k i is =
-    is-net routers rows y ps (numbered-now routers rows x y owners ps own parts made now r op lo past n h k i is)
 
 -- segments are looked at where atoms begin, and each atom that begins in a span has an address of it
 pub looks-now : (net : Net) (routers : ℕ) (rows : List AtomRow) (labels : Labels) (owners : AllRules) (lo past : ℕ) → net_of routers rows labels owners ≡ net → AreNumbered routers rows labels owners → atoms_begun rows lo past ≤ atoms_between net.atoms lo past

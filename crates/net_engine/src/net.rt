@@ -19,9 +19,9 @@ use std::alloc::Global;
 use std::sync::ledger::Ledger;
 use step_count::Steps;
 
-/// The atoms of a network, with what each router does there, which stands by the number of the atom, and its rules there,
-/// which stand by router, between the ends of the prefixes that the router itself has set. A contract sees the fields, so
-/// that an update that finds no memory half way may leave them as they are then.
+/// The atoms of a network, with what each router does there, which stands by the number of the atom, and its rules
+/// there, which stand by router, between the ends of the prefixes that the router itself has set. A contract sees the
+/// fields, so that an update that finds no memory half way may leave them as they are then.
 #[derive(Drop)]
 pub struct Net {
     routers: u32,
@@ -63,8 +63,8 @@ impl Net {
         Ok(())
     }
 
-    /// Makes an update of a router at the addresses of a span, at whose ends atoms begin, and tells where the router does
-    /// something else than before. It fails for want of memory alone, and then nothing is said of it.
+    /// Makes an update of a router at the addresses of a span, at whose ends atoms begin, and tells where the router
+    /// does something else than before. It fails for want of memory alone, and then nothing is said of it.
     pub fn update<L: Ledger>(
         &mut self,
         alloc: Global,

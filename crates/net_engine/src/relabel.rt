@@ -39,8 +39,8 @@ fn next<'a>(atoms: &'a AtomMap, run: &'a [AtomRow], place: u64) -> (AtomRow, &'a
 }
 
 /// A router does something else with each atom of a span, at whose ends atoms begin. It looks at these atoms alone,
-/// a page of them at a time, and at none where nothing changes. It fails for want of memory alone, and then nothing is said
-/// of the labels.
+/// a page of them at a time, and at none where nothing changes. It fails for want of memory alone, and then nothing is
+/// said of the labels.
 pub fn relabel(
     alloc: Global,
     atoms: &AtomMap,

@@ -22,8 +22,9 @@ use std::sync::Arc;
 use std::sync::ledger::Ledger;
 use step_count::Steps;
 
-/// What a version keeps: the topology, the atoms, with what each router does there and its rules there, and each router's
-/// routes. A contract sees the fields, so that an update that finds no memory half way may leave them as they are then.
+/// What a version keeps: the topology, the atoms, with what each router does there and its rules there, and each
+/// router's routes. A contract sees the fields, so that an update that finds no memory half way may leave them as they
+/// are then.
 #[derive(Drop)]
 pub struct State {
     topology: Arc<Topology, Global>,
@@ -158,12 +159,16 @@ impl State {
         requires sound { IsSound self.old }
         requires entry { IsEntryOf (kept_in self.old).topology entry.now }
         ensures topology { OnOk result ((kept_in self.new).topology ≡ (kept_in self.old).topology) }
-        ensures stands { OnOk result ((history : List EntryIs) → KeptStandsFor (kept_in self.old) history → KeptStandsFor (kept_in self.new) (history ++ entry.now ∷ [])) }
-        ensures delta { IfOk result (λ delta. (history : List EntryIs) → KeptStandsFor (kept_in self.old) history → IsDeltaOf (kept_in self.old).topology (history ++ entry.now ∷ []) delta) }
+        ensures stands { OnOk result ((history : List EntryIs) → KeptStandsFor (kept_in self.old) history →
+            KeptStandsFor (kept_in self.new) (history ++ entry.now ∷ [])) }
+        ensures delta { IfOk result (λ delta. (history : List EntryIs) → KeptStandsFor (kept_in self.old) history →
+            IsDeltaOf (kept_in self.old).topology (history ++ entry.now ∷ []) delta) }
         ensures added { OnOk result (
-            length (kept_in self.new).atoms ≡ length (kept_in self.old).atoms + atoms_added (kept_in self.old).atoms entry.now.op) }
+            length (kept_in self.new).atoms ≡
+            length (kept_in self.old).atoms + atoms_added (kept_in self.old).atoms entry.now.op) }
         ensures met { OnOk result (
-            atoms_met (kept_in self.new).atoms (prefix_of_op entry.now.op) ≡ atoms_met (kept_in self.old).atoms (prefix_of_op entry.now.op)) }
+            atoms_met (kept_in self.new).atoms (prefix_of_op entry.now.op) ≡
+            atoms_met (kept_in self.old).atoms (prefix_of_op entry.now.op)) }
         ensures sound { OnOk result (IsSound self.new) }
         ensures cost { steps.new ≤ steps.old + 2 + atoms_met (kept_in self.old).atoms (prefix_of_op entry.now.op) }
     {

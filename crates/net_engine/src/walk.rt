@@ -104,8 +104,8 @@ fn step<L: Ledger>(
     ensures moves { IfOk result (λ next. walk.at < next.at) }
     ensures stays { IfOk result (λ next. (hi : ℕ) → walk.at < hi → hi ≤ 2 ^ 32 → (hi < 2 ^ 32 → begins_in owners.old hi ≡ true) → next.at ≤ hi) }
     ensures begins { IfOk result (λ next. next.at < 2 ^ 32 → BeginsAt owners.new next.place next.at) }
-    ensures made { IfOk result (λ next. IsReruledOver atoms.now labels.old labels.new owners.old owners.new delta.old delta.new
-        r op.now walk.at next.at) }
+    ensures made { IfOk result (λ next. IsReruledOver atoms.now labels.old labels.new owners.old owners.new
+        delta.old delta.new r op.now walk.at next.at) }
     ensures cost { steps.new ≡ steps.old + 1 }
 {
     let past = owners.past(walk.place);

@@ -2,8 +2,7 @@
 use Rattle.std.proofs.Common.{◌∙◌, refl}
 use Rattle.std.specs.Arc.{arc_value}
 use Rattle.net_engine.specs.Held.{kept_in, net_in}
-use Rattle.net_engine.specs.Walked.{IsRemade}
-use Rattle.net_engine.proofs.Making.{kept_of, looks-made, update-made, wide-for}
+use Rattle.net_engine.proofs.Making.{looks-made, update-made, wide-for}
 use Rattle.net_engine.proofs.Standing.{net-form}
 use Rattle.net_engine.proofs.state.State.update.Goals as goal
 

@@ -1,5 +1,5 @@
 -- What the version keeps was advanced.
-use Rattle.std.proofs.Common.{◌≡◌, ◌+◌, ◌≤◌, ◌++◌, ◌∷◌, ◌∙◌, [], length, ap, subst, sym}
+use Rattle.std.proofs.Common.{◌+◌, ◌≤◌, ◌++◌, ◌∷◌, ◌∙◌, [], length, ap, subst, sym}
 use Rattle.dn_model.specs.Delta.{IsDeltaOf}
 use Rattle.dn_model.specs.Entry.{IsEntryOf, prefix_of_op}
 use Rattle.dn_model.specs.Version.{Kept, KeptStandsFor}

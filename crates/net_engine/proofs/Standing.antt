@@ -15,9 +15,9 @@ use Rattle.dn_model.specs.declared.target.Target.TheVariants.{NoRoute}
 use Rattle.atom_map.specs.Index.{one_atom}
 use Rattle.atom_map.proofs.Begun.{below-at, one-indexed}
 use Rattle.edge_labels.specs.Labels.{Labels, first_labels, target_at, targets_of}
-use Rattle.net_engine.specs.Held.{IsNumbered, net_in}
 use Rattle.net_engine.specs.Net.{AreWide, IsNet, IsWide, Net, first_atom}
 use Rattle.net_engine.specs.Numbered.{AreNumbered, GoAlong, does_in, net_of, numbered, owners_at}
+use Rattle.net_engine.specs.Seen.{IsNumbered, net_in}
 use Rattle.net_engine.specs.Segments.{held_at}
 use Rattle.net_engine.specs.declared.net.Net.{Net as NetFields}
 use Rattle.net_engine.specs.declared.segment.Segment.{Segment}

@@ -1,4 +1,3 @@
-pub mod Held
 pub mod Net
 pub mod Looks
 pub mod Segments
@@ -6,3 +5,4 @@ pub mod Numbered
 pub mod Reruled
 pub mod Walked
 pub mod Whole
+pub mod Seen

@@ -2,7 +2,7 @@
 
 ghost use Rattle.std.specs.Prelude.{◌≡◌, ◌+◌, ◌≤◌, ◌^◌, OnOk};
 ghost use Rattle.dn_model.specs.Cidr.{IsCidr, size};
-ghost use Rattle.net_engine.specs.Held.{IsNumbered, net_in};
+ghost use Rattle.net_engine.specs.Seen.{IsNumbered, net_in};
 ghost use Rattle.net_engine.specs.Walked.{IsParted};
 
 use crate::net::Net;

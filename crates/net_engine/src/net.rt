@@ -3,9 +3,9 @@
 ghost use Rattle.std.specs.Prelude.{◌≡◌, ◌+◌, ◌<◌, ◌≤◌, ◌^◌, ◌∷◌, [], true, IfOk, OnOk, length, slice_index_or, replicate};
 ghost use Rattle.dn_model.specs.Forwarding.{target_of};
 ghost use Rattle.dn_model.specs.Version.{Atom, begins_at, first_of, past_of};
-ghost use Rattle.net_engine.specs.Held.{IsNumbered, net_in};
 ghost use Rattle.net_engine.specs.Looks.{atoms_between};
 ghost use Rattle.net_engine.specs.Net.{cut_atoms, first_atom};
+ghost use Rattle.net_engine.specs.Seen.{IsNumbered, net_in};
 ghost use Rattle.net_engine.specs.Walked.{IsWalked};
 
 use crate::router_owners::RouterOwners;

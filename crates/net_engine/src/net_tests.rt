@@ -1,7 +1,7 @@
 //! A network of two routers, whose answers were worked out by hand.
 
 ghost use Rattle.std.specs.Prelude.{◌≡◌, IfOk};
-ghost use Rattle.net_engine.specs.Held.{IsNumbered};
+ghost use Rattle.net_engine.specs.Seen.{IsNumbered};
 
 use crate::net::Net;
 use dn_model::{OutOfMemory, RouterId, Target};

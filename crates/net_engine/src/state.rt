@@ -6,8 +6,8 @@ ghost use Rattle.dn_model.specs.Delta.{IsDeltaOf};
 ghost use Rattle.dn_model.specs.Entry.{IsEntryOf, IsOpOf, prefix_of_op};
 ghost use Rattle.dn_model.specs.Version.{KeptStandsFor};
 ghost use Rattle.dn_model.specs.declared.entry.Entry.{Entry as EntryIs};
-ghost use Rattle.net_engine.specs.Held.{IsSound, kept_in};
 ghost use Rattle.net_engine.specs.Looks.{atoms_added, atoms_met};
+ghost use Rattle.net_engine.specs.Seen.{IsSound, kept_in};
 ghost use Rattle.net_engine.specs.Walked.{BeginsAtEnds, IsClear, IsCutAt, IsSet, IsRemade, IsUpdated};
 
 use crate::ends::{cut_ends, past_of};

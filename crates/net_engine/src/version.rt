@@ -30,7 +30,7 @@ pub struct Version {
 
 impl Model for Version {
     ghost use Rattle.dn_model.specs.Version.{Kept};
-    ghost use Rattle.net_engine.specs.Held.{IsSound, kept_in};
+    ghost use Rattle.net_engine.specs.Seen.{IsSound, kept_in};
 
     ghost Value = { Kept };
 

@@ -1,7 +1,7 @@
 use Rattle.std.proofs.Common.{◌≡◌, ◌+◌, ◌<◌, ◌^◌, ◌∙◌, ap, arith, sym}
 use Rattle.dn_model.specs.Cidr.{size}
-use Rattle.net_engine.specs.Held.{net_in}
 use Rattle.net_engine.specs.Net.{cut_atoms}
+use Rattle.net_engine.specs.Seen.{net_in}
 use Rattle.net_engine.proofs.Parting.{parted-once, parted-twice}
 use Rattle.net_engine.proofs.Standing.{net-form}
 use Rattle.net_engine.proofs.ends.cut_ends.Goals as goal

@@ -1,6 +1,6 @@
 use Rattle.dn_model.specs.Version.{Atom, first_of, past_of}
 use Rattle.std.proofs.Common.{ap, refl}
-use Rattle.net_engine.specs.Held.{net_in}
+use Rattle.net_engine.specs.Seen.{net_in}
 use Rattle.net_engine.proofs.Standing.{atom-at-place, place-below}
 use Rattle.net_engine.proofs.net.Net.bounds.Goals as goal
 

@@ -1,5 +1,5 @@
 use Rattle.std.proofs.Common.{None, Some, refl, sym, ◌∙◌, arith}
-use Rattle.net_engine.specs.Held.{net_in}
+use Rattle.net_engine.specs.Seen.{net_in}
 use Rattle.net_engine.proofs.Standing.{numbered-again, there-below}
 use Rattle.net_engine.proofs.Cutting.{Cuts, cut-atoms-now, is-cut-at, numbered-after-cut, old-below, uncut-atoms-now}
 use Rattle.net_engine.proofs.net.Net.cut.Goals as goal

@@ -1,5 +1,5 @@
 use Rattle.std.proofs.Common.{refl}
-use Rattle.net_engine.specs.Held.{net_in}
+use Rattle.net_engine.specs.Seen.{net_in}
 use Rattle.net_engine.proofs.Standing.{high-at-place, low-at-place}
 use Rattle.net_engine.proofs.net.Net.place_of.Goals as goal
 

@@ -1,5 +1,5 @@
 use Rattle.std.proofs.Common.{◌∙◌, refl}
-use Rattle.net_engine.specs.Held.{net_in}
+use Rattle.net_engine.specs.Seen.{net_in}
 use Rattle.net_engine.proofs.Standing.{number-below, place-below, target-at-place, there-below}
 use Rattle.net_engine.proofs.net.Net.target.Goals as goal
 

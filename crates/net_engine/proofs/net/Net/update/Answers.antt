@@ -1,5 +1,5 @@
 use Rattle.std.proofs.Common.{◌<◌, arith, refl, set, subst, sym}
-use Rattle.net_engine.specs.Held.{net_in}
+use Rattle.net_engine.specs.Seen.{net_in}
 use Rattle.net_engine.proofs.Updating.{boundary-now, looks-now, makes-now, numbered-now, own-along, own-found, router-now, walked-now}
 use Rattle.net_engine.proofs.net.Net.update.Goals as goal
 

@@ -1,5 +1,5 @@
 -- What was updated stands for the history with the entry.
-use Rattle.net_engine.specs.Held.{kept_in}
+use Rattle.net_engine.specs.Seen.{kept_in}
 use Rattle.net_engine.proofs.Updated.{delta-after, stands-after}
 use Rattle.net_engine.proofs.state.State.advance.Goals as goal
 

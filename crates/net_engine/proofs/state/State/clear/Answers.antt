@@ -1,6 +1,6 @@
 use Rattle.std.proofs.Common.{refl}
 use Rattle.std.proofs.lemmas.Result.{IfOk-weaker}
-use Rattle.net_engine.specs.Held.{kept_in}
+use Rattle.net_engine.specs.Seen.{kept_in}
 use Rattle.net_engine.proofs.Making.{cleared, ends-of_update, read-now, route-ends, unchanged}
 use Rattle.net_engine.proofs.state.State.clear.Goals as goal
 

@@ -1,7 +1,7 @@
 -- What is cut is whole still, and atoms begin at both ends.
 use Rattle.std.proofs.Common.{◌∙◌, refl}
 use Rattle.std.specs.Arc.{arc_value}
-use Rattle.net_engine.specs.Held.{kept_in, net_in}
+use Rattle.net_engine.specs.Seen.{kept_in, net_in}
 use Rattle.net_engine.specs.Walked.{IsCutAt}
 use Rattle.net_engine.proofs.Making.{cut-made, kept_of, wide-for}
 use Rattle.net_engine.proofs.Standing.{net-form}

@@ -1,5 +1,5 @@
 use Rattle.std.proofs.lemmas.Result.{IfOk-weaker}
-use Rattle.net_engine.specs.Held.{kept_in}
+use Rattle.net_engine.specs.Seen.{kept_in}
 use Rattle.net_engine.proofs.Making.{ends-of_update, looks-after_cut, set-after_cut}
 use Rattle.net_engine.proofs.state.State.set.Goals as goal
 

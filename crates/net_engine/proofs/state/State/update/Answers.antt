@@ -1,7 +1,7 @@
 -- The update is made to the table and to the atoms of the prefix.
 use Rattle.std.proofs.Common.{◌∙◌, refl}
 use Rattle.std.specs.Arc.{arc_value}
-use Rattle.net_engine.specs.Held.{kept_in, net_in}
+use Rattle.net_engine.specs.Seen.{kept_in, net_in}
 use Rattle.net_engine.proofs.Making.{looks-made, update-made, wide-for}
 use Rattle.net_engine.proofs.Standing.{net-form}
 use Rattle.net_engine.proofs.state.State.update.Goals as goal

@@ -3,8 +3,8 @@ use Rattle.std.proofs.Common.{◌+◌, ◌≤◌, ◌++◌, ◌∷◌, ◌∙◌
 use Rattle.dn_model.specs.Delta.{IsDeltaOf}
 use Rattle.dn_model.specs.Entry.{IsEntryOf, prefix_of_op}
 use Rattle.dn_model.specs.Version.{Kept, KeptStandsFor}
-use Rattle.net_engine.specs.Held.{IsSound, kept_in}
 use Rattle.net_engine.specs.Looks.{atoms_added, atoms_met}
+use Rattle.net_engine.specs.Seen.{IsSound, kept_in}
 use Rattle.net_engine.specs.declared.state.State.{State}
 use Rattle.net_engine.proofs.version.Version.advance.Goals as goal
 

@@ -1,6 +1,6 @@
 use Rattle.std.proofs.Common.{◌≡◌, ap, ◌∙◌}
 use Rattle.dn_model.specs.declared.forwarding_row.ForwardingRow.{ForwardingRow}
-use Rattle.net_engine.specs.Held.{kept_in}
+use Rattle.net_engine.specs.Seen.{kept_in}
 use Rattle.net_engine.proofs.RowsOfAtoms.{atom_with, row-at}
 use Rattle.net_engine.proofs.version.VersionLabelView.bounds.Goals as goal
 

@@ -1,7 +1,7 @@
 use Rattle.std.proofs.Common.{◌≡◌, ap, subst, sym, ◌∙◌}
 use Rattle.dn_model.specs.Forwarding.{target_of}
 use Rattle.dn_model.specs.declared.forwarding_row.ForwardingRow.{ForwardingRow}
-use Rattle.net_engine.specs.Held.{IsSound, kept_in}
+use Rattle.net_engine.specs.Seen.{IsSound, kept_in}
 use Rattle.net_engine.specs.declared.state.State.{State}
 use Rattle.net_engine.proofs.RowsOfAtoms.{atom_with, row-at}
 use Rattle.net_engine.proofs.version.VersionLabelView.target.Goals as goal

@@ -1,1 +1,2 @@
+pub mod NameIndex
 pub mod ScriptRefused

@@ -4,14 +4,17 @@ ghost use Rattle.std.specs.Prelude.{◌≡◌, ◌≤◌, ℕ, length, find, ◌
 ghost use Rattle.std.specs.List.{list_any};
 ghost use Rattle.dn_formats.specs.ScriptText.{line_meaning, words_of, count_of, is_named, same_router, take_from, take_meaning, two_of, command_meaning, ask_meaning};
 ghost use Rattle.dn_formats.specs.QueryWords.{query_of};
+ghost use Rattle.query_lang.specs.NameIndex.{IsIndex};
 ghost use Rattle.query_lang.specs.ScriptRefused.{Reads, ReadsCommand};
 
+use crate::name_index::router_at;
 use crate::query_line::read_query;
 use crate::text_cut::{has_first, is_same, next_word, two_words};
 use dn_formats::script_cause::{BAD_LINE, TAKE_UNKNOWN, TAKEN_TWICE};
 use dn_formats::{Line, read_number};
 use dn_model::{OutOfMemory, RouterId, Topology, is_name};
 use std::alloc::Global;
+use std::collections::HashMap;
 
 /// The most bytes of a line that does something.
 const LINE_BYTES: usize = 1024;
@@ -45,6 +48,9 @@ pub struct Feeds<'a> {
     pub fed: &'a [RouterId],
     /// The routers from which earlier scripts take.
     pub taken: &'a [RouterId],
+    /// The routers that have a feed, by name.
+    pub index: HashMap<&'a [u8], RouterId>,
+    ghost indexed: { IsIndex topology.now.routers fed.now index.entries },
 }
 
 /// How many frames a word says: a number from 1 to 4,294,967,295, or all (no number).
@@ -58,23 +64,11 @@ fn read_count(word: &[u8]) -> Option<Option<u32>>
     Some(Some(count))
 }
 
-/// Whether a router of the topology has this name.
-fn has_name(topology: &Topology, name: &[u8], router: RouterId) -> bool
-    ensures { result ≡ is_named topology.now.routers name.now router }
+/// The first of the routers with a feed that has this name.
+fn router_named(feeds: &Feeds<'_>, name: &[u8]) -> Option<RouterId>
+    ensures { result ≡ find (is_named feeds.now.topology.now.routers name.now) feeds.now.fed.now }
 {
-    match topology.routers.as_slice().get(usize::from(router.0)) {
-        Some(other) => is_same(other.as_bytes(), name),
-        None => false,
-    }
-}
-
-/// The first of these routers that has this name.
-fn router_named(topology: &Topology, fed: &[RouterId], name: &[u8]) -> Option<RouterId>
-    ensures { result ≡ find (is_named topology.now.routers name.now) fed.now }
-{
-    fed.iter()
-        .copied()
-        .find(|router| has_name(topology, name, *router))
+    router_at(&feeds.index, name)
 }
 
 /// Whether a router is among these.
@@ -93,7 +87,7 @@ fn take_of(
 ) -> Result<Line, LineRefused>
     ensures { ReadsCommand result (take_from line feeds.now.taken.now count (find (is_named feeds.now.topology.now.routers name.now) feeds.now.fed.now)) }
 {
-    let Some(router) = router_named(feeds.topology, feeds.fed, name) else {
+    let Some(router) = router_named(feeds, name) else {
         return Err(LineRefused::Cause(TAKE_UNKNOWN));
     };
     if is_among(feeds.taken, router) {

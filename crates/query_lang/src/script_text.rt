@@ -5,6 +5,7 @@ ghost use Rattle.std.specs.Option.{option_to_list};
 ghost use Rattle.dn_formats.specs.ScriptText.{script_of, lines_meaning, line_meaning, lines_of, numbered};
 ghost use Rattle.query_lang.specs.ScriptRefused.{IsRefused};
 
+use crate::name_index::index_of;
 use crate::script_line::{Feeds, LineRefused, read_line};
 use crate::text_cut::first_line;
 use dn_formats::script_cause::{TOO_LONG, TOO_MANY_LINES};
@@ -108,10 +109,12 @@ pub fn read_script(
             cause: TOO_LONG,
         });
     }
+    let index = index_of(alloc, topology, feeds)?;
     let feeds = Feeds {
         topology,
         fed: feeds,
         taken,
+        index,
     };
     let lines = read_lines(alloc, &feeds, bytes)?;
     Ok(Script { lines })

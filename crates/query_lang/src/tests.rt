@@ -120,6 +120,44 @@ fn reads_and_prints_queries(rt: HostRuntime) -> Result<(), Fail> {
     Ok(())
 }
 
+/// A network of the routers `core`, `core-2` and `edge`, without links.
+fn three_routers(alloc: Global) -> Result<Topology, Fail> {
+    match read_topology(alloc, b"routers = [\"core\", \"core-2\", \"edge\"]\n") {
+        Ok(network) => Ok(network),
+        Err(_) => Err(Fail::from("no topology")),
+    }
+}
+
+/// The router from which the only line takes, or the cause of the fault, where the third router and the first have a
+/// feed.
+fn taken_from(alloc: Global, network: &Topology, text: &[u8]) -> Result<u16, u8> {
+    match read_script(alloc, text, network, &[RouterId(2), RouterId(0)], &[]) {
+        Ok(script) => match script.lines.as_slice() {
+            [Line::Take { router, .. }] => Ok(router.0),
+            _ => Err(0),
+        },
+        Err(ScriptRefused::Fault { cause, .. }) => Err(cause),
+        Err(ScriptRefused::OutOfMemory) => Err(0),
+    }
+}
+
+#[test]
+fn finds_routers_by_name(rt: HostRuntime) -> Result<(), Fail> {
+    let alloc = rt.alloc();
+    let network = three_routers(alloc)?;
+    let cases: [(&[u8], Result<u16, u8>); 5] = [
+        (b"take core 1", Ok(0)),
+        (b"take edge all", Ok(2)),
+        (b"take core-2 1", Err(TAKE_UNKNOWN)),
+        (b"take cor 1", Err(TAKE_UNKNOWN)),
+        (b"take edge- all", Err(TAKE_UNKNOWN)),
+    ];
+    for (text, want) in cases {
+        assert!(rt; taken_from(alloc, &network, text) == want, "in {text:?}");
+    }
+    Ok(())
+}
+
 /// What a script is refused for, both routers having a feed and an earlier script taking from `r2`.
 fn fault_of(alloc: Global, network: &Topology, text: &[u8]) -> Option<(u32, u8)> {
     match read_script(

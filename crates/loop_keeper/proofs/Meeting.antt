@@ -39,11 +39,6 @@ row-cycle : (n : ℕ) (rows : List ForwardingRow) (i : ℕ) (d : ForwardingRow) 
 row-cycle n rows i d a rs form l from to = cycle-same (at_address (does rows) a) (target_of (get_or rows i d)) rs (λ r m.
     ap (λ (o : Option ForwardingRow). target_in_row o r) (holder-at row_low row_past 0 rows i d a form.cover l from to))
 
-pub comes-some : (f : RouterId → Target) (first : RouterId) (path : List RouterId) → ComesBack f first path → 0 < length path
-comes-some f first path h =
-    let e : length path ≡ length (first ∷ h.rest) = ap (λ (v : List RouterId). length v) h.is in
-    omega arith
-
 pub finds-none : (n : ℕ) (rows : List ForwardingRow) (i : ℕ) (router : RouterId) (found : List Found) → AreForwarding n rows → i < length rows → ((d : ForwardingRow) → IsInNone (target_of (get_or rows i d)) router) → FindsAt rows i router found found
 finds-none n rows i router found form l none = record {
   sound = λ h. h;

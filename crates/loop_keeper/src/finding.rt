@@ -16,6 +16,9 @@ use std::alloc::Global;
 use std::sync::ledger::Ledger;
 use step_count::Steps;
 
+/// How many routers a path has room for at first. Most are shorter; a longer one grows.
+const PATH: usize = 16;
+
 /// Finds the cycle of the row at a place that has a router, if there is one. What the router does there is given.
 fn find_at<V: LabelView, L: Ledger>(
     alloc: Global,
@@ -62,7 +65,7 @@ fn find_between<V: LabelView, L: Ledger>(
     ensures inside { OnOk result (AllInside found.old.items → AllInside found.new.items) }
     ensures cost { steps.new ≤ steps.old + V.width view.now * (past - first) }
 {
-    let mut path = Vec::new(alloc);
+    let mut path = Vec::with_capacity(alloc, PATH)?;
     for i in first..past {
         find_at(alloc, view, i, start, &mut path, found, steps)?;
     }

@@ -38,3 +38,8 @@ put-kept g f old new i v (Err e) puts changed same = same
 pub err-kept : {X R E : Type 0} (res : Result R E) (new more old : List X) → IsErr res → new ≡ old → new ≡ (if is_ok res then more else old)
 err-kept (Ok r) new more old failed same = subst (λ b. new ≡ (if b then more else old)) failed same
 err-kept (Err e) new more old failed same = same
+
+-- what holds anyway holds where a call failed
+pub on-err : {R E : Type 0} (res : Result R E) (P : Type 0) → P → OnErr res P
+on-err (Ok r) P h = tt
+on-err (Err e) P h = h

@@ -34,6 +34,19 @@ pub fn page_of<T: Clone>(alloc: Global, room: usize, items: &[T]) -> Result<Vec<
     Ok(page)
 }
 
+/// A page of these elements, which are copied at once, with room for as many.
+pub fn page_of_copies<T: Copy>(
+    alloc: Global,
+    room: usize,
+    items: &[T],
+) -> Result<Vec<T>, OutOfMemory>
+    ensures { IfOk result (λ page. page.items ≡ items.now) }
+{
+    let mut page = Vec::with_capacity(alloc, room)?;
+    page.extend_from_slice(items)?;
+    Ok(page)
+}
+
 /// A page of copies of these elements and then those, with room for as many.
 pub fn page_of_both<T: Clone>(
     alloc: Global,

@@ -8,8 +8,8 @@ ghost use Rattle.version_pages.specs.Search.{EndsBelow};
 
 use crate::growth::Growth;
 use crate::keyed::Keyed;
-use crate::page::page_of_one;
-use crate::tree::{Kid, LONG, page_kid};
+use crate::page::{page_of_copies, page_of_one};
+use crate::tree::{FULL, Kid, LONG, page_kid};
 use dn_model::OutOfMemory;
 use std::alloc::Global;
 use std::marker::Model;
@@ -178,6 +178,50 @@ impl<T: Keyed + Clone> Pages<T> {
         return root.push_alone(value);
     }
 
+    /// How many more elements the last page may take.
+    fn end_room(&self) -> usize {
+        match &self.root {
+            None => 0,
+            Some(root) => root.tree().end_room(),
+        }
+    }
+
+    /// How many elements a new page behind the last one has memory for. The first page has no more than it takes, since
+    /// many lists stay short.
+    fn page_room(&self, count: usize) -> usize {
+        if self.len() == 0 { count } else { FULL }
+    }
+
+    /// Puts a page behind the last one. After `OutOfMemory` the list is as before.
+    fn graft(&mut self, alloc: Global, page: Vec<T>) -> Result<(), OutOfMemory>
+        requires some { 0 < length page.items }
+        requires few { length page.items ≤ FULL }
+        requires clones { (x y : T) → T.is_clone x y → y ≡ x }
+        ensures items { OnOk result (self.new ≡ self.old ++ page.items) }
+        ensures same { OnErr result (self.new ≡ self.old) }
+    {
+        let page = page_kid(alloc, page)?;
+        let Some(root) = &mut self.root else {
+            self.root = Some(page);
+            return Ok(());
+        };
+        return root.graft_whole(alloc, page);
+    }
+
+    /// Puts one more element at the end, in a new page where the last one is full. After `OutOfMemory` the list is as
+    /// before.
+    fn push_more(&mut self, alloc: Global, value: T) -> Result<(), OutOfMemory>
+        requires { (x y : T) → T.is_clone x y → y ≡ x }
+        ensures { self.new ≡ (if is_ok result then self.old ++ value ∷ [] else self.old) }
+    {
+        if self.end_room() > 0 {
+            let len = self.len();
+            return self.insert_at(alloc, len, value);
+        }
+        let room = self.page_room(1);
+        return self.graft(alloc, page_of_one(alloc, room, value)?);
+    }
+
     /// Puts one more element at the end. After `OutOfMemory` the list is as before.
     pub fn push(&mut self, alloc: Global, value: T) -> Result<(), OutOfMemory>
         requires { (x y : T) → T.is_clone x y → y ≡ x }
@@ -185,10 +229,7 @@ impl<T: Keyed + Clone> Pages<T> {
     {
         match self.push_alone(value) {
             Ok(()) => Ok(()),
-            Err(value) => {
-                let len = self.len();
-                return self.insert_at(alloc, len, value);
-            }
+            Err(value) => self.push_more(alloc, value),
         }
     }
 
@@ -235,6 +276,27 @@ impl<T: Keyed + Copy> Pages<T> {
         return root.extend_alone(items);
     }
 
+    /// Puts the first of some elements at the end, in a new page where the last one is full. It answers how many. After
+    /// `OutOfMemory` the list is as before.
+    fn extend_more(&mut self, alloc: Global, items: &[T]) -> Result<usize, OutOfMemory>
+        requires some { 0 < length items.now }
+        requires clones { (x y : T) → T.is_clone x y → y ≡ x }
+        ensures some { IfOk result (λ count. 0 < count) }
+        ensures within { IfOk result (λ count. count ≤ length items.now) }
+        ensures items { IfOk result (λ count. self.new ≡ self.old ++ take count items.now) }
+        ensures same { OnErr result (self.new ≡ self.old) }
+    {
+        if self.end_room() > 0 {
+            let len = self.len();
+            self.insert_at(alloc, len, items[0])?;
+            return Ok(1);
+        }
+        let count = items.len().min(FULL);
+        let room = self.page_room(count);
+        self.graft(alloc, page_of_copies(alloc, room, &items[..count])?)?;
+        Ok(count)
+    }
+
     /// Puts the first of some elements at the end, one at least. It answers how many. After `OutOfMemory` the list is
     /// as before.
     fn extend_some(&mut self, alloc: Global, items: &[T]) -> Result<usize, OutOfMemory>
@@ -249,13 +311,10 @@ impl<T: Keyed + Copy> Pages<T> {
         if count > 0 {
             return Ok(count);
         }
-        let len = self.len();
-        self.insert_at(alloc, len, items[0])?;
-        Ok(1)
+        return self.extend_more(alloc, items);
     }
 
-    /// Puts some elements at the end. It goes down once for all that the last page has room for, where nobody else
-    /// holds it. After `OutOfMemory` the first of them may be there.
+    /// Puts some elements at the end: first all that the last page has room for, and then pages of 64. After `OutOfMemory` the first of them may be there.
     pub fn extend(&mut self, alloc: Global, items: &[T]) -> Result<(), OutOfMemory>
         requires { (x y : T) → T.is_clone x y → y ≡ x }
         ensures all { OnOk result (self.new ≡ self.old ++ items.now) }

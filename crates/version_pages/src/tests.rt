@@ -382,3 +382,29 @@ fn some_elements_at_the_end(rt: HostRuntime) {
     are_found(&rt, &copy, 60);
     compare_rising(&rt, &pages, 10_000);
 }
+
+/// Numbers in order go in at the end, more than a page of them each time, while a copy holds every page, the last of them
+/// full or not, and every third time one alone. The list has what a plain `Vec` has, and so has the last copy.
+#[test]
+fn pages_at_the_end_of_held_pages(rt: HostRuntime) -> Result<(), Fail> {
+    let alloc = rt.alloc();
+    let (mut pages, mut plain) = rising(alloc, 64)?;
+    let mut held = pages.copy()?;
+    let mut old = plain.clone()?;
+    for k in 0..60u64 {
+        let len = pages.len();
+        let more = numbers(alloc, len, len + 64 * (k % 7) + k % 2)?;
+        pages.extend(alloc, more.as_slice())?;
+        plain.extend_from_slice(more.as_slice())?;
+        if k % 3 == 0 {
+            compare(&rt, &held, &old);
+            pages.push(alloc, len)?;
+            plain.push(len)?;
+            held = pages.copy()?;
+            old = plain.clone()?;
+        }
+    }
+    compare(&rt, &pages, &plain);
+    compare(&rt, &held, &old);
+    Ok(())
+}

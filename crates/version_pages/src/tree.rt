@@ -8,6 +8,7 @@ ghost use Rattle.version_pages.specs.Keys.{first_key};
 
 mod change;
 mod end;
+mod graft;
 mod grow;
 mod own;
 mod parts;

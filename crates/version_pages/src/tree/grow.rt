@@ -14,7 +14,7 @@ use std::alloc::Global;
 use std::sync::Arc;
 
 /// Puts the two halves of a child in its place, the first of which ends here.
-fn part<T: Keyed + Drop>(
+pub fn part<T: Keyed + Drop>(
     kids: &mut Vec<Kid<T>>,
     ends: &mut Vec<u64>,
     k: usize,

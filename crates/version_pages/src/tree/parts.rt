@@ -132,6 +132,7 @@ impl<T: Keyed + Clone> Kid<T> {
         requires clones { (x y : T) → T.is_clone x y → y ≡ x }
         ensures items { self.new.items ≡ self.old.items }
         ensures room { OnOk result (0 < self.new.room) }
+        ensures fork { OnOk result (0 < self.new.height) }
     {
         let height = self.tree.height();
         let (lower, upper) = self.halves(alloc, at_end)?;

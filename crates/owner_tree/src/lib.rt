@@ -2,6 +2,7 @@
 //! least metric (the owners of Delta-net, NSDI 2017).
 #![tactic(auto)]
 
+mod held;
 mod owners;
 mod rules;
 #[cfg(test)]

@@ -1,20 +1,23 @@
 //! Sets of rules.
 
-ghost use Rattle.std.specs.Prelude.{◌≡◌, [], OnOk, OnErr, IfOk, IsPermutation};
+ghost use Rattle.std.specs.Prelude.{◌≡◌, ◌==◌, ◌↔◌, [], IsTrue, OnOk, OnErr, IfOk, IsPermutation};
 ghost use Rattle.std.specs.List.{list_any};
 ghost use Rattle.dn_model.specs.Rules.{has_rule_key, cleared_rules, without_length, without_rule, with_rule, HasRulesOnce, IsTop};
 
-use crate::rules::{drop_key, drop_length, first_rule, has_key, put};
+use crate::held::Held;
+use crate::rules::{first_rule, has_key, has_length};
 use dn_model::{OutOfMemory, Rule};
 use std::alloc::Global;
 use std::marker::Model;
 
 /// A set of rules with length and metric as their key. A contract sees it as the list of its rules, whose order means
-/// nothing: each key is there once. Few rules of one router stand at one address, most often one or two: they are a list in
-/// one block, and each call looks at all of them.
+/// nothing: each key is there once. Few rules of one router stand at one address, most often none or one: those take no
+/// memory, two and more are a list in one block, and each call looks at all of them.
 #[derive(Drop)]
 pub struct Owners {
-    rules: Vec<Rule>,
+    held: Held,
+    /// Where a second rule takes memory from; it has no size.
+    alloc: Global,
 }
 
 impl Model for Owners {
@@ -24,9 +27,11 @@ impl Model for Owners {
 
     ghost Value = { List Rule };
 
-    ghost view = { λ o. o.rules.items };
+    ghost use Rattle.owner_tree.specs.Held.{rules_of};
 
-    ghost invariant = { λ o. HasRulesOnce o.rules.items };
+    ghost view = { λ o. rules_of o.held };
+
+    ghost invariant = { λ o. HasRulesOnce (rules_of o.held) };
 }
 
 impl Owners {
@@ -35,7 +40,8 @@ impl Owners {
         ensures { result ≡ [] }
     {
         Owners {
-            rules: Vec::new(alloc),
+            held: Held::Nothing,
+            alloc,
         }
     }
 
@@ -45,7 +51,7 @@ impl Owners {
         ensures ok { OnOk result (IsPermutation self.new (with_rule self.old rule)) }
         ensures err { OnErr result (self.new ≡ self.old) }
     {
-        put(&mut self.rules, rule)
+        self.held.insert(self.alloc, rule)
     }
 
     /// Removes the rule of this length and metric. It answers whether there was one.
@@ -53,8 +59,8 @@ impl Owners {
         ensures found { result ≡ list_any (has_rule_key len metric) self.old }
         ensures left { IsPermutation self.new (without_rule self.old len metric) }
     {
-        let found = has_key(&self.rules, len, metric);
-        drop_key(&mut self.rules, len, metric);
+        let found = has_key(self.held.rules(), len, metric);
+        self.held.drop_key(len, metric);
         found
     }
 
@@ -64,8 +70,8 @@ impl Owners {
         ensures { IsPermutation self.new (cleared_rules self.old len metric) }
     {
         match metric {
-            Some(metric) => drop_key(&mut self.rules, len, metric),
-            None => drop_length(&mut self.rules, len),
+            Some(metric) => self.held.drop_key(len, metric),
+            None => self.held.drop_length(len),
         }
     }
 
@@ -75,14 +81,24 @@ impl Owners {
         ensures top { IsTop self.now result }
         ensures once { HasRulesOnce self.now }
     {
-        first_rule(&self.rules)
+        first_rule(self.held.rules())
+    }
+
+    /// Whether one of the rules has this length.
+    pub fn has_length(&self, len: u8) -> bool
+        ensures { IsTrue result ↔ IsTrue (list_any (λ r. r.len == len) self.now) }
+    {
+        has_length(self.held.rules(), len)
     }
 
     /// A set with the same rules.
     pub fn copy(&self) -> Result<Owners, OutOfMemory>
         ensures { IfOk result (λ owners. owners ≡ self.now) }
     {
-        let rules = self.rules.clone()?;
-        Ok(Owners { rules })
+        let held = self.held.copy()?;
+        Ok(Owners {
+            held,
+            alloc: self.alloc,
+        })
     }
 }

@@ -8,7 +8,7 @@ ghost use Rattle.owner_tree.specs.First.{first_of};
 use dn_model::{OutOfMemory, Rule};
 
 /// Whether a rule has this length and this metric.
-fn has_this_key(len: u8, metric: u32, rule: &Rule) -> bool
+pub fn has_this_key(len: u8, metric: u32, rule: &Rule) -> bool
     ensures { result ≡ has_rule_key len metric rule.now }
 {
     rule.len == len && rule.metric == metric
@@ -19,6 +19,13 @@ pub fn has_key(rules: &[Rule], len: u8, metric: u32) -> bool
     ensures { result ≡ list_any (has_rule_key len metric) rules.now }
 {
     rules.iter().any(|rule| has_this_key(len, metric, rule))
+}
+
+/// Whether one of the rules has this length.
+pub fn has_length(rules: &[Rule], len: u8) -> bool
+    ensures { result ≡ list_any (λ r. r.len == len) rules.now }
+{
+    rules.iter().any(|rule| rule.len == len)
 }
 
 /// Drops the rule of this length and this metric.

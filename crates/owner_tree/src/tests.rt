@@ -50,3 +50,27 @@ fn the_newest_of_equal_lengths_is_not_in_force(rt: HostRuntime) -> Result<(), Fa
     assert_eq!(rt; owners.top(), Some(rule(24, 5)));
     Ok(())
 }
+
+#[test]
+fn a_rule_alone_gives_way_and_comes_back(rt: HostRuntime) -> Result<(), Fail> {
+    let mut owners = Owners::new(rt.alloc());
+    owners.insert(rule(24, 5))?;
+    owners.insert(Rule {
+        len: 24,
+        metric: 5,
+        target: Target::Local,
+    })?;
+    let alone = owners.copy()?;
+    assert!(rt; !owners.remove(24, 6));
+    assert!(rt; owners.remove(24, 5));
+    assert!(rt; !owners.has_length(24));
+    let none = owners.copy()?;
+    owners.insert(rule(16, 1))?;
+    owners.insert(rule(24, 2))?;
+    assert!(rt; owners.remove(24, 2));
+    assert!(rt; owners.has_length(16));
+    assert_eq!(rt; owners.top(), Some(rule(16, 1)));
+    assert_eq!(rt; alone.top().map(|top| top.target), Some(Target::Local));
+    assert_eq!(rt; none.top(), None);
+    Ok(())
+}

@@ -218,6 +218,35 @@ put-halves k l p inside low high low' high' n n' some lower upper = record {
       (cases_lt a (2 ^ (k - 1)));
 }
 
+-- the same where all of them are in the lower half
+pub put-low : (k l p : ℕ) (inside : Bool) (low high low' : Numbers) (n n' : ℕ) → 0 < k → p ≤ 2 ^ (k - 1)
+    → IsPut (k - 1) l p inside low low'
+    → IsPut k l p inside (halves low high n) (halves low' high n')
+put-low k l p inside low high low' n n' some end lower = put-halves k l p inside low high low' high n n' some
+    (record { exact = λ a b. lower.exact a b ∙ ap (λ (x : Bool). if x then inside else has (k - 1) low a) (sym (within-low l p (2 ^ (k - 1)) a b)) })
+    (put-none (k - 1) (l - 2 ^ (k - 1)) (p - 2 ^ (k - 1)) inside high (omega arith))
+
+-- the same where all of them are in the upper half
+pub put-high : (k l p : ℕ) (inside : Bool) (low high high' : Numbers) (n n' : ℕ) → 0 < k → 2 ^ (k - 1) ≤ l
+    → IsPut (k - 1) (l - 2 ^ (k - 1)) (p - 2 ^ (k - 1)) inside high high'
+    → IsPut k l p inside (halves low high n) (halves low high' n')
+put-high k l p inside low high high' n n' some start upper = put-halves k l p inside low high low high' n n' some
+    (put-none (k - 1) (min l (2 ^ (k - 1))) (min p (2 ^ (k - 1))) inside low (omega arith)) upper
+
+-- the same where some of them are in either half
+pub put-both : (k l p : ℕ) (inside : Bool) (low high low' high' : Numbers) (n n' : ℕ) → 0 < k → l ≤ 2 ^ (k - 1) → 2 ^ (k - 1) ≤ p
+    → IsPut (k - 1) l (2 ^ (k - 1)) inside low low'
+    → IsPut (k - 1) 0 (p - 2 ^ (k - 1)) inside high high'
+    → IsPut k l p inside (halves low high n) (halves low' high' n')
+put-both k l p inside low high low' high' n n' some start end lower upper =
+    let from : min l (2 ^ (k - 1)) ≡ l = omega arith in
+    let to : min p (2 ^ (k - 1)) ≡ 2 ^ (k - 1) = omega arith in
+    let begin : l - 2 ^ (k - 1) ≡ 0 = omega arith in
+    let F : ℕ → Type 0 = λ x. IsPut (k - 1) x (min p (2 ^ (k - 1))) inside low low' in
+    let T : ℕ → Type 0 = λ x. IsPut (k - 1) l x inside low low' in
+    let B : ℕ → Type 0 = λ x. IsPut (k - 1) x (p - 2 ^ (k - 1)) inside high high' in
+    put-halves k l p inside low high low' high' n n' some (subst F (sym from) (subst T (sym to) lower)) (subst B (sym begin) upper)
+
 pub put-between : (k l p : ℕ) (inside : Bool) (s t u v : Numbers) → IsSame k s t → IsPut k l p inside t u → IsSame k u v → IsPut k l p inside s v
 put-between k l p inside s t u v e h f = record { exact = λ a b. f.same a b ∙ h.exact a b ∙ ap (λ (x : Bool). if is_within l p a then inside else x) (e.same a b) }
 

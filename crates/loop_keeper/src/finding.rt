@@ -1,8 +1,9 @@
 //! The cycles that rows show where changes meet them.
 
-ghost use Rattle.std.specs.Prelude.{◌+◌, ◌-◌, ◌*◌, ◌<◌, ◌≤◌, ℕ, OnOk, IfOk, IsTrue, IsFalse, List, [], ◌∷◌, length};
+ghost use Rattle.std.specs.Prelude.{◌+◌, ◌-◌, ◌*◌, ◌<◌, ◌≤◌, ℕ, OnOk, IfOk, IsTrue, IsFalse, List, [], ◌∷◌, length, slice_index_or};
 ghost use Rattle.dn_model.specs.Delta.{IsChange, AreChanges};
 ghost use Rattle.dn_model.specs.Forwarding.{AreForwarding, does};
+ghost use Rattle.dn_model.specs.declared.forwarding_row.ForwardingRow.{ForwardingRow as Row};
 ghost use Rattle.loop_keeper.specs.Finding.{AllGoRound, AllInside, FindTouched, FindsMore, FindsAt, FindsBetween, TellsAfter, AllTellAfter};
 ghost use Rattle.loop_keeper.specs.Looks.{rows_met};
 ghost use Rattle.loop_keeper.specs.Starts.{DoesSo, IsStartOf, start_of};
@@ -19,30 +20,36 @@ use step_count::Steps;
 /// How many routers a path has room for at first. Most are shorter; a longer one grows.
 const PATH: usize = 16;
 
+/// What was found so far, and the routers passed on the way that is followed. One path serves all changes of an update.
+#[derive(Drop)]
+struct Search {
+    found: Vec<Found>,
+    path: Vec<RouterId>,
+}
+
 /// Finds the cycle of the row at a place that has a router, if there is one. What the router does there is given.
 fn find_at<V: LabelView, L: Ledger>(
     alloc: Global,
     view: &V,
     i: u64,
     start: Start,
-    path: &mut Vec<RouterId>,
-    found: &mut Vec<Found>,
+    search: &mut Search,
     steps: &mut Steps<L>,
 ) -> Result<(), OutOfMemory>
     requires form { AreForwarding (V.width view.now) (V.rows view.now) }
     requires place { i < length (V.rows view.now) }
     requires start { IsStartOf (V.width view.now) start }
     ensures found { OnOk result (DoesSo (V.rows view.now) start i
-        → FindsAt (V.rows view.now) i start.router found.old.items found.new.items) }
-    ensures inside { OnOk result (AllInside found.old.items → AllInside found.new.items) }
+        → FindsAt (V.rows view.now) i start.router search.old.found.items search.new.found.items) }
+    ensures inside { OnOk result (AllInside search.old.found.items → AllInside search.new.found.items) }
     ensures cost { steps.new ≤ steps.old + V.width view.now }
 {
-    if !follow(view, i, start, path, steps)? {
+    if !follow(view, i, start, &mut search.path, steps)? {
         return Ok(());
     }
-    let routers = turned(alloc, path.as_slice())?;
+    let routers = turned(alloc, search.path.as_slice())?;
     let (low, past) = view.bounds(i);
-    found.push(Found { routers, low, past })?;
+    search.found.push(Found { routers, low, past })?;
     Ok(())
 }
 
@@ -54,20 +61,21 @@ fn find_between<V: LabelView, L: Ledger>(
     first: u64,
     past: u64,
     start: Start,
-    found: &mut Vec<Found>,
+    search: &mut Search,
     steps: &mut Steps<L>,
 ) -> Result<(), OutOfMemory>
     requires form { AreForwarding (V.width view.now) (V.rows view.now) }
     requires rows { past ≤ length (V.rows view.now) }
     requires start { IsStartOf (V.width view.now) start }
     ensures found { OnOk result (((k : ℕ) → first ≤ k → k < past → DoesSo (V.rows view.now) start k)
-        → FindsBetween (V.rows view.now) first past start.router found.old.items found.new.items) }
-    ensures inside { OnOk result (AllInside found.old.items → AllInside found.new.items) }
+        → FindsBetween (V.rows view.now) first past start.router search.old.found.items search.new.found.items) }
+    ensures inside { OnOk result (AllInside search.old.found.items → AllInside search.new.found.items) }
     ensures cost { steps.new ≤ steps.old + V.width view.now * (past - first) }
 {
-    let mut path = Vec::with_capacity(alloc, PATH)?;
+    search.path.clear();
+    search.path.reserve(PATH)?;
     for i in first..past {
-        find_at(alloc, view, i, start, &mut path, found, steps)?;
+        find_at(alloc, view, i, start, search, steps)?;
     }
     Ok(())
 }
@@ -88,18 +96,34 @@ fn goes_on<V: LabelView>(view: &V, change: &Change) -> bool
     }
 }
 
+/// The place of the row that has an address, where that is not before a row's first one. Most runs lie within one row, so
+/// that row is asked before there is a search.
+fn row_from<V: LabelView>(view: &V, first: u64, a: u32) -> u64
+    requires place { first < length (V.rows view.now) }
+    requires from { (d : Row) → (slice_index_or (V.rows view.now) first d).low ≤ a }
+    ensures inside { result < length (V.rows view.now) }
+    ensures from { (d : Row) → (slice_index_or (V.rows view.now) result d).low ≤ a }
+    ensures to { (d : Row) → a < (slice_index_or (V.rows view.now) result d).past }
+{
+    let (_, past) = view.bounds(first);
+    if u64::from(a) < past {
+        return first;
+    }
+    view.atom_of(a)
+}
+
 /// Finds the cycles through the router of a change in the rows that its run meets, where it does what the change tells.
 fn find_along<V: LabelView, L: Ledger>(
     alloc: Global,
     view: &V,
     change: &Change,
-    found: &mut Vec<Found>,
+    search: &mut Search,
     steps: &mut Steps<L>,
 ) -> Result<(), OutOfMemory>
     requires { IsChange change.now }
     ensures found { OnOk result (TellsAfter (does (V.rows view.now)) change.now
-        → FindsMore (does (V.rows view.now)) (change.now ∷ []) found.old.items found.new.items) }
-    ensures inside { OnOk result (AllInside found.old.items → AllInside found.new.items) }
+        → FindsMore (does (V.rows view.now)) (change.now ∷ []) search.old.found.items search.new.found.items) }
+    ensures inside { OnOk result (AllInside search.old.found.items → AllInside search.new.found.items) }
     ensures cost { steps.new ≤ steps.old + V.width view.now * rows_met (V.rows view.now) (change.now ∷ []) }
 {
     if !goes_on(view, change) {
@@ -110,8 +134,8 @@ fn find_along<V: LabelView, L: Ledger>(
         target: change.after,
     };
     let first = view.atom_of(change.run.lo);
-    let last = view.atom_of(change.run.hi);
-    find_between(alloc, view, first, last + 1, start, found, steps)
+    let last = row_from(view, first, change.run.hi);
+    find_between(alloc, view, first, last + 1, start, search, steps)
 }
 
 /// Finds the cycles through the routers of changes in the rows that their runs meet, where the routers do what the
@@ -130,9 +154,12 @@ pub(crate) fn find_all<V: LabelView, L: Ledger>(
         → FindTouched (does (V.rows view.now)) changes.now found.items) }
     ensures cost { steps.new ≤ steps.old + V.width view.now * rows_met (V.rows view.now) changes.now }
 {
-    let mut found = Vec::new(alloc);
+    let mut search = Search {
+        found: Vec::new(alloc),
+        path: Vec::new(alloc),
+    };
     for change in changes {
-        find_along(alloc, view, change, &mut found, steps)?;
+        find_along(alloc, view, change, &mut search, steps)?;
     }
-    Ok(found)
+    Ok(search.found)
 }

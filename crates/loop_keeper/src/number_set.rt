@@ -1,6 +1,6 @@
 //! Sets of numbers below a power of two, as trees by the bits of a number.
 
-ghost use Rattle.std.specs.Prelude.{◌≡◌, min, ◌<◌, ◌≤◌, ◌^◌, OnOk, IfOk, IsTrue};
+ghost use Rattle.std.specs.Prelude.{◌≡◌, ◌+◌, ◌-◌, ◌<◌, ◌≤◌, ◌^◌, OnOk, IfOk, IsTrue};
 ghost use Rattle.loop_keeper.specs.Numbers.{nothing, IsSound, IsOpened, IsLeast, IsPut, size_of, whole_of};
 
 use dn_model::OutOfMemory;
@@ -83,15 +83,97 @@ fn width_of(level: u32) -> u64
     1 << level
 }
 
-/// The smaller of two numbers.
-fn smaller(x: u64, y: u64) -> u64
-    ensures { result ≡ min x y }
+/// How many numbers two halves have.
+fn size_of_both(level: u32, low: &NumberSet, high: &NumberSet) -> u64
+    requires level { level < 32 }
+    requires low { IsSound level low.now }
+    requires high { IsSound level high.now }
+    ensures { result ≡ size_of level low.now + size_of level high.now }
 {
-    if x < y { x } else { y }
+    low.size(level) + high.size(level)
 }
 
 impl Halves {
-    /// The numbers from `low` up to, and without, `past` put in, or taken out: in each half its part of them.
+    /// The numbers from `low` up to, and without, `past` put in, or taken out, where all are in the lower half.
+    #[cycle(put)]
+    fn put_low(
+        &mut self,
+        alloc: Global,
+        level: u32,
+        low: u64,
+        past: u64,
+        inside: bool,
+    ) -> Result<(), OutOfMemory>
+        requires some { 0 < level }
+        requires level { level ≤ 32 }
+        requires end { past ≤ 2 ^ (level - 1) }
+        requires sound { IsSound level self.old }
+        ensures sound { IsSound level self.new }
+        ensures put { OnOk result (IsPut level low past inside self.old self.new) }
+    {
+        let done = self.low.put(alloc, level - 1, low, past, inside);
+        self.count = size_of_both(level - 1, &self.low, &self.high);
+        return done;
+    }
+
+    /// The same where all are in the upper half, whose first number is `half`.
+    #[cycle(put)]
+    fn put_high(
+        &mut self,
+        alloc: Global,
+        level: u32,
+        half: u64,
+        low: u64,
+        past: u64,
+        inside: bool,
+    ) -> Result<(), OutOfMemory>
+        requires some { 0 < level }
+        requires level { level ≤ 32 }
+        requires half { half ≡ 2 ^ (level - 1) }
+        requires start { half ≤ low }
+        requires order { low ≤ past }
+        requires end { past ≤ 2 ^ level }
+        requires sound { IsSound level self.old }
+        ensures sound { IsSound level self.new }
+        ensures put { OnOk result (IsPut level low past inside self.old self.new) }
+    {
+        let done = self
+            .high
+            .put(alloc, level - 1, low - half, past - half, inside);
+        self.count = size_of_both(level - 1, &self.low, &self.high);
+        return done;
+    }
+
+    /// The same where some are in either half.
+    #[cycle(put)]
+    fn put_both(
+        &mut self,
+        alloc: Global,
+        level: u32,
+        half: u64,
+        low: u64,
+        past: u64,
+        inside: bool,
+    ) -> Result<(), OutOfMemory>
+        requires some { 0 < level }
+        requires level { level ≤ 32 }
+        requires half { half ≡ 2 ^ (level - 1) }
+        requires start { low ≤ half }
+        requires middle { half ≤ past }
+        requires end { past ≤ 2 ^ level }
+        requires sound { IsSound level self.old }
+        ensures sound { IsSound level self.new }
+        ensures put { OnOk result (IsPut level low past inside self.old self.new) }
+    {
+        let lower = self.low.put(alloc, level - 1, low, half, inside);
+        let upper = self.high.put(alloc, level - 1, 0, past - half, inside);
+        self.count = size_of_both(level - 1, &self.low, &self.high);
+        lower?;
+        return upper;
+    }
+
+    /// The numbers from `low` up to, and without, `past` put in, or taken out: in each half its part of them. A half that
+    /// has none of them is left alone.
     #[cycle(put)]
     fn put_parts(
         &mut self,
@@ -103,19 +185,20 @@ impl Halves {
     ) -> Result<(), OutOfMemory>
         requires some { 0 < level }
         requires level { level ≤ 32 }
+        requires order { low ≤ past }
         requires end { past ≤ 2 ^ level }
         requires sound { IsSound level self.old }
         ensures sound { IsSound level self.new }
         ensures put { OnOk result (IsPut level low past inside self.old self.new) }
     {
         let half = width_of(level - 1);
-        let (from, to) = (smaller(low, half), smaller(past, half));
-        let lower = self.low.put(alloc, level - 1, from, to, inside);
-        let (from, to) = (low.saturating_sub(half), past.saturating_sub(half));
-        let upper = self.high.put(alloc, level - 1, from, to, inside);
-        self.count = self.low.size(level - 1) + self.high.size(level - 1);
-        lower?;
-        return upper;
+        if past <= half {
+            return self.put_low(alloc, level, low, past, inside);
+        }
+        if half <= low {
+            return self.put_high(alloc, level, half, low, past, inside);
+        }
+        return self.put_both(alloc, level, half, low, past, inside);
     }
 }
 
@@ -230,18 +313,18 @@ impl NumberSet {
         return Ok(());
     }
 
-    /// Makes a set that has no number, or all, of one part.
-    fn close(&mut self, level: u32)
+    /// Makes a set that has no number, or all, of one part. How many it has is given.
+    fn close(&mut self, level: u32, count: u64)
         requires level { level ≤ 32 }
         requires sound { IsSound level self.old }
+        requires count { count ≡ size_of level self.old }
         ensures { IsOpened level self.old self.new }
     {
-        let size = self.size(level);
-        if size == 0 {
+        if count == 0 {
             *self = NumberSet::whole(false);
             return;
         }
-        if size == width_of(level) {
+        if count == width_of(level) {
             *self = NumberSet::whole(true);
             return;
         }
@@ -279,7 +362,8 @@ impl NumberSet {
             return Err(OutOfMemory);
         };
         let done = halves.put_parts(alloc, level, low, past, inside);
-        self.close(level);
+        let count = halves.count;
+        self.close(level, count);
         return done;
     }
 

@@ -28,7 +28,7 @@ loop-change-preserved g c =
     record {
       sound = λ tell. (c.in_ok-find_along.ensures.found (tell c.loop-change.change-index no_change inside)).sound (c.loop-change.invariant.sound tell);
       inside = c.in_ok-find_along.ensures.inside c.loop-change.invariant.inside;
-      all = λ tell. touched-take (does (g.V.LabelView.rows c.args.view.now)) c.args.changes.now c.loop-change.change-index no_change c.loop-change.found.items c.find_along.new.found.items inside (c.loop-change.invariant.all tell) (c.in_ok-find_along.ensures.found (tell c.loop-change.change-index no_change inside));
+      all = λ tell. touched-take (does (g.V.LabelView.rows c.args.view.now)) c.args.changes.now c.loop-change.change-index no_change c.loop-change.search.found.items c.find_along.new.search.found.items inside (c.loop-change.invariant.all tell) (c.in_ok-find_along.ensures.found (tell c.loop-change.change-index no_change inside));
       cost = looks-more (g.V.LabelView.width c.args.view.now) c.args.steps.now c.loop-change.steps c.find_along.new.steps (rows_met (g.V.LabelView.rows c.args.view.now) (take c.loop-change.change-index c.args.changes.now)) (rows_met (g.V.LabelView.rows c.args.view.now) (slice_index_or c.args.changes.now c.loop-change.change-index no_change ∷ [])) (rows_met (g.V.LabelView.rows c.args.view.now) (take (c.loop-change.change-index + 1) c.args.changes.now)) c.loop-change.invariant.cost c.find_along.ensures.cost
           (omega (arith, met-take (g.V.LabelView.rows c.args.view.now) c.args.changes.now c.loop-change.change-index no_change inside));
     }

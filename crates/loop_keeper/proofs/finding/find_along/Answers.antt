@@ -8,20 +8,20 @@ use Rattle.loop_keeper.proofs.Starting.{does-after}
 use Rattle.loop_keeper.proofs.finding.find_along.Goals as goal
 
 pub returns-then-not-goes_on-clause-found : goal.returns-then-not-goes_on-clause-found
-returns-then-not-goes_on-clause-found g c = λ tells. c.goes_on.ensures.none c.if-not-goes_on.true tells c.args.found.now.items
+returns-then-not-goes_on-clause-found g c = λ tells. c.goes_on.ensures.none c.if-not-goes_on.true tells c.args.search.now.found.items
 
 pub overflow_add-last : goal.overflow_add-last
 overflow_add-last g c =
     let few : 0 + length (g.V.LabelView.rows c.args.view.now) ≤ 2 ^ 32 = few-rows row_low row_past 0 (g.V.LabelView.rows c.args.view.now) c.goes_on.ensures.form.cover in
-    let last : c.atom_of-last.result < length (g.V.LabelView.rows c.args.view.now) = c.atom_of-last.ensures.inside in
+    let last : c.row_from-last.result < length (g.V.LabelView.rows c.args.view.now) = c.row_from-last.ensures.inside in
     omega arith
 
 pub returns-clause-found : goal.returns-clause-found
 returns-clause-found g c = on_ok_weaker c.find_between.result
-    (λ between tells. finds-along (g.V.LabelView.width c.args.view.now) (g.V.LabelView.rows c.args.view.now) c.args.change.now c.atom_of-first.result c.atom_of-last.result c.args.found.now.items c.find_between.new.found.items c.goes_on.ensures.form c.atom_of-first.ensures.inside c.atom_of-last.ensures.inside (λ d. omega (arith, c.atom_of-first.ensures.from d)) c.atom_of-last.ensures.to
-    (between (does-after (g.V.LabelView.width c.args.view.now) (g.V.LabelView.rows c.args.view.now) c.args.change.now c.atom_of-first.result c.atom_of-last.result c.goes_on.ensures.form c.atom_of-last.ensures.inside (λ d. omega (arith, c.atom_of-first.ensures.from d)) c.atom_of-first.ensures.to c.atom_of-last.ensures.from c.requires tells)))
+    (λ between tells. finds-along (g.V.LabelView.width c.args.view.now) (g.V.LabelView.rows c.args.view.now) c.args.change.now c.atom_of-first.result c.row_from-last.result c.args.search.now.found.items c.find_between.new.search.found.items c.goes_on.ensures.form c.atom_of-first.ensures.inside c.row_from-last.ensures.inside (λ d. omega (arith, c.atom_of-first.ensures.from d)) c.row_from-last.ensures.to
+    (between (does-after (g.V.LabelView.width c.args.view.now) (g.V.LabelView.rows c.args.view.now) c.args.change.now c.atom_of-first.result c.row_from-last.result c.goes_on.ensures.form c.row_from-last.ensures.inside (λ d. omega (arith, c.atom_of-first.ensures.from d)) c.atom_of-first.ensures.to c.row_from-last.ensures.from c.requires tells)))
     c.find_between.ensures.found
 
 pub returns-clause-cost : goal.returns-clause-cost
-returns-clause-cost g c = looks-most (g.V.LabelView.width c.args.view.now) c.args.steps.now c.find_between.new.steps (c.atom_of-last.result + 1 - c.atom_of-first.result) (rows_met (g.V.LabelView.rows c.args.view.now) (c.args.change.now ∷ [])) c.find_between.ensures.cost
-    (rows-between (g.V.LabelView.width c.args.view.now) (g.V.LabelView.rows c.args.view.now) c.args.change.now c.atom_of-first.result c.atom_of-last.result c.goes_on.ensures.form c.atom_of-last.ensures.inside c.atom_of-first.ensures.to c.atom_of-last.ensures.from)
+returns-clause-cost g c = looks-most (g.V.LabelView.width c.args.view.now) c.args.steps.now c.find_between.new.steps (c.row_from-last.result + 1 - c.atom_of-first.result) (rows_met (g.V.LabelView.rows c.args.view.now) (c.args.change.now ∷ [])) c.find_between.ensures.cost
+    (rows-between (g.V.LabelView.width c.args.view.now) (g.V.LabelView.rows c.args.view.now) c.args.change.now c.atom_of-first.result c.row_from-last.result c.goes_on.ensures.form c.row_from-last.ensures.inside c.atom_of-first.ensures.to c.row_from-last.ensures.from)

@@ -4,7 +4,7 @@ use Rattle.loop_keeper.proofs.finding.find_between.Goals as goal
 
 pub loop-i-init : goal.loop-i-init
 loop-i-init g c = record {
-  found = λ does. finds-start (g.V.LabelView.rows c.args.view.now) c.args.first c.args.start.router c.args.found.now.items;
+  found = λ does. finds-start (g.V.LabelView.rows c.args.view.now) c.args.first c.args.start.router c.args.search.now.found.items;
   inside = λ h. h;
   within = omega arith;
   cost = omega arith;
@@ -15,7 +15,7 @@ loop-i-preserved g c =
     let one : c.find_at.new.steps ≤ c.loop-i.steps + g.V.LabelView.width c.args.view.now * 1 = omega (arith, c.find_at.ensures.cost) in
     let sum : c.loop-i.i - c.args.first + 1 ≤ c.loop-i.i + 1 - c.args.first = omega arith in
     record {
-      found = λ does. finds-next (g.V.LabelView.rows c.args.view.now) c.args.first c.loop-i.i c.args.start.router c.args.found.now.items c.loop-i.found.items c.find_at.new.found.items
+      found = λ does. finds-next (g.V.LabelView.rows c.args.view.now) c.args.first c.loop-i.i c.args.start.router c.args.search.now.found.items c.loop-i.search.found.items c.find_at.new.search.found.items
           (c.loop-i.invariant.found (λ k f b. does k f (omega arith))) (c.in_ok-find_at.ensures.found (does c.loop-i.i (omega arith) (omega arith)));
       inside = λ h. c.in_ok-find_at.ensures.inside (c.loop-i.invariant.inside h);
       within = omega arith;

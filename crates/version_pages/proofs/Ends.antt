@@ -1,11 +1,12 @@
 -- Where the children of a fork end.
 use Rattle.std.proofs.Common.{◌≡◌, ℕ, zero, suc, ◌+◌, ◌-◌, ◌<◌, ◌≤◌, ⊎_elim, List, [], ◌∷◌, ◌++◌, length, get_or, set, take, refl, ap, sym, subst, ◌∙◌, arith, length-append, add-one}
-use Rattle.std.specs.List.{insert, remove}
+use Rattle.std.specs.List.{insert}
 use Rattle.std.proofs.lemmas.Bool.{cases_lt}
 use Rattle.std.proofs.lemmas.List.{length-set, get_or-set_same, get_or-set_other, get_or_push, get_or_append_left, get_or_default}
 use Rattle.std.proofs.lemmas.List.Edits.{length-insert, get_or-insert_below, get_or-insert_at, get_or-insert_above}
 use Rattle.version_pages.specs.Shape.{Shape, items_of, joined, end_before, AreEnds, AreEndsTo, AreHalves, AreLonger, IsAt}
 use Rattle.version_pages.proofs.Ending.{joined-last, joined-more, none-left, front-few}
+use Rattle.version_pages.proofs.Parted.{halves-at, set-insert}
 
 -- another child leaves the lengths of those before it
 front-set : {T : Type 0} (kids : List (Shape T)) (k m : ℕ) (x : Shape T) → m ≤ k → length (joined (take m (set kids k x))) ≡ length (joined (take m kids))
@@ -168,13 +169,13 @@ module _ {T : Type 0} (ends : List ℕ) (kids : List (Shape T)) (k end : ℕ) (l
   pub ends-parted : AreEnds (insert ends k end) (set (insert kids (k + 1) upper) k lower)
   ends-parted = subst (λ n. AreEnds (insert ends k end) (set (insert kids n upper) k lower)) (sym (add-one k)) ends-new
 
--- what was put in and taken out again leaves a list
-pub insert-removed : {X : Type 0} (xs : List X) (k : ℕ) (x : X) → k ≤ length xs → remove (insert xs k x) k ≡ xs
-insert-removed [] zero x l = refl
-insert-removed [] (suc k) x l = absurd (omega arith)
-insert-removed (y ∷ ys) zero x l = refl
-insert-removed (y ∷ ys) (suc k) x l = ap (λ t. y ∷ t) (insert-removed ys k x (omega arith))
-
 -- each end is one of few
 pub ends-few : {T : Type 0} (ends : List ℕ) (kids : List (Shape T)) (n d : ℕ) → AreEnds ends kids → n < length ends → get_or ends n d ≤ length (joined kids)
 ends-few ends kids n d at l = omega (arith, at.each n d (omega (arith, at.count)), front-few kids (n + 1))
+
+-- the first part of a child in its place and then the second one behind it
+pub ends-at : {T : Type 0} (ends new : List ℕ) (kids more : List (Shape T)) (k end : ℕ) (kid lower upper : Shape T) → AreEnds ends kids → k < length kids → kid ≡ get_or kids k kid → AreHalves lower upper kid → more ≡ insert (set kids k lower) (k + 1) upper → new ≡ insert ends k end → end ≡ length (joined (take k kids)) + length (items_of lower) → AreEnds new more
+ends-at ends new kids more k end kid lower upper at l is halves made noted sum =
+    subst (λ t. AreEnds t more) (sym noted)
+    (subst (AreEnds (insert ends k end)) (sym (made ∙ set-insert kids k (k + 1) lower upper (add-one k) l))
+    (ends-parted ends kids k end lower upper at l (halves-at kids k kid lower upper l is halves) sum))

@@ -1,10 +1,10 @@
 -- A child parted in two.
 use Rattle.std.proofs.Common.{◌≡◌, ℕ, zero, suc, ◌+◌, ◌-◌, ◌<◌, ◌≤◌, List, [], ◌∷◌, ◌++◌, length, get_or, set, take, drop, refl, ap, sym, subst, ◌∙◌, arith, append_assoc, length-append, length-drop, add-one}
 use Rattle.std.specs.List.{All, insert}
-use Rattle.std.proofs.lemmas.List.{append-nil, get_or_at, take_at, length-take-le}
+use Rattle.std.proofs.lemmas.List.{append-nil, get_or_at, get_or_default, take_at, length-take-le}
 use Rattle.std.proofs.lemmas.List.Elements.{All-append, All-cons, All-drop, All-get_or, All-take}
 use Rattle.std.proofs.lemmas.List.Concat.{flat_map-append}
-use Rattle.version_pages.specs.Shape.{Shape, items_of, joined, AreHalves, IsAt, IsParted, IsUnder}
+use Rattle.version_pages.specs.Shape.{Shape, items_of, joined, AreHalves, IsAt, IsParted, IsPartedAt, IsUnder}
 use Rattle.version_pages.proofs.Joined.{joined-at}
 
 -- two elements in the place of one
@@ -52,6 +52,24 @@ module _ {T : Type 0} (kids new : List (Shape T)) (k : ℕ) (lower upper : Shape
 
 pub parted : {T : Type 0} (kids : List (Shape T)) (k : ℕ) (lower upper : Shape T) → k < length kids → ((d : Shape T) → AreHalves lower upper (get_or kids k d)) → IsParted kids (set (insert kids (k + 1) upper) k lower) k lower upper
 parted kids k lower upper l h = parts-are kids (set (insert kids (k + 1) upper) k lower) k lower upper l h (parted-list kids k (k + 1) lower upper (add-one k) l)
+
+-- the first part in its place, and then the second one behind it
+pub set-insert : {X : Type 0} (xs : List X) (k n : ℕ) (l u : X) → n ≡ suc k → k < length xs → insert (set xs k l) n u ≡ set (insert xs n u) k l
+set-insert [] k n l u e lt = absurd (omega arith)
+set-insert (x ∷ xs) zero n l u e lt = rw e refl
+set-insert (x ∷ xs) (suc k) n l u e lt = rw e (ap (λ t. x ∷ t) (set-insert xs k (suc k) l u refl (omega arith)))
+
+pub halves-at : {T : Type 0} (kids : List (Shape T)) (k : ℕ) (kid lower upper : Shape T) → k < length kids → kid ≡ get_or kids k kid → AreHalves lower upper kid → (d : Shape T) → AreHalves lower upper (get_or kids k d)
+halves-at kids k kid lower upper l is halves d = subst (AreHalves lower upper) (is ∙ get_or_default kids k kid d l) halves
+
+pub parted-at : {T : Type 0} (kids new : List (Shape T)) (k len : ℕ) (kid lower upper : Shape T) → k < length kids → kid ≡ get_or kids k kid → AreHalves lower upper kid → new ≡ insert (set kids k lower) (k + 1) upper → len ≡ length (items_of lower) → IsPartedAt kids new k len
+parted-at kids new k len kid lower upper l is halves made long = record {
+  lower = lower;
+  upper = upper;
+  long = long;
+  halves = halves-at kids k kid lower upper l is halves;
+  parted = subst (λ t. IsParted kids t k lower upper) (sym (made ∙ set-insert kids k (k + 1) lower upper (add-one k) l)) (parted kids k lower upper l (halves-at kids k kid lower upper l is halves));
+}
 
 -- a place is in the first part
 pub at-first : {T : Type 0} (kids new : List (Shape T)) (i k j : ℕ) (lower upper : Shape T) → IsAt kids i k j → IsParted kids new k lower upper → j < length (items_of lower) → IsAt new i k j

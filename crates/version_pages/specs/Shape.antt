@@ -95,3 +95,11 @@ pub record IsParted {T : Type 0} (old new : List (Shape T)) (k : ℕ) (lower upp
   pub first : (d : Shape T) → slice_index_or new k d ≡ lower
   pub second : (d : Shape T) → slice_index_or new (k + 1) d ≡ upper
   pub under : (h : ℕ) → All (IsUnder h) old → All (IsUnder h) new
+
+-- the child at a place parted in two, the first of which has so many elements
+pub record IsPartedAt {T : Type 0} (old new : List (Shape T)) (k len : ℕ) : Type 0 where
+  pub lower : Shape T
+  pub upper : Shape T
+  pub long : len ≡ length lower.items
+  pub halves : (d : Shape T) → AreHalves lower upper (slice_index_or old k d)
+  pub parted : IsParted old new k lower upper

@@ -276,30 +276,9 @@ impl<T: Keyed + Copy> Pages<T> {
         return root.extend_alone(items);
     }
 
-    /// Puts the first of some elements at the end, in a new page where the last one is full. It answers how many. After
-    /// `OutOfMemory` the list is as before.
-    fn extend_more(&mut self, alloc: Global, items: &[T]) -> Result<usize, OutOfMemory>
-        requires some { 0 < length items.now }
-        requires clones { (x y : T) → T.is_clone x y → y ≡ x }
-        ensures some { IfOk result (λ count. 0 < count) }
-        ensures within { IfOk result (λ count. count ≤ length items.now) }
-        ensures items { IfOk result (λ count. self.new ≡ self.old ++ take count items.now) }
-        ensures same { OnErr result (self.new ≡ self.old) }
-    {
-        if self.end_room() > 0 {
-            let len = self.len();
-            self.insert_at(alloc, len, items[0])?;
-            return Ok(1);
-        }
-        let count = items.len().min(FULL);
-        let room = self.page_room(count);
-        self.graft(alloc, page_of_copies(alloc, room, &items[..count])?)?;
-        Ok(count)
-    }
-
-    /// Puts the first of some elements at the end, one at least. It answers how many. After `OutOfMemory` the list is
-    /// as before.
-    fn extend_some(&mut self, alloc: Global, items: &[T]) -> Result<usize, OutOfMemory>
+    /// Puts the first of some elements at the end of the last page, as many as it has room for, or one where somebody
+    /// else holds it. It answers how many. After `OutOfMemory` the list is as before.
+    fn fill_end(&mut self, alloc: Global, items: &[T]) -> Result<usize, OutOfMemory>
         requires some { 0 < length items.now }
         requires clones { (x y : T) → T.is_clone x y → y ≡ x }
         ensures some { IfOk result (λ count. 0 < count) }
@@ -311,10 +290,45 @@ impl<T: Keyed + Copy> Pages<T> {
         if count > 0 {
             return Ok(count);
         }
-        return self.extend_more(alloc, items);
+        let len = self.len();
+        self.insert_at(alloc, len, items[0])?;
+        Ok(1)
     }
 
-    /// Puts some elements at the end: first all that the last page has room for, and then pages of 64. After `OutOfMemory` the first of them may be there.
+    /// Puts the first of some elements behind the last page, as many as a page has. It answers how many. After
+    /// `OutOfMemory` the list is as before.
+    fn add_page(&mut self, alloc: Global, items: &[T]) -> Result<usize, OutOfMemory>
+        requires some { 0 < length items.now }
+        requires clones { (x y : T) → T.is_clone x y → y ≡ x }
+        ensures some { IfOk result (λ count. 0 < count) }
+        ensures within { IfOk result (λ count. count ≤ length items.now) }
+        ensures items { IfOk result (λ count. self.new ≡ self.old ++ take count items.now) }
+        ensures same { OnErr result (self.new ≡ self.old) }
+    {
+        let count = items.len().min(FULL);
+        let room = self.page_room(count);
+        self.graft(alloc, page_of_copies(alloc, room, &items[..count])?)?;
+        Ok(count)
+    }
+
+    /// Puts the first of some elements at the end, in a new page where the last one is full. It answers how many, one at
+    /// least. After `OutOfMemory` the list is as before.
+    fn extend_some(&mut self, alloc: Global, items: &[T]) -> Result<usize, OutOfMemory>
+        requires some { 0 < length items.now }
+        requires clones { (x y : T) → T.is_clone x y → y ≡ x }
+        ensures some { IfOk result (λ count. 0 < count) }
+        ensures within { IfOk result (λ count. count ≤ length items.now) }
+        ensures items { IfOk result (λ count. self.new ≡ self.old ++ take count items.now) }
+        ensures same { OnErr result (self.new ≡ self.old) }
+    {
+        if self.end_room() > 0 {
+            return self.fill_end(alloc, items);
+        }
+        return self.add_page(alloc, items);
+    }
+
+    /// Puts some elements at the end: first as many as the last page has room for, and then pages of them. After
+    /// `OutOfMemory` the first of them may be there.
     pub fn extend(&mut self, alloc: Global, items: &[T]) -> Result<(), OutOfMemory>
         requires { (x y : T) → T.is_clone x y → y ≡ x }
         ensures all { OnOk result (self.new ≡ self.old ++ items.now) }

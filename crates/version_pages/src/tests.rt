@@ -383,23 +383,34 @@ fn some_elements_at_the_end(rt: HostRuntime) {
     compare_rising(&rt, &pages, 10_000);
 }
 
-/// Numbers in order go in at the end, more than a page of them each time, while a copy holds every page, the last of them
-/// full or not, and every third time one alone. The list has what a plain `Vec` has, and so has the last copy.
+/// Puts so many more numbers at the end of both.
+fn extend_both(
+    alloc: Global,
+    pages: &mut Pages<u64>,
+    plain: &mut Vec<u64>,
+    count: u64,
+) -> Result<(), OutOfMemory> {
+    let first = pages.len();
+    let more = numbers(alloc, first, first.saturating_add(count))?;
+    pages.extend(alloc, more.as_slice())?;
+    plain.extend_from_slice(more.as_slice())?;
+    Ok(())
+}
+
+/// Numbers go in at the end, mostly more than a page of them each time, and then one alone. Every third time a copy holds
+/// all pages from then on, the last of them full or not. The list has what a plain `Vec` has, and each copy what it had.
 #[test]
 fn pages_at_the_end_of_held_pages(rt: HostRuntime) -> Result<(), Fail> {
     let alloc = rt.alloc();
-    let (mut pages, mut plain) = rising(alloc, 64)?;
+    let (mut pages, mut plain) = rising(alloc, 63)?;
     let mut held = pages.copy()?;
     let mut old = plain.clone()?;
     for k in 0..60u64 {
-        let len = pages.len();
-        let more = numbers(alloc, len, len + 64 * (k % 7) + k % 2)?;
-        pages.extend(alloc, more.as_slice())?;
-        plain.extend_from_slice(more.as_slice())?;
+        extend_both(alloc, &mut pages, &mut plain, 64 * (k % 7) + k % 2)?;
+        pages.push(alloc, k)?;
+        plain.push(k)?;
         if k % 3 == 0 {
             compare(&rt, &held, &old);
-            pages.push(alloc, len)?;
-            plain.push(len)?;
             held = pages.copy()?;
             old = plain.clone()?;
         }

@@ -13,6 +13,7 @@ mod grow;
 mod own;
 mod parts;
 mod search;
+mod split;
 
 use crate::keyed::Keyed;
 pub use parts::page_kid;

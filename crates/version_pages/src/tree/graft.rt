@@ -4,9 +4,9 @@
 ghost use Rattle.std.specs.Prelude.{◌≡◌, ◌+◌, ◌-◌, ◌<◌, ◌≤◌, ◌^◌, ◌++◌, ◌∷◌, [], ℕ, OnOk, OnErr, length, slice_index_or, All};
 ghost use Rattle.version_pages.specs.Shape.{Shape, AreEnds, IsDeep, IsUnder, joined};
 
-use super::grow::part;
 use super::own::unshare;
 use super::parts::fork_kid;
+use super::split::part;
 use super::{FULL, Kid, LONG, Node, Tree, key_after, start};
 use crate::keyed::Keyed;
 use crate::page::page_of_one;
@@ -72,9 +72,8 @@ fn ready_end<T: Keyed + Clone>(
     if kid.tree.has_room() {
         return Ok(());
     }
-    let (lower, upper) = kid.halves(alloc, true)?;
-    let end = start(ends, last) + lower.len();
-    part(kids, ends, last, end, lower, upper)?;
+    let from = start(ends, last);
+    part(alloc, kids, ends, last, from, true)?;
     Ok(())
 }
 

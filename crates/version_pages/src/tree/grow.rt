@@ -6,42 +6,13 @@ ghost use Rattle.version_pages.specs.Shape.{Shape, AreEnds, AreHalves, AreLonger
 ghost use Rattle.version_pages.specs.Growth.{grown, CanGrow};
 
 use super::own::unshare;
+use super::split::part;
 use super::{Kid, LONG, Node, Tree, find, key_after};
 use crate::growth::{Growth, grow_page};
 use crate::keyed::Keyed;
 use dn_model::OutOfMemory;
 use std::alloc::Global;
 use std::sync::Arc;
-
-/// Puts the two halves of a child in its place, the first of which ends here.
-pub fn part<T: Keyed + Drop>(
-    kids: &mut Vec<Kid<T>>,
-    ends: &mut Vec<u64>,
-    k: usize,
-    end: u64,
-    lower: Kid<T>,
-    upper: Kid<T>,
-) -> Result<(), OutOfMemory>
-    requires child { k < length kids.old.items }
-    requires halves { (d : Shape T) → AreHalves lower upper (slice_index_or kids.old.items k d) }
-    requires ends { AreEnds ends.old.items kids.old.items }
-    requires end { end ≡ length (joined (take k kids.old.items)) + length lower.items }
-    ensures parted { OnOk result (IsParted kids.old.items kids.new.items k lower upper) }
-    ensures same { OnErr result (kids.new.items ≡ kids.old.items) }
-    ensures ends { AreEnds ends.new.items kids.new.items }
-{
-    ends.insert(k, end)?;
-    match kids.insert(k + 1, upper) {
-        Ok(()) => {
-            kids[k] = lower;
-            return Ok(());
-        }
-        Err(_) => {
-            ends.remove(k);
-            return Err(OutOfMemory);
-        }
-    }
-}
 
 /// One more element is in a child.
 fn lengthen(ends: &mut [u64], k: usize)
@@ -81,9 +52,8 @@ fn ready<T: Keyed + Clone>(
     if kid.tree.has_room() {
         return Ok((k, j));
     }
-    let (lower, upper) = kid.halves(alloc, j == kid.len)?;
-    let len = lower.len();
-    part(kids, ends, k, i - j + len, lower, upper)?;
+    let at_end = j == kid.len;
+    let len = part(alloc, kids, ends, k, i - j, at_end)?;
     if j < len {
         return Ok((k, j));
     }

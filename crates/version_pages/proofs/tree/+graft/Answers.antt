@@ -1,7 +1,7 @@
 use Rattle.std.proofs.Common.{◌≡◌, ◌+◌, ◌-◌, ◌<◌, ◌≤◌, ◌^◌, ◌∙◌, ap, sym, subst, length, length-append, get_or, arith, rules}
 use Rattle.std.proofs.lemmas.List.{get_or_default}
 use Rattle.version_pages.specs.Nodes.{shape_of, IsKept}
-use Rattle.version_pages.specs.Shape.{Shape, fork_shape, items_of, joined, AreEnds, AreKids}
+use Rattle.version_pages.specs.Shape.{Shape, fork_shape, items_of, joined, AreKids}
 use Rattle.version_pages.proofs.Appended.{append-last}
 use Rattle.version_pages.proofs.Edits.{on-err}
 use Rattle.version_pages.proofs.Ends.{ends-few, ends-last, ends-same}

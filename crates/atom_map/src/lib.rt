@@ -8,5 +8,5 @@ mod search;
 #[cfg(test)]
 mod tests;
 
-pub use guide::Guide;
+pub use guide::{BEFORE, Guide};
 pub use map::AtomMap;

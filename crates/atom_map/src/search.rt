@@ -5,6 +5,7 @@ ghost use Rattle.dn_model.specs.Atoms.{AreAtoms, atom_of};
 ghost use Rattle.dn_model.specs.declared.atom_row.AtomRow.{AtomRow};
 ghost use Rattle.atom_map.specs.Index.{first_below, AgreeBelow, IsNoted, IsPartedAt};
 
+use crate::guide::BEFORE;
 use dn_model::{AtomId, AtomRow, OutOfMemory};
 use std::alloc::Global;
 use version_pages::{Keyed, Pages};
@@ -31,23 +32,17 @@ pub fn place_of(rows: &Pages<AtomRow>, a: u32) -> u64
     past - 1
 }
 
-/// Whether all of these atoms end at an address or below it, of which it looks at the last alone.
-fn ends_below(run: &[AtomRow], a: u32) -> bool {
-    match run.last() {
-        Some(last) => last.past <= a as u64,
-        None => true,
-    }
-}
-
-/// How many of these atoms end at an address or below it. It looks at few of them where it is one of the first.
-fn count_below(run: &[AtomRow], a: u32) -> usize
+/// How many of these atoms end at an address or below it, of which so many are known to. Its steps grow as it goes up, so
+/// that it looks at few of them where the count is little more.
+fn count_up(run: &[AtomRow], from: usize, a: u32) -> usize
+    requires { from ≤ length run.now }
     ensures inside { result ≤ length run.now }
     ensures after { (d : AtomRow) → result < length run.now → a < (slice_index_or run.now result d).past }
 {
-    let mut low = 0;
+    let mut low = from;
     let mut high = run.len();
     'halving: while low < high {
-        let middle = low + ((high - low) / 2).min(low + 1);
+        let middle = low + ((high - low) / 2).min(low - from);
         if run[middle].past <= u64::from(a) {
             low = middle + 1;
         } else {
@@ -57,18 +52,53 @@ fn count_below(run: &[AtomRow], a: u32) -> usize
     low
 }
 
-/// The place of the atom that has an address, where it stands in one page with the atom at a place and not before it.
-fn place_near(rows: &Pages<AtomRow>, near: u64, a: u32) -> Option<u64>
+/// How many of these atoms end at an address or below it, where the one at a place is known to end above it. Its steps
+/// grow as it goes down, so that it looks at few of them where the count is little less.
+fn count_down(run: &[AtomRow], from: usize, a: u32) -> usize
+    requires inside { from ≤ length run.now }
+    requires after { (d : AtomRow) → from < length run.now → a < (slice_index_or run.now from d).past }
+    ensures inside { result ≤ length run.now }
+    ensures after { (d : AtomRow) → result < length run.now → a < (slice_index_or run.now result d).past }
+{
+    let mut low = 0;
+    let mut high = from;
+    'halving: while low < high {
+        let middle = high - 1 - ((high - low) / 2).min(from - high);
+        if run[middle].past <= u64::from(a) {
+            low = middle + 1;
+        } else {
+            high = middle;
+        }
+    }
+    low
+}
+
+/// How many of these atoms end at an address or below it. It looks at few of them where the count is near to the one that
+/// is expected, and at the last alone where all of them do and more are expected.
+fn count_below(run: &[AtomRow], expected: usize, a: u32) -> usize
+    ensures inside { result ≤ length run.now }
+    ensures after { (d : AtomRow) → result < length run.now → a < (slice_index_or run.now result d).past }
+{
+    let Some(last) = run.len().checked_sub(1) else {
+        return 0;
+    };
+    let first = expected.min(last);
+    if run[first].past <= u64::from(a) {
+        return count_up(run, first + 1, a);
+    }
+    return count_down(run, first, a);
+}
+
+/// The place of the atom that has an address, where it stands in one page with the atom at a place and not before it. It
+/// looks first so many places behind that place as the atom is expected to be.
+fn place_near(rows: &Pages<AtomRow>, near: u64, expected: usize, a: u32) -> Option<u64>
     requires { AreAtoms rows.now }
     ensures inside { IfSome result (λ place. place < length rows.now) }
     ensures from { IfSome result (λ place. (d : AtomRow) → (slice_index_or rows.now place d).low ≤ a) }
     ensures to { IfSome result (λ place. (d : AtomRow) → a < (slice_index_or rows.now place d).past) }
 {
     let run = rows.run_from(near);
-    if ends_below(run, a) {
-        return None;
-    }
-    let below = count_below(run, a);
+    let below = count_below(run, expected, a);
     if below == run.len() {
         return None;
     }
@@ -87,21 +117,22 @@ fn place_behind(rows: &Pages<AtomRow>, near: u64, a: u32) -> u64
     ensures from { (d : AtomRow) → (slice_index_or rows.now result d).low ≤ a }
     ensures to { (d : AtomRow) → a < (slice_index_or rows.now result d).past }
 {
-    let rest = rows.run_from(near).len() as u64;
-    match place_near(rows, near.wrapping_add(rest), a) {
+    let rest = rows.run_from(near).len();
+    let next = near.wrapping_add(rest as u64);
+    match place_near(rows, next, BEFORE.saturating_sub(rest), a) {
         Some(place) => place,
         None => place_of(rows, a),
     }
 }
 
-/// The place of the atom that has an address. It looks first in the page of a place, from there on.
+/// The place of the atom that has an address. It looks first in the page of a place that a guide gave, from there on.
 pub fn place_from(rows: &Pages<AtomRow>, near: u64, a: u32) -> u64
     requires { AreAtoms rows.now }
     ensures inside { result < length rows.now }
     ensures from { (d : AtomRow) → (slice_index_or rows.now result d).low ≤ a }
     ensures to { (d : AtomRow) → a < (slice_index_or rows.now result d).past }
 {
-    match place_near(rows, near, a) {
+    match place_near(rows, near, BEFORE, a) {
         Some(place) => place,
         None => place_behind(rows, near, a),
     }

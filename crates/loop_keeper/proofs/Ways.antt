@@ -1,5 +1,5 @@
 -- Following a row from a router on, past other routers, until it comes back.
-use Rattle.std.proofs.Common.{◌≡◌, ℕ, ◌+◌, ◌<◌, ◌≤◌, ◌⊎◌, ◌∙◌, Bool, true, false, not, ◌&&◌, nat_lt, List, [], ◌∷◌, ◌++◌, length, refl, ap, sym, subst, inl, inr, ⊎_elim, arith}
+use Rattle.std.proofs.Common.{◌≡◌, ℕ, zero, suc, ◌+◌, ◌<◌, ◌≤◌, ◌⊎◌, ◌∙◌, Bool, true, false, not, ◌&&◌, nat_lt, List, [], ◌∷◌, ◌++◌, length, get_or, refl, ap, sym, subst, inl, inr, ⊎_elim, arith}
 use Rattle.std.specs.List.{list_all}
 use Rattle.std.proofs.lemmas.Bool.{cases_Bool, cases_lt, lt-ltb, eqb-true, eq-eqb, and_from, and_parts, or_cases, or_left, or_right, both_ways, not_from_false, false≢true}
 use Rattle.std.proofs.lemmas.List.{append-nil, length-append}
@@ -14,7 +14,7 @@ use Rattle.dn_model.proofs.DeltaParts.{same-router}
 use Rattle.dn_model.proofs.Loops.{target_cases}
 use Rattle.loop_check.specs.Following.{Follows, IsInNone, is_among}
 use Rattle.loop_check.proofs.Rounds.{among-head, differs, few-routers, goes-far, goes-nowhere, goes-there, in-none, linked, linked-push, rotated, split-round, step}
-use Rattle.loop_keeper.specs.Following.{ComesBack, IsTurned}
+use Rattle.loop_keeper.specs.Following.{ComesBack, IsFollowed, IsTurned}
 
 -- ---- other routers
 
@@ -155,7 +155,7 @@ way-back f first last far l path h to back = record {
 pub way-ends : (f : RouterId → Target) (first last : RouterId) (path : List RouterId) → IsWay f first last path → ((s : RouterId) (l : LinkId) → f last ≡ To s l → ⊥) → IsInNone f first
 way-ends f first last path h none = λ rs c m. in-none f last none rs c (h.follows rs c m)
 
-pub way-long : (f : RouterId → Target) (n : ℕ) (first last : RouterId) (path : List RouterId) → ((r x : RouterId) → goes_to f r x ≡ true → r.0 < n) → IsWay f first last path → length path ≡ n + 1 → IsInNone f first
+pub way-long : (f : RouterId → Target) (n : ℕ) (first last : RouterId) (path : List RouterId) → ((r x : RouterId) → goes_to f r x ≡ true → r.0 < n) → IsWay f first last path → n + 1 ≤ length path → IsInNone f first
 way-long f n first last path below h long = λ rs c m.
     let turn : (rest : List RouterId) × (go_round f first (first ∷ rest) ≡ true) × (length rest + 1 ≡ length rs) = rotated f rs first c m in
     let few : length rs ≤ n = few-routers f n rs below c in
@@ -163,6 +163,78 @@ way-long f n first last path below h long = λ rs c m.
     let many : length path ≡ length (first ∷ h.rest) = ap (λ (v : List RouterId). length v) h.is in
     let k : length turn.0 + 1 ≡ length rs = turn.2 in
     omega arith
+
+-- ---- ways that go round elsewhere
+
+others-back : (first : RouterId) (a c : List RouterId) → are_others first (a ++ c) ≡ true → are_others first c ≡ true
+others-back first [] c h = h
+others-back first (y ∷ a) c h = others-back first a c (other-parts first y (a ++ c) h).1
+
+others-append : (first : RouterId) (a c : List RouterId) → are_others first a ≡ true → are_others first c ≡ true → are_others first (a ++ c) ≡ true
+others-append first [] c h k = k
+others-append first (y ∷ a) c h k =
+    let p : (not (is_router first y) ≡ true) × (are_others first a ≡ true) = other-parts first y a h in
+    and_from (not (is_router first y)) (are_others first (a ++ c)) p.0 (others-append first a c p.1 k)
+
+round-linked : (f : RouterId → Target) (s r : RouterId) (xs : List RouterId) → go_round f s (r ∷ xs) ≡ true → linked f (r ∷ xs) ≡ true
+round-linked f s r [] h = refl
+round-linked f s r (y ∷ ys) h =
+    let p : (goes_to f r y ≡ true) × (go_round f s (y ∷ ys) ≡ true) = and_parts (goes_to f r y) (go_round f s (y ∷ ys)) h in
+    and_from (goes_to f r y) (linked f (y ∷ ys)) p.0 (round-linked f s y ys p.1)
+
+-- a way past other routers to a given one
+record LeadsTo (f : RouterId → Target) (first far : RouterId) (rest : List RouterId) : Type 0 where
+  others : are_others first rest ≡ true
+  round : go_round f far (first ∷ rest) ≡ true
+
+-- which is as long as need be where it goes round and round from there
+round-again : (f : RouterId → Target) (first far : RouterId) (rest b : List RouterId) (k : ℕ) → LeadsTo f first far rest → are_others first (far ∷ b) ≡ true → go_round f far (far ∷ b) ≡ true → (ys : List RouterId) × LeadsTo f first far ys × (k ≤ length ys)
+round-again f first far rest b zero h o g = (rest, h, omega arith)
+round-again f first far rest b (suc k) h o g =
+    let w : (ys : List RouterId) × LeadsTo f first far ys × (k ≤ length ys) = round-again f first far rest b k h o g in
+    let n : length (w.0 ++ far ∷ b) ≡ length w.0 + length (far ∷ b) = length-append w.0 (far ∷ b) in
+    let l : k ≤ length w.0 = w.2 in
+    let more : LeadsTo f first far (w.0 ++ far ∷ b) = record {
+      others = others-append first w.0 (far ∷ b) w.1.others o;
+      round = split-round f far first far w.0 b ∙ and_from (go_round f far (first ∷ w.0)) (go_round f far (far ∷ b)) w.1.round g;
+    } in
+    (w.0 ++ far ∷ b, more, omega arith)
+
+-- a way that comes to another of its routers again is no way back
+pub way-passed : (f : RouterId → Target) (first last far : RouterId) (l : LinkId) (path : List RouterId) → IsWay f first last path → f last ≡ To far l → (far.0 ≡ first.0 → ⊥) → is_among path far ≡ true → IsInNone f first
+way-passed f first last far l path h to other m = λ rs c i.
+    let M : List RouterId → Type 0 = λ v. is_among v far ≡ true in
+    let passed : is_among h.rest far ≡ true = ⊎_elim
+    (λ (x : is_router far first ≡ true). absurd (other (sym (eqb-true first.0 far.0 x))))
+    (λ (x : is_among h.rest far ≡ true). x)
+    (or_cases (is_router far first) (is_among h.rest far) (subst M h.is m)) in
+    let d : (a : List RouterId) × (b : List RouterId) × (h.rest ≡ a ++ far ∷ b) = among-split far h.rest passed in
+    let O : List RouterId → Type 0 = λ v. are_others first v ≡ true in
+    let G : List RouterId → Type 0 = λ v. go_round f far (first ∷ v) ≡ true in
+    let come : go_round f far (first ∷ h.rest) ≡ true = h.round far (goes-there f last far far l to refl) in
+    let loop : go_round f far (far ∷ d.1) ≡ true = (and_parts (go_round f far (first ∷ d.0)) (go_round f far (far ∷ d.1)) (sym (split-round f far first far d.0 d.1) ∙ subst G d.2 come)).1 in
+    let others : are_others first (far ∷ d.1) ≡ true = others-back first d.0 (far ∷ d.1) (subst O d.2 h.others) in
+    let turn : (rest : List RouterId) × (go_round f first (first ∷ rest) ≡ true) × (length rest + 1 ≡ length rs) = rotated f rs first c i in
+    let w : (ys : List RouterId) × LeadsTo f first far ys × (length turn.0 + 1 ≤ length ys) = round-again f first far h.rest d.1 (length turn.0 + 1) (record { others = h.others; round = come }) others loop in
+    let some : length w.0 ≤ length turn.0 = no-longer f first first w.0 turn.0 w.1.others (round-linked f far first w.0 w.1.round) turn.1 in
+    let many : length turn.0 + 1 ≤ length w.0 = w.2 in
+    absurd (omega arith)
+
+-- a way past as many routers as there are comes back with its next hop, or never
+pub way-last : (f : RouterId → Target) (n : ℕ) (first last : RouterId) (path : List RouterId) (found : Bool) → ((r x : RouterId) → goes_to f r x ≡ true → r.0 < n) → IsWay f first last path → n ≤ length path → found ≡ goes_to f last first → IsFollowed f first path found
+way-last f n first last path true below h long e = record { rest = h.rest; is = h.is; others = h.others; round = h.round first (sym e) }
+way-last f n first last path false below h long e = ⊎_elim
+    (λ (to : (s : RouterId) × (l : LinkId) × (f last ≡ To s l)).
+    let other : to.0.0 ≡ first.0 → ⊥ = λ same. false≢true (e ∙ goes-there f last first to.0 to.1 to.2 same) in
+    let more : length (path ++ to.0 ∷ []) ≡ length path + 1 = length-append path (to.0 ∷ []) in
+    way-long f n first to.0 (path ++ to.0 ∷ []) below (way-next f first last to.0 to.1 path (path ++ to.0 ∷ []) h to.2 other refl) (omega arith))
+    (λ (none : (s : RouterId) (l : LinkId) → f last ≡ To s l → ⊥). way-ends f first last path h none)
+    (target_cases (f last))
+
+pub among-at : (rs : List RouterId) (k : ℕ) (d x : RouterId) → k < length rs → (get_or rs k d).0 ≡ x.0 → is_among rs x ≡ true
+among-at [] k d x l e = absurd (omega arith)
+among-at (r ∷ rs) zero d x l e = or_left (is_router x r) (is_among rs x) (eq-eqb r.0 x.0 e)
+among-at (r ∷ rs) (suc k) d x l e = or_right (is_router x r) (is_among rs x) (among-at rs k d x (omega arith) e)
 
 -- ---- from the first of the routers on
 

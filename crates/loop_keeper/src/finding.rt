@@ -96,8 +96,8 @@ fn goes_on<V: LabelView>(view: &V, change: &Change) -> bool
     }
 }
 
-/// The place of the row that has an address, where that is not before a row's first one. Most runs lie within one row, so
-/// that row is asked before there is a search.
+/// The place of the row that has an address, where that is not before a row's first one. Most runs lie within one row,
+/// so that row is asked before there is a search.
 fn row_from<V: LabelView>(view: &V, first: u64, a: u32) -> u64
     requires place { first < length (V.rows view.now) }
     requires from { (d : Row) → (slice_index_or (V.rows view.now) first d).low ≤ a }

@@ -1,9 +1,12 @@
 //! The cycle of one row that has a router.
 
-ghost use Rattle.std.specs.Prelude.{ℕ, ◌+◌, ◌<◌, ◌≤◌, IfOk, OnOk, length, slice_index_or};
+ghost use Rattle.std.specs.Prelude.{ℕ, ◌≡◌, ◌+◌, ◌<◌, ◌≤◌, IfOk, OnOk, IsTrue, length, slice_index_or};
+ghost use Rattle.dn_model.specs.Cycles.{goes_to};
 ghost use Rattle.dn_model.specs.Forwarding.{AreForwarding, target_of};
 ghost use Rattle.dn_model.specs.declared.forwarding_row.ForwardingRow.{ForwardingRow as Row};
 ghost use Rattle.dn_model.specs.declared.ids.RouterId.{RouterId as Router};
+ghost use Rattle.dn_model.specs.declared.target.Target.{Target as TargetIs};
+ghost use Rattle.loop_check.specs.Following.{is_among};
 ghost use Rattle.loop_keeper.specs.Following.{IsFollowed, IsTurned};
 ghost use Rattle.loop_keeper.specs.Starts.{DoesSo, IsStartOf};
 
@@ -20,9 +23,35 @@ pub(crate) struct Start {
     pub(crate) target: Target,
 }
 
-/// Follows the row at a place from a router on until it comes back to that router, or ends. What the router does there
-/// is given, so that each hop but the first is one look; there are as many hops as there are routers at most. The routers
-/// passed are left in `path`.
+/// Whether a router is seen to be among those passed. Two places are looked at: the last but one, since most ways that
+/// go round elsewhere end in two routers that send to each other, and the one half way, where every such way shows in
+/// the end, as between a tortoise and a hare. Where one is not seen, the way only goes on.
+fn has_passed(path: &[RouterId], router: RouterId) -> bool
+    ensures { IsTrue result → IsTrue (is_among path.now router) }
+{
+    let n = path.len();
+    if n < 2 {
+        return false;
+    }
+    if path[n - 2].0 == router.0 {
+        return true;
+    }
+    path[n / 2].0 == router.0
+}
+
+/// Whether what a router does is to send to this one.
+fn leads_to(target: Target, router: RouterId) -> bool
+    ensures { (f : Router → TargetIs) (r : Router) → f r ≡ target → result ≡ goes_to f r router }
+{
+    match target {
+        Target::To(far, _) => far.0 == router.0,
+        _ => false,
+    }
+}
+
+/// Follows the row at a place from a router on until it comes back to that router, or ends, or is seen to go round
+/// elsewhere. What the router does there is given, so that each hop but the first is one look; there are fewer looks
+/// than routers. The routers passed are left in `path`.
 pub(crate) fn follow<V: LabelView, L: Ledger>(
     view: &V,
     i: u64,
@@ -42,19 +71,22 @@ pub(crate) fn follow<V: LabelView, L: Ledger>(
     path.push(start.router)?;
     let mut target = start.target;
     let mut left = view.routers();
-    'hops: while left > 0 {
+    'hops: while left > 1 {
         let Target::To(far, _) = target else {
             return Ok(false);
         };
         if far.0 == start.router.0 {
             return Ok(true);
         }
+        if has_passed(path.as_slice(), far) {
+            return Ok(false);
+        }
         path.push(far)?;
         steps.tick();
         target = view.target(far, i);
         left -= 1;
     }
-    Ok(false)
+    Ok(leads_to(target, start.router))
 }
 
 /// Which of two places has the router that is the first in the topology's order.

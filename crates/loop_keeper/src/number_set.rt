@@ -172,8 +172,8 @@ impl Halves {
         return upper;
     }
 
-    /// The numbers from `low` up to, and without, `past` put in, or taken out: in each half its part of them. A half that
-    /// has none of them is left alone.
+    /// The numbers from `low` up to, and without, `past` put in, or taken out: in each half its part of them. A half
+    /// that has none of them is left alone.
     #[cycle(put)]
     fn put_parts(
         &mut self,

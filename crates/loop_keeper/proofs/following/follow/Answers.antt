@@ -1,13 +1,13 @@
-use Rattle.std.proofs.Common.{◌≡◌, ◌+◌, ◌∙◌, sym, ap, subst, length, List, [], ◌∷◌, ◌++◌, slice_index_or, arith}
+use Rattle.std.proofs.Common.{◌≡◌, ◌≤◌, true, ◌+◌, ◌∙◌, sym, ap, subst, length, List, [], ◌∷◌, ◌++◌, slice_index_or, arith}
 use Rattle.std.proofs.lemmas.List.{get_or_default, length-append}
 use Rattle.dn_model.specs.Forwarding.{target_of}
 use Rattle.dn_model.specs.declared.forwarding_row.ForwardingRow.{ForwardingRow}
 use Rattle.dn_model.specs.declared.ids.RouterId.{RouterId}
 use Rattle.label_view.proofs.InRow.{leads-within, some_row}
-use Rattle.loop_check.specs.Following.{IsInNone}
-use Rattle.loop_keeper.specs.Following.{ComesBack}
+use Rattle.loop_check.specs.Following.{IsInNone, is_among}
+use Rattle.loop_keeper.specs.Following.{ComesBack, IsFollowed}
 use Rattle.loop_keeper.proofs.Turning.{goes-within}
-use Rattle.loop_keeper.proofs.Ways.{way-back, way-ends, way-long, way-next, way-start}
+use Rattle.loop_keeper.proofs.Ways.{way-back, way-ends, way-last, way-next, way-passed, way-start}
 use Rattle.loop_keeper.proofs.following.follow.Goals as goal
 
 pub hops-init : goal.hops-init
@@ -56,9 +56,18 @@ hops-preserved g c =
       cost = omega (arith, c.hops.invariant.cost);
     }
 
+pub returns-then-has_passed-clause-followed : goal.returns-then-has_passed-clause-followed
+returns-then-has_passed-clause-followed g c = λ does d.
+    let P : ForwardingRow → Type 0 = λ row. IsInNone (target_of row) c.args.start.router in
+    let M : List RouterId → Type 0 = λ v. is_among v c.in-To.far ≡ true in
+    let passed : is_among c.hops.path.items c.in-To.far ≡ true = subst M c.as_slice.ensures.value (c.has_passed.ensures c.if-has_passed.true) in
+    subst P (get_or_default (g.V.LabelView.rows c.args.view.now) c.args.i some_row d c.requires.place)
+    (way-passed (target_of (slice_index_or (g.V.LabelView.rows c.args.view.now) c.args.i some_row)) c.args.start.router (c.hops.invariant.way does).last c.in-To.far c.in-To.field-1 c.hops.path.items (c.hops.invariant.way does).way ((c.hops.invariant.way does).does ∙ c.in-To.is) c.if-far-start.false passed)
+
 pub returns-clause-followed : goal.returns-clause-followed
 returns-clause-followed g c = λ does d.
-    let P : ForwardingRow → Type 0 = λ row. IsInNone (target_of row) c.args.start.router in
-    let long : length c.hops.path.items ≡ g.V.LabelView.width c.args.view.now + 1 = omega (arith, c.hops.invariant.count) in
+    let P : ForwardingRow → Type 0 = λ row. IsFollowed (target_of row) c.args.start.router c.hops.path.items c.leads_to.result in
+    let long : g.V.LabelView.width c.args.view.now ≤ length c.hops.path.items = omega (arith, c.hops.invariant.count) in
     subst P (get_or_default (g.V.LabelView.rows c.args.view.now) c.args.i some_row d c.requires.place)
-    (way-long (target_of (slice_index_or (g.V.LabelView.rows c.args.view.now) c.args.i some_row)) (g.V.LabelView.width c.args.view.now) c.args.start.router (c.hops.invariant.way does).last c.hops.path.items (goes-within (g.V.LabelView.width c.args.view.now) (g.V.LabelView.rows c.args.view.now) c.args.i some_row c.requires.form.each c.requires.place) (c.hops.invariant.way does).way long)
+    (way-last (target_of (slice_index_or (g.V.LabelView.rows c.args.view.now) c.args.i some_row)) (g.V.LabelView.width c.args.view.now) c.args.start.router (c.hops.invariant.way does).last c.hops.path.items c.leads_to.result (goes-within (g.V.LabelView.width c.args.view.now) (g.V.LabelView.rows c.args.view.now) c.args.i some_row c.requires.form.each c.requires.place) (c.hops.invariant.way does).way long
+    (c.leads_to.ensures (target_of (slice_index_or (g.V.LabelView.rows c.args.view.now) c.args.i some_row)) (c.hops.invariant.way does).last (c.hops.invariant.way does).does))

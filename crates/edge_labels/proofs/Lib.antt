@@ -1,6 +1,7 @@
 pub mod Crossing
 pub mod BitLemmas
 pub mod BitsLemmas
+pub mod ChunkLemmas
 pub mod CountLemmas
 pub mod EdgeOrder
 pub mod MemberLemmas

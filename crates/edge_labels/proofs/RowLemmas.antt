@@ -75,7 +75,7 @@ pub code-added : (n atoms q : ℕ) (codes row : List ℕ) → length codes ≡ a
 code-added n atoms q codes row long = let at : atoms * n + q ≡ length codes + q = omega arith in ap (λ i. get_or (codes ++ row) i 0) at ∙ get_or-append-add codes row q 0
 
 -- a row goes on with what a page has
-pub row-more : (codes row run : List ℕ) (from more : ℕ) → row ≡ take (length row) (drop from codes) → take (length run) (drop (from + length row) codes) ≡ run → more ≤ length run → row ++ take more run ≡ take (length (row ++ take more run)) (drop from codes)
+pub row-more : {X : Type 0} (codes row run : List X) (from more : ℕ) → row ≡ take (length row) (drop from codes) → take (length run) (drop (from + length row) codes) ≡ run → more ≤ length run → row ++ take more run ≡ take (length (row ++ take more run)) (drop from codes)
 row-more codes row run from more so page few =
     let long : length (row ++ take more run) ≡ length row + more = omega (arith, length-append row (take more run), length-take-le more run few) in
     let next : take more run ≡ take more (drop (length row) (drop from codes)) =

@@ -1,5 +1,6 @@
 pub mod Atoms
 pub mod Bits
+pub mod ChunkRows
 pub mod Codes
 pub mod Labels
 pub mod Rows

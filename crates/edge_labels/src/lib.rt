@@ -5,7 +5,9 @@
 mod atom_set;
 mod bits;
 mod chunk;
+mod chunk_rows;
 mod code_book;
+mod code_chunk;
 mod code_rows;
 mod codes;
 mod label_graph;

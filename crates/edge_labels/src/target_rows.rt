@@ -3,38 +3,39 @@
 ghost use Rattle.std.specs.Prelude.{◌≡◌, ◌<◌, length, IfOk, OnOk};
 ghost use Rattle.edge_labels.specs.Labels.{first_labels, inherited, moved, target_at};
 
+use crate::chunk_rows::{chunks_from, chunks_of, code_at, place_in, start_of, stride, write};
 use crate::code_book::CodeBook;
-use crate::code_rows::{
-    FirstRow, codes_from, first_row, is_same, place_of, push_row, read, row_of,
-};
+use crate::code_chunk::CodeChunk;
+use crate::code_rows::{FirstRow, first_row, is_same};
 use crate::codes::Edge;
 use dn_model::{AtomId, OutOfMemory, RouterId, Target};
 use std::alloc::Global;
 use std::marker::Model;
 use version_pages::Pages;
 
-/// What each router does with each atom, as a row of codes by the atom's number. A contract sees the number of routers and,
-/// for the number of each atom, the targets by router. Each router with a target has a code. No set of atoms is kept, so
-/// that a move writes one code, and a new atom one row. A copy is a few counts. The code that was written last is a guess of
-/// the next one, since an update writes the same at many atoms; no clause and no invariant speaks of it.
+/// What each router does with each atom, as a row of codes by the atom's number. A contract sees the number of routers
+/// and, for the number of each atom, the targets by router. Each router with a target has a code. No set of atoms is
+/// kept, so that a move writes one code, and a new atom one row. A row has whole chunks of eight codes: a page has 64
+/// chunks, so few forks stand above each code. A copy is a few counts. The code that was written last is a guess of the
+/// next one, since an update writes the same at many atoms; no clause and no invariant speaks of it.
 #[derive(Drop)]
 pub struct TargetRows {
     routers: u32,
     atoms: u64,
-    codes: Pages<u32>,
+    chunks: Pages<CodeChunk>,
     book: CodeBook,
     last: u32,
 }
 
 impl Model for TargetRows {
     ghost use Rattle.edge_labels.specs.Labels.{Labels};
-    ghost use Rattle.edge_labels.specs.Rows.{AreRows, labels_of};
+    ghost use Rattle.edge_labels.specs.ChunkRows.{AreChunkRows, labels_in};
 
     ghost Value = { Labels };
 
-    ghost view = { λ t. labels_of t.routers t.atoms t.codes t.book };
+    ghost view = { λ t. labels_in t.routers t.atoms t.chunks t.book };
 
-    ghost invariant = { λ t. AreRows t.routers t.atoms t.codes t.book };
+    ghost invariant = { λ t. AreChunkRows t.routers t.atoms t.chunks t.book };
 }
 
 impl TargetRows {
@@ -43,10 +44,11 @@ impl TargetRows {
         ensures { IfOk result (λ rows. rows ≡ first_labels routers) }
     {
         let FirstRow { codes, book } = first_row(alloc, routers)?;
+        let chunks = chunks_of(alloc, &codes, routers)?;
         Ok(TargetRows {
             routers,
             atoms: 1,
-            codes,
+            chunks,
             book,
             last: 0,
         })
@@ -58,7 +60,7 @@ impl TargetRows {
         requires atom { atom.0 < length self.now.rows }
         ensures { result ≡ target_at self.now r.0 atom.0 }
     {
-        let code = read(&self.codes, place_of(self.routers, r, atom));
+        let code = code_at(&self.chunks, place_in(self.routers, r, atom));
         self.book.edge(code).target
     }
 
@@ -96,13 +98,13 @@ impl TargetRows {
         requires atom { atom.0 < length self.old.rows }
         ensures { OnOk result (self.new ≡ moved self.old r.0 atom.0 after) }
     {
-        let place = place_of(self.routers, r, atom);
+        let place = place_in(self.routers, r, atom);
         let edge = Edge {
             router: r.0 as u32,
             target: after,
         };
         let code = self.book.code_near(alloc, edge, self.last)?;
-        self.codes.put(alloc, place, code)?;
+        write(alloc, &mut self.chunks, place, code)?;
         self.last = code;
         Ok(())
     }
@@ -119,16 +121,16 @@ impl TargetRows {
         requires next { new_atom.0 ≡ length self.old.rows }
         ensures { OnOk result (self.new ≡ inherited self.old old_atom.0) }
     {
-        let from = row_of(self.routers, old_atom);
-        let row = codes_from(alloc, &self.codes, from, self.routers)?;
-        match push_row(alloc, &mut self.codes, &row) {
+        let from = start_of(self.routers, old_atom);
+        let row = chunks_from(alloc, &self.chunks, from, stride(self.routers))?;
+        match self.chunks.extend(alloc, &row) {
             Ok(()) => {
                 self.atoms += 1;
                 Ok(())
             }
             Err(OutOfMemory) => {
                 self.atoms = 0;
-                self.codes = Pages::new();
+                self.chunks = Pages::new();
                 Err(OutOfMemory)
             }
         }
@@ -141,7 +143,7 @@ impl TargetRows {
         Ok(TargetRows {
             routers: self.routers,
             atoms: self.atoms,
-            codes: self.codes.copy()?,
+            chunks: self.chunks.copy()?,
             book: self.book.copy()?,
             last: self.last,
         })

@@ -1,6 +1,6 @@
 //! Sets that were worked out by hand or are compared with a plain list, and a network of one router.
 
-ghost use Rattle.std.specs.Prelude.{◌≡◌, ◌<◌, ◌∷◌, [], IfOk, OnOk};
+ghost use Rattle.std.specs.Prelude.{◌≡◌, ◌<◌, ◌∷◌, [], length, IfOk, OnOk};
 ghost use Rattle.dn_model.specs.declared.target.Target.TheVariants.{Exit, Local};
 ghost use Rattle.edge_labels.specs.Labels.{Labels};
 
@@ -177,4 +177,64 @@ fn a_copy_keeps_its_rows(rt: HostRuntime) {
     assert_eq!(rt; rows.target(RouterId(0), AtomId(0)), Target::Local);
     assert_eq!(rt; rows.target(RouterId(0), AtomId(1)), Target::Exit(1));
     assert_eq!(rt; copy.target(RouterId(0), AtomId(0)), Target::Exit(1));
+}
+
+/// A router does something else with an atom, whatever it does now.
+fn turn(rt: &impl Abort, alloc: Global, rows: &mut TargetRows, r: u16, atom: AtomId, after: Target)
+    requires router { r < rows.old.routers }
+    requires atom { atom.0 < length rows.old.rows }
+    ensures routers { rows.new.routers ≡ rows.old.routers }
+    ensures atoms { length rows.new.rows ≡ length rows.old.rows }
+{
+    let before = rows.target(RouterId(r), atom);
+    rows.move_atom(alloc, RouterId(r), atom, before, after)
+        .expect(rt, "memory");
+}
+
+/// Rows of seventeen routers, each of which has an exit of its own number for atoms 0 and 1.
+fn seventeen(rt: &impl Abort, alloc: Global) -> TargetRows
+    ensures routers { result.routers ≡ 17 }
+    ensures atoms { length result.rows ≡ 2 }
+{
+    let mut rows = TargetRows::new(alloc, 17).expect(rt, "memory");
+    for r in 0..17 {
+        turn(
+            rt,
+            alloc,
+            &mut rows,
+            r,
+            AtomId(0),
+            Target::Exit(u32::from(r)),
+        );
+    }
+    rows.inherit(alloc, AtomId(0), AtomId(1))
+        .expect(rt, "memory");
+    rows
+}
+
+/// Each of seventeen routers has its own exit for an atom, but one of them, whose own the atom is.
+fn compare_row(rt: &impl Abort, rows: &TargetRows, atom: AtomId, own: u16)
+    requires routers { rows.now.routers ≡ 17 }
+    requires atom { atom.0 < length rows.now.rows }
+{
+    for r in 0..17 {
+        let want = if r == own {
+            Target::Local
+        } else {
+            Target::Exit(u32::from(r))
+        };
+        assert_eq!(rt; rows.target(RouterId(r), atom), want);
+    }
+}
+
+#[test]
+fn codes_of_a_row_stand_in_three_chunks(rt: HostRuntime) {
+    let mut rows = seventeen(&rt, rt.alloc());
+    let copy = rows.copy().expect(&rt, "memory");
+    turn(&rt, rt.alloc(), &mut rows, 16, AtomId(0), Target::Local);
+    turn(&rt, rt.alloc(), &mut rows, 8, AtomId(1), Target::Local);
+    compare_row(&rt, &rows, AtomId(0), 16);
+    compare_row(&rt, &rows, AtomId(1), 8);
+    compare_row(&rt, &copy, AtomId(0), 17);
+    compare_row(&rt, &copy, AtomId(1), 17);
 }

@@ -1,21 +1,24 @@
 use Rattle.std.proofs.Common.{◌<◌, ap, ◌∙◌, arith}
-use Rattle.edge_labels.proofs.RowLemmas.{row-fits}
-use Rattle.edge_labels.proofs.TargetLemmas.{atoms-of, code-known, routers-of}
+use Rattle.edge_labels.proofs.ChunkLemmas.{atoms-in, code-seen, place-inside, routers-in}
 use Rattle.edge_labels.proofs.target_rows.TargetRows.target.Goals as goal
 
-pub place_of-requires : goal.place_of-requires
-place_of-requires c = omega (arith, routers-of c.self.inside.routers c.self.inside.atoms c.self.inside.codes c.self.inside.book c.args.self.now c.self.view_is)
+pub place_in-requires : goal.place_in-requires
+place_in-requires c = omega (arith, routers-in c.self.inside.routers c.self.inside.atoms c.self.inside.chunks c.self.inside.book c.args.self.now c.self.view_is)
 
-pub read-code-requires : goal.read-code-requires
-read-code-requires c =
-    let la : c.args.atom.0 < c.self.inside.atoms = omega (arith, atoms-of c.self.inside.routers c.self.inside.atoms c.self.inside.codes c.self.inside.book c.args.self.now c.self.view_is) in
-    let lr : c.args.r.0 < c.self.inside.routers = omega (arith, routers-of c.self.inside.routers c.self.inside.atoms c.self.inside.codes c.self.inside.book c.args.self.now c.self.view_is) in
-    omega (arith, row-fits c.args.atom.0 c.self.inside.atoms c.self.inside.routers la, c.self.invariant.long, c.place_of.ensures)
+pub code_at-code-requires-clause-chunk : goal.code_at-code-requires-clause-chunk
+code_at-code-requires-clause-chunk c =
+    let s = c.self.inside in
+    let la : c.args.atom.0 < c.self.inside.atoms = omega (arith, atoms-in s.routers s.atoms s.chunks s.book c.args.self.now c.self.view_is) in
+    let lr : c.args.r.0 < c.self.inside.routers = omega (arith, routers-in s.routers s.atoms s.chunks s.book c.args.self.now c.self.view_is) in
+    omega (arith, place-inside c.args.atom.0 s.atoms c.args.r.0 s.routers la lr, c.self.invariant.long, c.place_in.ensures.chunk)
 
 pub edge-requires : goal.edge-requires
-edge-requires c = (code-known c.self.inside.routers c.self.inside.atoms c.args.r.0 c.args.atom.0 c.place_of.result c.read-code.result c.self.inside.codes c.self.inside.book c.args.self.now c.self.view_is c.self.invariant c.requires.router c.requires.atom c.place_of.ensures (c.read-code.ensures 0)).0
+edge-requires c =
+    let s = c.self.inside in
+    (code-seen s.routers s.atoms c.args.r.0 c.args.atom.0 c.place_in.result.chunk c.place_in.result.lane c.code_at-code.result s.chunks s.book c.args.self.now c.self.view_is c.self.invariant c.requires.router c.requires.atom c.place_in.ensures.chunk c.place_in.ensures.lane c.code_at-code.ensures).0
 
 pub returns : goal.returns
 returns c =
-    let known = code-known c.self.inside.routers c.self.inside.atoms c.args.r.0 c.args.atom.0 c.place_of.result c.read-code.result c.self.inside.codes c.self.inside.book c.args.self.now c.self.view_is c.self.invariant c.requires.router c.requires.atom c.place_of.ensures (c.read-code.ensures 0) in
-    ap (λ e. e.target) c.edge.ensures ∙ known.1
+    let s = c.self.inside in
+    let seen = code-seen s.routers s.atoms c.args.r.0 c.args.atom.0 c.place_in.result.chunk c.place_in.result.lane c.code_at-code.result s.chunks s.book c.args.self.now c.self.view_is c.self.invariant c.requires.router c.requires.atom c.place_in.ensures.chunk c.place_in.ensures.lane c.code_at-code.ensures in
+    ap (λ e. e.target) c.edge.ensures ∙ seen.1

@@ -1,10 +1,10 @@
 //! Sets of rules.
 
-ghost use Rattle.std.specs.Prelude.{◌≡◌, [], OnOk, OnErr, IfOk, IsPermutation};
+ghost use Rattle.std.specs.Prelude.{◌≡◌, ◌==◌, [], OnOk, OnErr, IfOk, IsPermutation};
 ghost use Rattle.std.specs.List.{list_any};
 ghost use Rattle.dn_model.specs.Rules.{has_rule_key, cleared_rules, without_length, without_rule, with_rule, HasRulesOnce, IsTop};
 
-use crate::rules::{drop_key, drop_length, first_rule, has_key, put};
+use crate::rules::{drop_key, drop_length, first_rule, has_key, has_length, put};
 use dn_model::{OutOfMemory, Rule};
 use std::alloc::Global;
 use std::marker::Model;
@@ -56,6 +56,13 @@ impl Owners {
         let found = has_key(&self.rules, len, metric);
         drop_key(&mut self.rules, len, metric);
         found
+    }
+
+    /// Whether there is a rule of this length.
+    pub fn has_length(&self, len: u8) -> bool
+        ensures { result ≡ list_any (λ r. r.len == len) self.now }
+    {
+        has_length(&self.rules, len)
     }
 
     /// Removes the rule of this length and metric; without a metric all rules of the length. One that isn't there

@@ -21,6 +21,13 @@ pub fn has_key(rules: &[Rule], len: u8, metric: u32) -> bool
     rules.iter().any(|rule| has_this_key(len, metric, rule))
 }
 
+/// Whether one of the rules has this length.
+pub fn has_length(rules: &[Rule], len: u8) -> bool
+    ensures { result ≡ list_any (λ r. r.len == len) rules.now }
+{
+    rules.iter().any(|rule| rule.len == len)
+}
+
 /// Drops the rule of this length and this metric.
 pub fn drop_key(rules: &mut Vec<Rule>, len: u8, metric: u32)
     ensures left { rules.new.items ≡ without_rule rules.old.items len metric }

@@ -4,7 +4,6 @@ use denote.Param.Send.{IsSend, IsSync, sendable}
 use Rattle.std.proofs.Crossing.{crosses}
 use Rattle.std.proofs.MapsCrossing as maps
 use Rattle.atom_map.proofs.Crossing.{AtomMap-send, AtomMap-sync}
-use Rattle.route_table.proofs.Crossing.{RouteTable-send, RouteTable-sync}
 use Rattle.edge_labels.proofs.Crossing.{TargetRows-send, TargetRows-sync}
 use Rattle.version_pages.proofs.tree.Kid.TheLaws.TheKnot as knot
 use Rattle.net_engine.specs.contracts.router_owners.RouterOwners as RouterOwners
@@ -24,7 +23,7 @@ RouterOwners-sync : IsSync RouterOwners.the_row
 RouterOwners-sync = search (Segment-send, Segment-sync, sendable, crosses, knot.crosses) depth 40
 
 pub Version-send : IsSend Version.the_row
-Version-send = search (AtomMap-send, RouterOwners-send, RouteTable-send, TargetRows-send, sendable, crosses, maps.crosses) depth 40
+Version-send = search (AtomMap-send, RouterOwners-send, TargetRows-send, sendable, crosses, maps.crosses) depth 40
 
 pub Version-sync : IsSync Version.the_row
-Version-sync = search (AtomMap-sync, RouterOwners-sync, RouteTable-sync, TargetRows-sync, sendable, crosses, maps.crosses) depth 40
+Version-sync = search (AtomMap-sync, RouterOwners-sync, TargetRows-sync, sendable, crosses, maps.crosses) depth 40

@@ -78,7 +78,7 @@ rules-numbered routers rows labels owners r a h l b =
     ∙ get_or-map (λ (segments : List Segment). (held_at segments a).rules) owners r.0 [] [] (subst (λ n. r.0 < n) (sym h.each) l)
 
 -- another router's rules
-map-set : {X Y : Type 0} (f : X → Y) (xs : List X) (i : ℕ) (x : X) → map f (set xs i x) ≡ set (map f xs) i (f x)
+pub map-set : {X Y : Type 0} (f : X → Y) (xs : List X) (i : ℕ) (x : X) → map f (set xs i x) ≡ set (map f xs) i (f x)
 map-set f [] i x = refl
 map-set f (y ∷ ys) zero x = refl
 map-set {X} {Y} f (y ∷ ys) (suc i) x = ap (λ (zs : List Y). f y ∷ zs) (map-set f ys i x)

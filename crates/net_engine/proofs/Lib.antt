@@ -14,6 +14,7 @@ pub mod Parting
 pub mod PrefixEnds
 pub mod Relabelling
 pub mod Rerunning
+pub mod Said
 pub mod Segments
 pub mod Standing
 pub mod StandingFor

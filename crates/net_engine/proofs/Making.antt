@@ -1,16 +1,18 @@
 -- What an update makes of a version.
-use Rattle.std.proofs.Common.{◌≡◌, ◌≢◌, ℕ, ◌+◌, ◌<◌, ◌≤◌, ◌^◌, ◌∙◌, ◌||◌, ⊎_elim, Bool, true, false, Option, List, [], ◌∷◌, length, replicate, get_or, refl, ap, sym, subst, arith, eqb, length-set}
+use Rattle.std.proofs.Common.{◌≡◌, ◌≢◌, ℕ, ◌+◌, ◌<◌, ◌≤◌, ◌^◌, ◌∙◌, ◌||◌, ⊎_elim, Bool, true, false, Option, List, [], ◌∷◌, length, replicate, map, set, get_or, refl, ap, sym, subst, arith, eqb, length-set}
 use Rattle.std.specs.List.{Contains}
 use Rattle.std.specs.List.Sorted.{IsPermutation}
 use Rattle.std.proofs.lemmas.Bool.{and_parts, and_right, cases_Bool, cases_eq, eqb-true}
-use Rattle.std.proofs.lemmas.List.{get_or-set_other, get_or-set_same, get_or_default, set-get_or}
+use Rattle.std.proofs.lemmas.List.{get_or-map, get_or-set_other, get_or-set_same, get_or_default, length-map, set-get_or}
 use Rattle.std.proofs.lemmas.List.Sorted.{IsPermutation-refl}
 use Rattle.dn_model.specs.Cidr.{Cidr, IsCidr, covers, size}
 use Rattle.dn_model.specs.Delta.{TellsChange, change_at}
 use Rattle.dn_model.specs.Entry.{IsOpOf, is_end_of, op_sets_end, prefix_of_op}
 use Rattle.dn_model.specs.Rows.{CoverFrom}
+use Rattle.dn_model.specs.Rules.{OwnersOf}
 use Rattle.dn_model.specs.Table.{after_op, is_of_prefix}
 use Rattle.dn_model.specs.Version.{Atom, Kept, KeptStandsFor, begins_at, first_of, past_of, rules_at, target_at}
+use Rattle.dn_model.specs.declared.atom_row.AtomRow.{AtomRow}
 use Rattle.dn_model.specs.declared.change.Change.{Change}
 use Rattle.dn_model.specs.declared.entry.Op.{Op}
 use Rattle.dn_model.specs.declared.entry.Op.TheVariants.{Set, Clear}
@@ -18,16 +20,24 @@ use Rattle.dn_model.specs.declared.entry.Route.{Route}
 use Rattle.dn_model.specs.declared.ids.RouterId.{RouterId}
 use Rattle.dn_model.specs.declared.target.Target.{Target}
 use Rattle.dn_model.specs.declared.topology.Topology.{Topology}
+use Rattle.edge_labels.specs.Labels.{Labels}
 use Rattle.net_engine.specs.Looks.{atoms_added, atoms_between, atoms_met, more_at_ends}
 use Rattle.net_engine.specs.Net.{AreWide, first_atom}
+use Rattle.net_engine.specs.Numbered.{AreNumbered}
+use Rattle.net_engine.specs.Reruled.{AreUpdatedAt}
+use Rattle.net_engine.specs.RoutesOf.{routes_of}
+use Rattle.net_engine.specs.Segments.{begins_in, held_at}
 use Rattle.net_engine.specs.Walked.{BeginsAtEnds, Follows, HasRouteOf, IsClear, IsCutAt, IsParted, IsRemade, IsSet, IsUpdated, IsWalked, UpdatesAt, is_part}
 use Rattle.net_engine.specs.Whole.{Agrees, HasEnds, IsWhole}
 use Rattle.net_engine.proofs.Agreed.{RemadeAt, agrees-remade, agrees-same, begin-more, begin-same}
 use Rattle.net_engine.proofs.Begun.{first_kept, first-stands, first-whole}
 use Rattle.net_engine.proofs.Held.{within-high, within-low}
-use Rattle.net_engine.proofs.Owned.{no-route-of-prefix}
+use Rattle.net_engine.proofs.Does.{map-set}
+use Rattle.net_engine.proofs.Owned.{after-cases, no-route-of-prefix, prefix-is}
 use Rattle.net_engine.proofs.Parting.{parted-ends}
 use Rattle.net_engine.proofs.Rerunning.{part-other}
+use Rattle.net_engine.proofs.Said.{routes-said, said-begins}
+use Rattle.net_engine.proofs.Standing.{AllRules}
 
 abbrev pub kept_of : Topology → List Atom → List (List Route) → Kept
 kept_of t atoms routes = record { topology = t; atoms = atoms; routes = routes }
@@ -210,9 +220,16 @@ ends-of_update atoms p op is ends = subst (λ (q : Cidr). BeginsAtEnds atoms q) 
 pub wide-for : (n m : ℕ) (atoms : List Atom) → n ≡ m → AreWide n atoms → AreWide m atoms
 wide-for n m atoms e h = subst (λ k. AreWide k atoms) e h
 
--- a table that was read at a place
-pub read-now : (kept now : Kept) (r : RouterId) (at : ℕ) (routes : List Route) → kept ≡ now → at ≡ r.0 → routes ≡ get_or kept.routes at routes → routes ≡ get_or now.routes r.0 routes
-read-now kept now r at routes view e h = h ∙ ap (λ n. get_or kept.routes n routes) e ∙ ap (λ (k : Kept). get_or k.routes r.0 routes) view
+-- an update's prefix begins where it was read
+pub base-now : (p : Cidr) (op : Op) (n : ℕ) → p ≡ prefix_of_op op → n ≡ p.base → n ≡ (prefix_of_op op).base
+base-now p op n is low = low ∙ ap (λ (q : Cidr). q.base) is
+
+-- a router's segments say its routes
+pub routes-read : (owners : AllRules) (r : RouterId) → r.0 < length owners → routes_of (get_or owners r.0 []) ≡ get_or (map routes_of owners) r.0 (routes_of (get_or owners r.0 []))
+routes-read owners r l = sym (get_or-map routes_of owners r.0 [] (routes_of (get_or owners r.0 [])) l)
+
+pub router-among : (routers : ℕ) (rows : List AtomRow) (labels : Labels) (owners : AllRules) (count : ℕ) (r : RouterId) → AreNumbered routers rows labels owners → routers ≡ count → r.0 < count → r.0 < length owners
+router-among routers rows labels owners count r h e l = subst (λ n. r.0 < n) (sym (h.each ∙ e)) l
 
 pub cut-made : (now : Kept) (t : Topology) (old new : List Atom) (routes : List (List Route)) (p : Cidr) → kept_of t old routes ≡ now → IsWhole (kept_of t old routes) → CoverFrom first_of past_of 0 new → AreWide (length t.routers) new → IsCidr p → IsParted old new p → IsCutAt now (kept_of t new routes) p
 cut-made now t old new routes p view h cover wide cidr parted = subst (λ (k : Kept). IsCutAt k (kept_of t new routes) p) view (record {
@@ -235,16 +252,44 @@ update-made now t old new routes made r op changes p at lo hi view h cover wide 
     (subst (λ (q : Cidr). BeginsAtEnds old q) (sym is) (subst (λ (k : Kept). BeginsAtEnds k.atoms (prefix_of_op op)) back ends))
     (subst (λ n. UpdatesAt n op routes made) place u))
 
+-- The update was made to the router's segments: the routes that they say are what the update makes of those that they said.
+pub update-said : (now : Kept) (t : Topology) (old new : List Atom) (owners made : AllRules) (r : RouterId) (op : Op) (changes : List Change) (p : Cidr) (lo hi : ℕ) → kept_of t old (map routes_of owners) ≡ now → IsWhole (kept_of t old (map routes_of owners)) → CoverFrom first_of past_of 0 new → AreWide (length t.routers) new → r.0 < length now.topology.routers → IsOpOf now.topology op → p ≡ prefix_of_op op → IsCidr p → BeginsAtEnds now.atoms (prefix_of_op op) → lo ≡ p.base → hi ≡ p.base + size p → IsWalked old new [] changes r op lo hi → AreUpdatedAt owners made r.0 lo → ((a : ℕ) → a < 2 ^ 32 → rules_at new r a ≡ (held_at (get_or made r.0 []) a).rules) → IsRemade now (kept_of t new (map routes_of made)) r op changes
+update-said now t old new owners made r op changes p lo hi view h cover wide inside own is cidr ends low high w u rules =
+    let router : r.0 < length t.routers = subst (λ (k : Kept). r.0 < length k.topology.routers) (sym view) inside in
+    let among : r.0 < length (map routes_of owners) = subst (λ n. r.0 < n) (sym h.tables) router in
+    let within : r.0 < length owners = subst (λ n. r.0 < n) (length-map owners routes_of) among in
+    let was : get_or (map routes_of owners) r.0 [] ≡ routes_of (get_or owners r.0 []) = get_or-map routes_of owners r.0 [] [] within in
+    let after : List Route = after_op (get_or (map routes_of owners) r.0 []) op in
+    let rough : IsRemade now (kept_of t new (set (map routes_of owners) r.0 after)) r op changes =
+    update-made now t old new (map routes_of owners) (set (map routes_of owners) r.0 after) r op changes p r.0 lo hi view h cover wide inside own is cidr ends refl
+    (record { inside = among; made = after; as_updated = IsPermutation-refl after; placed = refl }) low high w in
+    let agrees : Agrees t new r after = subst (λ rs. Agrees t new r rs) (get_or-set_same (map routes_of owners) r.0 after [] among) (rough.whole.agree r router) in
+    let here : get_or made r.0 [] ≡ u.made = ap (λ (zs : AllRules). get_or zs r.0 []) u.list ∙ get_or-set_same owners r.0 u.made [] within in
+    let said : IsPermutation (routes_of u.made) after =
+    routes-said u.made after u.form agrees.table
+    (λ a l. subst (λ rs. OwnersOf rs after a) (rules a l ∙ ap (λ ss. (held_at ss a).rules) here) (agrees.owners a l))
+    (after-cases (λ (x : Route). begins_in u.made x.prefix.base ≡ true) (get_or (map routes_of owners) r.0 []) op
+    (λ x k. u.begins x.prefix.base (said-begins (get_or owners r.0 []) x (subst (λ rs. Contains rs x) was k)))
+    (λ q m v e. subst (λ n. begins_in u.made n ≡ true) (low ∙ ap (λ (c : Cidr). c.base) (is ∙ prefix-is op q m v e)) u.first)) in
+    update-made now t old new (map routes_of owners) (map routes_of made) r op changes p r.0 lo hi view h cover wide inside own is cidr ends refl
+    (record {
+      inside = among;
+      made = routes_of u.made;
+      as_updated = said;
+      placed = ap (map routes_of) u.list ∙ map-set routes_of owners r.0 u.made;
+    })
+    low high w
+
 -- what was looked at, by the atoms that have an address of the prefix
-pub looks-made : (now : Kept) (t : Topology) (atoms : List Atom) (routes : List (List Route)) (op : Op) (p : Cidr) (lo hi was is : ℕ) → kept_of t atoms routes ≡ now → p ≡ prefix_of_op op → lo ≡ p.base → hi ≡ p.base + size p → is ≤ was + 2 + atoms_between atoms lo hi → is ≤ was + 2 + atoms_met now.atoms (prefix_of_op op)
-looks-made now t atoms routes op p lo hi was is view of low high cost =
+pub looks-made : (now : Kept) (t : Topology) (atoms : List Atom) (routes : List (List Route)) (op : Op) (p : Cidr) (lo hi was few is : ℕ) → kept_of t atoms routes ≡ now → p ≡ prefix_of_op op → lo ≡ p.base → hi ≡ p.base + size p → is ≤ was + 1 + few + atoms_between atoms lo hi → is ≤ was + 1 + few + atoms_met now.atoms (prefix_of_op op)
+looks-made now t atoms routes op p lo hi was few is view of low high cost =
     let first : atoms_between atoms lo hi ≡ atoms_between atoms p.base hi = ap (λ n. atoms_between atoms n hi) low in
     let second : atoms_between atoms p.base hi ≡ atoms_met atoms p = ap (λ n. atoms_between atoms p.base n) high in
     let third : atoms_met atoms p ≡ atoms_met atoms (prefix_of_op op) = ap (λ (q : Cidr). atoms_met atoms q) of in
     let last : atoms_met atoms (prefix_of_op op) ≡ atoms_met now.atoms (prefix_of_op op) = ap (λ (k : Kept). atoms_met k.atoms (prefix_of_op op)) view in
     omega arith
 
-pub looks-after_cut : (old mid : Kept) (op : Op) (p : Cidr) (was is : ℕ) → p ≡ prefix_of_op op → IsCutAt old mid p → is ≤ was + 2 + atoms_met mid.atoms (prefix_of_op op) → is ≤ was + 2 + atoms_met old.atoms (prefix_of_op op)
+pub looks-after_cut : (old mid : Kept) (op : Op) (p : Cidr) (was is : ℕ) → p ≡ prefix_of_op op → IsCutAt old mid p → is ≤ was + 1 + 1 + atoms_met mid.atoms (prefix_of_op op) → is ≤ was + 2 + atoms_met old.atoms (prefix_of_op op)
 looks-after_cut old mid op p was is of cut cost =
     let same : atoms_met mid.atoms (prefix_of_op op) ≡ atoms_met old.atoms (prefix_of_op op) = subst (λ (q : Cidr). atoms_met mid.atoms q ≡ atoms_met old.atoms q) of cut.parted.met in
     omega arith

@@ -266,7 +266,7 @@ pub last-cut : (os ps : List Segment) (lo past : ℕ) → AreCutAt os ps lo past
 last-cut os ps lo past c l = c.begins past l ∙ or_right (begins_in os past || eqb past lo) (eqb past past) (eq-eqb past past refl)
 
 -- no segment begins past all addresses
-low-begins : (ps : List Segment) (a : ℕ) → AreSegments 0 ps → begins_in ps a ≡ true → a < 2 ^ 32
+pub low-begins : (ps : List Segment) (a : ℕ) → AreSegments 0 ps → begins_in ps a ≡ true → a < 2 ^ 32
 low-begins [] a h b = absurd (let f : false ≡ true = b in cc)
 low-begins (s ∷ ss) a h b = let w = begins (s ∷ ss) a b in subst (λ n. n < 2 ^ 32) (w.low s) (lows-below 0 (s ∷ ss) w.place s h w.inside)
 

@@ -271,7 +271,7 @@ abbrev pub InForce : Held → Type 0
 InForce h = IsInForce h.rules h.target
 
 pub none-in_force : InForce nothing_held
-none-in_force = record { top = None; is_top = refl; target_is = refl }
+none-in_force = record { once = refl; top = None; is_top = refl; target_is = refl }
 
 pub held-in_force : (b : Held) (start : ℕ) (segments : List Segment) (a : ℕ) → InForce b → AreSegments start segments → InForce (held_from b segments a)
 held-in_force b start [] a f h = f

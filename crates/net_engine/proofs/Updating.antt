@@ -1,7 +1,7 @@
 -- What an update of one router's segments comes to in the atoms.
-use Rattle.std.proofs.Common.{◌≡◌, ◌≢◌, ℕ, ◌<◌, ◌≤◌, ◌^◌, ◌∙◌, ⊎_elim, true, false, None, option_map, List, [], ◌∷◌, length, get_or, set, map, refl, ap, sym, subst, arith}
+use Rattle.std.proofs.Common.{◌≡◌, ◌≢◌, ℕ, ◌<◌, ◌≤◌, ◌^◌, ◌∙◌, ◌||◌, ⊎_elim, true, false, None, option_map, eqb, List, [], ◌∷◌, length, get_or, set, map, refl, ap, sym, subst, arith}
 use Rattle.std.specs.List.Sorted.{IsPermutation}
-use Rattle.std.proofs.lemmas.Bool.{cases_eq, cases_lt}
+use Rattle.std.proofs.lemmas.Bool.{cases_eq, cases_lt, or_left}
 use Rattle.std.proofs.lemmas.List.{get_or-set_other, get_or-set_same, get_or_read, length-map, length-set}
 use Rattle.dn_model.specs.Atoms.{atom_low, atom_past, is_boundary, row_at}
 use Rattle.dn_model.specs.Delta.{TellsChange, change_at}
@@ -19,13 +19,13 @@ use Rattle.edge_labels.specs.Labels.{Labels}
 use Rattle.net_engine.specs.Looks.{atoms_begun, atoms_between}
 use Rattle.net_engine.specs.Net.{Net}
 use Rattle.net_engine.specs.Numbered.{AreNumbered, GoAlong, does_in, net_of, numbered}
-use Rattle.net_engine.specs.Reruled.{AreCutAt, IsReruledOver}
-use Rattle.net_engine.specs.Segments.{Held, IsInForce, held_at, nothing_held}
+use Rattle.net_engine.specs.Reruled.{AreCutAt, AreUpdatedAt, IsReruledOver}
+use Rattle.net_engine.specs.Segments.{Held, IsInForce, begins_in, held_at, nothing_held}
 use Rattle.net_engine.specs.Walked.{Follows, IsWalked, is_part}
 use Rattle.net_engine.specs.declared.segment.Segment.{Segment}
 use Rattle.net_engine.proofs.Does.{atom-numbered, begins-numbered, rules-numbered, rules-other, target-numbered}
 use Rattle.net_engine.proofs.Looking.{begun-meet, meets-numbered}
-use Rattle.net_engine.proofs.Rerunning.{cut-along, not-within}
+use Rattle.net_engine.proofs.Rerunning.{cut-along, first-cut, low-begins, not-within}
 use Rattle.net_engine.proofs.Segments.{held-in_force, none-in_force}
 use Rattle.net_engine.proofs.Standing.{AllRules}
 
@@ -69,6 +69,18 @@ module _ (routers : ℕ) (rows : List AtomRow) (x y : Labels) (owners : AllRules
           does = λ a b. w.others q a n ∙ (h.along q l).does a b;
         }))
         (cases_eq q r.0);
+  }
+
+  pub own-after-update : lo < 2 ^ 32 → AreUpdatedAt owners (set owners r.0 made) r.0 lo
+  own-after-update l = record {
+    made = made;
+    list = refl;
+    form = w.along.form;
+    first = w.begins lo ∙ first-cut own parts lo past l k.parts_are;
+    begins = λ a b.
+        let before : begins_in own a ≡ true = subst (λ ss. begins_in ss a ≡ true) (sym k.own_is) b in
+        let below : a < 2 ^ 32 = low-begins (get_or owners r.0 []) a (h.along r.0 k.inside).form b in
+        w.begins a ∙ k.parts_are.begins a below ∙ or_left (begins_in own a || eqb a lo) (eqb a past) (or_left (begins_in own a) (eqb a lo) before);
   }
 
   -- what the router had and did, and has and does
@@ -184,6 +196,11 @@ walked-now net routers rows x y owners ps own parts made now r op lo past n e h 
 pub numbered-now : (routers : ℕ) (rows : List AtomRow) (x y : Labels) (owners ps : AllRules) (own parts made : List Segment) (now : List Change) (r : RouterId) (op : Op) (lo past n : ℕ) → AreNumbered routers rows x owners → Makes routers rows x y owners own parts made now r op lo past → n ≡ r.0 → ps ≡ set owners n made → AreNumbered routers rows y ps
 numbered-now routers rows x y owners ps own parts made now r op lo past n h k i is =
     subst (λ zs. AreNumbered routers rows y zs) (sym (is ∙ ap (λ j. set owners j made) i)) (numbered-after-update routers rows x y owners own parts made now r op lo past h k)
+
+pub own-now : (routers : ℕ) (rows : List AtomRow) (x y : Labels) (owners ps : AllRules) (own parts made : List Segment) (now : List Change) (r : RouterId) (op : Op) (lo past n : ℕ) → AreNumbered routers rows x owners → Makes routers rows x y owners own parts made now r op lo past → lo < past → n ≡ r.0 → ps ≡ set owners n made → AreUpdatedAt owners ps r.0 lo
+own-now routers rows x y owners ps own parts made now r op lo past n h k order i is =
+    let end : past ≤ 2 ^ 32 = k.end in
+    subst (λ zs. AreUpdatedAt owners zs r.0 lo) (sym (is ∙ ap (λ j. set owners j made) i)) (own-after-update routers rows x y owners own parts made now r op lo past h k (omega arith))
 
 -- segments are looked at where atoms begin, and each atom that begins in a span has an address of it
 pub looks-now : (net : Net) (routers : ℕ) (rows : List AtomRow) (labels : Labels) (owners : AllRules) (lo past : ℕ) → net_of routers rows labels owners ≡ net → AreNumbered routers rows labels owners → atoms_begun rows lo past ≤ atoms_between net.atoms lo past

@@ -1,6 +1,7 @@
 pub mod Net
 pub mod Looks
 pub mod Segments
+pub mod RoutesOf
 pub mod Numbered
 pub mod Reruled
 pub mod Walked

@@ -1,5 +1,5 @@
 -- What the steps of an update make of one router's segments, and of the labels.
-use Rattle.std.specs.Prelude.{ℕ, false, List, IsPermutation, length, slice_index_or, ◌≡◌, ◌<◌, ◌≤◌, ◌^◌, ◌==◌, ◌||◌}
+use Rattle.std.specs.Prelude.{ℕ, true, false, [], List, IsPermutation, length, slice_index_or, slice_set, ◌≡◌, ◌<◌, ◌≤◌, ◌^◌, ◌==◌, ◌||◌}
 use Rattle.dn_model.specs.Delta.{AreChanges, TellsChange, change_at}
 use Rattle.dn_model.specs.Rows.{is_within}
 use Rattle.dn_model.specs.Rules.{after_rule_op}
@@ -19,6 +19,14 @@ pub record AreCutAt (old new : List Segment) (lo past : ℕ) : Type 0 where
   pub form : AreSegments 0 new
   pub held : (a : ℕ) → held_at new a ≡ held_at old a
   pub begins : (a : ℕ) → a < 2 ^ 32 → begins_in new a ≡ ((begins_in old a || (a == lo)) || (a == past))
+
+-- the segments of the router at this place were made anew: they begin where they began, and at an address
+pub record AreUpdatedAt (old new : List (List Segment)) (at lo : ℕ) : Type 0 where
+  pub made : List Segment
+  pub list : new ≡ slice_set old at made
+  pub form : AreSegments 0 made
+  pub first : begins_in made lo ≡ true
+  pub begins : (a : ℕ) → begins_in (slice_index_or old at []) a ≡ true → begins_in made a ≡ true
 
 -- an atom begins at an address, and has this place
 pub record AtomBegins (rows : List AtomRow) (place at : ℕ) : Type 0 where

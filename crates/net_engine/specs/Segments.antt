@@ -1,7 +1,7 @@
 -- One router's rules at all addresses: segments in order of address, each up to where the next one begins.
-use Rattle.std.specs.Prelude.{ℕ, zero, suc, Bool, List, [], ◌∷◌, Option, length, set, slice_index_or, IsPermutation, IsTrue, nat_le, ◌↔◌, ◌≡◌, ◌+◌, ◌<◌, ◌≤◌, ◌^◌, ◌==◌, ◌||◌, if◌then◌else◌}
+use Rattle.std.specs.Prelude.{ℕ, zero, suc, Bool, List, [], ◌∷◌, Option, length, set, slice_index_or, IsPermutation, IsTrue, nat_le, ◌↔◌, ◌≡◌, ◌+◌, ◌<◌, ◌≤◌, ◌^◌, ◌==◌, ◌&&◌, ◌||◌, if◌then◌else◌}
 use Rattle.std.specs.List.{list_any}
-use Rattle.dn_model.specs.Rules.{after_rule_op, target_of as target_of_rule, IsTop}
+use Rattle.dn_model.specs.Rules.{after_rule_op, target_of as target_of_rule, HasRulesOnce, IsTop}
 use Rattle.dn_model.specs.declared.entry.Op.{Op}
 use Rattle.dn_model.specs.declared.rule.Rule.{Rule}
 use Rattle.dn_model.specs.declared.target.Target.{Target}
@@ -13,8 +13,9 @@ use Rattle.net_engine.specs.declared.segment.Targets.{Targets}
 abbrev pub segment_low : Segment → ℕ
 segment_low s = s.low
 
--- what the first of some rules says is done
+-- what the first of some rules says is done, of which no two have one key
 pub record IsInForce (rules : List Rule) (target : Target) : Type 0 where
+  pub once : HasRulesOnce rules
   pub top : Option Rule
   pub is_top : IsTop rules top
   pub target_is : target ≡ target_of_rule top
@@ -41,6 +42,14 @@ held_at segments a = held_from nothing_held segments a
 -- a segment begins at an address
 abbrev pub begins_in : List Segment → ℕ → Bool
 begins_in segments a = list_any (λ s. s.low == a) segments
+
+-- a rule has this length
+abbrev pub has_length : ℕ → Rule → Bool
+has_length len x = x.len == len
+
+-- a segment begins at an address, and one of its rules has this length
+abbrev pub has_rule_at : List Segment → ℕ → ℕ → Bool
+has_rule_at segments at len = list_any (λ s. (s.low == at) && list_any (has_length len) s.rules) segments
 
 -- a segment begins at an address from `start` on, and does what the first of its rules says
 pub record IsSegment (start : ℕ) (s : Segment) : Type 0 where

@@ -26,6 +26,7 @@ pub fn cut_ends(net: &mut Net, alloc: Global, prefix: Prefix) -> Result<(), OutO
     requires { IsNumbered net.old }
     ensures routers { OnOk result (net.new.routers ≡ net.old.routers) }
     ensures numbered { OnOk result (IsNumbered net.new) }
+    ensures owners { OnOk result (net.new.owners.items ≡ net.old.owners.items) }
     ensures parted { OnOk result (IsParted (net_in net.old).atoms (net_in net.new).atoms prefix) }
     ensures sound { IsCidr prefix }
 {

@@ -12,7 +12,6 @@ mod router_owners;
 mod segment;
 mod span;
 mod state;
-mod tables;
 mod version;
 #[cfg(test)]
 mod version_tests;

@@ -1,11 +1,15 @@
 //! Atoms with what each router does there and the rules that it has there.
 
-ghost use Rattle.std.specs.Prelude.{◌≡◌, ◌+◌, ◌<◌, ◌≤◌, ◌^◌, ◌∷◌, [], true, IfOk, OnOk, length, slice_index_or, replicate};
+ghost use Rattle.std.specs.Prelude.{◌≡◌, ◌+◌, ◌<◌, ◌≤◌, ◌^◌, ◌∷◌, [], true, IfOk, IfSome, OnOk, length, slice_index_or, replicate};
+ghost use Rattle.std.specs.Option.{is_some};
+ghost use Rattle.dn_model.specs.Cidr.{IsCidr};
 ghost use Rattle.dn_model.specs.Forwarding.{target_of};
 ghost use Rattle.dn_model.specs.Version.{Atom, begins_at, first_of, past_of};
-ghost use Rattle.net_engine.specs.Looks.{atoms_between};
+ghost use Rattle.net_engine.specs.Looks.{atoms_between, first_looks};
 ghost use Rattle.net_engine.specs.Net.{cut_atoms, first_atom};
-ghost use Rattle.net_engine.specs.Seen.{IsNumbered, net_in};
+ghost use Rattle.net_engine.specs.Reruled.{AreUpdatedAt};
+ghost use Rattle.net_engine.specs.Seen.{IsNumbered, net_in, segments_in};
+ghost use Rattle.net_engine.specs.Segments.{BeginsAt, has_rule_at};
 ghost use Rattle.net_engine.specs.Walked.{IsWalked};
 
 use crate::router_owners::RouterOwners;
@@ -13,7 +17,7 @@ use crate::span::Span;
 use crate::walk::{Reach, cut_both, walk_segments};
 use atom_map::AtomMap;
 use delta_graph::Delta;
-use dn_model::{Op, OutOfMemory, RouterId, Target};
+use dn_model::{Op, OutOfMemory, Prefix, RouterId, Target};
 use edge_labels::TargetRows;
 use std::alloc::Global;
 use std::sync::ledger::Ledger;
@@ -36,6 +40,7 @@ impl Net {
         ensures routers { IfOk result (λ net. net.routers ≡ routers) }
         ensures atoms { IfOk result (λ net. (net_in net).atoms ≡ first_atom routers ∷ []) }
         ensures numbered { IfOk result IsNumbered }
+        ensures owners { IfOk result (λ net. net.owners.items ≡ replicate routers []) }
     {
         let atoms = AtomMap::new(alloc)?;
         let labels = TargetRows::new(alloc, routers)?;
@@ -55,6 +60,7 @@ impl Net {
         ensures routers { OnOk result (self.new.routers ≡ self.old.routers) }
         ensures atoms { OnOk result ((net_in self.new).atoms ≡ cut_atoms (net_in self.old).atoms at) }
         ensures numbered { OnOk result (IsNumbered self.new) }
+        ensures owners { OnOk result (self.new.owners.items ≡ self.old.owners.items) }
     {
         let Some((old, new)) = self.atoms.cut(alloc, at)? else {
             return Ok(());
@@ -63,14 +69,34 @@ impl Net {
         Ok(())
     }
 
+    /// The place of a router's segment that begins where a prefix does, if one of its rules has the prefix's length:
+    /// the router then has a route of the prefix. It looks at one set of rules at most.
+    pub fn place_with<L: Ledger>(
+        &self,
+        r: RouterId,
+        prefix: Prefix,
+        steps: &mut Steps<L>,
+    ) -> Option<u64>
+        requires { r.0 < length self.now.owners.items }
+        ensures found { is_some result ≡ has_rule_at (segments_in self.now r) prefix.base prefix.len }
+        ensures begins { IfSome result (λ place. BeginsAt (segments_in self.now r) place prefix.base) }
+        ensures sound { IsCidr prefix }
+        ensures cost { steps.new ≤ steps.old + 1 }
+    {
+        let own = &self.owners[usize::from(r.0)];
+        own.place_with(prefix.base(), prefix.len(), steps)
+    }
+
     /// Makes an update of a router at the addresses of a span, at whose ends atoms begin, and tells where the router
-    /// does something else than before. It fails for want of memory alone, and then nothing is said of it.
+    /// does something else than before. The place of its segment that begins at the first of them may be known. It fails
+    /// for want of memory alone, and then nothing is said of it.
     pub fn update<L: Ledger>(
         &mut self,
         alloc: Global,
         r: RouterId,
         op: &Op,
         span: Span,
+        known: Option<u64>,
         steps: &mut Steps<L>,
     ) -> Result<Delta, OutOfMemory>
         requires numbered { IsNumbered self.old }
@@ -79,14 +105,17 @@ impl Net {
         requires end { span.past ≤ 2 ^ 32 }
         requires first { begins_at (net_in self.old).atoms span.lo ≡ true }
         requires last { span.past < 2 ^ 32 → begins_at (net_in self.old).atoms span.past ≡ true }
+        requires known { IfSome known (λ place. BeginsAt (segments_in self.old r) place span.lo) }
         ensures routers { OnOk result (self.new.routers ≡ self.old.routers) }
         ensures numbered { OnOk result (IsNumbered self.new) }
         ensures walked { IfOk result (λ delta.
             IsWalked (net_in self.old).atoms (net_in self.new).atoms [] delta r op.now span.lo span.past) }
-        ensures cost { steps.new ≤ steps.old + 2 + atoms_between (net_in self.old).atoms span.lo span.past }
+        ensures own { OnOk result (AreUpdatedAt self.old.owners.items self.new.owners.items r.0 span.lo) }
+        ensures cost { steps.new ≤
+            steps.old + 1 + first_looks known + atoms_between (net_in self.old).atoms span.lo span.past }
     {
         let own = &mut self.owners[usize::from(r.0)];
-        let place = cut_both(alloc, own, span, steps)?;
+        let place = cut_both(alloc, own, span, known, steps)?;
         let reach = Reach {
             router: r,
             place,
@@ -100,6 +129,7 @@ impl Net {
     pub fn copy(&self, alloc: Global) -> Result<Net, OutOfMemory>
         ensures value { IfOk result (λ net. net_in net ≡ net_in self.now) }
         ensures numbered { IfOk result (λ net. IsNumbered self.now → IsNumbered net) }
+        ensures owners { IfOk result (λ net. net.owners.items ≡ self.now.owners.items) }
     {
         let atoms = self.atoms.copy()?;
         let labels = self.labels.copy()?;

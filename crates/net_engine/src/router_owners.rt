@@ -1,8 +1,12 @@
 //! One router's rules at all addresses.
 
 ghost use Rattle.std.specs.Prelude.{◌≡◌, ◌+◌, ℕ, ◌<◌, ◌≤◌, ◌^◌, [], ◌↔◌, IfOk, IfSome, OnOk, IsTrue, length, slice_index_or};
+ghost use Rattle.std.specs.List.{list_any};
+ghost use Rattle.std.specs.Option.{is_some};
 ghost use Rattle.version_pages.specs.Search.{EndsBelow};
-ghost use Rattle.net_engine.specs.Segments.{AreSegments, BeginsAt, IsBefore, IsRerulesAt, IsCutAt, IsPast, IsSpot, KeepsBelow, segment_low};
+ghost use Rattle.net_engine.specs.Looks.{first_looks};
+ghost use Rattle.net_engine.specs.Segments.{AreSegments, BeginsAt, IsBefore, IsRerulesAt, IsCutAt, IsPast, IsSpot, KeepsBelow, has_length, has_rule_at, segment_low};
+ghost use Rattle.net_engine.specs.declared.segment.Segment.{Segment as SegmentIs};
 
 use crate::segment::{Segment, Targets, rerule};
 use atom_map::Guide;
@@ -163,6 +167,58 @@ impl RouterOwners {
         match self.segments.get(place - 1) {
             Some(segment) => Ok((segment.rules.copy()?, segment.target)),
             None => unreachable!(),
+        }
+    }
+
+    /// Whether one of the rules of the segment at a place has a length: one look.
+    fn has_length<L: Ledger>(&self, place: u64, len: u8, steps: &mut Steps<L>) -> bool
+        requires { place < length self.now }
+        ensures found { (d : SegmentIs) → result ≡ list_any (has_length len) (slice_index_or self.now place d).rules }
+        ensures cost { steps.new ≡ steps.old + 1 }
+    {
+        steps.tick();
+        match self.segments.get(place) {
+            Some(segment) => segment.rules.has_length(len),
+            None => unreachable!(),
+        }
+    }
+
+    /// The place of the segment that begins at an address, if one of its rules has a length. It takes one look, and none
+    /// where no segment begins there.
+    pub fn place_with<L: Ledger>(&self, at: u32, len: u8, steps: &mut Steps<L>) -> Option<u64>
+        ensures found { is_some result ≡ has_rule_at self.now at len }
+        ensures begins { IfSome result (λ place. BeginsAt self.now place at) }
+        ensures cost { steps.new ≤ steps.old + 1 }
+    {
+        let _ = &self.segments;
+        let spot = self.spot_of(at);
+        if !spot.begins {
+            return None;
+        }
+        if self.has_length(spot.place, len, steps) {
+            return Some(spot.place);
+        }
+        None
+    }
+
+    /// The place of the segment that begins at an address. Where it is known it is taken, with no look; where not, the
+    /// segment that has the address is cut there. It fails for want of memory alone.
+    pub fn cut_first<L: Ledger>(
+        &mut self,
+        alloc: Global,
+        at: u32,
+        known: Option<u64>,
+        steps: &mut Steps<L>,
+    ) -> Result<u64, OutOfMemory>
+        requires { IfSome known (λ place. BeginsAt self.old place at) }
+        ensures cut { OnOk result (IsCutAt self.old self.new at) }
+        ensures begins { IfOk result (λ place. BeginsAt self.new place at) }
+        ensures cost { steps.new ≤ steps.old + first_looks known }
+    {
+        let _ = &self.segments;
+        match known {
+            Some(place) => Ok(place),
+            None => self.cut(alloc, at, steps),
         }
     }
 

@@ -1,35 +1,33 @@
 //! What a version keeps.
 
-ghost use Rattle.std.specs.Prelude.{◌≡◌, ◌+◌, ◌<◌, ◌≤◌, ◌++◌, ◌∷◌, [], List, ℕ, IfOk, OnOk, length};
+ghost use Rattle.std.specs.Prelude.{◌≡◌, ◌+◌, ◌<◌, ◌≤◌, ◌++◌, ◌∷◌, [], List, ℕ, IfOk, IfSome, OnOk, length};
 ghost use Rattle.std.specs.Arc.{arc_value};
 ghost use Rattle.dn_model.specs.Delta.{IsDeltaOf};
 ghost use Rattle.dn_model.specs.Entry.{IsEntryOf, IsOpOf, prefix_of_op};
 ghost use Rattle.dn_model.specs.Version.{KeptStandsFor};
 ghost use Rattle.dn_model.specs.declared.entry.Entry.{Entry as EntryIs};
-ghost use Rattle.net_engine.specs.Looks.{atoms_added, atoms_met};
-ghost use Rattle.net_engine.specs.Seen.{IsSound, kept_in};
+ghost use Rattle.net_engine.specs.Looks.{atoms_added, atoms_met, first_looks};
+ghost use Rattle.net_engine.specs.Seen.{IsSound, kept_in, segments_in};
+ghost use Rattle.net_engine.specs.Segments.{BeginsAt};
 ghost use Rattle.net_engine.specs.Walked.{BeginsAtEnds, IsClear, IsCutAt, IsSet, IsRemade, IsUpdated};
 
 use crate::ends::{cut_ends, past_of};
 use crate::net::Net;
 use crate::span::Span;
-use crate::tables::{copies, empty_tables, has_route_of, update_at};
 use delta_graph::Delta;
 use dn_model::{Entry, Op, OutOfMemory, Prefix, RouterId, Topology};
-use route_table::RouteTable;
 use std::alloc::Global;
 use std::sync::Arc;
 use std::sync::ledger::Ledger;
 use step_count::Steps;
 
-/// What a version keeps: the topology, the atoms, with what each router does there and its rules there, and each
-/// router's routes. A contract sees the fields, so that an update that finds no memory half way may leave them as they
-/// are then.
+/// What a version keeps: the topology, and the atoms, with what each router does there and its rules there, which say
+/// what routes each router has. A contract sees the fields, so that an update that finds no memory half way may leave
+/// them as they are then.
 #[derive(Drop)]
 pub struct State {
     topology: Arc<Topology, Global>,
     pub net: Net,
-    tables: Vec<RouteTable>,
 }
 
 impl State {
@@ -41,12 +39,7 @@ impl State {
     {
         let routers = t.router_count();
         let net = Net::new(alloc, routers)?;
-        let tables = empty_tables(alloc, routers as usize)?;
-        Ok(State {
-            topology: t,
-            net,
-            tables,
-        })
+        Ok(State { topology: t, net })
     }
 
     /// Makes atoms begin at the ends of a prefix too.
@@ -59,29 +52,33 @@ impl State {
         Ok(())
     }
 
-    /// Makes an update of one of the routers, at whose prefix's ends atoms begin.
+    /// Makes an update of one of the routers, at whose prefix's ends atoms begin. The place of the router's segment
+    /// that begins where the prefix does may be known.
     fn update<L: Ledger>(
         &mut self,
         alloc: Global,
         r: RouterId,
         op: &Op,
+        known: Option<u64>,
         steps: &mut Steps<L>,
     ) -> Result<Delta, OutOfMemory>
         requires sound { IsSound self.old }
         requires router { r.0 < length (kept_in self.old).topology.routers }
         requires op { IsOpOf (kept_in self.old).topology op.now }
         requires ends { BeginsAtEnds (kept_in self.old).atoms (prefix_of_op op.now) }
+        requires known { IfSome known (λ place.
+            BeginsAt (segments_in self.old.net r) place (prefix_of_op op.now).base) }
         ensures made { IfOk result (λ delta. IsRemade (kept_in self.old) (kept_in self.new) r op.now delta) }
         ensures sound { OnOk result (IsSound self.new) }
-        ensures cost { steps.new ≤ steps.old + 2 + atoms_met (kept_in self.old).atoms (prefix_of_op op.now) }
+        ensures cost { steps.new ≤
+            steps.old + 1 + first_looks known + atoms_met (kept_in self.old).atoms (prefix_of_op op.now) }
     {
         let prefix = op.prefix();
         let span = Span {
             lo: prefix.base(),
             past: past_of(prefix),
         };
-        update_at(alloc, &mut self.tables, usize::from(r.0), op)?;
-        let delta = self.net.update(alloc, r, op, span, steps)?;
+        let delta = self.net.update(alloc, r, op, span, known, steps)?;
         Ok(delta)
     }
 
@@ -101,10 +98,10 @@ impl State {
         ensures sound { OnOk result (IsSound self.new) }
         ensures cost { steps.new ≤ steps.old + 2 + atoms_met (kept_in self.old).atoms (prefix_of_op op.now) }
     {
-        if has_route_of(&self.tables[usize::from(r.0)], op.prefix()) {
-            return self.update(alloc, r, op, steps);
-        }
-        Ok(Delta::new(alloc))
+        let Some(place) = self.net.place_with(r, op.prefix(), steps) else {
+            return Ok(Delta::new(alloc));
+        };
+        self.update(alloc, r, op, Some(place), steps)
     }
 
     /// Makes a setting, which cuts atoms at the ends of the prefix.
@@ -124,7 +121,7 @@ impl State {
         ensures cost { steps.new ≤ steps.old + 2 + atoms_met (kept_in self.old).atoms (prefix_of_op op.now) }
     {
         self.cut(alloc, op.prefix())?;
-        self.update(alloc, r, op, steps)
+        self.update(alloc, r, op, None, steps)
     }
 
     /// Makes an update of one of the routers.
@@ -184,11 +181,6 @@ impl State {
     {
         let topology = Arc::try_clone(&self.topology)?;
         let net = self.net.copy(alloc)?;
-        let tables = copies(alloc, &self.tables)?;
-        Ok(State {
-            topology,
-            net,
-            tables,
-        })
+        Ok(State { topology, net })
     }
 }

@@ -1,8 +1,8 @@
 //! An update over one router's segments within a span, one after another.
 
-ghost use Rattle.std.specs.Prelude.{◌≡◌, ℕ, ◌+◌, ◌<◌, ◌≤◌, ◌^◌, [], true, None, IfOk, OnOk};
+ghost use Rattle.std.specs.Prelude.{◌≡◌, ℕ, ◌+◌, ◌<◌, ◌≤◌, ◌^◌, [], true, None, IfOk, IfSome, OnOk};
 ghost use Rattle.dn_model.specs.Delta.{AreChanges, change_at};
-ghost use Rattle.net_engine.specs.Looks.{atoms_begun};
+ghost use Rattle.net_engine.specs.Looks.{atoms_begun, first_looks};
 ghost use Rattle.net_engine.specs.Numbered.{AreLabelled, GoAlong};
 ghost use Rattle.net_engine.specs.Reruled.{AreCutAt, IsReruledOver};
 ghost use Rattle.net_engine.specs.Segments.{BeginsAt, begins_in};
@@ -31,21 +31,24 @@ pub struct Reach {
     pub span: Span,
 }
 
-/// Cuts a router's segments at both ends of a span, and answers the place of the segment that begins at its first address. It
-/// looks at two sets of rules at most, and fails for want of memory alone.
+/// Cuts a router's segments at both ends of a span, and answers the place of the segment that begins at its first
+/// address. Where that place is known, they are cut at the other end alone. For each cut it looks at one set of rules at
+/// most. It fails for want of memory alone.
 pub fn cut_both<L: Ledger>(
     alloc: Global,
     owners: &mut RouterOwners,
     span: Span,
+    known: Option<u64>,
     steps: &mut Steps<L>,
 ) -> Result<u64, OutOfMemory>
+    requires known { IfSome known (λ place. BeginsAt owners.old place span.lo) }
     requires order { span.lo < span.past }
     requires end { span.past ≤ 2 ^ 32 }
     ensures cut { OnOk result (AreCutAt owners.old owners.new span.lo span.past) }
     ensures begins { IfOk result (λ place. BeginsAt owners.new place span.lo) }
-    ensures cost { steps.new ≤ steps.old + 2 }
+    ensures cost { steps.new ≤ steps.old + 1 + first_looks known }
 {
-    let place = owners.cut(alloc, span.lo, steps)?;
+    let place = owners.cut_first(alloc, span.lo, known, steps)?;
     if span.past == END {
         return Ok(place);
     }

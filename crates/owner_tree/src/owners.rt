@@ -1,6 +1,6 @@
 //! Sets of rules.
 
-ghost use Rattle.std.specs.Prelude.{◌≡◌, ◌==◌, ◌↔◌, [], IsTrue, OnOk, OnErr, IfOk, IsPermutation};
+ghost use Rattle.std.specs.Prelude.{◌≡◌, ◌==◌, [], OnOk, OnErr, IfOk, IsPermutation};
 ghost use Rattle.std.specs.List.{list_any};
 ghost use Rattle.dn_model.specs.Rules.{has_rule_key, cleared_rules, without_length, without_rule, with_rule, HasRulesOnce, IsTop};
 
@@ -84,9 +84,9 @@ impl Owners {
         first_rule(self.held.rules())
     }
 
-    /// Whether one of the rules has this length.
+    /// Whether one of the rules has this length. It takes no memory.
     pub fn has_length(&self, len: u8) -> bool
-        ensures { IsTrue result ↔ IsTrue (list_any (λ r. r.len == len) self.now) }
+        ensures { result ≡ list_any (λ r. r.len == len) self.now }
     {
         has_length(self.held.rules(), len)
     }

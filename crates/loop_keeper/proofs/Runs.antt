@@ -1,5 +1,5 @@
 -- A set of addresses as runs, and a kept cycle as it is told.
-use Rattle.std.proofs.Common.{◌≡◌, ℕ, ◌+◌, ◌-◌, ◌<◌, ◌≤◌, ◌^◌, ◌∙◌, Bool, true, false, ◌==◌, None, Some, List, [], ◌∷◌, refl, ap, sym, subst, ⊎_elim, arith}
+use Rattle.std.proofs.Common.{◌≡◌, ℕ, ◌+◌, ◌-◌, ◌<◌, ◌≤◌, ◌^◌, ◌∙◌, Bool, true, false, ◌==◌, None, Some, List, [], ◌∷◌, refl, ap, sym, subst, inl, inr, ⊎_elim, arith}
 use Rattle.std.specs.Prelude.{map, if◌then◌else◌}
 use Rattle.std.proofs.lemmas.Bool.{cases_Bool, cases_lt, eqb-true, both_ways}
 use Rattle.std.proofs.lemmas.List.Sums.{sum_by-cons}
@@ -15,8 +15,8 @@ use Rattle.dn_model.specs.declared.target.Target.{Target}
 use Rattle.dn_model.proofs.CyclesFrom.{begin-goes}
 use Rattle.dn_model.proofs.RunsFrom.{from-first, none-below, put-none, put-passed}
 use Rattle.loop_keeper.specs.Kept.{IsKeptExactly, Kept}
-use Rattle.loop_keeper.specs.Numbers.{IsLeast, IsSound, Numbers, everything, halves, has, nothing, size_of}
-use Rattle.loop_keeper.proofs.Parts.{half-twice, has-high, has-low}
+use Rattle.loop_keeper.specs.Numbers.{IsLeast, IsSound, Numbers, everything, halves, has, nothing, size_of, span}
+use Rattle.loop_keeper.proofs.Parts.{half-twice, has-high, has-low, within-inside, within-outside}
 
 -- ---- how many addresses runs have
 
@@ -50,6 +50,7 @@ with-count run (next ∷ runs) l h =
 abbrev pub runs_of : ℕ → ℕ → Numbers → List Run → List Run
 runs_of k at nothing rest = rest
 runs_of k at everything rest = with_run (record { lo = at; hi = at + 2 ^ k - 1 }) rest
+runs_of k at (span l p) rest = with_run (record { lo = at + l; hi = at + p - 1 }) rest
 runs_of k at (halves low high n) rest = runs_of (k - 1) at low (runs_of (k - 1) (at + 2 ^ (k - 1)) high rest)
 
 pub record AreRunsOf (test : ℕ → Bool) (k at : ℕ) (s : Numbers) (rest : List Run) : Type 0 where
@@ -78,6 +79,31 @@ runs-all test k at everything rest h l r e =
           let i : a - at < 2 ^ k = omega arith in
           let j : at + (a - at) ≡ a = omega arith in
           sym (ap test j) ∙ e (a - at) i);
+      count = omega arith;
+    }
+runs-all test k at (span low past) rest h l r e =
+    let full : low < past = h.0 in
+    let end : past ≤ 2 ^ k = h.1 in
+    let run : Run = record { lo = at + low; hi = at + past - 1 } in
+    let ends : at + low ≤ at + past - 1 = omega arith in
+    let close : at + past - 1 + 1 ≡ at + past = omega arith in
+    let inside : at + past ≤ 2 ^ 32 = omega arith in
+    let behind : at + past ≤ at + 2 ^ k = omega arith in
+    let before : at ≤ at + low = omega arith in
+    let many : addresses_in (with_run run rest) ≡ run_length run + addresses_in rest = with-count run rest ends r.apart in
+    let after : AreRunsFrom (at + past) test rest = put-none test (at + past) (at + 2 ^ k) rest behind r (λ (a : ℕ). λ (x : at + past ≤ a). λ (y : a < at + 2 ^ k).
+    let i : a - at < 2 ^ k = omega arith in
+    let j : at + (a - at) ≡ a = omega arith in
+    sym (ap test j) ∙ e (a - at) i ∙ within-outside low past (a - at) (inr (omega arith))) in
+    let whole : AreRunsFrom (at + low) test (with_run run rest) = put-passed test run (at + past) rest ends close inside after (λ (a : ℕ). λ (x : at + low ≤ a). λ (y : a < at + past).
+    let i : a - at < 2 ^ k = omega arith in
+    let j : at + (a - at) ≡ a = omega arith in
+    sym (ap test j) ∙ e (a - at) i ∙ within-inside low past (a - at) (omega arith) (omega arith)) in
+    record {
+      from = put-none test at (at + low) (with_run run rest) before whole (λ (a : ℕ). λ (x : at ≤ a). λ (y : a < at + low).
+          let i : a - at < 2 ^ k = omega arith in
+          let j : at + (a - at) ≡ a = omega arith in
+          sym (ap test j) ∙ e (a - at) i ∙ within-outside low past (a - at) (inl (omega arith)));
       count = omega arith;
     }
 runs-all test k at (halves low high n) rest h l r e =

@@ -1,7 +1,7 @@
 //! Sets of numbers below a power of two, as trees by the bits of a number.
 
-ghost use Rattle.std.specs.Prelude.{◌≡◌, ◌+◌, ◌-◌, ◌<◌, ◌≤◌, ◌^◌, OnOk, IfOk, IsTrue};
-ghost use Rattle.loop_keeper.specs.Numbers.{nothing, IsSound, IsOpened, IsLeast, IsPut, size_of, whole_of};
+ghost use Rattle.std.specs.Prelude.{◌≡◌, ◌+◌, ◌-◌, ◌<◌, ◌≤◌, ◌^◌, max, min, true, false, OnOk, IfOk, IfSome, IsTrue};
+ghost use Rattle.loop_keeper.specs.Numbers.{nothing, span, IsSound, IsOpened, IsLeast, IsPut, IsPutIn, IsSpan, size_of, whole_of};
 
 use dn_model::OutOfMemory;
 use std::alloc::Global;
@@ -10,8 +10,8 @@ use std::sync::Arc;
 
 /// A set of the numbers below a power of two, whose exponent is its level. A contract sees it as the tree that it is.
 ///
-/// A copy is one count. A write changes in place the nodes that no other set holds, and copies those on its way that
-/// another set holds too.
+/// A set that is one run of numbers takes no memory, whatever its level. A copy is one count. A write changes in place
+/// the nodes that no other set holds, and copies those on its way that another set holds too.
 #[cycle(numbers)]
 #[derive(Drop)]
 pub(crate) struct NumberSet {
@@ -26,6 +26,8 @@ enum Node {
     Nothing,
     /// All of them.
     Everything,
+    /// Those from the first of these up to, and without, the second one.
+    Span(u64, u64),
     /// Some of them.
     Parted(Arc<Halves, Global>),
 }
@@ -81,6 +83,47 @@ fn width_of(level: u32) -> u64
     ensures { result ≡ 2 ^ level }
 {
     1 << level
+}
+
+/// The smaller of two numbers.
+fn smaller(x: u64, y: u64) -> u64
+    ensures { result ≡ min x y }
+{
+    if x < y { x } else { y }
+}
+
+/// The larger of two numbers.
+fn larger(x: u64, y: u64) -> u64
+    ensures { result ≡ max x y }
+{
+    if x < y { y } else { x }
+}
+
+/// What a run of numbers is with others put in; None where the two are apart.
+fn with_run(old: (u64, u64), low: u64, past: u64) -> Option<(u64, u64)>
+    requires { low < past }
+    ensures { IfSome result (IsPutIn low past true old) }
+{
+    if old.1 <= old.0 {
+        return Some((low, past));
+    }
+    if past < old.0 || old.1 < low {
+        return None;
+    }
+    Some((smaller(low, old.0), larger(past, old.1)))
+}
+
+/// What a run of numbers is with others taken out; None where some are left on both sides.
+fn without_run(old: (u64, u64), low: u64, past: u64) -> Option<(u64, u64)>
+    ensures { IfSome result (IsPutIn low past false old) }
+{
+    if low <= old.0 {
+        return Some((larger(past, old.0), old.1));
+    }
+    if old.1 <= past {
+        return Some((old.0, smaller(low, old.1)));
+    }
+    None
 }
 
 /// How many numbers two halves have.
@@ -225,6 +268,23 @@ impl NumberSet {
         }
     }
 
+    /// The numbers from `low` up to, and without, `past`.
+    fn of_span(level: u32, low: u64, past: u64) -> NumberSet
+        requires level { level ≤ 32 }
+        requires end { past ≤ 2 ^ level }
+        ensures { IsSpan level low past result }
+    {
+        if past <= low {
+            return NumberSet::whole(false);
+        }
+        if past - low == width_of(level) {
+            return NumberSet::whole(true);
+        }
+        NumberSet {
+            node: Node::Span(low, past),
+        }
+    }
+
     /// The same set again, which shares its parts with this one.
     pub(crate) fn copy(&self) -> Result<NumberSet, OutOfMemory>
         ensures { IfOk result (λ set. set ≡ self.now) }
@@ -232,6 +292,9 @@ impl NumberSet {
         match &self.node {
             Node::Nothing => Ok(NumberSet::whole(false)),
             Node::Everything => Ok(NumberSet::whole(true)),
+            Node::Span(low, past) => Ok(NumberSet {
+                node: Node::Span(*low, *past),
+            }),
             Node::Parted(halves) => {
                 let halves = Arc::try_clone(halves)?;
                 Ok(NumberSet {
@@ -249,6 +312,7 @@ impl NumberSet {
         match &self.node {
             Node::Nothing => 0,
             Node::Everything => width_of(level),
+            Node::Span(low, past) => (*past).saturating_sub(*low),
             Node::Parted(halves) => halves.count,
         }
     }
@@ -260,15 +324,68 @@ impl NumberSet {
         match &self.node {
             Node::Nothing => !inside,
             Node::Everything => inside,
-            Node::Parted(_) => false,
+            Node::Span(_, _) | Node::Parted(_) => false,
         }
     }
 
     /// Whether the set has halves that no other set has.
     fn is_alone(&self) -> bool {
         match &self.node {
-            Node::Nothing | Node::Everything => false,
+            Node::Nothing | Node::Everything | Node::Span(_, _) => false,
             Node::Parted(halves) => Arc::strong_count(halves) == 1,
+        }
+    }
+
+    /// The one run of numbers that the set is, an empty one where it has none; None where it is parted.
+    fn span(&self, level: u32) -> Option<(u64, u64)>
+        requires level { level ≤ 32 }
+        requires sound { IsSound level self.now }
+        ensures { IfSome result (λ s. IsSpan level s.0 s.1 self.now) }
+    {
+        match &self.node {
+            Node::Nothing => Some((0, 0)),
+            Node::Everything => Some((0, width_of(level))),
+            Node::Span(low, past) => Some((*low, *past)),
+            Node::Parted(_) => None,
+        }
+    }
+
+    /// The set with the numbers from `low` up to, and without, `past` put in, or taken out, where it is one run before and
+    /// after, or empty. None elsewhere.
+    fn span_with(&self, level: u32, low: u64, past: u64, inside: bool) -> Option<NumberSet>
+        requires level { level ≤ 32 }
+        requires order { low < past }
+        requires end { past ≤ 2 ^ level }
+        requires sound { IsSound level self.now }
+        ensures sound { IfSome result (λ set. IsSound level set) }
+        ensures put { IfSome result (IsPut level low past inside self.now) }
+    {
+        let old = self.span(level)?;
+        let new = if inside {
+            with_run(old, low, past)?
+        } else {
+            without_run(old, low, past)?
+        };
+        Some(NumberSet::of_span(level, new.0, new.1))
+    }
+
+    /// The halves of the numbers from `low` up to, and without, `past`.
+    fn halves_of(level: u32, low: u64, past: u64) -> Halves
+        requires some { 0 < level }
+        requires level { level ≤ 32 }
+        requires order { low < past }
+        requires end { past ≤ 2 ^ level }
+        ensures { IsOpened level (span low past) result }
+    {
+        let half = width_of(level - 1);
+        Halves {
+            low: NumberSet::of_span(level - 1, smaller(low, half), smaller(past, half)),
+            high: NumberSet::of_span(
+                level - 1,
+                low.saturating_sub(half),
+                past.saturating_sub(half),
+            ),
+            count: past - low,
         }
     }
 
@@ -290,6 +407,7 @@ impl NumberSet {
                 high: NumberSet::whole(true),
                 count: width_of(level),
             }),
+            Node::Span(low, past) => Ok(NumberSet::halves_of(level, *low, *past)),
             Node::Parted(halves) => Ok(Halves {
                 low: halves.low.copy()?,
                 high: halves.high.copy()?,
@@ -354,6 +472,10 @@ impl NumberSet {
             *self = NumberSet::whole(inside);
             return Ok(());
         }
+        if let Some(set) = self.span_with(level, low, past, inside) {
+            *self = set;
+            return Ok(());
+        }
         self.open(alloc, level)?;
         let Node::Parted(halves) = &mut self.node else {
             return Err(OutOfMemory);
@@ -376,6 +498,7 @@ impl NumberSet {
         match &self.node {
             Node::Nothing => None,
             Node::Everything => Some(0),
+            Node::Span(low, _) => Some(*low),
             Node::Parted(halves) => {
                 let lower = halves.low.least(level - 1);
                 if lower.is_some() {

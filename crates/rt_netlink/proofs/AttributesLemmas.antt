@@ -7,7 +7,7 @@ use Rattle.std.proofs.lemmas.Bool.Decides.{nat_tests}
 use Rattle.std.proofs.lemmas.Nat.{and_mask}
 use Rattle.std.proofs.lemmas.Slice.{between_is}
 use Rattle.dn_formats.specs.Attributes.{Attribute, Holds, BadLength, padded, attribute_length, attribute_type, has_bad_length, first_attribute, followed_by, attributes_after, attributes_of, is_bad}
-use Rattle.rt_netlink.specs.Gathered.{kept_with, kept_unless, kept_after}
+use Rattle.rt_netlink.specs.Gathered.{kept_with, kept_after}
 use Rattle.rt_netlink.specs.declared.attributes.RouteAttributes.{RouteAttributes}
 
 -- what is left of the attribute before is passed over
@@ -60,25 +60,25 @@ unfolding kept_after
 kept-bad_length is_set kept s h e = rw (attributes-step s h, e) refl
 
 pub kept-none : (is_set : Bool) (kept : RouteAttributes) (kind : ℕ) (payload s : List ℕ) → 4 ≤ length s → first_attribute s ≡ Holds kind payload →
-    kept_unless is_set kept kind payload ≡ None → kept_after is_set kept (attributes_of s) ≡ None
+    is_bad is_set (Holds kind payload) ≡ true → kept_after is_set kept (attributes_of s) ≡ None
 unfolding kept_after
-kept-none is_set kept kind payload s h e k = rw (attributes-step s h, e) (none_then (is_bad is_set (Holds kind payload)) (kept_with kept kind payload) _ k)
+kept-none is_set kept kind payload s h e bad =
+    rw (attributes-step s h, e) (none_then (is_bad is_set (Holds kind payload)) (kept_after is_set (kept_with kept kind payload) (attributes_of (drop (padded (attribute_length s)) s))) bad)
   where
-    none_then : (bad : Bool) (next : RouteAttributes) (more : Option RouteAttributes) → (if bad then None else Some next) ≡ None → (if bad then None else more) ≡ None
-    none_then true next more k = refl
-    none_then false next more k = cc
+    none_then : (bad : Bool) (more : Option RouteAttributes) → bad ≡ true → (if bad then None else more) ≡ None
+    none_then true more b = refl
+    none_then false more b = cc
 
 pub kept-more : (is_set : Bool) (kept next : RouteAttributes) (kind : ℕ) (payload s rest : List ℕ) → 4 ≤ length s → first_attribute s ≡ Holds kind payload →
-    rest ≡ drop (padded (attribute_length s)) s → kept_unless is_set kept kind payload ≡ Some next →
+    rest ≡ drop (padded (attribute_length s)) s → next ≡ kept_with kept kind payload → is_bad is_set (Holds kind payload) ≡ false →
     kept_after is_set kept (attributes_of s) ≡ kept_after is_set next (attributes_of rest)
 unfolding kept_after
-kept-more is_set kept next kind payload s rest h e r k =
-    rw (attributes-step s h, e, r) (more_then (is_bad is_set (Holds kind payload)) (kept_with kept kind payload) next (λ x. kept_after is_set x (attributes_of (drop (padded (attribute_length s)) s))) k)
+kept-more is_set kept next kind payload s rest h e r n good =
+    rw (attributes-step s h, e, r, n) (more_then (is_bad is_set (Holds kind payload)) (kept_after is_set (kept_with kept kind payload) (attributes_of (drop (padded (attribute_length s)) s))) good)
   where
-    more_then : (bad : Bool) (made next : RouteAttributes) (f : RouteAttributes → Option RouteAttributes) → (if bad then None else Some made) ≡ Some next →
-        (if bad then None else f made) ≡ f next
-    more_then true made next f k = cc
-    more_then false made next f k = let e : made ≡ next = cc in ap f e
+    more_then : (bad : Bool) (more : Option RouteAttributes) → bad ≡ false → (if bad then None else more) ≡ more
+    more_then true more b = cc
+    more_then false more b = refl
 
 -- nothing more is kept of fewer than 4 bytes
 pub kept-all : (is_set : Bool) (kept : RouteAttributes) (s : List ℕ) → length s < 4 → Some kept ≡ kept_after is_set kept (attributes_of s)

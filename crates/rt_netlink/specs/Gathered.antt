@@ -42,10 +42,6 @@ kept_with kept kind payload = record {
   next_hop_id = kept.next_hop_id || kind == rta_nh_id;
 }
 
--- the same where the attribute may be a bad one
-abbrev pub kept_unless : Bool → RouteAttributes → ℕ → List ℕ → Option RouteAttributes
-kept_unless is_set kept kind payload = if is_bad is_set (Holds kind payload) then None else Some (kept_with kept kind payload)
-
 -- what is kept of these attributes after what is kept already; none where one is bad
 unfoldable pub kept_after : Bool → RouteAttributes → List Attribute → Option RouteAttributes
 kept_after is_set kept [] = Some kept

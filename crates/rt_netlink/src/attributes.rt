@@ -1,8 +1,8 @@
 //! The attributes of a route message: struct rtattr of rtnetlink(7).
 
-ghost use Rattle.std.specs.Prelude.{◌≡◌, ◌+◌, ◌≤◌, ◌<◌, length, MatchOption, None};
-ghost use Rattle.dn_formats.specs.Attributes.{attributes_of, has_bad_length, has_four_bytes, is_bad, Holds};
-ghost use Rattle.rt_netlink.specs.Gathered.{IsFront, nothing_kept, kept_with, kept_unless, kept_after, KeepsAll};
+ghost use Rattle.std.specs.Prelude.{◌≡◌, ◌≤◌, ◌<◌, length, not, MatchOption, None};
+ghost use Rattle.dn_formats.specs.Attributes.{attributes_of, is_bad, Holds};
+ghost use Rattle.rt_netlink.specs.Gathered.{IsFront, nothing_kept, kept_with, kept_after, KeepsAll};
 
 use crate::numbers::{address_in, after_padding, number_in, short_at};
 
@@ -92,23 +92,29 @@ fn front(bytes: &[u8]) -> Option<AttributeText<'_>>
     })
 }
 
-/// Whether the payload of a type of attribute has four bytes, in a message that sets a route or deletes one.
-fn has_four_bytes(is_set: bool, kind: u16) -> bool
-    ensures { result ≡ has_four_bytes is_set kind }
+/// Keeps one more attribute of a message that sets a route or deletes one, and says whether its payload has the size
+/// of its type.
+fn keep(is_set: bool, kept: &mut RouteAttributes, kind: u16, payload: &[u8]) -> bool
+    ensures kept { kept.new ≡ kept_with kept.old kind payload.now }
+    ensures sized { is_bad is_set (Holds kind payload.now) ≡ not result }
 {
-    kind == RTA_DST || kind == RTA_PRIORITY || kind == RTA_TABLE || (is_set && kind == RTA_OIF)
-}
-
-/// What is kept with one more attribute.
-fn kept_with(kept: RouteAttributes, kind: u16, payload: &[u8]) -> RouteAttributes
-    ensures { result ≡ kept_with kept kind payload.now }
-{
-    let mut kept = kept;
     match kind {
-        RTA_DST => kept.destination = address_in(payload),
-        RTA_OIF => kept.interface = number_in(payload),
-        RTA_PRIORITY => kept.metric = number_in(payload),
-        RTA_TABLE => kept.table = number_in(payload),
+        RTA_DST => {
+            kept.destination = address_in(payload);
+            return kept.destination.is_some();
+        }
+        RTA_OIF => {
+            kept.interface = number_in(payload);
+            return !is_set || kept.interface.is_some();
+        }
+        RTA_PRIORITY => {
+            kept.metric = number_in(payload);
+            return kept.metric.is_some();
+        }
+        RTA_TABLE => {
+            kept.table = number_in(payload);
+            return kept.table.is_some();
+        }
         RTA_GATEWAY => kept.gateway = true,
         RTA_VIA => kept.via = true,
         RTA_MULTIPATH => kept.multipath = true,
@@ -118,34 +124,20 @@ fn kept_with(kept: RouteAttributes, kind: u16, payload: &[u8]) -> RouteAttribute
         RTA_NH_ID => kept.next_hop_id = true,
         _ => {}
     }
-    kept
+    true
 }
 
-/// The same, and None where the payload has not the size of its type.
-fn kept_unless(
-    is_set: bool,
-    kept: RouteAttributes,
-    kind: u16,
-    payload: &[u8],
-) -> Option<RouteAttributes>
-    ensures { result ≡ kept_unless is_set kept kind payload.now }
-{
-    if has_four_bytes(is_set, kind) && payload.len() != 4 {
-        None
-    } else {
-        Some(kept_with(kept, kind, payload))
-    }
-}
-
-/// What is kept with the attribute at the front, and what stands after it; None where that attribute is bad.
-fn take_front(is_set: bool, kept: RouteAttributes, bytes: &[u8]) -> Option<(RouteAttributes, &[u8])>
+/// Keeps the attribute at the front, and answers what stands after it; None where that attribute is bad.
+fn take_front<'a>(is_set: bool, kept: &mut RouteAttributes, bytes: &'a [u8]) -> Option<&'a [u8]>
     requires { 4 ≤ length bytes.now }
-    ensures { MatchOption result (kept_after is_set kept (attributes_of bytes.now) ≡ None)
-        (λ r. (kept_after is_set kept (attributes_of bytes.now) ≡ kept_after is_set r.0 (attributes_of r.1.now)) × (length r.1.now < length bytes.now)) }
+    ensures { MatchOption result (kept_after is_set kept.old (attributes_of bytes.now) ≡ None)
+        (λ rest. (kept_after is_set kept.old (attributes_of bytes.now) ≡ kept_after is_set kept.new (attributes_of rest.now)) × (length rest.now < length bytes.now)) }
 {
     let front = front(bytes)?;
-    let kept = kept_unless(is_set, kept, front.kind, front.payload)?;
-    Some((kept, front.rest))
+    if !keep(is_set, kept, front.kind, front.payload) {
+        return None;
+    }
+    Some(front.rest)
 }
 
 /// What the attributes of a route message say, which sets a route or deletes one; None where one is bad.
@@ -155,7 +147,7 @@ pub fn read_attributes(is_set: bool, bytes: &[u8]) -> Option<RouteAttributes>
     let mut kept = nothing_kept();
     let mut rest = bytes;
     while rest.len() >= 4 {
-        (kept, rest) = take_front(is_set, kept, rest)?;
+        rest = take_front(is_set, &mut kept, rest)?;
     }
     Some(kept)
 }

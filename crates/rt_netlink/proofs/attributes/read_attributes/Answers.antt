@@ -4,9 +4,9 @@ use Rattle.rt_netlink.proofs.AttributesLemmas.{kept-all}
 use Rattle.rt_netlink.proofs.KeptLemmas.{keeps_all}
 use Rattle.rt_netlink.proofs.attributes.read_attributes.Goals as goal
 
-pub returns-in_err-kept : goal.returns-in_err-kept
-returns-in_err-kept c =
-    rw c.from_residual.ensures (keeps_all c.args.is_set (attributes_of c.args.bytes.now) None (sym c.in_err-kept.ensures ∙ c.loop-rest.invariant))
+pub returns-in_err-rest : goal.returns-in_err-rest
+returns-in_err-rest c =
+    rw c.from_residual.ensures (keeps_all c.args.is_set (attributes_of c.args.bytes.now) None (sym c.in_err-rest.ensures ∙ c.loop-rest.invariant))
 
 pub returns : goal.returns
 returns c =

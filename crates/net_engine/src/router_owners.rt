@@ -21,6 +21,9 @@ use version_pages::Pages;
 /// The address after the last.
 const END: u64 = 0x1_0000_0000;
 
+/// So many segments after the place that the guide says is where a search is expected to end.
+const AHEAD: usize = 12;
+
 /// One router's rules at all addresses: segments in order of address, each up to where the next one begins. Before the
 /// first there is no rule. A contract sees the list of the segments.
 #[derive(Drop)]
@@ -73,14 +76,12 @@ impl RouterOwners {
     }
 
     /// Where a search for an address ends, where that is in one page with a place and after it, or at the very beginning.
-    fn spot_near(&self, near: u64, at: u32) -> Option<Spot>
+    /// It looks first so many segments after the place.
+    fn spot_near(&self, near: u64, ahead: usize, at: u32) -> Option<Spot>
         ensures { IfSome result (λ spot. IsSpot self.now at spot.place spot.begins) }
     {
         let run = self.segments.run_from(near);
-        if ends_below(run, at) {
-            return None;
-        }
-        let below = count_below(run, at);
+        let below = count_below(run, at, ahead);
         if below == run.len() {
             return None;
         }
@@ -97,7 +98,7 @@ impl RouterOwners {
         ensures { IsSpot self.now at result.place result.begins }
     {
         let place = self.guide.place(at);
-        match self.spot_near(place, at) {
+        match self.spot_near(place, AHEAD, at) {
             Some(spot) => spot,
             None => self.spot_behind(place, at),
         }
@@ -107,18 +108,19 @@ impl RouterOwners {
     fn spot_behind(&self, place: u64, at: u32) -> Spot
         ensures { IsSpot self.now at result.place result.begins }
     {
-        let rest = self.segments.run_from(place).len() as u64;
-        match self.spot_near(place.wrapping_add(rest), at) {
+        let rest = self.segments.run_from(place).len();
+        let near = place.wrapping_add(rest as u64);
+        match self.spot_near(near, AHEAD.saturating_sub(rest), at) {
             Some(spot) => spot,
             None => self.search(at),
         }
     }
 
-    /// Where a search for an address ends. It looks first in the page of a place, from there on.
+    /// Where a search for an address ends. It looks first in the page of a place, at what follows the place.
     fn spot_from(&self, near: u64, at: u32) -> Spot
         ensures { IsSpot self.now at result.place result.begins }
     {
-        match self.spot_near(near, at) {
+        match self.spot_near(near, 1, at) {
             Some(spot) => spot,
             None => self.spot_of(at),
         }
@@ -345,22 +347,32 @@ impl RouterOwners {
     }
 }
 
-/// Whether all of these segments begin below an address, of which it looks at the last alone.
-fn ends_below(run: &[Segment], at: u32) -> bool {
-    match run.last() {
-        Some(last) => last.low < at,
-        None => true,
+/// Where to look next in a search that is left with the places from `low` up to, and without, `high`, and that looked
+/// first at `near`: on the other side of what it has looked at there, each time twice as far away, and at most half way.
+fn next_look(low: usize, high: usize, near: usize) -> usize
+    requires { low < high }
+    ensures from { low ≤ result }
+    ensures to { result < high }
+{
+    let half = (high - low) / 2;
+    if near < low {
+        return low + half.min(low - near - 1);
     }
+    if high <= near {
+        return high - 1 - half.min(near - high);
+    }
+    near
 }
 
-/// How many of these segments begin below an address. It looks at few of them where it is one of the first.
-fn count_below(run: &[Segment], at: u32) -> usize
+/// How many of these segments begin below an address. It looks at few of them where it is about so many.
+fn count_below(run: &[Segment], at: u32, about: usize) -> usize
     ensures { EndsBelow segment_low run.now at result }
 {
     let mut low = 0;
     let mut high = run.len();
+    let near = about.min(high);
     'halving: while low < high {
-        let middle = low + ((high - low) / 2).min(low + 1);
+        let middle = next_look(low, high, near);
         if run[middle].low < at {
             low = middle + 1;
         } else {

@@ -130,8 +130,8 @@ fn keep(is_set: bool, kept: &mut RouteAttributes, kind: u16, payload: &[u8]) -> 
 /// Keeps the attribute at the front, and answers what stands after it; None where that attribute is bad.
 fn take_front<'a>(is_set: bool, kept: &mut RouteAttributes, bytes: &'a [u8]) -> Option<&'a [u8]>
     requires { 4 ≤ length bytes.now }
-    ensures { MatchOption result (kept_after is_set kept.old (attributes_of bytes.now) ≡ None)
-        (λ rest. (kept_after is_set kept.old (attributes_of bytes.now) ≡ kept_after is_set kept.new (attributes_of rest.now)) × (length rest.now < length bytes.now)) }
+    ensures { let all = kept_after is_set kept.old (attributes_of bytes.now) in MatchOption result (all ≡ None)
+        (λ rest. (all ≡ kept_after is_set kept.new (attributes_of rest.now)) × (length rest.now < length bytes.now)) }
 {
     let front = front(bytes)?;
     if !keep(is_set, kept, front.kind, front.payload) {

@@ -64,16 +64,29 @@ or_false : (a : Bool) → (a || false) ≡ a
 or_false true = refl
 or_false false = refl
 
-flag-kept : (is_set : Bool) (f : RouteAttributes → Bool) (type : ℕ) →
-    ((kept : RouteAttributes) (kind : ℕ) (payload : List ℕ) → f (kept_with kept kind payload) ≡ (f kept || kind == type)) →
-    (attributes : List Attribute) (kept r : RouteAttributes) → kept_after is_set kept attributes ≡ Some r → f r ≡ (f kept || has type attributes)
+or_swap : (a x b y : Bool) → ((a || x) || (b || y)) ≡ ((a || b) || (x || y))
+or_swap true x b y = refl
+or_swap false true true y = refl
+or_swap false true false y = refl
+or_swap false false b y = refl
+
+or_swap_three : (a x b y c z : Bool) → ((a || x) || (b || y) || (c || z)) ≡ ((a || b || c) || (x || y || z))
+or_swap_three a x b y c z = ap (λ v. v || (c || z)) (or_swap a x b y) ∙ or_swap (a || b) (x || y) c z
+
+-- whether there is an attribute of one of some types, where a test tells these types
+flag-kept : (is_set : Bool) (f : RouteAttributes → Bool) (is_one : ℕ → Bool) (any : List Attribute → Bool) → any [] ≡ false →
+    ((kind : ℕ) (payload : List ℕ) (attributes : List Attribute) → any (Holds kind payload ∷ attributes) ≡ (is_one kind || any attributes)) →
+    ((kept : RouteAttributes) (kind : ℕ) (payload : List ℕ) → f (kept_with kept kind payload) ≡ (f kept || is_one kind)) →
+    (attributes : List Attribute) (kept r : RouteAttributes) → kept_after is_set kept attributes ≡ Some r → f r ≡ (f kept || any attributes)
 unfolding kept_after
-flag-kept is_set f type step [] kept r e = let same : kept ≡ r = cc in ap f (sym same) ∙ sym (or_false (f kept))
-flag-kept is_set f type step (BadLength ∷ attributes) kept r e = cc
-flag-kept is_set f type step (Holds kind payload ∷ attributes) kept r e =
-    flag-kept is_set f type step attributes (kept_with kept kind payload) r
+flag-kept is_set f is_one any none more step [] kept r e =
+    let same : kept ≡ r = cc in ap f (sym same) ∙ sym (or_false (f kept)) ∙ ap (λ b. f kept || b) (sym none)
+flag-kept is_set f is_one any none more step (BadLength ∷ attributes) kept r e = cc
+flag-kept is_set f is_one any none more step (Holds kind payload ∷ attributes) kept r e =
+    flag-kept is_set f is_one any none more step attributes (kept_with kept kind payload) r
     (goes_on (is_bad is_set (Holds kind payload)) (kept_after is_set (kept_with kept kind payload) attributes) r e)
-    ∙ ap (λ b. b || has type attributes) (step kept kind payload) ∙ or_assoc (f kept) (kind == type) (has type attributes)
+    ∙ ap (λ b. b || any attributes) (step kept kind payload) ∙ or_assoc (f kept) (is_one kind) (any attributes)
+    ∙ ap (λ b. f kept || b) (sym (more kind payload attributes))
 
 keeps : (is_set : Bool) (attributes : List Attribute) (r : RouteAttributes) → kept_after is_set nothing_kept attributes ≡ Some r → Keeps attributes r
 keeps is_set attributes r e = record {
@@ -81,13 +94,17 @@ keeps is_set attributes r e = record {
   interface = number-kept is_set (λ k. k.interface) rta_oif number_in (λ kept kind payload. refl) attributes nothing_kept r None refl e;
   metric = number-kept is_set (λ k. k.metric) rta_priority number_in (λ kept kind payload. refl) attributes nothing_kept r None refl e;
   table = number-kept is_set (λ k. k.table) rta_table number_in (λ kept kind payload. refl) attributes nothing_kept r None refl e;
-  gateway = flag-kept is_set (λ k. k.gateway) rta_gateway (λ kept kind payload. refl) attributes nothing_kept r e;
-  via = flag-kept is_set (λ k. k.via) rta_via (λ kept kind payload. refl) attributes nothing_kept r e;
-  multipath = flag-kept is_set (λ k. k.multipath) rta_multipath (λ kept kind payload. refl) attributes nothing_kept r e;
-  new_destination = flag-kept is_set (λ k. k.new_destination) rta_newdst (λ kept kind payload. refl) attributes nothing_kept r e;
-  encap_type = flag-kept is_set (λ k. k.encap_type) rta_encap_type (λ kept kind payload. refl) attributes nothing_kept r e;
-  encap = flag-kept is_set (λ k. k.encap) rta_encap (λ kept kind payload. refl) attributes nothing_kept r e;
-  next_hop_id = flag-kept is_set (λ k. k.next_hop_id) rta_nh_id (λ kept kind payload. refl) attributes nothing_kept r e;
+  via = flag-kept is_set (λ k. k.via) (λ kind. kind == rta_gateway || kind == rta_via) (λ all. has rta_gateway all || has rta_via all) refl
+      (λ kind payload all. or_swap (kind == rta_gateway) (has rta_gateway all) (kind == rta_via) (has rta_via all))
+      (λ kept kind payload. refl) attributes nothing_kept r e;
+  multipath = flag-kept is_set (λ k. k.multipath) (λ kind. kind == rta_multipath) (has rta_multipath) refl (λ kind payload all. refl)
+      (λ kept kind payload. refl) attributes nothing_kept r e;
+  encap = flag-kept is_set (λ k. k.encap) (λ kind. kind == rta_newdst || kind == rta_encap_type || kind == rta_encap)
+      (λ all. has rta_newdst all || has rta_encap_type all || has rta_encap all) refl
+      (λ kind payload all. or_swap_three (kind == rta_newdst) (has rta_newdst all) (kind == rta_encap_type) (has rta_encap_type all) (kind == rta_encap) (has rta_encap all))
+      (λ kept kind payload. refl) attributes nothing_kept r e;
+  next_hop_id = flag-kept is_set (λ k. k.next_hop_id) (λ kind. kind == rta_nh_id) (has rta_nh_id) refl (λ kind payload all. refl)
+      (λ kept kind payload. refl) attributes nothing_kept r e;
 }
 
 pub keeps_all : (is_set : Bool) (attributes : List Attribute) (r : Option RouteAttributes) → r ≡ kept_after is_set nothing_kept attributes → KeepsAll is_set attributes r

@@ -17,11 +17,8 @@ nothing_kept = record {
   interface = None;
   metric = None;
   table = None;
-  gateway = false;
   via = false;
   multipath = false;
-  new_destination = false;
-  encap_type = false;
   encap = false;
   next_hop_id = false;
 }
@@ -33,12 +30,9 @@ kept_with kept kind payload = record {
   interface = if kind == rta_oif then number_in payload else kept.interface;
   metric = if kind == rta_priority then number_in payload else kept.metric;
   table = if kind == rta_table then number_in payload else kept.table;
-  gateway = kept.gateway || kind == rta_gateway;
-  via = kept.via || kind == rta_via;
+  via = kept.via || (kind == rta_gateway || kind == rta_via);
   multipath = kept.multipath || kind == rta_multipath;
-  new_destination = kept.new_destination || kind == rta_newdst;
-  encap_type = kept.encap_type || kind == rta_encap_type;
-  encap = kept.encap || kind == rta_encap;
+  encap = kept.encap || (kind == rta_newdst || kind == rta_encap_type || kind == rta_encap);
   next_hop_id = kept.next_hop_id || kind == rta_nh_id;
 }
 
@@ -55,12 +49,9 @@ pub record Keeps (attributes : List Attribute) (kept : RouteAttributes) : Type 0
   pub interface : kept.interface ≡ number_of rta_oif attributes
   pub metric : kept.metric ≡ number_of rta_priority attributes
   pub table : kept.table ≡ number_of rta_table attributes
-  pub gateway : kept.gateway ≡ has rta_gateway attributes
-  pub via : kept.via ≡ has rta_via attributes
+  pub via : kept.via ≡ (has rta_gateway attributes || has rta_via attributes)
   pub multipath : kept.multipath ≡ has rta_multipath attributes
-  pub new_destination : kept.new_destination ≡ has rta_newdst attributes
-  pub encap_type : kept.encap_type ≡ has rta_encap_type attributes
-  pub encap : kept.encap ≡ has rta_encap attributes
+  pub encap : kept.encap ≡ (has rta_newdst attributes || has rta_encap_type attributes || has rta_encap attributes)
   pub next_hop_id : kept.next_hop_id ≡ has rta_nh_id attributes
 
 -- the same where one may be bad

@@ -41,18 +41,17 @@ pub struct AttributeText<'a> {
 }
 
 /// What is kept of the attributes of a route message: the numbers of four types, of a repeated one the last, and
-/// whether there is one of each of the others. All other types are passed over.
+/// whether there is one of some others. All other types are passed over.
 #[derive(Clone, Copy, Debug, PartialEq, Eq)]
 pub struct RouteAttributes {
     pub destination: Option<u32>,
     pub interface: Option<u32>,
     pub metric: Option<u32>,
     pub table: Option<u32>,
-    pub gateway: bool,
+    /// There is a next router's address, of any family.
     pub via: bool,
     pub multipath: bool,
-    pub new_destination: bool,
-    pub encap_type: bool,
+    /// There is an encapsulation's kind or header, or another address that packets are sent to.
     pub encap: bool,
     pub next_hop_id: bool,
 }
@@ -66,11 +65,8 @@ fn nothing_kept() -> RouteAttributes
         interface: None,
         metric: None,
         table: None,
-        gateway: false,
         via: false,
         multipath: false,
-        new_destination: false,
-        encap_type: false,
         encap: false,
         next_hop_id: false,
     }
@@ -115,12 +111,9 @@ fn keep(is_set: bool, kept: &mut RouteAttributes, kind: u16, payload: &[u8]) -> 
             kept.table = number_in(payload);
             return kept.table.is_some();
         }
-        RTA_GATEWAY => kept.gateway = true,
-        RTA_VIA => kept.via = true,
+        RTA_GATEWAY | RTA_VIA => kept.via = true,
         RTA_MULTIPATH => kept.multipath = true,
-        RTA_NEWDST => kept.new_destination = true,
-        RTA_ENCAP_TYPE => kept.encap_type = true,
-        RTA_ENCAP => kept.encap = true,
+        RTA_NEWDST | RTA_ENCAP_TYPE | RTA_ENCAP => kept.encap = true,
         RTA_NH_ID => kept.next_hop_id = true,
         _ => {}
     }
@@ -130,8 +123,8 @@ fn keep(is_set: bool, kept: &mut RouteAttributes, kind: u16, payload: &[u8]) -> 
 /// Keeps the attribute at the front, and answers what stands after it; None where that attribute is bad.
 fn take_front<'a>(is_set: bool, kept: &mut RouteAttributes, bytes: &'a [u8]) -> Option<&'a [u8]>
     requires { 4 ≤ length bytes.now }
-    ensures { MatchOption result (kept_after is_set kept.old (attributes_of bytes.now) ≡ None)
-        (λ rest. (kept_after is_set kept.old (attributes_of bytes.now) ≡ kept_after is_set kept.new (attributes_of rest.now)) × (length rest.now < length bytes.now)) }
+    ensures { let all = kept_after is_set kept.old (attributes_of bytes.now) in MatchOption result (all ≡ None)
+        (λ rest. (all ≡ kept_after is_set kept.new (attributes_of rest.now)) × (length rest.now < length bytes.now)) }
 {
     let front = front(bytes)?;
     if !keep(is_set, kept, front.kind, front.payload) {

@@ -202,7 +202,7 @@ fn read_set(bytes: &[u8], kept: &RouteAttributes, prefix: Prefix) -> Result<RawR
     if kept.multipath {
         return Err(Ruling::Refuses(MULTIPATH));
     }
-    if kept.new_destination || kept.encap_type || kept.encap {
+    if kept.encap {
         return Err(Ruling::Refuses(ENCAP));
     }
     if kept.next_hop_id {
@@ -212,8 +212,7 @@ fn read_set(bytes: &[u8], kept: &RouteAttributes, prefix: Prefix) -> Result<RawR
         return Err(Ruling::Refuses(NO_INTERFACE));
     }
     let metric = kept.metric.unwrap_or(0);
-    let via = kept.gateway || kept.via;
-    Ok(replacement(prefix, metric, kind, via, kept.interface))
+    Ok(replacement(prefix, metric, kind, kept.via, kept.interface))
 }
 
 /// The route that is deleted. Its type and its next hop are not looked at.

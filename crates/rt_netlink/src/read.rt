@@ -54,7 +54,10 @@ pub fn read_payload(alloc: Global, bytes: &[u8]) -> Result<Payload, OutOfMemory>
     while rest.len() >= 4 {
         let at = (bytes.len() - rest.len()) as u32;
         match read_item(rest) {
-            Ok(what) => items.push(Item { at, what })?,
+            Ok(what) => {
+                rest = after_message(rest);
+                items.push(Item { at, what })?;
+            }
             Err(cause) => {
                 return Ok(Payload {
                     items,
@@ -62,7 +65,6 @@ pub fn read_payload(alloc: Global, bytes: &[u8]) -> Result<Payload, OutOfMemory>
                 });
             }
         }
-        rest = after_message(rest);
     }
     Ok(Payload {
         items,

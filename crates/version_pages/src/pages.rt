@@ -311,6 +311,22 @@ impl<T: Keyed + Copy> Pages<T> {
         Ok(count)
     }
 
+    /// Puts the first of some elements behind the last page, as pages. It answers how many, one at least. After
+    /// `OutOfMemory` the list is as before.
+    fn add_pages(&mut self, alloc: Global, items: &[T]) -> Result<usize, OutOfMemory>
+        requires some { 0 < length items.now }
+        requires clones { (x y : T) → T.is_clone x y → y ≡ x }
+        ensures some { IfOk result (λ count. 0 < count) }
+        ensures within { IfOk result (λ count. count ≤ length items.now) }
+        ensures items { IfOk result (λ count. self.new ≡ self.old ++ take count items.now) }
+        ensures same { OnErr result (self.new ≡ self.old) }
+    {
+        let Some(root) = &mut self.root else {
+            return self.add_page(alloc, items);
+        };
+        return root.add_some(alloc, items);
+    }
+
     /// Puts the first of some elements at the end, in a new page where the last one is full. It answers how many, one at
     /// least. After `OutOfMemory` the list is as before.
     fn extend_some(&mut self, alloc: Global, items: &[T]) -> Result<usize, OutOfMemory>
@@ -324,7 +340,7 @@ impl<T: Keyed + Copy> Pages<T> {
         if self.end_room() > 0 {
             return self.fill_end(alloc, items);
         }
-        return self.add_page(alloc, items);
+        return self.add_pages(alloc, items);
     }
 
     /// Puts some elements at the end: first as many as the last page has room for, and then pages of them. After

@@ -1,18 +1,21 @@
-//! A whole page put behind the last one. Each full fork on the way is parted before, so that no page is copied and no
+//! Whole pages put behind the last one. Each full fork on the way is parted before, so that no page is copied and no
 //! fork is filled beyond its most.
 
-ghost use Rattle.std.specs.Prelude.{◌≡◌, ◌+◌, ◌-◌, ◌<◌, ◌≤◌, ◌^◌, ◌++◌, ◌∷◌, [], ℕ, OnOk, OnErr, length, slice_index_or, All};
-ghost use Rattle.version_pages.specs.Shape.{Shape, AreEnds, IsDeep, IsUnder, joined};
+ghost use Rattle.std.specs.Prelude.{◌≡◌, ◌+◌, ◌-◌, ◌<◌, ◌≤◌, ◌^◌, ◌++◌, ◌∷◌, [], ℕ, IfOk, OnOk, OnErr, length, take, slice_index_or, All};
+ghost use Rattle.version_pages.specs.Shape.{Shape, AreEnds, AreKids, IsDeep, IsUnder, joined};
 
 use super::own::unshare;
-use super::parts::fork_kid;
+use super::parts::{fork_kid, page_kid};
 use super::split::part;
-use super::{FULL, Kid, LONG, Node, Tree, key_after, start};
+use super::{FULL, Kid, LONG, Node, Tree, WIDE, key_after, start};
 use crate::keyed::Keyed;
-use crate::page::page_of_one;
+use crate::page::{page_of_copies, page_of_one};
 use dn_model::OutOfMemory;
 use std::alloc::Global;
 use std::sync::Arc;
+
+/// The most elements that are put at the end at once.
+const MANY: usize = FULL * WIDE;
 
 impl<T: Keyed> Tree<T> {
     /// How many more elements the last page may take.
@@ -183,5 +186,165 @@ impl<T: Keyed + Clone> Kid<T> {
         }
         self.ready_whole(alloc)?;
         return self.graft(alloc, page);
+    }
+}
+
+/// Puts the first of some elements behind the last child of a fork over pages, as many as a page has. It answers how many.
+/// After `OutOfMemory` the elements are as before.
+fn add_page<T: Keyed + Copy>(
+    alloc: Global,
+    kids: &mut Vec<Kid<T>>,
+    ends: &mut Vec<u64>,
+    items: &[T],
+) -> Result<usize, OutOfMemory>
+    requires some { 0 < length items.now }
+    requires kids { AreKids 1 kids.old.items }
+    requires room { length kids.old.items < WIDE }
+    requires ends { AreEnds ends.old.items kids.old.items }
+    requires few { length (joined kids.old.items) + 64 < 2 ^ 62 }
+    ensures some { IfOk result (λ count. 0 < count) }
+    ensures within { IfOk result (λ count. count ≤ length items.now) }
+    ensures items { IfOk result (λ count. joined kids.new.items ≡ joined kids.old.items ++ take count items.now) }
+    ensures same { OnErr result (joined kids.new.items ≡ joined kids.old.items) }
+    ensures kids { AreKids 1 kids.new.items }
+    ensures ends { AreEnds ends.new.items kids.new.items }
+{
+    let count = items.len().min(FULL);
+    let page = page_kid(alloc, page_of_copies(alloc, FULL, &items[..count])?)?;
+    add_kid(kids, ends, page)?;
+    Ok(count)
+}
+
+/// Puts the first of some elements behind the last child of a fork over pages, as many as it has room for. It answers how
+/// many, one at least. After `OutOfMemory` the elements are as before.
+fn fill_fork<T: Keyed + Copy>(
+    alloc: Global,
+    kids: &mut Vec<Kid<T>>,
+    ends: &mut Vec<u64>,
+    items: &[T],
+) -> Result<usize, OutOfMemory>
+    requires some { 0 < length items.now }
+    requires kids { AreKids 1 kids.old.items }
+    requires ends { AreEnds ends.old.items kids.old.items }
+    requires few { length (joined kids.old.items) + length items.now + 64 < 2 ^ 62 }
+    ensures some { IfOk result (λ count. 0 < count) }
+    ensures within { IfOk result (λ count. count ≤ length items.now) }
+    ensures items { IfOk result (λ count. joined kids.new.items ≡ joined kids.old.items ++ take count items.now) }
+    ensures same { OnErr result (joined kids.new.items ≡ joined kids.old.items) }
+    ensures kids { AreKids 1 kids.new.items }
+    ensures ends { AreEnds ends.new.items kids.new.items }
+{
+    let mut at = 0;
+    'pages: while at < items.len() {
+        if kids.len() == WIDE {
+            break;
+        }
+        match add_page(alloc, kids, ends, &items[at..]) {
+            Ok(count) => at += count,
+            Err(_) => break,
+        }
+    }
+    if at == 0 {
+        return Err(OutOfMemory);
+    }
+    Ok(at)
+}
+
+impl<T: Keyed + Copy> Tree<T> {
+    /// Puts the first of some elements behind the last page, as many as the last fork has room for. It answers how many,
+    /// one at least. After `OutOfMemory` the list is as before.
+    #[cycle(pages)]
+    fn add_pages(&mut self, alloc: Global, items: &[T]) -> Result<usize, OutOfMemory>
+        requires some { 0 < length items.now }
+        requires most { length items.now ≤ MANY }
+        requires room { 0 < self.old.room }
+        requires fork { 0 < self.old.height }
+        requires few { length self.old.items + 4096 < 2 ^ 62 }
+        requires clones { (x y : T) → T.is_clone x y → y ≡ x }
+        ensures some { IfOk result (λ count. 0 < count) }
+        ensures within { IfOk result (λ count. count ≤ length items.now) }
+        ensures items { IfOk result (λ count. self.new.items ≡ self.old.items ++ take count items.now) }
+        ensures same { OnErr result (self.new.items ≡ self.old.items) }
+        ensures level { self.new.height ≡ self.old.height }
+    {
+        match &mut self.node {
+            Node::Page(_) => Err(OutOfMemory),
+            Node::Fork { kids, height, ends } => {
+                if *height == 1 {
+                    return fill_fork(alloc, kids, ends, items);
+                }
+                ready_end(alloc, kids, ends)?;
+                let last = kids.len() - 1;
+                let kid = &mut kids[last];
+                let count = kid.add_pages(alloc, items)?;
+                ends[last] += count as u64;
+                return Ok(count);
+            }
+        }
+    }
+}
+
+impl<T: Keyed + Copy> Kid<T> {
+    /// Puts the first of some elements behind the last page, as many as the last fork has room for. It answers how many,
+    /// one at least. After `OutOfMemory` the list is as before.
+    #[cycle(pages)]
+    fn add_pages(&mut self, alloc: Global, items: &[T]) -> Result<usize, OutOfMemory>
+        requires some { 0 < length items.now }
+        requires most { length items.now ≤ MANY }
+        requires room { 0 < self.old.room }
+        requires fork { 0 < self.old.height }
+        requires few { length self.old.items + 4096 < 2 ^ 62 }
+        requires clones { (x y : T) → T.is_clone x y → y ≡ x }
+        ensures some { IfOk result (λ count. 0 < count) }
+        ensures within { IfOk result (λ count. count ≤ length items.now) }
+        ensures items { IfOk result (λ count. self.new.items ≡ self.old.items ++ take count items.now) }
+        ensures same { OnErr result (self.new.items ≡ self.old.items) }
+        ensures level { self.new.height ≡ self.old.height }
+        ensures deep { IsDeep self.old → IsDeep self.new }
+    {
+        unshare(alloc, &mut self.tree)?;
+        let Some(tree) = Arc::get_mut(&mut self.tree) else {
+            return Err(OutOfMemory);
+        };
+        let count = tree.add_pages(alloc, items)?;
+        let _height = tree.height();
+        self.key = key_after(tree, self.len, self.key);
+        self.len += count as u64;
+        Ok(count)
+    }
+
+    /// Puts the first of some elements behind the last page, as many as a page has, one level higher where there is no
+    /// room. It answers how many. After `OutOfMemory` the list is as before.
+    fn add_one(&mut self, alloc: Global, items: &[T]) -> Result<usize, OutOfMemory>
+        requires some { 0 < length items.now }
+        requires clones { (x y : T) → T.is_clone x y → y ≡ x }
+        ensures some { IfOk result (λ count. 0 < count) }
+        ensures within { IfOk result (λ count. count ≤ length items.now) }
+        ensures items { IfOk result (λ count. self.new.items ≡ self.old.items ++ take count items.now) }
+        ensures same { OnErr result (self.new.items ≡ self.old.items) }
+    {
+        let count = items.len().min(FULL);
+        let page = page_kid(alloc, page_of_copies(alloc, FULL, &items[..count])?)?;
+        self.graft_whole(alloc, page)?;
+        Ok(count)
+    }
+
+    /// Puts the first of some elements behind the last page, as pages. It answers how many, one at least. After
+    /// `OutOfMemory` the list is as before.
+    pub fn add_some(&mut self, alloc: Global, items: &[T]) -> Result<usize, OutOfMemory>
+        requires some { 0 < length items.now }
+        requires clones { (x y : T) → T.is_clone x y → y ≡ x }
+        ensures some { IfOk result (λ count. 0 < count) }
+        ensures within { IfOk result (λ count. count ≤ length items.now) }
+        ensures items { IfOk result (λ count. self.new.items ≡ self.old.items ++ take count items.now) }
+        ensures same { OnErr result (self.new.items ≡ self.old.items) }
+    {
+        if items.len() > MANY || self.len() >= LONG - 4096 {
+            return self.add_one(alloc, items);
+        }
+        if self.tree.height() == 0 || !self.tree.has_room() {
+            return self.add_one(alloc, items);
+        }
+        return self.add_pages(alloc, items);
     }
 }

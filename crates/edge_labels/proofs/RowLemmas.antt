@@ -59,32 +59,32 @@ row-other n a b r c codes l ne = by (ltb b a) refl
 
 -- ---- a row is added
 
-pub row-kept : (n atoms b : ℕ) (codes coded : List ℕ) → length codes ≡ atoms * n → b < atoms → codes_of n (codes ++ coded) b ≡ codes_of n codes b
-row-kept n atoms b codes coded long l =
+pub row-kept : (n atoms b : ℕ) (codes row : List ℕ) → length codes ≡ atoms * n → b < atoms → codes_of n (codes ++ row) b ≡ codes_of n codes b
+row-kept n atoms b codes row long l =
     let fits : b * n + n ≤ atoms * n = row-fits b atoms n l in
-    ap (take n) (drop-append-le (b * n) codes coded (omega arith))
-    ∙ take-append-le n (drop (b * n) codes) coded (omega (arith, length-drop (b * n) codes))
+    ap (take n) (drop-append-le (b * n) codes row (omega arith))
+    ∙ take-append-le n (drop (b * n) codes) row (omega (arith, length-drop (b * n) codes))
 
-pub row-added : (n atoms : ℕ) (codes coded : List ℕ) → length codes ≡ atoms * n → length coded ≡ n → codes_of n (codes ++ coded) atoms ≡ coded
-row-added n atoms codes coded long len = ap (take n) (drop_at codes coded (atoms * n) long) ∙ take_all n coded (omega arith)
+pub row-added : (n atoms : ℕ) (codes row : List ℕ) → length codes ≡ atoms * n → length row ≡ n → codes_of n (codes ++ row) atoms ≡ row
+row-added n atoms codes row long len = ap (take n) (drop_at codes row (atoms * n) long) ∙ take_all n row (omega arith)
 
-pub code-kept : (n atoms b q : ℕ) (codes coded : List ℕ) → length codes ≡ atoms * n → b < atoms → q < n → code_at n (codes ++ coded) b q ≡ code_at n codes b q
-code-kept n atoms b q codes coded long l m = get_or_append_left codes coded 0 (b * n + q) (omega (arith, row-fits b atoms n l))
+pub code-kept : (n atoms b q : ℕ) (codes row : List ℕ) → length codes ≡ atoms * n → b < atoms → q < n → code_at n (codes ++ row) b q ≡ code_at n codes b q
+code-kept n atoms b q codes row long l m = get_or_append_left codes row 0 (b * n + q) (omega (arith, row-fits b atoms n l))
 
-pub code-added : (n atoms q : ℕ) (codes coded : List ℕ) → length codes ≡ atoms * n → code_at n (codes ++ coded) atoms q ≡ get_or coded q 0
-code-added n atoms q codes coded long = let at : atoms * n + q ≡ length codes + q = omega arith in ap (λ i. get_or (codes ++ coded) i 0) at ∙ get_or-append-add codes coded q 0
+pub code-added : (n atoms q : ℕ) (codes row : List ℕ) → length codes ≡ atoms * n → code_at n (codes ++ row) atoms q ≡ get_or row q 0
+code-added n atoms q codes row long = let at : atoms * n + q ≡ length codes + q = omega arith in ap (λ i. get_or (codes ++ row) i 0) at ∙ get_or-append-add codes row q 0
 
 -- a row goes on with what a page has
-pub row-more : {X : Type 0} (codes coded run : List X) (from more : ℕ) → coded ≡ take (length coded) (drop from codes) → take (length run) (drop (from + length coded) codes) ≡ run → more ≤ length run → coded ++ take more run ≡ take (length (coded ++ take more run)) (drop from codes)
-row-more codes coded run from more so page few =
-    let long : length (coded ++ take more run) ≡ length coded + more = omega (arith, length-append coded (take more run), length-take-le more run few) in
-    let next : take more run ≡ take more (drop (length coded) (drop from codes)) =
+pub row-more : {X : Type 0} (codes row run : List X) (from more : ℕ) → row ≡ take (length row) (drop from codes) → take (length run) (drop (from + length row) codes) ≡ run → more ≤ length run → row ++ take more run ≡ take (length (row ++ take more run)) (drop from codes)
+row-more codes row run from more so page few =
+    let long : length (row ++ take more run) ≡ length row + more = omega (arith, length-append row (take more run), length-take-le more run few) in
+    let next : take more run ≡ take more (drop (length row) (drop from codes)) =
     ap (take more) (sym page)
-    ∙ take-take more (length run) (drop (from + length coded) codes) few
-    ∙ ap (take more) (sym (drop-drop (length coded) from codes)) in
+    ∙ take-take more (length run) (drop (from + length row) codes) few
+    ∙ ap (take more) (sym (drop-drop (length row) from codes)) in
     ap (λ xs. xs ++ take more run) so
-    ∙ ap (λ xs. take (length coded) (drop from codes) ++ xs) next
-    ∙ sym (take-add (length coded) more (drop from codes))
+    ∙ ap (λ xs. take (length row) (drop from codes) ++ xs) next
+    ∙ sym (take-add (length row) more (drop from codes))
     ∙ ap (λ n. take n (drop from codes)) (sym long)
 
 -- ---- the codes of a row are joined
@@ -105,15 +105,15 @@ or-in false false false h = refl
 flip : (a b : ℕ) → eqb a b ≡ eqb b a
 flip a b = grind (arith, nat_tests)
 
-pub joined-more : (old now new : List (List ℕ)) (coded : List ℕ) (code atom : ℕ) → AreRowJoined old now coded atom → AreJoined now new code atom → AreRowJoined old new (coded ++ code ∷ []) atom
-joined-more old now new coded code atom before more = record {
+pub joined-more : (old now new : List (List ℕ)) (row : List ℕ) (code atom : ℕ) → AreRowJoined old now row atom → AreJoined now new code atom → AreRowJoined old new (row ++ code ∷ []) atom
+joined-more old now new row code atom before more = record {
   long = more.long ∙ before.long;
   exact = λ c a.
       more.exact c a
       ∙ ap (λ b. (eqb c code && eqb a atom) || b) (before.exact c a)
-      ∙ ap (λ p. (p && eqb a atom) || ((list_any (λ k. eqb k c) coded && eqb a atom) || has_atom (get_or old c []) a)) (flip c code)
-      ∙ or-in (eqb code c) (list_any (λ k. eqb k c) coded) (eqb a atom) (has_atom (get_or old c []) a)
-      ∙ ap (λ p. (p && eqb a atom) || has_atom (get_or old c []) a) (sym (list_any-append (λ k. eqb k c) coded (code ∷ [])));
+      ∙ ap (λ p. (p && eqb a atom) || ((list_any (λ k. eqb k c) row && eqb a atom) || has_atom (get_or old c []) a)) (flip c code)
+      ∙ or-in (eqb code c) (list_any (λ k. eqb k c) row) (eqb a atom) (has_atom (get_or old c []) a)
+      ∙ ap (λ p. (p && eqb a atom) || has_atom (get_or old c []) a) (sym (list_any-append (λ k. eqb k c) row (code ∷ [])));
 }
 
 pub from-fits : (a n : ℕ) → a < 4294967296 → n < 4294967296 → a * n + n < 18446744073709551616

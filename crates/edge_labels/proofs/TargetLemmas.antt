@@ -29,7 +29,7 @@ row-of n atoms a codes edges l = get_or-map-range_with_len (λ b. targets_by edg
 
 target-of : (n atoms r a : ℕ) (codes : List ℕ) (edges : List Edge) → length codes ≡ atoms * n → r < n → a < atoms → target_at (labels_of n atoms codes edges) r a ≡ (edge_at edges (code_at n codes a r)).target
 target-of n atoms r a codes edges long lr la =
-    ap (λ row. get_or coded r NoRoute) (row-of n atoms a codes edges la)
+    ap (λ row. get_or row r NoRoute) (row-of n atoms a codes edges la)
     ∙ get_or-map (λ c. (edge_at edges c).target) (codes_of n codes a) r 0 NoRoute (omega (arith, length-row n atoms a codes long la))
     ∙ ap (λ c. (edge_at edges c).target) (row-at n a r codes lr)
 
@@ -49,7 +49,7 @@ below-from j k h = grind (arith, nat_tests)
 pub moved-same : (g : Labels) (r a : ℕ) (t : Target) → target_at g r a ≡ t → g ≡ moved g r a t
 moved-same g r a t same =
     let make : List (List Target) → Labels = λ rows. record { routers = g.routers; rows = rows } in
-    ap make (sym (ap (λ row. set g.rows a coded) (ap (λ x. set (targets_of g a) r x) (sym same) ∙ set-get_or (targets_of g a) r NoRoute) ∙ set-get_or g.rows a []))
+    ap make (sym (ap (λ row. set g.rows a row) (ap (λ x. set (targets_of g a) r x) (sym same) ∙ set-get_or (targets_of g a) r NoRoute) ∙ set-get_or g.rows a []))
 
 -- ---- an atom is added
 
@@ -83,9 +83,9 @@ inherited-labels n atoms old codes new edges g is long lo made =
     let len : length (codes_of n codes old) ≡ n = length-row n atoms old codes long lo in
     ap (λ cs. make (map (λ a. targets_by edges (codes_of n cs a)) (range_with_len 0 (atoms + 1)))) made
     ∙ ap make (map-range_with_len_more (λ a. targets_by edges (codes_of n (codes ++ codes_of n codes old) a)) 0 atoms atoms (omega arith))
-    ∙ ap (λ row. make (map (λ a. targets_by edges (codes_of n (codes ++ codes_of n codes old) a)) (range_with_len 0 atoms) ++ targets_by edges coded ∷ [])) (row-added n atoms codes (codes_of n codes old) long len)
+    ∙ ap (λ row. make (map (λ a. targets_by edges (codes_of n (codes ++ codes_of n codes old) a)) (range_with_len 0 atoms) ++ targets_by edges row ∷ [])) (row-added n atoms codes (codes_of n codes old) long len)
     ∙ ap (λ rows. make (rows ++ targets_by edges (codes_of n codes old) ∷ [])) (map-along (λ a. targets_by edges (codes_of n (codes ++ codes_of n codes old) a)) (λ a. targets_by edges (codes_of n codes a)) 0 atoms (λ a l m. ap (targets_by edges) (row-kept n atoms a codes (codes_of n codes old) long (omega arith))))
-    ∙ ap (λ row. make (map (λ a. targets_by edges (codes_of n codes a)) (range_with_len 0 atoms) ++ coded ∷ [])) (sym (get_or-map-range_with_len (λ b. targets_by edges (codes_of n codes b)) 0 atoms old old [] lo (omega arith)))
+    ∙ ap (λ row. make (map (λ a. targets_by edges (codes_of n codes a)) (range_with_len 0 atoms) ++ row ∷ [])) (sym (get_or-map-range_with_len (λ b. targets_by edges (codes_of n codes b)) 0 atoms old old [] lo (omega arith)))
     ∙ ap (λ l. inherited l old) is
 
 -- ---- a router does something else with an atom
@@ -153,11 +153,11 @@ pub moved-labels : (n atoms r a code : ℕ) (codes now : List ℕ) (edges new : 
 unfolding labels_of
 moved-labels n atoms r a code codes now edges new t g is kept coded made lr la =
     let make : List (List Target) → Labels = λ rows. record { routers = n; rows = rows } in
-    ap make (sym (fill_by_all (λ b. targets_by new (codes_of n now b)) (set rows a (set (get_or rows a []) r t)) atoms [] (length-set rows a (set (get_or rows a []) r t) ∙ length-map-range_with_len coded 0 atoms) (λ b l. each b l (eqb b a) refl)))
+    ap make (sym (fill_by_all (λ b. targets_by new (codes_of n now b)) (set rows a (set (get_or rows a []) r t)) atoms [] (length-set rows a (set (get_or rows a []) r t) ∙ length-map-range_with_len row 0 atoms) (λ b l. each b l (eqb b a) refl)))
     ∙ ap (λ l. moved l r a t) is
   where
-    coded : ℕ → List Target
-    coded b = targets_by edges (codes_of n codes b)
+    row : ℕ → List Target
+    row b = targets_by edges (codes_of n codes b)
 
     rows : List (List Target)
     rows = map (λ b. targets_by edges (codes_of n codes b)) (range_with_len 0 atoms)
@@ -172,8 +172,8 @@ moved-labels n atoms r a code codes now edges new t g is kept coded made lr la =
     each b l true e =
         let here : b ≡ a = same-from b a e in
         ap (λ x. get_or (set rows a (set (get_or rows a []) r t)) x []) here
-        ∙ get_or-set_same rows a (set (get_or rows a []) r t) [] (omega (arith, length-map-range_with_len coded 0 atoms))
-        ∙ ap (λ xs. set xs r t) (get_or-map-range_with_len coded 0 atoms a a [] la (omega arith) ∙ sym (agree a la))
+        ∙ get_or-set_same rows a (set (get_or rows a []) r t) [] (omega (arith, length-map-range_with_len row 0 atoms))
+        ∙ ap (λ xs. set xs r t) (get_or-map-range_with_len row 0 atoms a a [] la (omega arith) ∙ sym (agree a la))
         ∙ ap (λ x. set (targets_by new (codes_of n codes a)) r x) (sym (ap (λ x. x.target) coded.is))
         ∙ sym (map-set (λ c. (edge_at new c).target) (codes_of n codes a) r code)
         ∙ ap (targets_by new) (sym (row-written n a r code codes lr))
@@ -182,7 +182,7 @@ moved-labels n atoms r a code codes now edges new t g is kept coded made lr la =
     each b l false e =
         let ne : b ≢ a = λ s. false≢true (sym e ∙ itself b a s) in
         get_or-set_other rows a b (set (get_or rows a []) r t) [] ne
-        ∙ get_or-map-range_with_len coded 0 atoms b b [] l (omega arith)
+        ∙ get_or-map-range_with_len row 0 atoms b b [] l (omega arith)
         ∙ sym (agree b l)
         ∙ ap (targets_by new) (sym (row-other n a b r code codes lr ne))
         ∙ ap (λ cs. targets_by new (codes_of n cs b)) (sym made)
@@ -254,7 +254,7 @@ first-rows n codes edges first = record {
 
 pub first-seen : (n : ℕ) (codes : List ℕ) (edges : List Edge) → AreFirst n codes edges → labels_of n 1 codes edges ≡ first_labels n
 unfolding labels_of
-first-seen n codes edges first = ap (λ row. make (coded ∷ [])) (same_lists (targets_by edges (codes_of n codes 0)) (replicate n NoRoute) (long ∙ sym (length-replicate n NoRoute)) (λ k d l. each k d (omega (arith, long))))
+first-seen n codes edges first = ap (λ row. make (row ∷ [])) (same_lists (targets_by edges (codes_of n codes 0)) (replicate n NoRoute) (long ∙ sym (length-replicate n NoRoute)) (λ k d l. each k d (omega (arith, long))))
   where
     make : List (List Target) → Labels
     make rows = record { routers = n; rows = rows }

@@ -1,8 +1,9 @@
 #!/usr/bin/env python3
 """Time of each query over N distinct prefixes in all, dealt out to routers in a ring, by the row.
 
-A row is an interval between two ends of prefixes. Each query is asked several times at the end of a run, and its time is
-what the run takes more than one that asks nothing, by the query and the row. The answers are worked out here and compared.
+A row is an interval between two ends of prefixes. Each query is asked at the end of a run so often that it goes over some
+millions of rows, and its time is what the run takes more than one that asks nothing, by the query and the row: so what the
+updates take, which is never twice the same, weighs little. The answers are worked out here and compared.
 
 Usage: bench/queries.py [--product BIN] [--instructions] [RUNS] [N]..
        runs of each script (1), of which the cheapest counts, and the N (10000 100000), multiples of 64, at most 16777216
@@ -18,7 +19,8 @@ from prefixes import MAIN, frame, prefix
 from program import flag, gauge, prepare
 from ring import words, write_feeds, write_network
 
-ASKED = 4  # how often each query is asked in a run whose time is measured
+ROWS = 4_000_000  # over how many rows a query goes in a run whose time is measured
+SLOW = {"without l0 loops": 10}  # a query that looks at every router in each row goes over so many times fewer
 WIDTHS = (8, 64)
 LAST = 2**32 - 1
 
@@ -75,34 +77,40 @@ def answers(count, routers):
     }
 
 
-def expected(count, routers, query, answer):
+def times_of(count, query, is_counted):
+    """How often a query is asked in a run: once where instructions are counted."""
+    if not query:
+        return 0
+    return 1 if is_counted else max(4, ROWS // SLOW.get(query, 1) // rows_of(count))
+
+
+def expected(count, routers, query, answer, times):
     """The head of the report, and the end with the answers."""
     feeds = "".join(f"feed {i + 1} m{i} updates {count // routers} skipped 0 refused 0 end\n" for i in range(routers))
-    asked = (f"line {routers + 1 + k} at {count} {query}\n{answer}" for k in range(ASKED if query else 0))
+    asked = (f"line {routers + 1 + k} at {count} {query}\n{answer}" for k in range(times))
     return f"{feeds}history {count}\n".encode(), f"job 1\n{''.join(asked)}done\n".encode()
 
 
-def cost_of(folder, count, routers, query, answer, measured):
-    write_network(folder, [query] * ASKED if query else [], routers)
-    return measured(folder, ["run", *words(folder, routers)], *expected(count, routers, query, answer))
+def cost_of(folder, count, routers, query, answer, measured, times):
+    write_network(folder, [query] * times, routers)
+    return measured(folder, ["run", *words(folder, routers)], *expected(count, routers, query, answer, times))
 
 
-def measure(folder, count, routers, measured, unit):
+def measure(folder, count, routers, measured, unit, is_counted):
     """What each query takes by the row."""
     write_feeds(folder, count, lambda j: frame(j, MAIN), routers)
-    none = cost_of(folder, count, routers, "", "", measured)
+    none = cost_of(folder, count, routers, "", "", measured, 0)
     rows = rows_of(count)
     costs = {}
     for query, answer in answers(count, routers).items():
-        costs[query] = (cost_of(folder, count, routers, query, answer, measured) - none) / ASKED / rows
+        times = times_of(count, query, is_counted)
+        costs[query] = (cost_of(folder, count, routers, query, answer, measured, times) - none) / times / rows
         print(f"{routers} routers, {count} prefixes, {rows} rows: {query}: {costs[query]:.4f} {unit} a row", flush=True)
     return costs
 
 
 def main():
-    global ASKED
     is_counted, given = flag(prepare(sys.argv[1:]), "--instructions")
-    ASKED = 1 if is_counted else ASKED
     measured, unit = gauge(int(given[0]) if given else 1, is_counted)
     counts = [int(word) for word in given[1:]] or [10000, 100000]
     if any(n % max(WIDTHS) or not 0 < n <= 2**24 for n in counts):
@@ -110,7 +118,7 @@ def main():
         counts = [n - n % max(WIDTHS) for n in counts]
     for routers in WIDTHS:
         with tempfile.TemporaryDirectory() as folder:
-            costs = [measure(folder, n, routers, measured, unit) for n in counts]
+            costs = [measure(folder, n, routers, measured, unit, is_counted) for n in counts]
         for query in costs[0]:
             if query in ("loops", "path m0 0.0.0.1"):
                 continue  # neither looks at all rows

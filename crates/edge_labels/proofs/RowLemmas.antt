@@ -69,7 +69,7 @@ pub row-added : (n atoms : ℕ) (codes row : List ℕ) → length codes ≡ atom
 row-added n atoms codes row long len = ap (take n) (drop_at codes row (atoms * n) long) ∙ take_all n row (omega arith)
 
 pub code-kept : (n atoms b q : ℕ) (codes row : List ℕ) → length codes ≡ atoms * n → b < atoms → q < n → code_at n (codes ++ row) b q ≡ code_at n codes b q
-code-kept n atoms b q codes row long l m = get_or_append_left codes row 0 (b * n + q) (omega (arith, row-fits b atoms n l))
+code-kept n atoms b q codes more long l m = get_or_append_left codes more 0 (b * n + q) (omega (arith, row-fits b atoms n l))
 
 pub code-added : (n atoms q : ℕ) (codes row : List ℕ) → length codes ≡ atoms * n → code_at n (codes ++ row) atoms q ≡ get_or row q 0
 code-added n atoms q codes row long = let at : atoms * n + q ≡ length codes + q = omega arith in ap (λ i. get_or (codes ++ row) i 0) at ∙ get_or-append-add codes row q 0

@@ -153,11 +153,11 @@ pub moved-labels : (n atoms r a code : ℕ) (codes now : List ℕ) (edges new : 
 unfolding labels_of
 moved-labels n atoms r a code codes now edges new t g is kept coded made lr la =
     let make : List (List Target) → Labels = λ rows. record { routers = n; rows = rows } in
-    ap make (sym (fill_by_all (λ b. targets_by new (codes_of n now b)) (set rows a (set (get_or rows a []) r t)) atoms [] (length-set rows a (set (get_or rows a []) r t) ∙ length-map-range_with_len row 0 atoms) (λ b l. each b l (eqb b a) refl)))
+    ap make (sym (fill_by_all (λ b. targets_by new (codes_of n now b)) (set rows a (set (get_or rows a []) r t)) atoms [] (length-set rows a (set (get_or rows a []) r t) ∙ length-map-range_with_len before_move 0 atoms) (λ b l. each b l (eqb b a) refl)))
     ∙ ap (λ l. moved l r a t) is
   where
-    row : ℕ → List Target
-    row b = targets_by edges (codes_of n codes b)
+    before_move : ℕ → List Target
+    before_move b = targets_by edges (codes_of n codes b)
 
     rows : List (List Target)
     rows = map (λ b. targets_by edges (codes_of n codes b)) (range_with_len 0 atoms)
@@ -172,8 +172,8 @@ moved-labels n atoms r a code codes now edges new t g is kept coded made lr la =
     each b l true e =
         let here : b ≡ a = same-from b a e in
         ap (λ x. get_or (set rows a (set (get_or rows a []) r t)) x []) here
-        ∙ get_or-set_same rows a (set (get_or rows a []) r t) [] (omega (arith, length-map-range_with_len row 0 atoms))
-        ∙ ap (λ xs. set xs r t) (get_or-map-range_with_len row 0 atoms a a [] la (omega arith) ∙ sym (agree a la))
+        ∙ get_or-set_same rows a (set (get_or rows a []) r t) [] (omega (arith, length-map-range_with_len before_move 0 atoms))
+        ∙ ap (λ xs. set xs r t) (get_or-map-range_with_len before_move 0 atoms a a [] la (omega arith) ∙ sym (agree a la))
         ∙ ap (λ x. set (targets_by new (codes_of n codes a)) r x) (sym (ap (λ x. x.target) coded.is))
         ∙ sym (map-set (λ c. (edge_at new c).target) (codes_of n codes a) r code)
         ∙ ap (targets_by new) (sym (row-written n a r code codes lr))
@@ -182,7 +182,7 @@ moved-labels n atoms r a code codes now edges new t g is kept coded made lr la =
     each b l false e =
         let ne : b ≢ a = λ s. false≢true (sym e ∙ itself b a s) in
         get_or-set_other rows a b (set (get_or rows a []) r t) [] ne
-        ∙ get_or-map-range_with_len row 0 atoms b b [] l (omega arith)
+        ∙ get_or-map-range_with_len before_move 0 atoms b b [] l (omega arith)
         ∙ sym (agree b l)
         ∙ ap (targets_by new) (sym (row-other n a b r code codes lr ne))
         ∙ ap (λ cs. targets_by new (codes_of n cs b)) (sym made)

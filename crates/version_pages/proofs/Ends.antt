@@ -73,12 +73,12 @@ ends-same ends kids k kid x at l is long = record {
       (cases_lt k (m + 1));
 }
 
--- one more element in a child makes all ends from it on one more
-pub ends-grown : {T : Type 0} (ends new : List ℕ) (kids : List (Shape T)) (k : ℕ) (kid x : Shape T) → AreEnds ends kids → AreLonger ends new k (length ends) → k < length kids → kid ≡ get_or kids k kid → length (items_of x) ≡ length (items_of kid) + 1 → AreEnds new (set kids k x)
-ends-grown ends new kids k kid x at more l is long = record {
+-- more elements in a child make all ends from it on so much more
+pub ends-grown : {T : Type 0} (ends new : List ℕ) (kids : List (Shape T)) (k n : ℕ) (kid x : Shape T) → AreEnds ends kids → AreLonger ends new k (length ends) n → k < length kids → kid ≡ get_or kids k kid → length (items_of x) ≡ length (items_of kid) + n → AreEnds new (set kids k x)
+ends-grown ends new kids k n kid x at more l is long = record {
   count = omega (arith, at.count, more.count, length-set kids k x);
   each = λ m d b. ⊎_elim
-      (λ (y : k < m + 1). omega (arith, more.within m d (omega arith) (omega (arith, at.count, length-set kids k x)), at.each m d (omega (arith, length-set kids k x)), back-set kids k (m + 1) 1 kid x l y is long))
+      (λ (y : k < m + 1). omega (arith, more.within m d (omega arith) (omega (arith, at.count, length-set kids k x)), at.each m d (omega (arith, length-set kids k x)), back-set kids k (m + 1) n kid x l y is long))
       (λ (y : m + 1 ≤ k). omega (arith, more.before m d (omega arith), at.each m d (omega (arith, length-set kids k x)), front-set kids k (m + 1) x y))
       (cases_lt k (m + 1));
 }
@@ -95,14 +95,14 @@ ends-last ends kids k n v kid x at last is long sum = record {
 }
 
 -- one number more from a place to the next
-pub longer-step : (old new : List ℕ) (from to v : ℕ) → AreLonger old new from to → from ≤ to → to < length new → v ≡ get_or new to 0 + 1 → AreLonger old (set new to v) from (to + 1)
-longer-step old new from to v h l m sum = record {
+pub longer-step : (old new : List ℕ) (from to more v : ℕ) → AreLonger old new from to more → from ≤ to → to < length new → v ≡ get_or new to 0 + more → AreLonger old (set new to v) from (to + 1) more
+longer-step old new from to more v h l m sum = record {
   count = length-set new to v ∙ h.count;
   before = λ n d b. get_or-set_other new to n v d (λ q. omega (arith, q)) ∙ h.before n d b;
   within = λ n d a b. ⊎_elim
       (λ (y : n < to). get_or-set_other new to n v d (λ q. omega (arith, q)) ∙ h.within n d a y)
       (λ (y : to ≤ n). let e : n ≡ to = omega arith in
-      ap (λ j. get_or (set new to v) j d) e ∙ get_or-set_same new to v d m ∙ sum ∙ ap (λ j. j + 1) (get_or_default new to 0 d m ∙ h.after to d (omega arith) ∙ ap (λ j. get_or old j d) (sym e)))
+      ap (λ j. get_or (set new to v) j d) e ∙ get_or-set_same new to v d m ∙ sum ∙ ap (λ j. j + more) (get_or_default new to 0 d m ∙ h.after to d (omega arith) ∙ ap (λ j. get_or old j d) (sym e)))
       (cases_lt n to);
   after = λ n d a. get_or-set_other new to n v d (λ q. omega (arith, q)) ∙ h.after n d (omega arith);
 }

@@ -1,5 +1,5 @@
--- One element of a list changed by a call, and more elements at its end.
-use Rattle.std.specs.Prelude.{ℕ, ◌≡◌, ◌≤◌, ◌++◌, List, length, set, slice_index_or, take}
+-- One element of a list changed by a call, and more elements at its end or at a place.
+use Rattle.std.specs.Prelude.{ℕ, ◌≡◌, ◌≤◌, ◌++◌, List, length, set, slice_index_or, take, drop}
 use Rattle.std.specs.Fn.{FnOnceReturnsAtMut}
 use denote.Param.Members.{Once}
 use denote.Ref.{MutBor}
@@ -15,3 +15,9 @@ pub record IsExtended {T : Type 0} (old new items : List T) : Type 0 where
   pub count : ℕ
   pub few : count ≤ length items
   pub list : new ≡ old ++ take count items
+
+-- the first of some elements were put before the one that stands at a place
+pub record IsInserted {T : Type 0} (old new items : List T) (i : ℕ) : Type 0 where
+  pub count : ℕ
+  pub few : count ≤ length items
+  pub list : new ≡ take i old ++ take count items ++ drop i old

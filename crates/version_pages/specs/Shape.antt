@@ -55,11 +55,11 @@ abbrev pub end_before : List ℕ → ℕ → ℕ
 end_before ends zero = 0
 end_before ends (suc k) = slice_index_or ends k 0
 
--- the numbers from one place to another are one more than they were
-pub record AreLonger (old new : List ℕ) (from to : ℕ) : Type 0 where
+-- the numbers from one place to another are so much more than they were
+pub record AreLonger (old new : List ℕ) (from to more : ℕ) : Type 0 where
   pub count : length new ≡ length old
   pub before : (n d : ℕ) → n < from → slice_index_or new n d ≡ slice_index_or old n d
-  pub within : (n d : ℕ) → from ≤ n → n < to → slice_index_or new n d ≡ slice_index_or old n d + 1
+  pub within : (n d : ℕ) → from ≤ n → n < to → slice_index_or new n d ≡ slice_index_or old n d + more
   pub after : (n d : ℕ) → to ≤ n → slice_index_or new n d ≡ slice_index_or old n d
 
 -- a part of a list, in which a place of the list is this one

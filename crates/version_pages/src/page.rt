@@ -46,18 +46,3 @@ pub fn page_of_copies<T: Copy>(
     page.extend_from_slice(items)?;
     Ok(page)
 }
-
-/// A page of copies of these elements and then those, with room for as many.
-pub fn page_of_both<T: Clone>(
-    alloc: Global,
-    room: usize,
-    first: &[T],
-    then: &[T],
-) -> Result<Vec<T>, OutOfMemory>
-    requires { (x y : T) → T.is_clone x y → y ≡ x }
-    ensures { IfOk result (λ page. page.items ≡ first.now ++ then.now) }
-{
-    let mut page = page_of(alloc, room, first)?;
-    add_copies(&mut page, then)?;
-    Ok(page)
-}

@@ -2,7 +2,7 @@
 
 ghost use Rattle.std.specs.Prelude.{◌≡◌, ◌+◌, ◌*◌, ◌<◌, ◌≤◌, ◌^◌, ◌↔◌, ◌++◌, ◌∷◌, []};
 ghost use Rattle.std.specs.Prelude.{IfErr, IfOk, OnErr, OnOk, IfSome, IsSome, is_ok, if◌then◌else◌, length, set, insert, take, drop, slice_index_or};
-ghost use Rattle.version_pages.specs.Changes.{Changes, IsExtended};
+ghost use Rattle.version_pages.specs.Changes.{Changes, IsExtended, IsInserted};
 ghost use Rattle.version_pages.specs.Growth.{grown, CanGrow};
 ghost use Rattle.version_pages.specs.Search.{EndsBelow};
 
@@ -355,6 +355,54 @@ impl<T: Keyed + Copy> Pages<T> {
             at += self.extend_some(alloc, &items[at..])?;
         }
         Ok(())
+    }
+
+    /// Puts the first of some elements before the one that stands at a place now, as many as its page has room for. It
+    /// answers how many, one at least. After `OutOfMemory` the list is as before.
+    fn insert_some(&mut self, alloc: Global, i: u64, items: &[T]) -> Result<usize, OutOfMemory>
+        requires some { 0 < length items.now }
+        requires inside { i < length self.old }
+        requires clones { (x y : T) → T.is_clone x y → y ≡ x }
+        ensures some { IfOk result (λ count. 0 < count) }
+        ensures within { IfOk result (λ count. count ≤ length items.now) }
+        ensures items { IfOk result (λ count. self.new ≡ take i self.old ++ take count items.now ++ drop i self.old) }
+        ensures same { OnErr result (self.new ≡ self.old) }
+    {
+        let Some(root) = &mut self.root else {
+            return Err(OutOfMemory);
+        };
+        return root.insert_whole(alloc, i, items);
+    }
+
+    /// Puts some elements before the one that stands at a place now, page by page.
+    fn insert_inside(&mut self, alloc: Global, i: u64, items: &[T]) -> Result<(), OutOfMemory>
+        requires inside { i < length self.old }
+        requires clones { (x y : T) → T.is_clone x y → y ≡ x }
+        ensures all { OnOk result (self.new ≡ take i self.old ++ items.now ++ drop i self.old) }
+        ensures front { IsInserted self.old self.new items.now i }
+    {
+        let behind = self.len() - i;
+        let mut at = 0;
+        'pages: while at < items.len() {
+            let place = self.len() - behind;
+            let count = self.insert_some(alloc, place, &items[at..])?;
+            at += count;
+        }
+        Ok(())
+    }
+
+    /// Puts some elements before the one that stands at a place now, or at the end. After `OutOfMemory` the first of them
+    /// may be there.
+    pub fn insert_all(&mut self, alloc: Global, i: u64, items: &[T]) -> Result<(), OutOfMemory>
+        requires inside { i ≤ length self.old }
+        requires clones { (x y : T) → T.is_clone x y → y ≡ x }
+        ensures all { OnOk result (self.new ≡ take i self.old ++ items.now ++ drop i self.old) }
+        ensures front { IsInserted self.old self.new items.now i }
+    {
+        if i == self.len() {
+            return self.extend(alloc, items);
+        }
+        return self.insert_inside(alloc, i, items);
     }
 }
 

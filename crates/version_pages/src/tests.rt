@@ -419,3 +419,62 @@ fn pages_at_the_end_of_held_pages(rt: HostRuntime) -> Result<(), Fail> {
     compare(&rt, &held, &old);
     Ok(())
 }
+
+/// Puts so many more numbers before the one at a place of both, or at the end.
+fn insert_both(
+    alloc: Global,
+    pages: &mut Pages<u64>,
+    plain: &mut Vec<u64>,
+    at: u64,
+    more: &Vec<u64>,
+) -> Result<(), OutOfMemory> {
+    if at <= pages.len() && at <= plain.len() as u64 {
+        pages.insert_all(alloc, at, more.as_slice())?;
+        let behind = plain.split_off(at as usize)?;
+        plain.extend_from_slice(more.as_slice())?;
+        plain.extend_from_slice(behind.as_slice())?;
+    }
+    Ok(())
+}
+
+/// Rows of up to 200 numbers go in at places all over, at the front and at the end. Every seventh time a copy holds all
+/// pages from then on. The list has what a plain `Vec` has, and each copy what it had.
+#[test]
+fn rows_all_over(rt: HostRuntime) -> Result<(), Fail> {
+    let alloc = rt.alloc();
+    let (mut pages, mut plain) = rising(alloc, 0)?;
+    let mut held = pages.copy()?;
+    let mut old = plain.clone()?;
+    let mut state = 1u64;
+    for k in 0..400u64 {
+        state = state
+            .wrapping_mul(6364136223846793005)
+            .wrapping_add(1442695040888963407);
+        let at = ((state >> 33) % (120 * k + 1)).min(pages.len());
+        let row = numbers(alloc, 1000 * k, 1000 * k + (state >> 20) % 201)?;
+        insert_both(alloc, &mut pages, &mut plain, at, &row)?;
+        if k % 7 == 0 {
+            compare(&rt, &held, &old);
+            held = pages.copy()?;
+            old = plain.clone()?;
+        }
+    }
+    compare(&rt, &pages, &plain);
+    compare(&rt, &held, &old);
+    assert!(rt; pages.height() <= 3);
+    Ok(())
+}
+
+/// A row longer than a page, between two numbers: a search finds each at its place.
+#[test]
+fn a_search_after_a_row(rt: HostRuntime) -> Result<(), Fail> {
+    let alloc = rt.alloc();
+    let (mut pages, mut plain) = rising(alloc, 100)?;
+    let row = numbers(alloc, 200, 5_000)?;
+    insert_both(alloc, &mut pages, &mut plain, 100, &row)?;
+    let row = numbers(alloc, 100, 200)?;
+    insert_both(alloc, &mut pages, &mut plain, 100, &row)?;
+    are_found(&rt, &pages, 5_000);
+    compare_rising(&rt, &pages, 5_000);
+    Ok(())
+}

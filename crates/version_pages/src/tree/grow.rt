@@ -14,22 +14,22 @@ use dn_model::OutOfMemory;
 use std::alloc::Global;
 use std::sync::Arc;
 
-/// One more element is in a child.
-fn lengthen(ends: &mut [u64], k: usize)
+/// So many more elements are in a child.
+pub fn lengthen(ends: &mut [u64], k: usize, count: u64)
     requires child { k ≤ length ends.old }
-    requires few { (n d : ℕ) → n < length ends.old → slice_index_or ends.old n d + 1 < 2 ^ 64 }
-    ensures { AreLonger ends.old ends.new k (length ends.old) }
+    requires few { (n d : ℕ) → n < length ends.old → slice_index_or ends.old n d + count < 2 ^ 64 }
+    ensures { AreLonger ends.old ends.new k (length ends.old) count }
 {
     let mut n = k;
     'ends: while n < ends.len() {
-        ends[n] += 1;
+        ends[n] += count;
         n += 1;
     }
 }
 
 /// The child that has the element at a place, with the element's place in it. It has room for one more: a full one is
 /// parted before.
-fn ready<T: Keyed + Clone>(
+pub fn ready<T: Keyed + Clone>(
     alloc: Global,
     kids: &mut Vec<Kid<T>>,
     ends: &mut Vec<u64>,
@@ -123,7 +123,7 @@ impl<T: Keyed + Clone> Tree<T> {
                 let (k, j) = ready(alloc, kids, ends, i)?;
                 let kid = &mut kids[k];
                 kid.grow(alloc, j, growth)?;
-                lengthen(ends, k);
+                lengthen(ends, k, 1);
                 return Ok(());
             }
         }

@@ -57,10 +57,10 @@ Tree::grow-invariant_of-self-in-Fork g t c =
     let e : joined c.ready.new.kids.items ≡ c.args.self.now.items = c.ready.ensures.same ∙ ap items_of (ap shape_of (sym c.in-Fork.is) ∙ c.self.view_is) in
     let can : CanGrow c.args.growth c.index_mut-kid.result.now.items c.in_ok-k-in-Fork.j = can-at _ _ _ _ _ _ c.args.growth e at is c.requires.inside in
     let long : length c.grow.new.self.items ≡ length c.index_mut-kid.result.now.items + 1 = ap length c.in_ok-grow-in-Fork.ensures.items ∙ length-grown c.args.growth _ _ can in
-    let more : AreLonger c.ready.new.ends.items c.lengthen.new.ends c.in_ok-k-in-Fork.k (length c.ready.new.ends.items) = subst (λ t. AreLonger t c.lengthen.new.ends c.in_ok-k-in-Fork.k (length t)) c.deref_mut.ensures.value c.lengthen.ensures in
+    let more : AreLonger c.ready.new.ends.items c.lengthen.new.ends c.in_ok-k-in-Fork.k (length c.ready.new.ends.items) 1 = subst (λ t. AreLonger t c.lengthen.new.ends c.in_ok-k-in-Fork.k (length t) 1) c.deref_mut.ensures.value c.lengthen.ensures in
     let all : take c.ready.new.ends.len (c.lengthen.new.ends ++ drop (length c.lengthen.new.ends) c.ready.new.ends.items) ≡ c.lengthen.new.ends = take_at _ _ _ (omega (arith, more.count, ap length c.deref_mut.ensures.value, c.deref_mut.ensures.len)) in (
       kids-set _ _ _ c.index_mut-kid.result.now _ new at.child is c.grow.ensures.level c.grow.ensures.deep,
-      subst (λ t. AreEnds t (set c.ready.new.kids.items c.in_ok-k-in-Fork.k c.grow.new.self)) (sym all) (ends-grown _ _ _ _ c.index_mut-kid.result.now _ c.ready.ensures.ends more at.child is long),
+      subst (λ t. AreEnds t (set c.ready.new.kids.items c.in_ok-k-in-Fork.k c.grow.new.self)) (sym all) (ends-grown _ _ _ _ _ c.index_mut-kid.result.now _ c.ready.ensures.ends more at.child is long),
     )
 
 pub Tree::grow-grow-requires : goal.Tree::grow-grow-requires

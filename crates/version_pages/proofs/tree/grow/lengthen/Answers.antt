@@ -8,4 +8,4 @@ overflow_add-ends c = omega (arith, c.ends.invariant.1.1.after c.ends.n 0 (omega
 
 pub ends-preserved : goal.ends-preserved
 ends-preserved c =
-    (omega (arith, length-set c.ends.ends c.ends.n (get_or c.ends.ends c.ends.n 0 + 1), c.ends-test.true), (omega (arith, c.ends.invariant.1.0), longer-step _ _ _ _ _ c.ends.invariant.1.1 c.ends.invariant.1.0 c.ends-test.true refl))
+    (omega (arith, length-set c.ends.ends c.ends.n (get_or c.ends.ends c.ends.n 0 + c.args.count), c.ends-test.true), (omega (arith, c.ends.invariant.1.0), longer-step _ _ _ _ _ _ c.ends.invariant.1.1 c.ends.invariant.1.0 c.ends-test.true refl))

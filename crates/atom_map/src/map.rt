@@ -71,8 +71,8 @@ impl AtomMap {
         return self.cut_at(alloc, place, at);
     }
 
-    /// Cuts the atom at a place, which has the address.
-    fn cut_at(
+    /// Cuts the atom at a place, which has the address, as `cut` does. So a caller that needs the place searches once.
+    pub fn cut_at(
         &mut self,
         alloc: Global,
         place: u64,

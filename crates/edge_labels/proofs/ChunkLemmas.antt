@@ -1,8 +1,11 @@
 -- Rows of codes in chunks of eight, seen as codes one after another.
-use Rattle.std.proofs.Common.{◌≡◌, ◌≢◌, ℕ, zero, suc, ◌+◌, ◌*◌, ◌/◌, ◌%◌, ◌<◌, eqb, ltb, Bool, true, false, List, [], ◌++◌, length, take, drop, get_or, set, refl, ap, sym, subst, ◌∙◌, arith, length-append, get_or-set_other, get_or-set_same}
+use Rattle.std.proofs.Common.{◌≡◌, ◌≢◌, ℕ, zero, suc, ◌+◌, ◌-◌, ◌*◌, ◌/◌, ◌%◌, ◌<◌, ◌≤◌, cond, eqb, ltb, Bool, true, false, List, [], ◌∷◌, ◌++◌, length, map, take, drop, get_or, set, refl, ap, sym, subst, append_assoc, ⊎_elim, ◌∙◌, arith, length-append, get_or-set_other, get_or-set_same}
 use Rattle.std.specs.Fn.{FnOnceReturnsAtMut}
+use Rattle.std.specs.List.{insert, range_with_len}
+use Rattle.std.proofs.lemmas.Bool.{cases_lt, le-ltb, lt-ltb}
 use Rattle.std.proofs.lemmas.Bool.Decides.{nat_tests}
-use Rattle.std.proofs.lemmas.List.{get_or-append-add, get_or-drop, get_or-take, get_or_append_left, get_or_default, length-drop, length-set, length-take-le, same_lists}
+use Rattle.std.proofs.lemmas.List.{get_or-append-add, get_or-drop, get_or-take, get_or_append_left, get_or_default, length-drop, length-set, length-take-le, same_lists, take-append-drop, take_more}
+use Rattle.std.proofs.lemmas.List.Edits.{get_or-insert_above, get_or-insert_at, get_or-insert_below, insert-append_right, length-insert}
 use Rattle.std.proofs.lemmas.List.FromFn.{get_or-map-range_with_len, length-map-range_with_len}
 use Rattle.std.proofs.lemmas.Nat.{div-add-mod', div-mul-add, div_below, mod-mul-add, mod_below}
 use Rattle.version_pages.specs.Changes.{Changes}
@@ -11,10 +14,10 @@ use Rattle.edge_labels.specs.declared.code_chunk.CodeChunk.{CodeChunk}
 use Rattle.edge_labels.specs.declared.codes.Edge.{Edge}
 use Rattle.edge_labels.specs.ChunkRows.{AreChunkRows, AreLaid, code_in, codes_in, IsWritten, labels_in, lane_at, no_codes, stride_of}
 use Rattle.edge_labels.specs.Codes.{edge_at, IsCoded}
-use Rattle.edge_labels.specs.Labels.{Labels, first_labels, inherited, moved, target_at}
-use Rattle.edge_labels.specs.Rows.{AreFirst, AreRows, codes_of, labels_of}
+use Rattle.edge_labels.specs.Labels.{Labels, first_labels, moved, parted, target_at}
+use Rattle.edge_labels.specs.Rows.{AreFirst, AreRows, codes_of, IsCodeOf, labels_of, targets_by}
 use Rattle.edge_labels.proofs.RowLemmas.{length-row, place-atom, place-router, row-fits}
-use Rattle.edge_labels.proofs.TargetLemmas.{atoms-of, code-known, coded-rows, first-rows, first-seen, inherited-labels, inherited-rows, moved-labels, moved-rows, routers-of}
+use Rattle.edge_labels.proofs.TargetLemmas.{atoms-of, code-known, coded-rows, first-rows, first-seen, moved-labels, moved-rows, routers-of}
 use denote.Param.Members.{Once}
 use denote.Ref.{MutBor}
 
@@ -112,7 +115,7 @@ changed-written g h old new i lane code r inside made says = record {
         let away : j ≢ i = grind (arith, nat_tests) in
         ap (λ c. get_or c.codes k 0) (get_or-set_other old i j made.value no_codes away)
 
--- ---- a row is added
+-- ---- a row comes to stand twice
 
 -- no rows at all
 pub no-chunks : (n : ℕ) (chunks : List CodeChunk) (edges : List Edge) → chunks ≡ [] → ((c : ℕ) → c < length edges → (edge_at edges c).router < n) → AreChunkRows n 0 chunks edges
@@ -126,45 +129,221 @@ no-chunks n chunks edges none within = record {
   };
 }
 
-pub added-codes : (n atoms a : ℕ) (old new : List CodeChunk) → length old ≡ atoms * stride_of n → a < atoms → new ≡ old ++ take (stride_of n) (drop (a * stride_of n) old) → codes_in n (atoms + 1) new ≡ codes_in n atoms old ++ codes_of n (codes_in n atoms old) a
-added-codes n atoms a old new long la is =
-    same_lists (codes_in n (atoms + 1) new) (codes_in n atoms old ++ codes_of n (codes_in n atoms old) a)
-    (length-codes n (atoms + 1) new ∙ omega (arith, length-append (codes_in n atoms old) (codes_of n (codes_in n atoms old) a), length-codes n atoms old, row-long))
-    (λ k d l. at-places n (atoms + 1) k (λ j. get_or (codes_in n (atoms + 1) new) j d ≡ get_or (codes_in n atoms old ++ codes_of n (codes_in n atoms old) a) j d) (λ b q lb lq. at b q d lb lq (ltb b atoms) refl) (omega (arith, length-codes n (atoms + 1) new)))
-  where
-    row-long : length (codes_of n (codes_in n atoms old) a) ≡ n
-    row-long = length-row n atoms a (codes_in n atoms old) (length-codes n atoms old) la
+-- the row that stands at a place, where one comes to stand twice: those behind it stood one place before
+abbrev came_from : ℕ → ℕ → ℕ
+came_from a b = cond (ltb a b) (b - 1) b
 
-    here : (b q d : ℕ) → b < atoms → q < n → code_in n new b q ≡ code_in n old b q
-    here b q d lb lq = ap (λ cs. code_in n cs b q) is ∙ ap (λ c. get_or c.codes (q % 8) 0) (get_or_append_left old (take (stride_of n) (drop (a * stride_of n) old)) no_codes (b * stride_of n + q / 8) (omega (arith, long, place-inside b atoms q n lb lq)))
+came-before : (a b : ℕ) → b ≤ a → came_from a b ≡ b
+came-before a b l = ap (λ t. cond t (b - 1) b) (le-ltb a b l)
 
-    last : (q : ℕ) → q < n → code_in n new atoms q ≡ code_in n old a q
-    last q lq =
-        let at : atoms * stride_of n + q / 8 ≡ length old + q / 8 = ap (λ x. x + q / 8) (sym long) in
-        ap (λ cs. code_in n cs atoms q) is
-        ∙ ap (λ i. lane_at (old ++ take (stride_of n) (drop (a * stride_of n) old)) i (q % 8)) at
-        ∙ ap (λ c. get_or c.codes (q % 8) 0) (get_or-append-add old (take (stride_of n) (drop (a * stride_of n) old)) (q / 8) no_codes
-        ∙ get_or-take (stride_of n) (drop (a * stride_of n) old) (q / 8) no_codes (chunk-fits q n lq)
-        ∙ get_or-drop (a * stride_of n) old (q / 8) no_codes)
+came-behind : (a b : ℕ) → a < b → came_from a b ≡ b - 1
+came-behind a b l = ap (λ t. cond t (b - 1) b) (lt-ltb a b l)
 
-    at : (b q d : ℕ) → b < atoms + 1 → q < n → (t : Bool) → ltb b atoms ≡ t → get_or (codes_in n (atoms + 1) new) (b * n + q) d ≡ get_or (codes_in n atoms old ++ codes_of n (codes_in n atoms old) a) (b * n + q) d
-    at b q d lb lq true e =
-        let l : b < atoms = grind (arith, nat_tests) in
-        code-flat n (atoms + 1) b q d new lb lq
-        ∙ here b q d l lq
-        ∙ sym (code-flat n atoms b q d old l lq)
-        ∙ sym (get_or_append_left (codes_in n atoms old) (codes_of n (codes_in n atoms old) a) d (b * n + q) (omega (arith, length-codes n atoms old, row-fits b atoms n l)))
-    at b q d lb lq false e =
-        let end : b ≡ atoms = grind (arith, nat_tests) in
-        let place : b * n + q ≡ length (codes_in n atoms old) + q = ap (λ x. x * n + q) end ∙ ap (λ x. x + q) (sym (length-codes n atoms old)) in
-        code-flat n (atoms + 1) b q d new lb lq
-        ∙ ap (λ x. code_in n new x q) end
-        ∙ last q lq
-        ∙ sym (code-flat n atoms a q d old la lq)
-        ∙ sym (get_or-drop (a * n) (codes_in n atoms old) q d)
-        ∙ sym (get_or-take n (drop (a * n) (codes_in n atoms old)) q d lq)
-        ∙ sym (get_or-append-add (codes_in n atoms old) (codes_of n (codes_in n atoms old) a) q d)
-        ∙ ap (λ k. get_or (codes_in n atoms old ++ codes_of n (codes_in n atoms old) a) k d) (sym place)
+came-inside : (a b atoms : ℕ) → a < atoms → b < atoms + 1 → came_from a b < atoms
+came-inside a b atoms la lb = ⊎_elim
+    (λ (l : a < b). let e : came_from a b ≡ b - 1 = came-behind a b l in omega arith)
+    (λ (l : b ≤ a). let e : came_from a b ≡ b = came-before a b l in omega arith)
+    (cases_lt a b)
+
+-- the chunks of a row once more behind them
+abbrev pub twice : ℕ → ℕ → List CodeChunk → List CodeChunk
+twice n a chunks = take ((a + 1) * stride_of n) chunks ++ (take (stride_of n) (drop (a * stride_of n) chunks) ++ drop ((a + 1) * stride_of n) chunks)
+
+-- as the calls say it
+pub made-twice : (n a width from next : ℕ) (old row new : List CodeChunk) → width ≡ stride_of n → from ≡ a * stride_of n → next ≡ (a + 1) * stride_of n → row ≡ take width (drop from old) → new ≡ take next old ++ row ++ drop next old → new ≡ twice n a old
+made-twice n a width from next old row new wide begin end is made =
+    made
+    ∙ append_assoc (take next old) row (drop next old)
+    ∙ ap (λ (xs : List CodeChunk). take next old ++ (xs ++ drop next old)) (is ∙ ap (λ k. take k (drop from old)) wide ∙ ap (λ k. take (stride_of n) (drop k old)) begin)
+    ∙ ap (λ k. take k old ++ (take (stride_of n) (drop (a * stride_of n) old) ++ drop k old)) end
+
+module _ (n atoms a : ℕ) (old new : List CodeChunk) (long : length old ≡ atoms * stride_of n) (la : a < atoms) (is : new ≡ twice n a old) where
+  fits : (a + 1) * stride_of n ≤ length old
+  fits = omega (arith, long, row-fits a atoms (stride_of n) la)
+
+  front-long : length (take ((a + 1) * stride_of n) old) ≡ (a + 1) * stride_of n
+  front-long = length-take-le ((a + 1) * stride_of n) old fits
+
+  row-long : length (take (stride_of n) (drop (a * stride_of n) old)) ≡ stride_of n
+  row-long = length-take-le (stride_of n) (drop (a * stride_of n) old) (omega (arith, length-drop (a * stride_of n) old, fits))
+
+  back-long : length (drop ((a + 1) * stride_of n) old) ≡ length old - (a + 1) * stride_of n
+  back-long = length-drop ((a + 1) * stride_of n) old
+
+  pub twice-long : length new ≡ (atoms + 1) * stride_of n
+  twice-long =
+      let whole : length (take ((a + 1) * stride_of n) old ++ (take (stride_of n) (drop (a * stride_of n) old) ++ drop ((a + 1) * stride_of n) old)) ≡ length (take ((a + 1) * stride_of n) old) + length (take (stride_of n) (drop (a * stride_of n) old) ++ drop ((a + 1) * stride_of n) old) =
+      length-append (take ((a + 1) * stride_of n) old) (take (stride_of n) (drop (a * stride_of n) old) ++ drop ((a + 1) * stride_of n) old) in
+      let rest : length (take (stride_of n) (drop (a * stride_of n) old) ++ drop ((a + 1) * stride_of n) old) ≡ length (take (stride_of n) (drop (a * stride_of n) old)) + length (drop ((a + 1) * stride_of n) old) =
+      length-append (take (stride_of n) (drop (a * stride_of n) old)) (drop ((a + 1) * stride_of n) old) in
+      ap length is ∙ omega (arith, whole, rest, front-long, row-long, back-long, long, fits)
+
+  -- a chunk up to the row, of the row that was put in, and behind it
+  in-front : (i : ℕ) → i < (a + 1) * stride_of n → get_or new i no_codes ≡ get_or old i no_codes
+  in-front i l =
+      ap (λ cs. get_or cs i no_codes) is
+      ∙ get_or_append_left (take ((a + 1) * stride_of n) old) (take (stride_of n) (drop (a * stride_of n) old) ++ drop ((a + 1) * stride_of n) old) no_codes i (omega (arith, front-long))
+      ∙ get_or-take ((a + 1) * stride_of n) old i no_codes l
+
+  in-row : (k : ℕ) → k < stride_of n → get_or new ((a + 1) * stride_of n + k) no_codes ≡ get_or old (a * stride_of n + k) no_codes
+  in-row k l =
+      ap (λ cs. get_or cs ((a + 1) * stride_of n + k) no_codes) is
+      ∙ ap (λ m. get_or (twice n a old) (m + k) no_codes) (sym front-long)
+      ∙ get_or-append-add (take ((a + 1) * stride_of n) old) (take (stride_of n) (drop (a * stride_of n) old) ++ drop ((a + 1) * stride_of n) old) k no_codes
+      ∙ get_or_append_left (take (stride_of n) (drop (a * stride_of n) old)) (drop ((a + 1) * stride_of n) old) no_codes k (omega (arith, row-long))
+      ∙ get_or-take (stride_of n) (drop (a * stride_of n) old) k no_codes l
+      ∙ get_or-drop (a * stride_of n) old k no_codes
+
+  in-back : (k : ℕ) → get_or new ((a + 1) * stride_of n + (stride_of n + k)) no_codes ≡ get_or old ((a + 1) * stride_of n + k) no_codes
+  in-back k =
+      ap (λ cs. get_or cs ((a + 1) * stride_of n + (stride_of n + k)) no_codes) is
+      ∙ ap (λ m. get_or (twice n a old) (m + (stride_of n + k)) no_codes) (sym front-long)
+      ∙ get_or-append-add (take ((a + 1) * stride_of n) old) (take (stride_of n) (drop (a * stride_of n) old) ++ drop ((a + 1) * stride_of n) old) (stride_of n + k) no_codes
+      ∙ ap (λ m. get_or (take (stride_of n) (drop (a * stride_of n) old) ++ drop ((a + 1) * stride_of n) old) (m + k) no_codes) (sym row-long)
+      ∙ get_or-append-add (take (stride_of n) (drop (a * stride_of n) old)) (drop ((a + 1) * stride_of n) old) k no_codes
+      ∙ get_or-drop ((a + 1) * stride_of n) old k no_codes
+
+  code-front : (b q : ℕ) → b ≤ a → q < n → code_in n new b q ≡ code_in n old b q
+  code-front b q l lq = ap (λ c. get_or c.codes (q % 8) 0) (in-front (b * stride_of n + q / 8) (omega (arith, place-inside b (a + 1) q n (omega arith) lq)))
+
+  code-row : (q : ℕ) → q < n → code_in n new (a + 1) q ≡ code_in n old a q
+  code-row q lq = ap (λ c. get_or c.codes (q % 8) 0) (in-row (q / 8) (chunk-fits q n lq))
+
+  code-back : (b j q : ℕ) → b ≡ a + 2 + j → code_in n new b q ≡ code_in n old (b - 1) q
+  code-back b j q e =
+      let now : b * stride_of n + q / 8 ≡ (a + 1) * stride_of n + (stride_of n + (j * stride_of n + q / 8)) = ap (λ x. x * stride_of n + q / 8) e ∙ (omega arith) in
+      let before : b - 1 ≡ a + 1 + j = omega arith in
+      let was : (b - 1) * stride_of n + q / 8 ≡ (a + 1) * stride_of n + (j * stride_of n + q / 8) = ap (λ x. x * stride_of n + q / 8) before ∙ (omega arith) in
+      ap (λ i. lane_at new i (q % 8)) now
+      ∙ ap (λ c. get_or c.codes (q % 8) 0) (in-back (j * stride_of n + q / 8))
+      ∙ sym (ap (λ i. lane_at old i (q % 8)) was)
+
+  code-twice : (b q : ℕ) → q < n → code_in n new b q ≡ code_in n old (came_from a b) q
+  code-twice b q lq = ⊎_elim
+      (λ (l : a < b).
+      ⊎_elim
+      (λ (m : a + 1 < b). code-back b (b - (a + 2)) q (omega arith))
+      (λ (m : b ≤ a + 1).
+      let e : b ≡ a + 1 = omega arith in
+      let f : b - 1 ≡ a = omega arith in
+      ap (λ x. code_in n new x q) e ∙ code-row q lq ∙ ap (λ x. code_in n old x q) (sym f))
+      (cases_lt (a + 1) b)
+      ∙ ap (λ x. code_in n old x q) (sym (came-behind a b l)))
+      (λ (l : b ≤ a). code-front b q l lq ∙ ap (λ x. code_in n old x q) (sym (came-before a b l)))
+      (cases_lt a b)
+
+  flat-twice : (b q d : ℕ) → b < atoms + 1 → q < n → get_or (codes_in n (atoms + 1) new) (b * n + q) d ≡ get_or (codes_in n atoms old) (came_from a b * n + q) d
+  flat-twice b q d lb lq =
+      code-flat n (atoms + 1) b q d new lb lq
+      ∙ code-twice b q lq
+      ∙ sym (code-flat n atoms (came_from a b) q d old (came-inside a b atoms la lb) lq)
+
+  row-twice : (b : ℕ) → b < atoms + 1 → codes_of n (codes_in n (atoms + 1) new) b ≡ codes_of n (codes_in n atoms old) (came_from a b)
+  row-twice b lb =
+      let here : length (codes_of n (codes_in n (atoms + 1) new) b) ≡ n = length-row n (atoms + 1) b (codes_in n (atoms + 1) new) (length-codes n (atoms + 1) new) lb in
+      let there : length (codes_of n (codes_in n atoms old) (came_from a b)) ≡ n = length-row n atoms (came_from a b) (codes_in n atoms old) (length-codes n atoms old) (came-inside a b atoms la lb) in
+      same_lists (codes_of n (codes_in n (atoms + 1) new) b) (codes_of n (codes_in n atoms old) (came_from a b)) (here ∙ sym there)
+      (λ k d l.
+      let lk : k < n = omega arith in
+      get_or-take n (drop (b * n) (codes_in n (atoms + 1) new)) k d lk
+      ∙ get_or-drop (b * n) (codes_in n (atoms + 1) new) k d
+      ∙ flat-twice b k d lb lk
+      ∙ sym (get_or-drop (came_from a b * n) (codes_in n atoms old) k d)
+      ∙ sym (get_or-take n (drop (came_from a b * n) (codes_in n atoms old)) k d lk))
+
+  pub parted-chunks : (edges : List Edge) → AreChunkRows n atoms old edges → atoms < 4294967296 → AreChunkRows n (atoms + 1) new edges
+  parted-chunks edges kept few = record {
+    long = twice-long;
+    rows = record {
+      long = length-codes n (atoms + 1) new;
+      few = omega arith;
+      own = λ b q lb lq. subst (IsCodeOf edges q) (sym (flat-twice b q 0 lb lq)) (kept.rows.own (came_from a b) q (came-inside a b atoms la lb) lq);
+      within = kept.rows.within;
+    };
+  }
+
+  -- the targets of a row, and the row that stands at a place where one stands twice
+  abbrev targets-then : List Edge → ℕ → List Target
+  targets-then edges b = targets_by edges (codes_of n (codes_in n atoms old) b)
+
+  abbrev targets-now : List Edge → ℕ → List Target
+  targets-now edges b = targets_by edges (codes_of n (codes_in n (atoms + 1) new) b)
+
+  abbrev rows-then : List Edge → List (List Target)
+  rows-then edges = map (λ b. targets_by edges (codes_of n (codes_in n atoms old) b)) (range_with_len 0 atoms)
+
+  then-long : (edges : List Edge) → length (rows-then edges) ≡ atoms
+  then-long edges = length-map-range_with_len (targets-then edges) 0 atoms
+
+  then-read : (edges : List Edge) (k : ℕ) (d : List Target) → k < atoms → get_or (rows-then edges) k d ≡ targets_by edges (codes_of n (codes_in n atoms old) k)
+  then-read edges k d l = get_or-map-range_with_len (targets-then edges) 0 atoms k k d l (omega arith)
+
+  inserted-read : (edges : List Edge) (k : ℕ) (d : List Target) → k < atoms + 1 → get_or (insert (rows-then edges) (a + 1) (get_or (rows-then edges) a [])) k d ≡ targets_by edges (codes_of n (codes_in n atoms old) (came_from a k))
+  inserted-read edges k d l =
+      let len : length (rows-then edges) ≡ atoms = then-long edges in
+      let place : a + 1 ≤ length (rows-then edges) = omega arith in
+      ⊎_elim
+      (λ (m : a < k).
+      ⊎_elim
+      (λ (o : a + 1 < k).
+      let e : k ≡ k - 1 + 1 = omega arith in
+      ap (λ x. get_or (insert (rows-then edges) (a + 1) (get_or (rows-then edges) a [])) x d) e
+      ∙ get_or-insert_above (rows-then edges) (a + 1) (get_or (rows-then edges) a []) d (k - 1) (omega arith) place
+      ∙ then-read edges (k - 1) d (omega arith))
+      (λ (o : k ≤ a + 1).
+      let e : k ≡ a + 1 = omega arith in
+      let f : k - 1 ≡ a = omega arith in
+      ap (λ x. get_or (insert (rows-then edges) (a + 1) (get_or (rows-then edges) a [])) x d) e
+      ∙ get_or-insert_at (rows-then edges) (a + 1) (get_or (rows-then edges) a []) d place
+      ∙ then-read edges a [] la
+      ∙ ap (λ x. targets_by edges (codes_of n (codes_in n atoms old) x)) (sym f))
+      (cases_lt (a + 1) k)
+      ∙ ap (λ x. targets_by edges (codes_of n (codes_in n atoms old) x)) (sym (came-behind a k m)))
+      (λ (m : k ≤ a).
+      get_or-insert_below (rows-then edges) (a + 1) (get_or (rows-then edges) a []) d k (omega arith) place
+      ∙ then-read edges k d (omega arith)
+      ∙ ap (λ x. targets_by edges (codes_of n (codes_in n atoms old) x)) (sym (came-before a k m)))
+      (cases_lt a k)
+
+  pub parted-chunks-seen : (edges : List Edge) (g : Labels) → labels_in n atoms old edges ≡ g → labels_in n (atoms + 1) new edges ≡ parted g a
+  unfolding labels_of
+  parted-chunks-seen edges g seen =
+      let make : List (List Target) → Labels = λ rows. record { routers = n; rows = rows } in
+      let len : length (rows-then edges) ≡ atoms = then-long edges in
+      let long-now : length (map (λ b. targets_by edges (codes_of n (codes_in n (atoms + 1) new) b)) (range_with_len 0 (atoms + 1))) ≡ atoms + 1 = length-map-range_with_len (targets-now edges) 0 (atoms + 1) in
+      let long-then : length (insert (rows-then edges) (a + 1) (get_or (rows-then edges) a [])) ≡ length (rows-then edges) + 1 = length-insert (rows-then edges) (a + 1) (get_or (rows-then edges) a []) (omega arith) in
+      ap make (same_lists (map (λ b. targets_by edges (codes_of n (codes_in n (atoms + 1) new) b)) (range_with_len 0 (atoms + 1))) (insert (rows-then edges) (a + 1) (get_or (rows-then edges) a [])) (omega arith)
+      (λ k d l.
+      let lk : k < atoms + 1 = omega arith in
+      get_or-map-range_with_len (targets-now edges) 0 (atoms + 1) k k d lk (omega arith)
+      ∙ ap (targets_by edges) (row-twice k lk)
+      ∙ sym (inserted-read edges k d lk)))
+      ∙ ap (λ l. parted l a) seen
+
+-- one more of some chunks is put behind those of them that stand there
+pub inserted-none : (chunks row : List CodeChunk) (at : ℕ) → chunks ≡ take at chunks ++ (take 0 row ++ drop at chunks)
+inserted-none chunks row at = sym (take-append-drop at chunks)
+
+pub inserted-more : (chunks row now new : List CodeChunk) (at i : ℕ) (x d : CodeChunk) → at ≤ length chunks → i < length row → now ≡ take at chunks ++ (take i row ++ drop at chunks) → x ≡ get_or row i d → new ≡ insert now (at + i) x → new ≡ take at chunks ++ (take (i + 1) row ++ drop at chunks)
+inserted-more chunks row now new at i x d la li was is made =
+    let same : at + i - at ≡ i = omega arith in
+    let none : i - i ≡ 0 = omega arith in
+    made
+    ∙ ap (λ cs. insert cs (at + i) x) was
+    ∙ insert-append_right (take at chunks) (take i row ++ drop at chunks) at (at + i) x (length-take-le at chunks la) (omega arith)
+    ∙ ap (λ k. take at chunks ++ insert (take i row ++ drop at chunks) k x) same
+    ∙ ap (λ cs. take at chunks ++ cs) (insert-append_right (take i row) (drop at chunks) i i x (length-take-le i row (omega arith)) (omega arith))
+    ∙ ap (λ k. take at chunks ++ (take i row ++ insert (drop at chunks) k x)) none
+    ∙ ap (λ cs. take at chunks ++ cs) (sym (append_assoc (take i row) (x ∷ []) (drop at chunks)))
+    ∙ ap (λ y. take at chunks ++ ((take i row ++ y ∷ []) ++ drop at chunks)) is
+    ∙ ap (λ cs. take at chunks ++ (cs ++ drop at chunks)) (sym (take_more row i d li))
+
+pub inserted-long : (chunks row now : List CodeChunk) (at i : ℕ) → at ≤ length chunks → i ≤ length row → now ≡ take at chunks ++ (take i row ++ drop at chunks) → at + i ≤ length now
+inserted-long chunks row now at i la li is =
+    let whole : length (take at chunks ++ (take i row ++ drop at chunks)) ≡ length (take at chunks) + length (take i row ++ drop at chunks) = length-append (take at chunks) (take i row ++ drop at chunks) in
+    let rest : length (take i row ++ drop at chunks) ≡ length (take i row) + length (drop at chunks) = length-append (take i row) (drop at chunks) in
+    let same : length now ≡ length (take at chunks ++ (take i row ++ drop at chunks)) = ap length is in
+    omega (arith, length-take-le at chunks la, length-take-le i row li)
 
 -- ---- the first row
 
@@ -248,15 +427,3 @@ moved-chunks n atoms r a code chunks now edges new t kept coded is lr la = recor
 
 pub moved-chunks-seen : (n atoms r a code : ℕ) (chunks now : List CodeChunk) (edges new : List Edge) (t : Target) (g : Labels) → labels_in n atoms chunks edges ≡ g → AreChunkRows n atoms chunks edges → IsCoded edges new (record { router = r; target = t }) code → IsWritten chunks now (a * stride_of n + r / 8) (r % 8) code → r < n → a < atoms → labels_in n atoms now new ≡ moved g r a t
 moved-chunks-seen n atoms r a code chunks now edges new t g seen kept coded is lr la = moved-labels n atoms r a code (codes_in n atoms chunks) (codes_in n atoms now) edges new t g seen kept.rows coded (written-codes n atoms a r code chunks now is lr la) lr la
-
-pub inherited-chunks : (n atoms a : ℕ) (chunks new : List CodeChunk) (edges : List Edge) → AreChunkRows n atoms chunks edges → a < atoms → atoms < 4294967296 → new ≡ chunks ++ take (stride_of n) (drop (a * stride_of n) chunks) → AreChunkRows n (atoms + 1) new edges
-inherited-chunks n atoms a chunks new edges kept la few is = record {
-  long =
-      ap length is
-      ∙ length-append chunks (take (stride_of n) (drop (a * stride_of n) chunks))
-      ∙ omega (arith, kept.long, length-take-le (stride_of n) (drop (a * stride_of n) chunks) (omega (arith, length-drop (a * stride_of n) chunks, kept.long, row-fits a atoms (stride_of n) la)));
-  rows = inherited-rows n atoms a (codes_in n atoms chunks) (codes_in n (atoms + 1) new) edges kept.rows la few (added-codes n atoms a chunks new kept.long la is);
-}
-
-pub inherited-chunks-seen : (n atoms a : ℕ) (chunks new : List CodeChunk) (edges : List Edge) (g : Labels) → labels_in n atoms chunks edges ≡ g → AreChunkRows n atoms chunks edges → a < atoms → new ≡ chunks ++ take (stride_of n) (drop (a * stride_of n) chunks) → labels_in n (atoms + 1) new edges ≡ inherited g a
-inherited-chunks-seen n atoms a chunks new edges g seen kept la is = inherited-labels n atoms a (codes_in n atoms chunks) (codes_in n (atoms + 1) new) edges g seen kept.rows.long la (added-codes n atoms a chunks new kept.long la is)

@@ -118,3 +118,7 @@ joined-more old now new row code atom before more = record {
 
 pub from-fits : (a n : ℕ) → a < 4294967296 → n < 4294967296 → a * n + n < 18446744073709551616
 from-fits a n la ln = let m : a * n ≤ 4294967295 * 4294967295 = mul-le a n 4294967295 4294967295 (omega arith) (omega arith) in omega arith
+
+-- so does where the rows of all atoms end, with one more
+pub rows-fit : (a n : ℕ) → a ≤ 4294967296 → n ≤ 536870912 → a * n + n < 18446744073709551616
+rows-fit a n la ln = let m : a * n ≤ 4294967296 * 536870912 = mul-le a n 4294967296 536870912 la ln in omega arith

@@ -1,13 +1,14 @@
 -- What routers do with atoms, and the labels of edges: an edge's label is the set of the atoms that are forwarded over it
 -- (Delta-net, NSDI 2017). Here each target of a router has a label, that of no route and of dropped packets too.
-use Rattle.std.specs.Prelude.{ℕ, List, [], ◌∷◌, ◌++◌, length, replicate, slice_index_or, slice_set, IsTrue, ◌≡◌, ◌<◌, ◌↔◌}
+use Rattle.std.specs.Prelude.{ℕ, List, [], ◌∷◌, ◌+◌, ◌++◌, insert, length, replicate, slice_index_or, slice_set, IsTrue, ◌≡◌, ◌<◌, ◌↔◌}
 use Rattle.std.specs.List.Sorted.{IsStrictlyIncreasing}
 use Rattle.dn_model.specs.declared.target.Target.{Target}
 use Rattle.dn_model.specs.declared.target.Target.TheVariants.{NoRoute}
 use Rattle.edge_labels.specs.Atoms.{has_atom}
 
--- How many routers there are, and for the number of each atom, from 0, the targets by router. Numbers may be freed later,
--- and used again: what stands at a number that no atom has means nothing.
+-- How many routers there are, and for each atom the targets by router: either by the atom's number, from 0, or by its place
+-- in the order of addresses. Numbers may be freed later, and used again: what stands at a number that no atom has means
+-- nothing.
 pub record Labels : Type 0 where
   pub routers : ℕ
   pub rows : List (List Target)
@@ -31,6 +32,10 @@ moved g r a after = record { routers = g.routers; rows = slice_set g.rows a (sli
 -- an atom of the next number is added, with which each router does what it does with an old one
 abbrev pub inherited : Labels → ℕ → Labels
 inherited g from = record { routers = g.routers; rows = g.rows ++ targets_of g from ∷ [] }
+
+-- the atom at a place is cut in two: with the one that comes to stand behind it each router does what it does with the whole
+abbrev pub parted : Labels → ℕ → Labels
+parted g i = record { routers = g.routers; rows = insert g.rows (i + 1) (targets_of g i) }
 
 -- the atoms that have this target at this router, in ascending order
 pub record IsLabel (g : Labels) (r : ℕ) (t : Target) (label : List ℕ) : Type 0 where

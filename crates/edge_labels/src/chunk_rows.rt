@@ -1,12 +1,12 @@
-//! Codes of what routers do with atoms, in rows of chunks of eight: for each atom, by its number, stands a row of so
-//! many whole chunks that each router has a code in it. What stands behind the last router's code means nothing.
+//! Codes of what routers do with atoms, in rows of chunks of eight: for each atom, in order, stands a row of so many whole
+//! chunks that each router has a code in it. What stands behind the last router's code means nothing.
 
-ghost use Rattle.std.specs.Prelude.{◌≡◌, ◌+◌, ◌*◌, ◌/◌, ◌%◌, ◌<◌, ◌^◌, ◌≤◌, length, take, drop, IfOk, OnOk, OnErr};
+ghost use Rattle.std.specs.Prelude.{◌≡◌, ◌+◌, ◌*◌, ◌/◌, ◌%◌, ◌<◌, ◌^◌, ◌≤◌, ◌++◌, length, take, drop, IfOk, OnOk, OnErr};
 ghost use Rattle.edge_labels.specs.ChunkRows.{AreLaid, IsWritten, lane_at, stride_of};
 
 use crate::code_chunk::CodeChunk;
 use crate::code_rows::read;
-use dn_model::{AtomId, OutOfMemory, RouterId};
+use dn_model::{OutOfMemory, RouterId};
 use std::alloc::Global;
 use version_pages::Pages;
 
@@ -24,18 +24,20 @@ pub fn stride(routers: u32) -> u64
     (routers as u64 + 7) / 8
 }
 
-/// Where the row of an atom begins.
-pub fn start_of(routers: u32, atom: AtomId) -> u64
-    ensures at { result ≡ atom.0 * stride_of routers }
+/// Where the row of the atom at a place begins, or all rows end.
+pub fn start_of(routers: u32, atom: u64) -> u64
+    requires { atom ≤ 2 ^ 32 }
+    ensures at { result ≡ atom * stride_of routers }
     ensures fits { result + stride_of routers < 2 ^ 64 }
 {
-    atom.0 as u64 * stride(routers)
+    atom * stride(routers)
 }
 
-/// Where the code of a router stands at an atom.
-pub fn place_in(routers: u32, r: RouterId, atom: AtomId) -> Place
-    requires { r.0 < routers }
-    ensures chunk { result.chunk ≡ atom.0 * stride_of routers + r.0 / 8 }
+/// Where the code of a router stands at the atom of a place.
+pub fn place_in(routers: u32, r: RouterId, atom: u64) -> Place
+    requires router { r.0 < routers }
+    requires atom { atom < 2 ^ 32 }
+    ensures chunk { result.chunk ≡ atom * stride_of routers + r.0 / 8 }
     ensures lane { result.lane ≡ r.0 % 8 }
 {
     Place {
@@ -125,4 +127,22 @@ pub fn chunks_from(
         row.extend_from_slice(&run[..more])?;
     }
     Ok(row)
+}
+
+/// Puts chunks before the one that stands at a place now, or at the end. Where it fails, for which want of memory is the
+/// one cause, some of them may stand there.
+pub fn insert_chunks(
+    alloc: Global,
+    chunks: &mut Pages<CodeChunk>,
+    at: u64,
+    row: &[CodeChunk],
+) -> Result<(), OutOfMemory>
+    requires inside { at ≤ length chunks.old }
+    requires fits { at + length row.now < 2 ^ 64 }
+    ensures { OnOk result (chunks.new ≡ take at chunks.old ++ row.now ++ drop at chunks.old) }
+{
+    for i in 0..row.len() {
+        chunks.insert_at(alloc, at + i as u64, row[i])?;
+    }
+    Ok(())
 }

@@ -1,22 +1,25 @@
 //! What each router does with each atom.
 
-ghost use Rattle.std.specs.Prelude.{◌≡◌, ◌<◌, length, IfOk, OnOk};
-ghost use Rattle.edge_labels.specs.Labels.{first_labels, inherited, moved, target_at};
+ghost use Rattle.std.specs.Prelude.{◌≡◌, ◌<◌, ◌^◌, length, IfOk, OnOk};
+ghost use Rattle.edge_labels.specs.Labels.{first_labels, moved, parted, target_at};
 
-use crate::chunk_rows::{chunks_from, chunks_of, code_at, place_in, start_of, stride, write};
+use crate::chunk_rows::{
+    chunks_from, chunks_of, code_at, insert_chunks, place_in, start_of, stride, write,
+};
 use crate::code_book::CodeBook;
 use crate::code_chunk::CodeChunk;
 use crate::code_rows::{FirstRow, first_row, is_same};
 use crate::codes::Edge;
-use dn_model::{AtomId, OutOfMemory, RouterId, Target};
+use dn_model::{OutOfMemory, RouterId, Target};
 use std::alloc::Global;
 use std::marker::Model;
 use version_pages::Pages;
 
-/// What each router does with each atom, as a row of codes by the atom's number. A contract sees the number of routers
-/// and, for the number of each atom, the targets by router. Each router with a target has a code. No set of atoms is
-/// kept, so that a move writes one code, and a new atom one row. A row has whole chunks of eight codes: a page has 64
-/// chunks, so few forks stand above each code. A copy is a few counts. The code that was written last is a guess of the
+/// What each router does with each atom, as a row of codes by the atom's place in the list of all atoms. A contract sees
+/// the number of routers and, for each atom in order, the targets by router. Rows stand in the order of addresses, so
+/// that a walk over the atoms of a prefix, or over all, reads and writes memory in order. Each router with a target has a
+/// code. No set of atoms is kept, so that a move writes one code, and a cut one row. A row has whole chunks of eight
+/// codes: a page has 64 chunks, so few forks stand above each code. A copy is a few counts. The code that was written last is a guess of the
 /// next one, since an update writes the same at many atoms; no clause and no invariant speaks of it.
 #[derive(Drop)]
 pub struct TargetRows {
@@ -54,76 +57,72 @@ impl TargetRows {
         })
     }
 
-    /// What a router does with an atom. It takes no memory.
-    pub fn target(&self, r: RouterId, atom: AtomId) -> Target
+    /// What a router does with the atom at a place. It takes no memory.
+    pub fn target(&self, r: RouterId, place: u64) -> Target
         requires router { r.0 < self.now.routers }
-        requires atom { atom.0 < length self.now.rows }
-        ensures { result ≡ target_at self.now r.0 atom.0 }
+        requires place { place < length self.now.rows }
+        ensures { result ≡ target_at self.now r.0 place }
     {
-        let code = code_at(&self.chunks, place_in(self.routers, r, atom));
+        let code = code_at(&self.chunks, place_in(self.routers, r, place));
         self.book.edge(code).target
     }
 
-    /// A router does something else with an atom. It fails for want of memory alone, and then nothing is said of the
-    /// rows.
-    pub fn move_atom(
+    /// A router does something else with the atom at a place. It fails for want of memory alone, and then nothing is said
+    /// of the rows.
+    pub fn move_at(
         &mut self,
         alloc: Global,
         r: RouterId,
-        atom: AtomId,
+        place: u64,
         before: Target,
         after: Target,
     ) -> Result<(), OutOfMemory>
         requires router { r.0 < self.old.routers }
-        requires atom { atom.0 < length self.old.rows }
-        requires before { target_at self.old r.0 atom.0 ≡ before }
-        ensures { OnOk result (self.new ≡ moved self.old r.0 atom.0 after) }
+        requires place { place < length self.old.rows }
+        requires before { target_at self.old r.0 place ≡ before }
+        ensures { OnOk result (self.new ≡ moved self.old r.0 place after) }
     {
         if is_same(&before, &after) {
             return Ok(());
         }
-        self.change(alloc, r, atom, after)
+        self.change(alloc, r, place, after)
     }
 
-    /// A router does something else with an atom. Where memory is wanting after its code was found, a code more than
-    /// before may stand in the book, which no atom has.
+    /// A router does something else with the atom at a place. Where memory is wanting after its code was found, a code
+    /// more than before may stand in the book, which no atom has.
     fn change(
         &mut self,
         alloc: Global,
         r: RouterId,
-        atom: AtomId,
+        place: u64,
         after: Target,
     ) -> Result<(), OutOfMemory>
         requires router { r.0 < self.old.routers }
-        requires atom { atom.0 < length self.old.rows }
-        ensures { OnOk result (self.new ≡ moved self.old r.0 atom.0 after) }
+        requires place { place < length self.old.rows }
+        ensures { OnOk result (self.new ≡ moved self.old r.0 place after) }
     {
-        let place = place_in(self.routers, r, atom);
+        let spot = place_in(self.routers, r, place);
         let edge = Edge {
             router: r.0 as u32,
             target: after,
         };
         let code = self.book.code_near(alloc, edge, self.last)?;
-        write(alloc, &mut self.chunks, place, code)?;
+        write(alloc, &mut self.chunks, spot, code)?;
         self.last = code;
         Ok(())
     }
 
-    /// Adds an atom, with which each router does what it does with an old one. It fails for want of memory alone, and
-    /// then the rows may be gone, since a part of the new one can't be taken away again.
-    pub fn inherit(
-        &mut self,
-        alloc: Global,
-        old_atom: AtomId,
-        new_atom: AtomId,
-    ) -> Result<(), OutOfMemory>
-        requires there { old_atom.0 < length self.old.rows }
-        requires next { new_atom.0 ≡ length self.old.rows }
-        ensures { OnOk result (self.new ≡ inherited self.old old_atom.0) }
+    /// The row at a place comes to stand twice, side by side, as its atom is cut in two. It fails for want of memory
+    /// alone, and then the rows may be gone, since a part of a row can't be taken away again.
+    pub fn part(&mut self, alloc: Global, place: u64) -> Result<(), OutOfMemory>
+        requires place { place < length self.old.rows }
+        requires room { length self.old.rows < 2 ^ 32 }
+        ensures { OnOk result (self.new ≡ parted self.old place) }
     {
-        let from = start_of(self.routers, old_atom);
+        let from = start_of(self.routers, place);
+        let next = start_of(self.routers, place + 1);
         let row = chunks_from(alloc, &self.chunks, from, stride(self.routers))?;
-        match self.chunks.extend(alloc, &row) {
+        match insert_chunks(alloc, &mut self.chunks, next, &row) {
             Ok(()) => {
                 self.atoms += 1;
                 Ok(())

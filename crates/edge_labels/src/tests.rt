@@ -1,6 +1,6 @@
 //! Sets that were worked out by hand or are compared with a plain list, and a network of one router.
 
-ghost use Rattle.std.specs.Prelude.{◌≡◌, ◌<◌, ◌∷◌, [], length, IfOk, OnOk};
+ghost use Rattle.std.specs.Prelude.{◌≡◌, ◌+◌, ◌<◌, ◌^◌, ◌∷◌, [], length, IfOk, OnOk};
 ghost use Rattle.dn_model.specs.declared.target.Target.TheVariants.{Exit, Local};
 ghost use Rattle.edge_labels.specs.Labels.{Labels};
 
@@ -139,19 +139,13 @@ fn a_copy_keeps_its_labels(rt: HostRuntime) {
 }
 
 /// The rows of one router, which has atoms 0 and 1, both with exit 1.
-fn inherited_rows(alloc: Global) -> Result<TargetRows, OutOfMemory>
+fn parted_rows(alloc: Global) -> Result<TargetRows, OutOfMemory>
     ensures { IfOk result
         (λ rows. rows ≡ record { routers = 1; rows = (Exit 1 ∷ []) ∷ (Exit 1 ∷ []) ∷ [] }) }
 {
     let mut rows = TargetRows::new(alloc, 1)?;
-    rows.move_atom(
-        alloc,
-        RouterId(0),
-        AtomId(0),
-        Target::NoRoute,
-        Target::Exit(1),
-    )?;
-    rows.inherit(alloc, AtomId(0), AtomId(1))?;
+    rows.move_at(alloc, RouterId(0), 0, Target::NoRoute, Target::Exit(1))?;
+    rows.part(alloc, 0)?;
     Ok(rows)
 }
 
@@ -160,35 +154,39 @@ fn with_own_rows(alloc: Global, rows: &mut TargetRows) -> Result<(), OutOfMemory
     requires { rows.old ≡ record { routers = 1; rows = (Exit 1 ∷ []) ∷ (Exit 1 ∷ []) ∷ [] } }
     ensures { OnOk result (rows.new ≡ record { routers = 1; rows = (Local ∷ []) ∷ (Exit 1 ∷ []) ∷ [] }) }
 {
-    rows.move_atom(
-        alloc,
-        RouterId(0),
-        AtomId(0),
-        Target::Exit(1),
-        Target::Local,
-    )
+    rows.move_at(alloc, RouterId(0), 0, Target::Exit(1), Target::Local)
 }
 
 #[test]
 fn a_copy_keeps_its_rows(rt: HostRuntime) {
-    let mut rows = inherited_rows(rt.alloc()).expect(&rt, "memory");
+    let mut rows = parted_rows(rt.alloc()).expect(&rt, "memory");
     let copy = rows.copy().expect(&rt, "memory");
     with_own_rows(rt.alloc(), &mut rows).expect(&rt, "memory");
-    assert_eq!(rt; rows.target(RouterId(0), AtomId(0)), Target::Local);
-    assert_eq!(rt; rows.target(RouterId(0), AtomId(1)), Target::Exit(1));
-    assert_eq!(rt; copy.target(RouterId(0), AtomId(0)), Target::Exit(1));
+    assert_eq!(rt; rows.target(RouterId(0), 0), Target::Local);
+    assert_eq!(rt; rows.target(RouterId(0), 1), Target::Exit(1));
+    assert_eq!(rt; copy.target(RouterId(0), 0), Target::Exit(1));
 }
 
 /// A router does something else with an atom, whatever it does now.
-fn turn(rt: &impl Abort, alloc: Global, rows: &mut TargetRows, r: u16, atom: AtomId, after: Target)
+fn turn(rt: &impl Abort, alloc: Global, rows: &mut TargetRows, r: u16, place: u64, after: Target)
     requires router { r < rows.old.routers }
-    requires atom { atom.0 < length rows.old.rows }
+    requires place { place < length rows.old.rows }
     ensures routers { rows.new.routers ≡ rows.old.routers }
     ensures atoms { length rows.new.rows ≡ length rows.old.rows }
 {
-    let before = rows.target(RouterId(r), atom);
-    rows.move_atom(alloc, RouterId(r), atom, before, after)
+    let before = rows.target(RouterId(r), place);
+    rows.move_at(alloc, RouterId(r), place, before, after)
         .expect(rt, "memory");
+}
+
+/// The first atom of the rows is cut in two.
+fn cut_first(rt: &impl Abort, alloc: Global, rows: &mut TargetRows)
+    requires some { 0 < length rows.old.rows }
+    requires room { length rows.old.rows < 2 ^ 32 }
+    ensures routers { rows.new.routers ≡ rows.old.routers }
+    ensures atoms { length rows.new.rows ≡ length rows.old.rows + 1 }
+{
+    rows.part(alloc, 0).expect(rt, "memory");
 }
 
 /// Rows of seventeen routers, each of which has an exit of its own number for atoms 0 and 1.
@@ -198,24 +196,16 @@ fn seventeen(rt: &impl Abort, alloc: Global) -> TargetRows
 {
     let mut rows = TargetRows::new(alloc, 17).expect(rt, "memory");
     for r in 0..17 {
-        turn(
-            rt,
-            alloc,
-            &mut rows,
-            r,
-            AtomId(0),
-            Target::Exit(u32::from(r)),
-        );
+        turn(rt, alloc, &mut rows, r, 0, Target::Exit(u32::from(r)));
     }
-    rows.inherit(alloc, AtomId(0), AtomId(1))
-        .expect(rt, "memory");
+    cut_first(rt, alloc, &mut rows);
     rows
 }
 
 /// Each of seventeen routers has its own exit for an atom, but one of them, whose own the atom is.
-fn compare_row(rt: &impl Abort, rows: &TargetRows, atom: AtomId, own: u16)
+fn compare_row(rt: &impl Abort, rows: &TargetRows, place: u64, own: u16)
     requires routers { rows.now.routers ≡ 17 }
-    requires atom { atom.0 < length rows.now.rows }
+    requires place { place < length rows.now.rows }
 {
     for r in 0..17 {
         let want = if r == own {
@@ -223,7 +213,7 @@ fn compare_row(rt: &impl Abort, rows: &TargetRows, atom: AtomId, own: u16)
         } else {
             Target::Exit(u32::from(r))
         };
-        assert_eq!(rt; rows.target(RouterId(r), atom), want);
+        assert_eq!(rt; rows.target(RouterId(r), place), want);
     }
 }
 
@@ -231,10 +221,21 @@ fn compare_row(rt: &impl Abort, rows: &TargetRows, atom: AtomId, own: u16)
 fn codes_of_a_row_stand_in_three_chunks(rt: HostRuntime) {
     let mut rows = seventeen(&rt, rt.alloc());
     let copy = rows.copy().expect(&rt, "memory");
-    turn(&rt, rt.alloc(), &mut rows, 16, AtomId(0), Target::Local);
-    turn(&rt, rt.alloc(), &mut rows, 8, AtomId(1), Target::Local);
-    compare_row(&rt, &rows, AtomId(0), 16);
-    compare_row(&rt, &rows, AtomId(1), 8);
-    compare_row(&rt, &copy, AtomId(0), 17);
-    compare_row(&rt, &copy, AtomId(1), 17);
+    turn(&rt, rt.alloc(), &mut rows, 16, 0, Target::Local);
+    turn(&rt, rt.alloc(), &mut rows, 8, 1, Target::Local);
+    compare_row(&rt, &rows, 0, 16);
+    compare_row(&rt, &rows, 1, 8);
+    compare_row(&rt, &copy, 0, 17);
+    compare_row(&rt, &copy, 1, 17);
+}
+
+#[test]
+fn a_row_that_is_cut_keeps_those_behind_it(rt: HostRuntime) {
+    let mut rows = seventeen(&rt, rt.alloc());
+    turn(&rt, rt.alloc(), &mut rows, 3, 0, Target::Local);
+    turn(&rt, rt.alloc(), &mut rows, 16, 1, Target::Local);
+    cut_first(&rt, rt.alloc(), &mut rows);
+    compare_row(&rt, &rows, 0, 3);
+    compare_row(&rt, &rows, 1, 3);
+    compare_row(&rt, &rows, 2, 16);
 }

@@ -1,6 +1,13 @@
-use Rattle.std.proofs.Common.{arith}
-use Rattle.edge_labels.proofs.RowLemmas.{from-fits}
+use Rattle.std.proofs.Common.{◌+◌, ◌*◌, ◌<◌, ◌≤◌, arith}
+use Rattle.edge_labels.proofs.RowLemmas.{rows-fit}
 use Rattle.edge_labels.proofs.chunk_rows.start_of.Goals as goal
 
+pub overflow_mul-result : goal.overflow_mul-result
+overflow_mul-result c =
+    let few : c.stride.result ≤ 536870912 = omega arith in
+    record { fits = (let all : c.args.atom * c.stride.result + c.stride.result < 18446744073709551616 = rows-fit c.args.atom c.stride.result (omega arith) few in omega arith) }
+
 pub returns-clause-fits : goal.returns-clause-fits
-returns-clause-fits c = omega (arith, from-fits c.args.atom.0 c.stride.result (omega arith) (omega arith))
+returns-clause-fits c =
+    let few : c.stride.result ≤ 536870912 = omega arith in
+    omega (arith, rows-fit c.args.atom c.stride.result (omega arith) few)

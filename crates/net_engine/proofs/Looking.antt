@@ -1,5 +1,5 @@
 -- How many atoms a span meets, how many a cut adds, and how many begin along a walk.
-use Rattle.std.proofs.Common.{◌≡◌, ℕ, ◌+◌, ◌-◌, ◌<◌, ◌≤◌, ◌^◌, ◌∙◌, ◌⊎◌, ◌||◌, ⊎_elim, Bool, true, false, cond, leb, ltb, eqb, List, [], ◌∷◌, length, map, refl, ap, sym, arith}
+use Rattle.std.proofs.Common.{◌≡◌, ℕ, ◌+◌, ◌-◌, ◌<◌, ◌≤◌, ◌^◌, ◌∙◌, ◌⊎◌, ◌||◌, ⊎_elim, Bool, true, false, cond, leb, ltb, eqb, List, [], ◌∷◌, length, get_or, drop, map, refl, ap, sym, arith}
 use Rattle.std.specs.Prelude.{count_by}
 use Rattle.std.proofs.lemmas.Bool.{and_from, and_left, and_right, cases_Bool, cases_eq, cases_lt, eq-eqb, eqb-true, le-leb, le-ltb, lt-leb, lt-ltb, ne_eqb, or_cases, or_from, or_left, or_right}
 use Rattle.std.proofs.lemmas.List.Sums.{sum_by-cons}
@@ -9,15 +9,16 @@ use Rattle.dn_model.specs.Cidr.{Cidr, size}
 use Rattle.dn_model.specs.Rows.{is_within, CoverFrom}
 use Rattle.dn_model.specs.Version.{Atom, begins_at, first_of, past_of}
 use Rattle.dn_model.specs.declared.atom_row.AtomRow.{AtomRow}
+use Rattle.dn_model.specs.declared.target.Target.{Target}
 use Rattle.dn_model.proofs.Covers.{within-above, within-below, within-yes}
 use Rattle.edge_labels.specs.Labels.{Labels}
 use Rattle.net_engine.specs.Looks.{atoms_begun, atoms_between, has_some, more_at}
 use Rattle.net_engine.specs.Net.{between, cut_atoms}
-use Rattle.net_engine.specs.Numbered.{numbered}
+use Rattle.net_engine.specs.Paired.{atoms_with, owned, rows_with}
 use Rattle.net_engine.proofs.Along.{none-begins_before}
 use Rattle.net_engine.proofs.Atoms.{cut-begins, cut-inside, cut-on, cut-outside}
 use Rattle.net_engine.proofs.Held.{within-high, within-low}
-use Rattle.net_engine.proofs.Standing.{AllRules}
+use Rattle.net_engine.proofs.Standing.{AllRules, row_with}
 
 -- what one counts for
 abbrev as_one : Bool → ℕ
@@ -147,37 +148,45 @@ cut-meets (x ∷ xs) at lo past o end =
 abbrev row_has_some : ℕ → ℕ → AtomRow → Bool
 row_has_some lo past r = has_some lo past (record { row = record { low = r.low; past = r.past; targets = [] }; owners = [] })
 
-pub meets-numbered : (labels : Labels) (owners : AllRules) (rows : List AtomRow) (lo past : ℕ) → atoms_between (map (numbered labels owners) rows) lo past ≡ count_by (row_has_some lo past) rows
-meets-numbered labels owners [] lo past = refl
-meets-numbered labels owners (r ∷ rs) lo past =
-    count-cons (has_some lo past) (numbered labels owners r) (map (numbered labels owners) rs)
-    ∙ ap (λ n. as_one (row_has_some lo past r) + n) (meets-numbered labels owners rs lo past)
+meets-owned : (owners : AllRules) (rows : List AtomRow) (tss : List (List Target)) (lo past : ℕ) → atoms_between (map (owned owners) (rows_with rows tss)) lo past ≡ count_by (row_has_some lo past) rows
+meets-owned owners [] tss lo past = refl
+meets-owned owners (r ∷ rs) tss lo past =
+    count-cons (has_some lo past) (owned owners (row_with r (get_or tss 0 []))) (map (owned owners) (rows_with rs (drop 1 tss)))
+    ∙ ap (λ n. as_one (row_has_some lo past r) + n) (meets-owned owners rs (drop 1 tss) lo past)
     ∙ sym (count-cons (row_has_some lo past) r rs)
+
+pub meets-paired : (labels : Labels) (owners : AllRules) (rows : List AtomRow) (lo past : ℕ) → atoms_between (atoms_with rows labels owners) lo past ≡ count_by (row_has_some lo past) rows
+meets-paired labels owners rows lo past = meets-owned owners rows labels.rows lo past
 
 begun-cons : (r : AtomRow) (rs : List AtomRow) (lo past : ℕ) → atoms_begun (r ∷ rs) lo past ≡ as_one (is_within lo past r.low) + atoms_begun rs lo past
 begun-cons r rs lo past = count-cons (λ (row : AtomRow). is_within lo past row.low) r rs
 
--- those that begin in a span have addresses of it
-pub begun-meet : (labels : Labels) (owners : AllRules) (start : ℕ) (rows : List AtomRow) (lo past : ℕ) → CoverFrom atom_low atom_past start rows → atoms_begun rows lo past ≤ atoms_between (map (numbered labels owners) rows) lo past
-begun-meet labels owners start [] lo past h = omega arith
-begun-meet labels owners start (r ∷ rs) lo past h =
+begun-owned : (owners : AllRules) (start : ℕ) (rows : List AtomRow) (tss : List (List Target)) (lo past : ℕ) → CoverFrom atom_low atom_past start rows → atoms_begun rows lo past ≤ atoms_between (map (owned owners) (rows_with rows tss)) lo past
+begun-owned owners start [] tss lo past h = omega arith
+begun-owned owners start (r ∷ rs) tss lo past h =
+    let atom : Atom = owned owners (row_with r (get_or tss 0 [])) in
+    let atoms : List Atom = map (owned owners) (rows_with rs (drop 1 tss)) in
     let order : r.low < r.past = h.1 in
-    let rest : atoms_begun rs lo past ≤ atoms_between (map (numbered labels owners) rs) lo past = begun-meet labels owners r.past rs lo past h.2 in
+    let rest : atoms_begun rs lo past ≤ atoms_between (map (owned owners) (rows_with rs (drop 1 tss))) lo past = begun-owned owners r.past rs (drop 1 tss) lo past h.2 in
     let one : atoms_begun (r ∷ rs) lo past ≡ as_one (is_within lo past r.low) + atoms_begun rs lo past = begun-cons r rs lo past in
     ⊎_elim
     (λ (t : is_within lo past r.low ≡ true).
     let from : lo ≤ r.low = within-low lo past r.low t in
     let to : r.low < past = within-high lo past r.low t in
     let here : as_one (is_within lo past r.low) ≡ 1 = ap as_one t in
-    let both : atoms_between (map (numbered labels owners) (r ∷ rs)) lo past ≡ 1 + atoms_between (map (numbered labels owners) rs) lo past =
-    count-yes lo past (numbered labels owners r) (map (numbered labels owners) rs) (some-yes lo past (numbered labels owners r) (omega arith) to) in
+    let both : atoms_between (map (owned owners) (rows_with (r ∷ rs) tss)) lo past ≡ 1 + atoms_between (map (owned owners) (rows_with rs (drop 1 tss))) lo past =
+    count-yes lo past atom atoms (some-yes lo past atom (omega arith) to) in
     omega arith)
     (λ (f : is_within lo past r.low ≡ false).
     let here : as_one (is_within lo past r.low) ≡ 0 = ap as_one f in
-    let both : atoms_between (map (numbered labels owners) (r ∷ rs)) lo past ≡ as_one (has_some lo past (numbered labels owners r)) + atoms_between (map (numbered labels owners) rs) lo past =
-    count-cons (has_some lo past) (numbered labels owners r) (map (numbered labels owners) rs) in
+    let both : atoms_between (map (owned owners) (rows_with (r ∷ rs) tss)) lo past ≡ as_one (has_some lo past (owned owners (row_with r (get_or tss 0 [])))) + atoms_between (map (owned owners) (rows_with rs (drop 1 tss))) lo past =
+    count-cons (has_some lo past) atom atoms in
     omega arith)
     (cases_Bool (is_within lo past r.low))
+
+-- those that begin in a span have addresses of it
+pub begun-meet : (labels : Labels) (owners : AllRules) (start : ℕ) (rows : List AtomRow) (lo past : ℕ) → CoverFrom atom_low atom_past start rows → atoms_begun rows lo past ≤ atoms_between (atoms_with rows labels owners) lo past
+begun-meet labels owners start rows lo past h = begun-owned owners start rows labels.rows lo past h
 
 -- ---- along a walk
 

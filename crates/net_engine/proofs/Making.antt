@@ -23,7 +23,7 @@ use Rattle.dn_model.specs.declared.topology.Topology.{Topology}
 use Rattle.edge_labels.specs.Labels.{Labels}
 use Rattle.net_engine.specs.Looks.{atoms_added, atoms_between, atoms_met, more_at_ends}
 use Rattle.net_engine.specs.Net.{AreWide, first_atom}
-use Rattle.net_engine.specs.Numbered.{AreNumbered}
+use Rattle.net_engine.specs.Paired.{ArePaired}
 use Rattle.net_engine.specs.Reruled.{AreUpdatedAt}
 use Rattle.net_engine.specs.RoutesOf.{routes_of}
 use Rattle.net_engine.specs.Segments.{begins_in, held_at}
@@ -228,7 +228,7 @@ base-now p op n is low = low ∙ ap (λ (q : Cidr). q.base) is
 pub routes-read : (owners : AllRules) (r : RouterId) → r.0 < length owners → routes_of (get_or owners r.0 []) ≡ get_or (map routes_of owners) r.0 (routes_of (get_or owners r.0 []))
 routes-read owners r l = sym (get_or-map routes_of owners r.0 [] (routes_of (get_or owners r.0 [])) l)
 
-pub router-among : (routers : ℕ) (rows : List AtomRow) (labels : Labels) (owners : AllRules) (count : ℕ) (r : RouterId) → AreNumbered routers rows labels owners → routers ≡ count → r.0 < count → r.0 < length owners
+pub router-among : (routers : ℕ) (rows : List AtomRow) (labels : Labels) (owners : AllRules) (count : ℕ) (r : RouterId) → ArePaired routers rows labels owners → routers ≡ count → r.0 < count → r.0 < length owners
 router-among routers rows labels owners count r h e l = subst (λ n. r.0 < n) (sym (h.each ∙ e)) l
 
 pub cut-made : (now : Kept) (t : Topology) (old new : List Atom) (routes : List (List Route)) (p : Cidr) → kept_of t old routes ≡ now → IsWhole (kept_of t old routes) → CoverFrom first_of past_of 0 new → AreWide (length t.routers) new → IsCidr p → IsParted old new p → IsCutAt now (kept_of t new routes) p

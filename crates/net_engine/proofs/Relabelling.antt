@@ -1,133 +1,111 @@
 -- A router does something else with the atoms of a span, one after another.
-use Rattle.std.proofs.Common.{◌≡◌, ℕ, ◌+◌, ◌<◌, ◌≤◌, ◌^◌, ◌∙◌, ⊎_elim, suc, true, false, Option, None, Some, List, [], ◌∷◌, length, get_or, set, refl, ap, sym, subst, arith, eqb}
+use Rattle.std.proofs.Common.{◌≡◌, ℕ, ◌+◌, ◌<◌, ◌≤◌, ◌^◌, ◌∙◌, ⊎_elim, zero, suc, true, false, List, [], ◌∷◌, length, get_or, set, refl, ap, sym, subst, arith, eqb}
 use Rattle.std.proofs.lemmas.Bool.{both_ways, cases_Bool, cases_eq, cases_lt, eqb-true, ne_eqb}
 use Rattle.std.proofs.lemmas.List.{get_or-set_other, get_or-set_same, length-set}
-use Rattle.std.proofs.lemmas.Option.{none-some}
-use Rattle.dn_model.specs.Atoms.{AreAtoms, AreOnce, HasNone, atom_low, atom_past, has_address, is_boundary, row_at}
+use Rattle.dn_model.specs.Atoms.{AreAtoms, atom_low, atom_past, is_boundary}
+use Rattle.dn_model.specs.Forwarding.{forwarding_at, row_low, row_past}
 use Rattle.dn_model.specs.Rows.{is_within}
 use Rattle.dn_model.specs.declared.atom_row.AtomRow.{AtomRow}
-use Rattle.dn_model.specs.declared.ids.AtomId.{AtomId}
+use Rattle.dn_model.specs.declared.forwarding_row.ForwardingRow.{ForwardingRow}
 use Rattle.dn_model.specs.declared.target.Target.{Target}
 use Rattle.dn_model.specs.declared.target.Target.TheVariants.{NoRoute}
 use Rattle.dn_model.proofs.Covers.{high-at, holder-at, holder-first, holder-rest, last-high, next-low, ordered-at, within-above, within-below, within-yes}
 use Rattle.dn_model.proofs.Cuts.{boundary-at}
-use Rattle.atom_map.proofs.Begun.{below-at}
 use Rattle.edge_labels.specs.Labels.{Labels, moved, target_at, targets_of}
-use Rattle.net_engine.specs.Numbered.{AreLabelled, does_at, does_in}
+use Rattle.net_engine.specs.Paired.{AreLabelled, does_at, does_in, rows_with}
 use Rattle.net_engine.specs.Reruled.{AtomBegins, IsRelabelled}
-
--- ---- numbers
-
--- no row has a number that none has
-none-at : (atom : AtomId) (rows : List AtomRow) (at : ℕ) (row : AtomRow) → HasNone atom rows → row_at rows at ≡ Some row → row.atom ≡ atom → ⊥
-none-at atom [] at row h e same = none-some row e
-none-at atom (r ∷ rs) at row h e same =
-    ⊎_elim
-    (λ (y : has_address at r ≡ true).
-    let s : Some r ≡ Some row = sym (holder-first atom_low atom_past r rs at y) ∙ e in
-    let k : r ≡ row = cc in
-    h.0 (ap (λ (x : AtomRow). x.atom) k ∙ same))
-    (λ (n : has_address at r ≡ false). none-at atom rs at row h.1 (sym (holder-rest atom_low atom_past r rs at n) ∙ e) same)
-    (cases_Bool (has_address at r))
-
-same-number : (x y : AtomId) → x.0 ≡ y.0 → x ≡ y
-same-number x y e = ap (λ n. let a : AtomId = record { 0 = n } in a) e
-
--- two rows with one number are one
-same-row : (rows : List AtomRow) (a b : ℕ) (x y : AtomRow) → AreOnce rows → row_at rows a ≡ Some x → row_at rows b ≡ Some y → x.atom ≡ y.atom → x ≡ y
-same-row [] a b x y h e f same = absurd (none-some x e)
-same-row (r ∷ rs) a b x y h e f same = ⊎_elim
-    (λ (p : has_address a r ≡ true).
-    let s : Some r ≡ Some x = sym (holder-first atom_low atom_past r rs a p) ∙ e in
-    let k : r ≡ x = cc in
-    ⊎_elim
-    (λ (q : has_address b r ≡ true).
-    let t : Some r ≡ Some y = sym (holder-first atom_low atom_past r rs b q) ∙ f in
-    let m : r ≡ y = cc in
-    sym k ∙ m)
-    (λ (q : has_address b r ≡ false). absurd (none-at r.atom rs b y h.0 (sym (holder-rest atom_low atom_past r rs b q) ∙ f) (sym same ∙ sym (ap (λ (z : AtomRow). z.atom) k))))
-    (cases_Bool (has_address b r)))
-    (λ (p : has_address a r ≡ false).
-    let u : row_at rs a ≡ Some x = sym (holder-rest atom_low atom_past r rs a p) ∙ e in
-    ⊎_elim
-    (λ (q : has_address b r ≡ true).
-    let t : Some r ≡ Some y = sym (holder-first atom_low atom_past r rs b q) ∙ f in
-    let m : r ≡ y = cc in
-    absurd (none-at r.atom rs a x h.0 u (same ∙ sym (ap (λ (z : AtomRow). z.atom) m))))
-    (λ (q : has_address b r ≡ false). same-row rs a b x y h.1 u (sym (holder-rest atom_low atom_past r rs b q) ∙ f) same)
-    (cases_Bool (has_address b r)))
-    (cases_Bool (has_address a r))
-
--- the row that has an address has it
-has-row : (rows : List AtomRow) (a : ℕ) (x : AtomRow) → row_at rows a ≡ Some x → is_within x.low x.past a ≡ true
-has-row [] a x e = absurd (none-some x e)
-has-row (r ∷ rs) a x e = ⊎_elim
-    (λ (p : has_address a r ≡ true).
-    let s : Some r ≡ Some x = sym (holder-first atom_low atom_past r rs a p) ∙ e in
-    let k : r ≡ x = cc in
-    subst (λ (z : AtomRow). is_within z.low z.past a ≡ true) k p)
-    (λ (p : has_address a r ≡ false). has-row rs a x (sym (holder-rest atom_low atom_past r rs a p) ∙ e))
-    (cases_Bool (has_address a r))
+use Rattle.net_engine.proofs.Standing.{cover-rows, row-at_place, row_with, rows-inside}
 
 -- ---- one atom
 
-module _ (rows : List AtomRow) (x : Labels) (r at : ℕ) (after : Target) (row : AtomRow) (h : AreLabelled rows x) (is : row_at rows at ≡ Some row) (below : row.atom.0 < length rows) (inside : r < x.routers) where
+-- what a router does with an address of the atom at a place stands there
+pub does-there : (rows : List AtomRow) (x : Labels) (r place a : ℕ) (d : AtomRow) → AreAtoms rows → place < length rows → atom_low (get_or rows place d) ≤ a → a < atom_past (get_or rows place d) → does_at rows x r a ≡ target_at x r place
+does-there rows x r place a d h l from to =
+    let none : ForwardingRow = row_with d [] in
+    let there : get_or (rows_with rows x.rows) place none ≡ row_with (get_or rows place d) (targets_of x place) = row-at_place rows x.rows place d none l in
+    ap (does_in r) (holder-at row_low row_past 0 (rows_with rows x.rows) place none a (cover-rows 0 rows x.rows h.cover) (rows-inside rows x.rows place l)
+    (subst (λ (z : ForwardingRow). z.low ≤ a) (sym there) from)
+    (subst (λ (z : ForwardingRow). a < z.past) (sym there) to))
+    ∙ ap (λ (z : ForwardingRow). get_or z.targets r NoRoute) there
+
+-- other targets at a place leave the rows of the other places
+row-away : (rows : List AtomRow) (tss : List (List Target)) (place a : ℕ) (ts : List Target) (d : AtomRow) → place < length rows → is_within (atom_low (get_or rows place d)) (atom_past (get_or rows place d)) a ≡ false → forwarding_at (rows_with rows (set tss place ts)) a ≡ forwarding_at (rows_with rows tss) a
+row-away [] tss place a ts d l n = refl
+row-away (r ∷ rs) [] place a ts d l n = refl
+row-away (r ∷ rs) (us ∷ more) zero a ts d l n =
+    holder-rest row_low row_past (row_with r ts) (rows_with rs more) a n
+    ∙ sym (holder-rest row_low row_past (row_with r us) (rows_with rs more) a n)
+row-away (r ∷ rs) (us ∷ more) (suc place) a ts d l n = ⊎_elim
+    (λ (y : is_within r.low r.past a ≡ true).
+    holder-first row_low row_past (row_with r us) (rows_with rs (set more place ts)) a y
+    ∙ sym (holder-first row_low row_past (row_with r us) (rows_with rs more) a y))
+    (λ (m : is_within r.low r.past a ≡ false).
+    holder-rest row_low row_past (row_with r us) (rows_with rs (set more place ts)) a m
+    ∙ row-away rs more place a ts d (omega arith) n
+    ∙ sym (holder-rest row_low row_past (row_with r us) (rows_with rs more) a m))
+    (cases_Bool (is_within r.low r.past a))
+
+-- and another router does what it did
+others-as_before : (rows : List AtomRow) (tss : List (List Target)) (r q place a : ℕ) (after : Target) → (q ≡ r → ⊥) → does_in q (forwarding_at (rows_with rows (set tss place (set (get_or tss place []) r after))) a) ≡ does_in q (forwarding_at (rows_with rows tss) a)
+others-as_before [] tss r q place a after other = refl
+others-as_before (row ∷ rows) [] r q place a after other = refl
+others-as_before (row ∷ rows) (us ∷ more) r q zero a after other = ⊎_elim
+    (λ (y : is_within row.low row.past a ≡ true).
+    ap (does_in q) (holder-first row_low row_past (row_with row (set us r after)) (rows_with rows more) a y)
+    ∙ get_or-set_other us r q after NoRoute other
+    ∙ sym (ap (does_in q) (holder-first row_low row_past (row_with row us) (rows_with rows more) a y)))
+    (λ (m : is_within row.low row.past a ≡ false).
+    ap (does_in q) (holder-rest row_low row_past (row_with row (set us r after)) (rows_with rows more) a m)
+    ∙ sym (ap (does_in q) (holder-rest row_low row_past (row_with row us) (rows_with rows more) a m)))
+    (cases_Bool (is_within row.low row.past a))
+others-as_before (row ∷ rows) (us ∷ more) r q (suc place) a after other = ⊎_elim
+    (λ (y : is_within row.low row.past a ≡ true).
+    ap (does_in q) (holder-first row_low row_past (row_with row us) (rows_with rows (set more place (set (get_or more place []) r after))) a y)
+    ∙ sym (ap (does_in q) (holder-first row_low row_past (row_with row us) (rows_with rows more) a y)))
+    (λ (m : is_within row.low row.past a ≡ false).
+    ap (does_in q) (holder-rest row_low row_past (row_with row us) (rows_with rows (set more place (set (get_or more place []) r after))) a m)
+    ∙ others-as_before rows more r q place a after other
+    ∙ sym (ap (does_in q) (holder-rest row_low row_past (row_with row us) (rows_with rows more) a m)))
+    (cases_Bool (is_within row.low row.past a))
+
+module _ (rows : List AtomRow) (x : Labels) (r place : ℕ) (after : Target) (row : AtomRow) (h : AreLabelled rows x) (is : row ≡ get_or rows place row) (below : place < length rows) (inside : r < x.routers) where
   abbrev made : Labels
-  made = moved x r row.atom.0 after
+  made = moved x r place after
 
-  long : length (targets_of x row.atom.0) ≡ x.routers
-  long = h.wide row.atom.0 below
+  long : length (targets_of x place) ≡ x.routers
+  long = h.wide place below
 
-  there : row.atom.0 < length x.rows
-  there = subst (λ n. row.atom.0 < n) (sym h.there) below
+  there : place < length x.rows
+  there = subst (λ n. place < n) (sym h.there) below
 
-  same-targets : targets_of made row.atom.0 ≡ set (targets_of x row.atom.0) r after
-  same-targets = get_or-set_same x.rows row.atom.0 (set (targets_of x row.atom.0) r after) [] there
+  same-targets : targets_of made place ≡ set (targets_of x place) r after
+  same-targets = get_or-set_same x.rows place (set (targets_of x place) r after) [] there
 
-  other-targets : (n : ℕ) → (n ≡ row.atom.0 → ⊥) → targets_of made n ≡ targets_of x n
-  other-targets n other = get_or-set_other x.rows row.atom.0 n (set (targets_of x row.atom.0) r after) [] other
+  other-targets : (n : ℕ) → (n ≡ place → ⊥) → targets_of made n ≡ targets_of x n
+  other-targets n other = get_or-set_other x.rows place n (set (targets_of x place) r after) [] other
 
   moved-labelled : AreLabelled rows made
   moved-labelled = record {
     atoms = h.atoms;
-    there = length-set x.rows row.atom.0 (set (targets_of x row.atom.0) r after) ∙ h.there;
+    there = length-set x.rows place (set (targets_of x place) r after) ∙ h.there;
     wide = λ n l. ⊎_elim
-        (λ (e : n ≡ row.atom.0).
-        ap (λ k. length (targets_of made k)) e ∙ ap (λ (ts : List Target). length ts) same-targets ∙ length-set (targets_of x row.atom.0) r after ∙ long)
-        (λ (other : n ≡ row.atom.0 → ⊥). ap (λ (ts : List Target). length ts) (other-targets n other) ∙ h.wide n l)
-        (cases_eq n row.atom.0);
+        (λ (e : n ≡ place).
+        ap (λ k. length (targets_of made k)) e ∙ ap (λ (ts : List Target). length ts) same-targets ∙ length-set (targets_of x place) r after ∙ long)
+        (λ (other : n ≡ place → ⊥). ap (λ (ts : List Target). length ts) (other-targets n other) ∙ h.wide n l)
+        (cases_eq n place);
   }
 
-  moved-here : (a : ℕ) → row_at rows a ≡ Some row → does_at rows made r a ≡ after
-  moved-here a e =
-      ap (does_in made r) e
+  moved-here : (a : ℕ) → row.low ≤ a → a < row.past → does_at rows made r a ≡ after
+  moved-here a l m =
+      does-there rows made r place a row h.atoms below (subst (λ (z : AtomRow). z.low ≤ a) is l) (subst (λ (z : AtomRow). a < z.past) is m)
       ∙ ap (λ (ts : List Target). get_or ts r NoRoute) same-targets
-      ∙ get_or-set_same (targets_of x row.atom.0) r after NoRoute (subst (λ n. r < n) (sym long) inside)
+      ∙ get_or-set_same (targets_of x place) r after NoRoute (subst (λ n. r < n) (sym long) inside)
 
   moved-away : (a : ℕ) → is_within row.low row.past a ≡ false → does_at rows made r a ≡ does_at rows x r a
-  moved-away a n = by (row_at rows a) refl
-    where
-      by : (o : Option AtomRow) → row_at rows a ≡ o → does_in made r o ≡ does_in x r o
-      by None e = refl
-      by (Some y) e =
-          let other : y.atom.0 ≡ row.atom.0 → ⊥ = λ f.
-          let k : y ≡ row = same-row rows a at y row h.atoms.once e is (same-number y.atom row.atom f) in
-          both_ways (is_within row.low row.past a) n (subst (λ (z : AtomRow). is_within z.low z.past a ≡ true) k (has-row rows a y e)) in
-          ap (λ (ts : List Target). get_or ts r NoRoute) (other-targets y.atom.0 other)
+  moved-away a n = ap (does_in r) (row-away rows x.rows place a (set (targets_of x place) r after) row below (subst (λ (z : AtomRow). is_within z.low z.past a ≡ false) is n))
 
   moved-others : (q a : ℕ) → (q ≡ r → ⊥) → does_at rows made q a ≡ does_at rows x q a
-  moved-others q a other = by (row_at rows a)
-    where
-      by : (o : Option AtomRow) → does_in made q o ≡ does_in x q o
-      by None = refl
-      by (Some y) = ⊎_elim
-          (λ (e : y.atom.0 ≡ row.atom.0).
-          ap (λ n. target_at made q n) e
-          ∙ ap (λ (ts : List Target). get_or ts q NoRoute) same-targets
-          ∙ get_or-set_other (targets_of x row.atom.0) r q after NoRoute other
-          ∙ ap (λ n. target_at x q n) (sym e))
-          (λ (n : y.atom.0 ≡ row.atom.0 → ⊥). ap (λ (ts : List Target). get_or ts q NoRoute) (other-targets y.atom.0 n))
-          (cases_eq y.atom.0 row.atom.0)
+  moved-others q a other = others-as_before rows x.rows r q place a after other
 
 -- ---- atoms by place
 
@@ -142,9 +120,8 @@ pub record Stands (rows : List AtomRow) (place at : ℕ) (row : AtomRow) : Type 
   pub low : row.low ≡ at
   pub order : row.low < row.past
   pub ends : row.past ≤ 2 ^ 32
-  pub has : row_at rows at ≡ Some row
-  pub all : (a : ℕ) → row.low ≤ a → a < row.past → row_at rows a ≡ Some row
-  pub below : row.atom.0 < length rows
+  pub is : row ≡ get_or rows place row
+  pub inside : place < length rows
   pub next : row.past < 2 ^ 32 → AtomBegins rows (place + 1) row.past
   pub within : (past : ℕ) → at < past → past ≤ 2 ^ 32 → (past < 2 ^ 32 → is_boundary rows past ≡ true) → row.past ≤ past
 
@@ -154,15 +131,13 @@ stands-at rows place at row h b is =
     let low : row.low ≡ at = subst (λ (z : AtomRow). z.low ≡ at) e (b.low row) in
     let order : row.low < row.past = subst (λ (z : AtomRow). atom_low z < atom_past z) e (ordered-at atom_low atom_past 0 rows place row h.cover b.inside) in
     let ends : row.past ≤ 2 ^ 32 = subst (λ (z : AtomRow). atom_past z ≤ 2 ^ 32) e (high-at atom_low atom_past 0 rows place row h.cover b.inside) in
-    let all : (a : ℕ) → row.low ≤ a → a < row.past → row_at rows a ≡ Some row = λ a l m. subst (λ (z : AtomRow). z.low ≤ a → a < z.past → row_at rows a ≡ Some z) e (holder-at atom_low atom_past 0 rows place row a h.cover b.inside) l m in
     let one : suc place ≡ place + 1 = omega arith in
     record {
       low = low;
       order = order;
       ends = ends;
-      has = all at (omega arith) (omega arith);
-      all = all;
-      below = subst (λ (z : AtomRow). z.atom.0 < length rows) e (below-at (length rows) rows place row h.below b.inside);
+      is = is row;
+      inside = b.inside;
       next = λ l. ⊎_elim
           (λ (m : suc place < length rows).
           subst (λ n. AtomBegins rows n row.past) one (record {
@@ -208,32 +183,38 @@ relabelled-same rows x r lo past before after h e was = record {
 }
 
 -- what is moved next does what it did
-pub not-yet : (rows : List AtomRow) (x y : Labels) (r lo at place : ℕ) (after before : Target) (row : AtomRow) → IsRelabelled rows x y r lo at after → Stands rows place at row → does_at rows x r at ≡ before → target_at y r row.atom.0 ≡ before
+pub not-yet : (rows : List AtomRow) (x y : Labels) (r lo at place : ℕ) (after before : Target) (row : AtomRow) → IsRelabelled rows x y r lo at after → Stands rows place at row → does_at rows x r at ≡ before → target_at y r place ≡ before
 not-yet rows x y r lo at place after before row v s was =
-    sym (ap (does_in y r) s.has) ∙ v.away at (within-above lo at at (omega arith)) ∙ was
+    let low : row.low ≡ at = s.low in
+    let order : row.low < row.past = s.order in
+    let from : row.low ≤ at = omega arith in
+    let to : at < row.past = omega arith in
+    sym (does-there rows y r place at row v.labelled.atoms s.inside (subst (λ (z : AtomRow). z.low ≤ at) s.is from) (subst (λ (z : AtomRow). at < z.past) s.is to))
+    ∙ v.away at (within-above lo at at (omega arith))
+    ∙ was
 
-pub relabelled-more : (rows : List AtomRow) (x y z : Labels) (r lo at place : ℕ) (after : Target) (row : AtomRow) → lo ≤ at → IsRelabelled rows x y r lo at after → Stands rows place at row → r < x.routers → z ≡ moved y r row.atom.0 after → IsRelabelled rows x z r lo row.past after
+pub relabelled-more : (rows : List AtomRow) (x y z : Labels) (r lo at place : ℕ) (after : Target) (row : AtomRow) → lo ≤ at → IsRelabelled rows x y r lo at after → Stands rows place at row → r < x.routers → z ≡ moved y r place after → IsRelabelled rows x z r lo row.past after
 relabelled-more rows x y z r lo at place after row o v s inside is =
     let low : row.low ≡ at = s.low in
     let order : row.low < row.past = s.order in
     let mine : r < y.routers = subst (λ n. r < n) (sym v.routers) inside in
     subst (λ (l : Labels). IsRelabelled rows x l r lo row.past after) (sym is) (record {
-      labelled = moved-labelled rows y r at after row v.labelled s.has s.below mine;
+      labelled = moved-labelled rows y r place after row v.labelled s.is s.inside mine;
       routers = v.routers;
       here = λ a l m. ⊎_elim
-          (λ (k : a < at). moved-away rows y r at after row v.labelled s.has s.below mine a (within-below row.low row.past a (omega arith)) ∙ v.here a l k)
-          (λ (k : at ≤ a). moved-here rows y r at after row v.labelled s.has s.below mine a (s.all a (omega arith) m))
+          (λ (k : a < at). moved-away rows y r place after row v.labelled s.is s.inside mine a (within-below row.low row.past a (omega arith)) ∙ v.here a l k)
+          (λ (k : at ≤ a). moved-here rows y r place after row v.labelled s.is s.inside mine a (omega arith) m)
           (cases_lt a at);
       away = λ a n. ⊎_elim
           (λ (k : a < lo).
-          moved-away rows y r at after row v.labelled s.has s.below mine a (within-below row.low row.past a (omega arith))
+          moved-away rows y r place after row v.labelled s.is s.inside mine a (within-below row.low row.past a (omega arith))
           ∙ v.away a (within-below lo at a k))
           (λ (k : lo ≤ a). ⊎_elim
           (λ (m : a < row.past). absurd (both_ways (is_within lo row.past a) n (within-yes lo row.past a k m)))
           (λ (m : row.past ≤ a).
-          moved-away rows y r at after row v.labelled s.has s.below mine a (within-above row.low row.past a m)
+          moved-away rows y r place after row v.labelled s.is s.inside mine a (within-above row.low row.past a m)
           ∙ v.away a (within-above lo at a (omega arith)))
           (cases_lt a row.past))
           (cases_lt a lo);
-      others = λ q a n. moved-others rows y r at after row v.labelled s.has s.below mine q a n ∙ v.others q a n;
+      others = λ q a n. moved-others rows y r place after row v.labelled s.is s.inside mine q a n ∙ v.others q a n;
     })

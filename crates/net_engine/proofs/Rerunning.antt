@@ -14,7 +14,7 @@ use Rattle.dn_model.specs.declared.ids.RouterId.{RouterId}
 use Rattle.dn_model.specs.declared.target.Target.{Target}
 use Rattle.dn_model.proofs.Covers.{within-above, within-below, within-yes}
 use Rattle.edge_labels.specs.Labels.{Labels}
-use Rattle.net_engine.specs.Numbered.{AreLabelled, GoAlong, does_at}
+use Rattle.net_engine.specs.Paired.{AreLabelled, GoAlong, does_at}
 use Rattle.net_engine.specs.Reruled.{AreCutAt, IsRelabelled, IsReruledOver}
 use Rattle.net_engine.specs.Segments.{AreSegments, BeginsAt, Held, IsCutAt, IsPast, IsReruled, IsRerulesAt, begins_in, held_at, held_of}
 use Rattle.net_engine.specs.Walked.{IsTold, is_part}

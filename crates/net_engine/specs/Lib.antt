@@ -2,7 +2,7 @@ pub mod Net
 pub mod Looks
 pub mod Segments
 pub mod RoutesOf
-pub mod Numbered
+pub mod Paired
 pub mod Reruled
 pub mod Walked
 pub mod Whole

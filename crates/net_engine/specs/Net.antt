@@ -1,5 +1,5 @@
 -- Atoms with what each router does there and the rules that it has there, and how a step changes them. Nothing here
--- says how atoms are numbered.
+-- says how they are kept.
 use Rattle.std.specs.Prelude.{ℕ, List, [], ◌∷◌, length, replicate, ◌≡◌, ◌^◌, ◌&&◌, ◌==◌, not, if◌then◌else◌}
 use Rattle.dn_model.specs.Rows.{is_within, CoverFrom}
 use Rattle.dn_model.specs.Version.{Atom, first_of, past_of}

@@ -9,7 +9,7 @@ use Rattle.dn_model.specs.declared.entry.Op.{Op}
 use Rattle.dn_model.specs.declared.ids.RouterId.{RouterId}
 use Rattle.dn_model.specs.declared.target.Target.{Target}
 use Rattle.edge_labels.specs.Labels.{Labels}
-use Rattle.net_engine.specs.Numbered.{AreLabelled, GoAlong, does_at}
+use Rattle.net_engine.specs.Paired.{AreLabelled, GoAlong, does_at}
 use Rattle.net_engine.specs.Segments.{AreSegments, begins_in, held_at}
 use Rattle.net_engine.specs.Walked.{is_part}
 use Rattle.net_engine.specs.declared.segment.Segment.{Segment}

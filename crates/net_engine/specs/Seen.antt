@@ -4,7 +4,7 @@ use Rattle.std.specs.Arc.{arc_value}
 use Rattle.dn_model.specs.Version.{Kept}
 use Rattle.dn_model.specs.declared.ids.RouterId.{RouterId}
 use Rattle.net_engine.specs.Net.{Net}
-use Rattle.net_engine.specs.Numbered.{AreNumbered, net_of}
+use Rattle.net_engine.specs.Paired.{ArePaired, net_of}
 use Rattle.net_engine.specs.RoutesOf.{routes_of}
 use Rattle.net_engine.specs.Whole.{IsWhole}
 use Rattle.net_engine.specs.declared.net.Net.{Net as NetFields}
@@ -15,9 +15,9 @@ use Rattle.net_engine.specs.declared.state.State.{State}
 abbrev pub net_in : NetFields → Net
 net_in n = net_of n.routers n.atoms n.labels n.owners.items
 
--- its atoms stand by their numbers
-abbrev pub IsNumbered : NetFields → Type 0
-IsNumbered n = AreNumbered n.routers n.atoms n.labels n.owners.items
+-- its atoms stand beside what routers do
+abbrev pub IsPaired : NetFields → Type 0
+IsPaired n = ArePaired n.routers n.atoms n.labels n.owners.items
 
 -- one router's segments
 abbrev pub segments_in : NetFields → RouterId → List Segment
@@ -27,8 +27,8 @@ segments_in n r = slice_index_or n.owners.items r.0 []
 abbrev pub kept_in : State → Kept
 kept_in s = record { topology = arc_value s.topology; atoms = (net_in s.net).atoms; routes = map routes_of s.net.owners.items }
 
--- its atoms and its routes say the same, and the atoms stand by their numbers
+-- its atoms and its routes say the same, and the atoms stand beside what routers do
 pub record IsSound (s : State) : Type 0 where
   pub whole : IsWhole (kept_in s)
-  pub numbered : IsNumbered s.net
+  pub paired : IsPaired s.net
   pub routers : s.net.routers ≡ length (arc_value s.topology).routers

@@ -2,7 +2,7 @@
 
 ghost use Rattle.std.specs.Prelude.{◌≡◌, ◌+◌, ◌≤◌, ◌^◌, OnOk};
 ghost use Rattle.dn_model.specs.Cidr.{IsCidr, size};
-ghost use Rattle.net_engine.specs.Seen.{IsNumbered, net_in};
+ghost use Rattle.net_engine.specs.Seen.{IsPaired, net_in};
 ghost use Rattle.net_engine.specs.Walked.{IsParted};
 
 use crate::net::Net;
@@ -23,9 +23,9 @@ pub fn past_of(prefix: Prefix) -> u64
 
 /// Cuts atoms at both ends of a prefix. It fails for want of memory alone, and then nothing is said of them.
 pub fn cut_ends(net: &mut Net, alloc: Global, prefix: Prefix) -> Result<(), OutOfMemory>
-    requires { IsNumbered net.old }
+    requires { IsPaired net.old }
     ensures routers { OnOk result (net.new.routers ≡ net.old.routers) }
-    ensures numbered { OnOk result (IsNumbered net.new) }
+    ensures paired { OnOk result (IsPaired net.new) }
     ensures owners { OnOk result (net.new.owners.items ≡ net.old.owners.items) }
     ensures parted { OnOk result (IsParted (net_in net.old).atoms (net_in net.new).atoms prefix) }
     ensures sound { IsCidr prefix }

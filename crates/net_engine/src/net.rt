@@ -8,7 +8,7 @@ ghost use Rattle.dn_model.specs.Version.{Atom, begins_at, first_of, past_of};
 ghost use Rattle.net_engine.specs.Looks.{atoms_between, first_looks};
 ghost use Rattle.net_engine.specs.Net.{cut_atoms, first_atom};
 ghost use Rattle.net_engine.specs.Reruled.{AreUpdatedAt};
-ghost use Rattle.net_engine.specs.Seen.{IsNumbered, net_in, segments_in};
+ghost use Rattle.net_engine.specs.Seen.{IsPaired, net_in, segments_in};
 ghost use Rattle.net_engine.specs.Segments.{BeginsAt, has_rule_at};
 ghost use Rattle.net_engine.specs.Walked.{IsWalked};
 
@@ -23,7 +23,7 @@ use std::alloc::Global;
 use std::sync::ledger::Ledger;
 use step_count::Steps;
 
-/// The atoms of a network, with what each router does there, which stands by the number of the atom, and its rules
+/// The atoms of a network, with what each router does there, which stands in the order of the atoms, and its rules
 /// there, which stand by router, between the ends of the prefixes that the router itself has set. A contract sees the
 /// fields, so that an update that finds no memory half way may leave them as they are then.
 #[derive(Drop)]
@@ -39,7 +39,7 @@ impl Net {
     pub fn new(alloc: Global, routers: u32) -> Result<Net, OutOfMemory>
         ensures routers { IfOk result (λ net. net.routers ≡ routers) }
         ensures atoms { IfOk result (λ net. (net_in net).atoms ≡ first_atom routers ∷ []) }
-        ensures numbered { IfOk result IsNumbered }
+        ensures paired { IfOk result IsPaired }
         ensures owners { IfOk result (λ net. net.owners.items ≡ replicate routers []) }
     {
         let atoms = AtomMap::new(alloc)?;
@@ -56,16 +56,17 @@ impl Net {
     /// Cuts the atom that has an address in two there, if it doesn't begin there: both parts have what the whole has.
     /// No router's rules are copied. It fails for want of memory alone, and then nothing is said of it.
     pub fn cut(&mut self, alloc: Global, at: u32) -> Result<(), OutOfMemory>
-        requires { IsNumbered self.old }
+        requires { IsPaired self.old }
         ensures routers { OnOk result (self.new.routers ≡ self.old.routers) }
         ensures atoms { OnOk result ((net_in self.new).atoms ≡ cut_atoms (net_in self.old).atoms at) }
-        ensures numbered { OnOk result (IsNumbered self.new) }
+        ensures paired { OnOk result (IsPaired self.new) }
         ensures owners { OnOk result (self.new.owners.items ≡ self.old.owners.items) }
     {
-        let Some((old, new)) = self.atoms.cut(alloc, at)? else {
+        let place = self.atoms.place_of(at);
+        let Some(_parts) = self.atoms.cut_at(alloc, place, at)? else {
             return Ok(());
         };
-        self.labels.inherit(alloc, old, new)?;
+        self.labels.part(alloc, place)?;
         Ok(())
     }
 
@@ -99,7 +100,7 @@ impl Net {
         known: Option<u64>,
         steps: &mut Steps<L>,
     ) -> Result<Delta, OutOfMemory>
-        requires numbered { IsNumbered self.old }
+        requires paired { IsPaired self.old }
         requires router { r.0 < self.old.routers }
         requires order { span.lo < span.past }
         requires end { span.past ≤ 2 ^ 32 }
@@ -107,7 +108,7 @@ impl Net {
         requires last { span.past < 2 ^ 32 → begins_at (net_in self.old).atoms span.past ≡ true }
         requires known { IfSome known (λ place. BeginsAt (segments_in self.old r) place span.lo) }
         ensures routers { OnOk result (self.new.routers ≡ self.old.routers) }
-        ensures numbered { OnOk result (IsNumbered self.new) }
+        ensures paired { OnOk result (IsPaired self.new) }
         ensures walked { IfOk result (λ delta.
             IsWalked (net_in self.old).atoms (net_in self.new).atoms [] delta r op.now span.lo span.past) }
         ensures own { OnOk result (AreUpdatedAt self.old.owners.items self.new.owners.items r.0 span.lo) }
@@ -128,7 +129,7 @@ impl Net {
     /// The same atoms again.
     pub fn copy(&self, alloc: Global) -> Result<Net, OutOfMemory>
         ensures value { IfOk result (λ net. net_in net ≡ net_in self.now) }
-        ensures numbered { IfOk result (λ net. IsNumbered self.now → IsNumbered net) }
+        ensures paired { IfOk result (λ net. IsPaired self.now → IsPaired net) }
         ensures owners { IfOk result (λ net. net.owners.items ≡ self.now.owners.items) }
     {
         let atoms = self.atoms.copy()?;
@@ -175,15 +176,14 @@ impl Net {
         (row.low, row.past)
     }
 
-    /// What a router does with the addresses of the atom at a place.
+    /// What a router does with the addresses of the atom at a place. The atom itself is not looked at.
     pub fn target(&self, r: RouterId, i: u64) -> Target
-        requires numbered { IsNumbered self.now }
+        requires paired { IsPaired self.now }
         requires router { r.0 < self.now.routers }
         requires place { i < length (net_in self.now).atoms }
         ensures { (d : Atom) → result ≡ target_of (slice_index_or (net_in self.now).atoms i d).row r }
     {
-        let row = self.atoms.at(i);
-        self.labels.target(r, row.atom)
+        self.labels.target(r, i)
     }
 }
 

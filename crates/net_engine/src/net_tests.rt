@@ -1,7 +1,7 @@
 //! A network of two routers, whose answers were worked out by hand.
 
 ghost use Rattle.std.specs.Prelude.{◌≡◌, IfOk};
-ghost use Rattle.net_engine.specs.Seen.{IsNumbered};
+ghost use Rattle.net_engine.specs.Seen.{IsPaired};
 
 use crate::net::Net;
 use dn_model::{OutOfMemory, RouterId, Target};
@@ -11,7 +11,7 @@ use std::test::Fail;
 /// Two routers, and atoms that begin at 0.0.0.0, 10.0.0.0 and 11.0.0.0.
 fn three_atoms(alloc: Global) -> Result<Net, OutOfMemory>
     ensures routers { IfOk result (λ net. net.routers ≡ 2) }
-    ensures numbered { IfOk result IsNumbered }
+    ensures paired { IfOk result IsPaired }
 {
     let mut net = Net::new(alloc, 2)?;
     net.cut(alloc, 0x0A00_0000)?;

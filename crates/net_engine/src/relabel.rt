@@ -3,7 +3,7 @@
 ghost use Rattle.std.specs.Prelude.{◌≡◌, ℕ, ◌+◌, ◌<◌, ◌≤◌, ◌^◌, true, OnOk, length, take, drop, slice_index_or};
 ghost use Rattle.dn_model.specs.declared.atom_row.AtomRow.{AtomRow};
 ghost use Rattle.dn_model.specs.Atoms.{is_boundary};
-ghost use Rattle.net_engine.specs.Numbered.{AreLabelled, does_at};
+ghost use Rattle.net_engine.specs.Paired.{AreLabelled, does_at};
 ghost use Rattle.net_engine.specs.Reruled.{IsRelabelled};
 
 use crate::segment::Targets;
@@ -39,7 +39,7 @@ fn next<'a>(atoms: &'a AtomMap, run: &'a [AtomRow], place: u64) -> (AtomRow, &'a
 }
 
 /// A router does something else with each atom of a span, at whose ends atoms begin. It looks at these atoms alone,
-/// a page of them at a time, and at none where nothing changes. It fails for want of memory alone, and then nothing is
+/// a page of them at a time, and at none where nothing changes. What it writes stands in their order. It fails for want of memory alone, and then nothing is
 /// said of the labels.
 pub fn relabel(
     alloc: Global,
@@ -66,7 +66,7 @@ pub fn relabel(
     let mut at = u64::from(span.lo);
     'atoms: while at < span.past {
         let (row, rest) = next(atoms, run, place);
-        labels.move_atom(alloc, r, row.atom, targets.before, targets.after)?;
+        labels.move_at(alloc, r, place, targets.before, targets.after)?;
         at = row.past;
         place += 1;
         run = rest;

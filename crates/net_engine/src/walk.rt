@@ -3,7 +3,7 @@
 ghost use Rattle.std.specs.Prelude.{◌≡◌, ℕ, ◌+◌, ◌<◌, ◌≤◌, ◌^◌, [], true, None, IfOk, IfSome, OnOk};
 ghost use Rattle.dn_model.specs.Delta.{AreChanges, change_at};
 ghost use Rattle.net_engine.specs.Looks.{atoms_begun, first_looks};
-ghost use Rattle.net_engine.specs.Numbered.{AreLabelled, GoAlong};
+ghost use Rattle.net_engine.specs.Paired.{AreLabelled, GoAlong};
 ghost use Rattle.net_engine.specs.Reruled.{AreCutAt, IsReruledOver};
 ghost use Rattle.net_engine.specs.Segments.{BeginsAt, begins_in};
 ghost use Rattle.net_engine.specs.Walked.{IsTold};

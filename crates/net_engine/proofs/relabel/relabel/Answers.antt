@@ -19,14 +19,13 @@ atoms-init c =
           (relabelled-none c.args.atoms.now c.args.labels.now c.args.r.0 c.args.span.lo c.args.targets.after c.requires.labelled);
     }
 
-pub move_atom-requires-clause-atom : goal.move_atom-requires-clause-atom
-move_atom-requires-clause-atom c =
+pub move_at-requires-clause-place : goal.move_at-requires-clause-place
+move_at-requires-clause-place c =
     let below : c.atoms.at < 2 ^ 32 = omega (arith, c.atoms-test.true, c.requires.end) in
-    let s : Stands c.args.atoms.now c.atoms.place c.atoms.at c.next.result.0 = stands-at c.args.atoms.now c.atoms.place c.atoms.at c.next.result.0 c.requires.labelled.atoms (c.atoms.invariant.begins below) c.next.ensures.row in
-    subst (λ n. c.next.result.0.atom.0 < n) (sym c.atoms.invariant.made.labelled.there) s.below
+    subst (λ n. c.atoms.place < n) (sym c.atoms.invariant.made.labelled.there) (c.atoms.invariant.begins below).inside
 
-pub move_atom-requires-clause-before : goal.move_atom-requires-clause-before
-move_atom-requires-clause-before c =
+pub move_at-requires-clause-before : goal.move_at-requires-clause-before
+move_at-requires-clause-before c =
     let below : c.atoms.at < 2 ^ 32 = omega (arith, c.atoms-test.true, c.requires.end) in
     let s : Stands c.args.atoms.now c.atoms.place c.atoms.at c.next.result.0 = stands-at c.args.atoms.now c.atoms.place c.atoms.at c.next.result.0 c.requires.labelled.atoms (c.atoms.invariant.begins below) c.next.ensures.row in
     not-yet c.args.atoms.now c.args.labels.now c.atoms.labels c.args.r.0 c.args.span.lo c.atoms.at c.atoms.place c.args.targets.after c.args.targets.before c.next.result.0 c.atoms.invariant.made s
@@ -60,5 +59,5 @@ atoms-preserved c =
       to = s.within c.args.span.past c.atoms-test.true c.requires.end c.requires.last;
       begins = s.next;
       run = c.next.ensures.rest;
-      made = relabelled-more c.args.atoms.now c.args.labels.now c.atoms.labels c.move_atom.new.self c.args.r.0 c.args.span.lo c.atoms.at c.atoms.place c.args.targets.after c.next.result.0 from c.atoms.invariant.made s c.requires.router c.in_ok-move_atom.ensures;
+      made = relabelled-more c.args.atoms.now c.args.labels.now c.atoms.labels c.move_at.new.self c.args.r.0 c.args.span.lo c.atoms.at c.atoms.place c.args.targets.after c.next.result.0 from c.atoms.invariant.made s c.requires.router c.in_ok-move_at.ensures;
     }

@@ -1,38 +1,40 @@
 use Rattle.std.proofs.Common.{None, Some, refl, sym, ◌∙◌, arith}
 use Rattle.net_engine.specs.Seen.{net_in}
-use Rattle.net_engine.proofs.Standing.{numbered-again, there-below}
-use Rattle.net_engine.proofs.Cutting.{Cuts, cut-atoms-now, is-cut-at, numbered-after-cut, old-below, uncut-atoms-now}
+use Rattle.net_engine.proofs.Standing.{paired-again, there-below}
+use Rattle.net_engine.proofs.Cutting.{Cuts, cut-atoms-now, is-cut-at, paired-after-cut, room-to-cut, uncut-atoms-now}
 use Rattle.net_engine.proofs.net.Net.cut.Goals as goal
-use Rattle.net_engine.proofs.net.Net.cut.Goals.{In_ok-inherit}
+use Rattle.net_engine.proofs.net.Net.cut.Goals.{In_ok-part}
 
-pub inherit-requires-clause-there : goal.inherit-requires-clause-there
-inherit-requires-clause-there c =
-    there-below c.args.self.now.routers c.args.self.now.atoms c.args.self.now.labels c.args.self.now.owners.items c.in-Some.old.0 c.requires
-    (old-below c.args.self.now.routers c.args.self.now.atoms c.cut.new.self c.args.self.now.labels c.args.self.now.owners.items c.args.at c.in-Some.old c.in-Some.new c.requires (is-cut-at c.args.self.now.atoms c.cut.new.self c.args.at c.in_ok-old.field-0 (Some (c.in-Some.old, c.in-Some.new)) c.in-Some.is c.in_ok-old.ensures.ok))
+pub part-requires-clause-place : goal.part-requires-clause-place
+part-requires-clause-place c = there-below c.args.self.now.routers c.args.self.now.atoms c.args.self.now.labels c.args.self.now.owners.items c.place_of-place.result c.requires c.place_of-place.ensures.inside
 
-pub inherit-requires-clause-next : goal.inherit-requires-clause-next
-inherit-requires-clause-next c =
-    (is-cut-at c.args.self.now.atoms c.cut.new.self c.args.at c.in_ok-old.field-0 (Some (c.in-Some.old, c.in-Some.new)) c.in-Some.is c.in_ok-old.ensures.ok).1 ∙ sym c.requires.labelled.there
+pub part-requires-clause-room : goal.part-requires-clause-room
+part-requires-clause-room c =
+    room-to-cut c.args.self.now.routers c.args.self.now.atoms c.cut_at.new.self c.args.self.now.labels c.args.self.now.owners.items c.args.at c.in-Some._parts.0 c.in-Some._parts.1 c.requires (omega arith) c.in_ok-_parts.ensures.form
+    (is-cut-at c.args.self.now.atoms c.cut_at.new.self c.args.at c.in_ok-_parts.field-0 (Some c.in-Some._parts) c.in-Some.is c.in_ok-_parts.ensures.ok)
 
 -- what the calls made
-made : (c : In_ok-inherit) → Cuts c.args.self.now.atoms c.cut.new.self c.args.self.now.labels c.inherit.new.self c.args.at c.in-Some.old c.in-Some.new
+made : (c : In_ok-part) → Cuts c.args.self.now.atoms c.cut_at.new.self c.args.self.now.labels c.part.new.self c.args.at c.place_of-place.result c.in-Some._parts.0 c.in-Some._parts.1
 made c = record {
-  cut = is-cut-at c.args.self.now.atoms c.cut.new.self c.args.at c.in_ok-old.field-0 (Some (c.in-Some.old, c.in-Some.new)) c.in-Some.is c.in_ok-old.ensures.ok;
+  cut = is-cut-at c.args.self.now.atoms c.cut_at.new.self c.args.at c.in_ok-_parts.field-0 (Some c.in-Some._parts) c.in-Some.is c.in_ok-_parts.ensures.ok;
   within = omega arith;
-  form = c.in_ok-old.ensures.form;
-  labels = c.in_ok-inherit.ensures;
+  form = c.in_ok-_parts.ensures.form;
+  inside = c.place_of-place.ensures.inside;
+  low = c.place_of-place.ensures.from;
+  past = c.place_of-place.ensures.to;
+  labels = c.in_ok-part.ensures;
 }
 
-pub returns-clause-numbered : goal.returns-clause-numbered
-returns-clause-numbered c = numbered-after-cut c.args.self.now.routers c.args.self.now.atoms c.cut.new.self c.args.self.now.labels c.inherit.new.self c.args.self.now.owners.items c.args.at c.in-Some.old c.in-Some.new c.requires (made c)
+pub returns-clause-paired : goal.returns-clause-paired
+returns-clause-paired c = paired-after-cut c.args.self.now.routers c.args.self.now.atoms c.cut_at.new.self c.args.self.now.labels c.part.new.self c.args.self.now.owners.items c.args.at c.place_of-place.result c.in-Some._parts.0 c.in-Some._parts.1 c.requires (made c)
 
 pub returns-clause-atoms : goal.returns-clause-atoms
-returns-clause-atoms c = cut-atoms-now (net_in c.args.self.now) c.args.self.now.routers c.args.self.now.atoms c.cut.new.self c.args.self.now.labels c.inherit.new.self c.args.self.now.owners.items c.args.at c.in-Some.old c.in-Some.new refl c.requires (made c)
+returns-clause-atoms c = cut-atoms-now (net_in c.args.self.now) c.args.self.now.routers c.args.self.now.atoms c.cut_at.new.self c.args.self.now.labels c.part.new.self c.args.self.now.owners.items c.args.at c.place_of-place.result c.in-Some._parts.0 c.in-Some._parts.1 refl c.requires (made c)
 
 pub returns-in_default-clause-atoms : goal.returns-in_default-clause-atoms
-returns-in_default-clause-atoms c = uncut-atoms-now (net_in c.args.self.now) c.args.self.now.routers c.args.self.now.atoms c.cut.new.self c.args.self.now.labels c.args.self.now.owners.items c.args.at refl c.requires (is-cut-at c.args.self.now.atoms c.cut.new.self c.args.at c.in_ok-old.field-0 None c.in_default.is c.in_ok-old.ensures.ok)
+returns-in_default-clause-atoms c = uncut-atoms-now (net_in c.args.self.now) c.args.self.now.routers c.args.self.now.atoms c.cut_at.new.self c.args.self.now.labels c.args.self.now.owners.items c.args.at refl c.requires (is-cut-at c.args.self.now.atoms c.cut_at.new.self c.args.at c.in_ok-_parts.field-0 None c.in_default.is c.in_ok-_parts.ensures.ok)
 
-pub returns-in_default-clause-numbered : goal.returns-in_default-clause-numbered
-returns-in_default-clause-numbered c =
-    numbered-again c.args.self.now.routers c.args.self.now.atoms c.cut.new.self c.args.self.now.labels c.args.self.now.labels c.args.self.now.owners.items c.args.self.now.owners.items c.requires
-    (is-cut-at c.args.self.now.atoms c.cut.new.self c.args.at c.in_ok-old.field-0 None c.in_default.is c.in_ok-old.ensures.ok).1 refl refl
+pub returns-in_default-clause-paired : goal.returns-in_default-clause-paired
+returns-in_default-clause-paired c =
+    paired-again c.args.self.now.routers c.args.self.now.atoms c.cut_at.new.self c.args.self.now.labels c.args.self.now.labels c.args.self.now.owners.items c.args.self.now.owners.items c.requires
+    (is-cut-at c.args.self.now.atoms c.cut_at.new.self c.args.at c.in_ok-_parts.field-0 None c.in_default.is c.in_ok-_parts.ensures.ok).1 refl refl

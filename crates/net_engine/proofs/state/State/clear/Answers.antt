@@ -7,19 +7,19 @@ use Rattle.net_engine.proofs.Said.{none-said, route-said}
 use Rattle.net_engine.proofs.state.State.clear.Goals as goal
 
 pub place_with-requires : goal.place_with-requires
-place_with-requires g c = router-among _ _ _ _ _ c.args.r c.requires.sound.numbered c.requires.sound.routers c.requires.router
+place_with-requires g c = router-among _ _ _ _ _ c.args.r c.requires.sound.paired c.requires.sound.routers c.requires.router
 
 pub update-requires-clause-ends : goal.update-requires-clause-ends
 update-requires-clause-ends g c =
     ends-of_update (kept_in c.args.self.now).atoms c.prefix.result c.args.op.now c.prefix.ensures
     (route-ends (kept_in c.args.self.now) c.args.r c.prefix.result (routes_of (segments_in c.args.self.now.net c.args.r)) c.requires.sound.whole c.requires.router
-    (routes-read c.args.self.now.net.owners.items c.args.r (router-among _ _ _ _ _ c.args.r c.requires.sound.numbered c.requires.sound.routers c.requires.router))
+    (routes-read c.args.self.now.net.owners.items c.args.r (router-among _ _ _ _ _ c.args.r c.requires.sound.paired c.requires.sound.routers c.requires.router))
     (route-said (segments_in c.args.self.now.net c.args.r) c.prefix.result c.place_with.ensures.sound (sym c.in-Some.ensures.found)))
 
 pub returns-in_default-clause-made : goal.returns-in_default-clause-made
 returns-in_default-clause-made g c =
     unchanged (kept_in c.args.self.now) c.args.r c.args.op.now c.prefix.result (routes_of (segments_in c.args.self.now.net c.args.r)) c.new.result c.requires.sound.whole c.requires.router c.requires.clears c.prefix.ensures
-    (routes-read c.args.self.now.net.owners.items c.args.r (router-among _ _ _ _ _ c.args.r c.requires.sound.numbered c.requires.sound.routers c.requires.router))
+    (routes-read c.args.self.now.net.owners.items c.args.r (router-among _ _ _ _ _ c.args.r c.requires.sound.paired c.requires.sound.routers c.requires.router))
     (none-said (segments_in c.args.self.now.net c.args.r) c.prefix.result (sym c.in_default.ensures.found))
     c.new.ensures
 

@@ -9,7 +9,7 @@ returns-clause-sound c =
     let count = c.router_count-routers.ensures.value ∙ ap (λ (t : Topology). length t.routers) c.deref.ensures in
     record {
       whole = empty-whole _ c.router_count-routers.result _ _ c.router_count-routers.ensures.few count c.in_ok-net.ensures.atoms (none-routed _ _ c.in_ok-net.ensures.owners);
-      numbered = c.in_ok-net.ensures.numbered;
+      paired = c.in_ok-net.ensures.paired;
       routers = c.in_ok-net.ensures.routers ∙ count;
     }
 

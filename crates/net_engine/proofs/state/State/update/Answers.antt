@@ -4,7 +4,7 @@ use Rattle.std.specs.Arc.{arc_value}
 use Rattle.net_engine.specs.Looks.{first_looks}
 use Rattle.net_engine.specs.Seen.{kept_in, net_in, segments_in}
 use Rattle.net_engine.specs.Segments.{BeginsAt}
-use Rattle.net_engine.proofs.Does.{rules-numbered}
+use Rattle.net_engine.proofs.Does.{rules-paired}
 use Rattle.net_engine.proofs.Making.{base-now, looks-made, update-said, wide-for}
 use Rattle.net_engine.proofs.Standing.{net-form}
 use Rattle.net_engine.proofs.state.State.update.Goals as goal
@@ -16,17 +16,17 @@ update-requires-clause-known g c =
 
 pub returns-clause-made : goal.returns-clause-made
 returns-clause-made g c =
-    let form = net-form c.update.new.self c.in_ok-delta.ensures.numbered in
+    let form = net-form c.update.new.self c.in_ok-delta.ensures.paired in
     update-said (kept_in c.args.self.now) (arc_value c.args.self.now.topology) (net_in c.args.self.now.net).atoms (net_in c.update.new.self).atoms c.args.self.now.net.owners.items c.update.new.self.owners.items c.args.r c.args.op.now c.in_ok-delta.delta c.prefix-prefix.result _ _ refl c.requires.sound.whole form.cover (wide-for _ _ _ (c.in_ok-delta.ensures.routers ∙ c.requires.sound.routers) form.wide) c.requires.router c.requires.op c.prefix-prefix.ensures c.past_of.ensures.sound c.requires.ends c.base.ensures.value c.past_of.ensures.value c.in_ok-delta.ensures.walked c.in_ok-delta.ensures.own
-    (λ a l. rules-numbered c.update.new.self.routers c.update.new.self.atoms c.update.new.self.labels c.update.new.self.owners.items c.args.r a c.in_ok-delta.ensures.numbered (subst (λ n. c.args.r.0 < n) (sym (c.in_ok-delta.ensures.routers ∙ c.requires.sound.routers)) c.requires.router) l)
+    (λ a l. rules-paired c.update.new.self.routers c.update.new.self.atoms c.update.new.self.labels c.update.new.self.owners.items c.args.r a c.in_ok-delta.ensures.paired (subst (λ n. c.args.r.0 < n) (sym (c.in_ok-delta.ensures.routers ∙ c.requires.sound.routers)) c.requires.router) l)
 
 pub returns-clause-sound : goal.returns-clause-sound
 returns-clause-sound g c =
-    let form = net-form c.update.new.self c.in_ok-delta.ensures.numbered in
+    let form = net-form c.update.new.self c.in_ok-delta.ensures.paired in
     record {
       whole = (update-said (kept_in c.args.self.now) (arc_value c.args.self.now.topology) (net_in c.args.self.now.net).atoms (net_in c.update.new.self).atoms c.args.self.now.net.owners.items c.update.new.self.owners.items c.args.r c.args.op.now c.in_ok-delta.delta c.prefix-prefix.result _ _ refl c.requires.sound.whole form.cover (wide-for _ _ _ (c.in_ok-delta.ensures.routers ∙ c.requires.sound.routers) form.wide) c.requires.router c.requires.op c.prefix-prefix.ensures c.past_of.ensures.sound c.requires.ends c.base.ensures.value c.past_of.ensures.value c.in_ok-delta.ensures.walked c.in_ok-delta.ensures.own
-          (λ a l. rules-numbered c.update.new.self.routers c.update.new.self.atoms c.update.new.self.labels c.update.new.self.owners.items c.args.r a c.in_ok-delta.ensures.numbered (subst (λ n. c.args.r.0 < n) (sym (c.in_ok-delta.ensures.routers ∙ c.requires.sound.routers)) c.requires.router) l)).whole;
-      numbered = c.in_ok-delta.ensures.numbered;
+          (λ a l. rules-paired c.update.new.self.routers c.update.new.self.atoms c.update.new.self.labels c.update.new.self.owners.items c.args.r a c.in_ok-delta.ensures.paired (subst (λ n. c.args.r.0 < n) (sym (c.in_ok-delta.ensures.routers ∙ c.requires.sound.routers)) c.requires.router) l)).whole;
+      paired = c.in_ok-delta.ensures.paired;
       routers = c.in_ok-delta.ensures.routers ∙ c.requires.sound.routers;
     }
 

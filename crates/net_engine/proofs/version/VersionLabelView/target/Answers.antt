@@ -6,8 +6,8 @@ use Rattle.net_engine.specs.declared.state.State.{State}
 use Rattle.net_engine.proofs.RowsOfAtoms.{atom_with, row-at}
 use Rattle.net_engine.proofs.version.VersionLabelView.target.Goals as goal
 
-pub target-requires-clause-numbered : goal.target-requires-clause-numbered
-target-requires-clause-numbered c = (subst (λ (s : State). IsSound s) (sym c.deref.ensures) c.self.invariant).numbered
+pub target-requires-clause-paired : goal.target-requires-clause-paired
+target-requires-clause-paired c = (subst (λ (s : State). IsSound s) (sym c.deref.ensures) c.self.invariant).paired
 
 pub returns : goal.returns
 returns c d = row-at (λ (row : ForwardingRow). c.target.result ≡ target_of row c.args.r) (kept_in c.deref.result.now) _ c.args.i d (ap kept_in c.deref.ensures ∙ c.self.view_is) (c.target.ensures (atom_with d))

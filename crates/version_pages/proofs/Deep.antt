@@ -5,10 +5,11 @@ use Rattle.std.specs.List.{All}
 use Rattle.std.proofs.lemmas.List.Elements.{All-head, All-tail}
 use Rattle.version_pages.specs.declared.tree.Node.{Node}
 use Rattle.version_pages.specs.declared.tree.Node.TheVariants.{Page, Fork}
+use Rattle.version_pages.specs.declared.tree.TheConstants.{WIDE}
 use Rattle.version_pages.specs.Shape.{Shape, items_of, joined, IsDeep, IsUnder, AreKids}
 use Rattle.version_pages.specs.Nodes.{shape_of, IsKept}
 
-many-kids : {T : Type 0} (g p q : ℕ) (kids : List (Shape T)) → p ≡ 2 ^ g → q ≡ 64 * 32 ^ g → All (IsUnder (g + 1)) kids → (length kids * p ≤ length (joined kids)) × (length (joined kids) ≤ length kids * q)
+many-kids : {T : Type 0} (g p q : ℕ) (kids : List (Shape T)) → p ≡ 2 ^ g → q ≡ 64 * WIDE ^ g → All (IsUnder (g + 1)) kids → (length kids * p ≤ length (joined kids)) × (length (joined kids) ≤ length kids * q)
 many-kids g p q [] e f h = (grind arith, grind arith)
 many-kids g p q (k ∷ ks) e f h =
     let here : IsUnder (g + 1) k = All-head (IsUnder (g + 1)) k ks h in
@@ -21,11 +22,11 @@ many-kids g p q (k ∷ ks) e f h =
 deep-kids : {T : Type 0} (g h : ℕ) (kids : List (Shape T)) (room spare : ℕ) → h ≡ g + 1 → AreKids h kids → IsDeep (record { items = joined kids; height = h; room = room; spare = spare })
 deep-kids g h kids room spare e kept =
     let under : All (IsUnder (g + 1)) kids = subst (λ n. All (IsUnder n) kids) e kept.under in
-    let both : (length kids * 2 ^ g ≤ length (joined kids)) × (length (joined kids) ≤ length kids * (64 * 32 ^ g)) = many-kids g (2 ^ g) (64 * 32 ^ g) kids refl refl under in
+    let both : (length kids * 2 ^ g ≤ length (joined kids)) × (length (joined kids) ≤ length kids * (64 * WIDE ^ g)) = many-kids g (2 ^ g) (64 * WIDE ^ g) kids refl refl under in
     let low : 2 * 2 ^ g ≤ length kids * 2 ^ g = mul-le-mul_right (2 ^ g) kept.two in
-    let high : length kids * (64 * 32 ^ g) ≤ 32 * (64 * 32 ^ g) = mul-le-mul_right (64 * 32 ^ g) kept.most in
+    let high : length kids * (64 * WIDE ^ g) ≤ WIDE * (64 * WIDE ^ g) = mul-le-mul_right (64 * WIDE ^ g) kept.most in
     let two : 2 ^ (g + 1) ≡ 2 * 2 ^ g = ap (λ n. 2 ^ n) (add-one g) ∙ pow-succ' 2 g in
-    let wide : 64 * 32 ^ (g + 1) ≡ 32 * (64 * 32 ^ g) = ap (λ n. 64 * 32 ^ n) (add-one g) ∙ ap (λ n. 64 * n) (pow-succ' 32 g) ∙ omega arith in
+    let wide : 64 * WIDE ^ (g + 1) ≡ WIDE * (64 * WIDE ^ g) = ap (λ n. 64 * WIDE ^ n) (add-one g) ∙ ap (λ n. 64 * n) (pow-succ' WIDE g) ∙ omega arith in
     record {
       many = rw e (omega (arith, two, low, both.0));
       few = rw e (omega (arith, wide, high, both.1));
@@ -37,7 +38,7 @@ deep-node (Page items) h = record { many = omega (arith, h.0); few = omega (arit
 deep-node {T} (Fork kids height ends) h =
     let none : Shape T = record { items = []; height = 0; room = 0; spare = 0 } in
     let first : IsUnder height (get_or kids.items 0 none) = h.0.under 0 none (omega (arith, h.0.two)) in
-    deep-kids (get_or kids.items 0 none).height height kids.items (32 - length kids.items) (length kids.items - 2) (sym first.level) h.0
+    deep-kids (get_or kids.items 0 none).height height kids.items (WIDE - length kids.items) (length kids.items - 2) (sym first.level) h.0
 
 -- a number is below the power of two that it stands over
 pub below-power : (n : ℕ) → n < 2 ^ n

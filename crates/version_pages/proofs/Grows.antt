@@ -6,6 +6,7 @@ use Rattle.std.proofs.lemmas.List.Edits.{length-insert}
 use Rattle.std.proofs.lemmas.List.Elements.{All-set, All-get_or}
 use Rattle.version_pages.specs.declared.growth.Growth.{Growth}
 use Rattle.version_pages.specs.declared.growth.Growth.TheVariants.{Before, Parts}
+use Rattle.version_pages.specs.declared.tree.TheConstants.{WIDE}
 use Rattle.version_pages.specs.Growth.{grown, CanGrow}
 use Rattle.version_pages.specs.Shape.{Shape, items_of, joined, AreKids, IsAt, IsDeep, IsUnder}
 use Rattle.version_pages.proofs.Joined.{insert-in, joined-at, two-in}
@@ -40,7 +41,7 @@ pub deep-long : {T : Type 0} (s t : Shape T) → length t.items ≡ length s.ite
 deep-long s t e h d = record { many = rw h (rw e d.many); few = rw h (rw e d.few) }
 
 -- a fork with at most one child more
-pub kids-ready : {T : Type 0} (h : ℕ) (old new : List (Shape T)) → AreKids h old → 0 < 32 - length old → length old ≤ length new → length new ≤ length old + 1 → ((n : ℕ) → All (IsUnder n) old → All (IsUnder n) new) → AreKids h new
+pub kids-ready : {T : Type 0} (h : ℕ) (old new : List (Shape T)) → AreKids h old → 0 < WIDE - length old → length old ≤ length new → length new ≤ length old + 1 → ((n : ℕ) → All (IsUnder n) old → All (IsUnder n) new) → AreKids h new
 kids-ready h old new kept room least most under = record {
   two = omega (arith, kept.two);
   most = omega arith;

@@ -1,6 +1,7 @@
 -- What a tree of pages is seen as, and what always holds of it.
 use Rattle.std.specs.Prelude.{ℕ, zero, suc, ◌≡◌, ◌+◌, ◌*◌, ◌^◌, ◌-◌, ◌<◌, ◌≤◌, List, [], ◌∷◌, ◌++◌, length, take, slice_index_or, All}
 use Rattle.std.specs.List.{flat_map}
+use Rattle.version_pages.specs.declared.tree.TheConstants.{WIDE}
 
 -- the elements in order, how many forks stand above each page, how many more elements or children the top node may take, and
 -- how many it may lose
@@ -22,22 +23,22 @@ abbrev pub page_shape : {T : Type 0} → List T → Shape T
 page_shape items = record { items = items; height = 0; room = 64 - length items; spare = length items - 1 }
 
 abbrev pub fork_shape : {T : Type 0} → ℕ → List (Shape T) → Shape T
-fork_shape height kids = record { items = joined kids; height = height; room = 32 - length kids; spare = length kids - 2 }
+fork_shape height kids = record { items = joined kids; height = height; room = WIDE - length kids; spare = length kids - 2 }
 
--- the depth is a logarithm of the number of elements, between the one of base 2 and the one of base 32
+-- the depth is a logarithm of the number of elements, between the one of base 2 and the one of base 64
 pub record IsDeep {T : Type 0} (s : Shape T) : Type 0 where
   pub many : 2 ^ s.height ≤ length s.items
-  pub few : length s.items ≤ 64 * 32 ^ s.height
+  pub few : length s.items ≤ 64 * WIDE ^ s.height
 
 -- a child of a fork of this height
 pub record IsUnder {T : Type 0} (height : ℕ) (kid : Shape T) : Type 0 where
   pub level : kid.height + 1 ≡ height
   pub deep : IsDeep kid
 
--- the children of a fork: 2 to 32, and all pages stand equally deep
+-- the children of a fork: 2 to 64, and all pages stand equally deep
 pub record AreKids {T : Type 0} (height : ℕ) (kids : List (Shape T)) : Type 0 where
   pub two : 2 ≤ length kids
-  pub most : length kids ≤ 32
+  pub most : length kids ≤ WIDE
   pub under : All (IsUnder height) kids
 
 -- how many elements each child and those before it have together

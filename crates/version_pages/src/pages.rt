@@ -51,10 +51,10 @@ impl<T: Keyed> Pages<T> {
     }
 
     /// How many forks stand above each page: all pages stand equally deep, so it is a logarithm of the length, between
-    /// the one of base 2 and that of base 32. Each call that goes to a place passes through so many forks.
+    /// the one of base 2 and that of base 64. Each call that goes to a place passes through so many forks.
     pub fn height(&self) -> u64
         ensures many { 2 ^ result ≤ length self.now + 1 }
-        ensures few { length self.now ≤ 64 * 32 ^ result }
+        ensures few { length self.now ≤ 64 * 64 ^ result }
     {
         match &self.root {
             None => 0,

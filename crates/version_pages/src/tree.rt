@@ -29,7 +29,7 @@ pub const FULL: usize = 64;
 pub const LONG: u64 = 1 << 62;
 
 /// The most children that a fork has.
-pub const WIDE: usize = 32;
+pub const WIDE: usize = 64;
 
 /// A tree of pages. A contract sees its elements in order, its height, how many more elements or children its top node
 /// may take, and how many it may lose.
@@ -45,7 +45,7 @@ pub struct Tree<T: Keyed> {
 enum Node<T: Keyed> {
     /// 1 to 64 elements.
     Page(Vec<T>),
-    /// 2 to 32 trees of equal height, one after another.
+    /// 2 to 64 trees of equal height, one after another.
     Fork {
         kids: Vec<Kid<T>>,
         /// How many forks stand above each page, this one among them.

@@ -259,7 +259,7 @@ impl<T: Keyed + Copy> Tree<T> {
         requires most { length items.now ≤ MANY }
         requires room { 0 < self.old.room }
         requires fork { 0 < self.old.height }
-        requires few { length self.old.items + 4096 < 2 ^ 62 }
+        requires few { length self.old.items + 8192 < 2 ^ 62 }
         requires clones { (x y : T) → T.is_clone x y → y ≡ x }
         ensures some { IfOk result (λ count. 0 < count) }
         ensures within { IfOk result (λ count. count ≤ length items.now) }
@@ -293,7 +293,7 @@ impl<T: Keyed + Copy> Kid<T> {
         requires most { length items.now ≤ MANY }
         requires room { 0 < self.old.room }
         requires fork { 0 < self.old.height }
-        requires few { length self.old.items + 4096 < 2 ^ 62 }
+        requires few { length self.old.items + 8192 < 2 ^ 62 }
         requires clones { (x y : T) → T.is_clone x y → y ≡ x }
         ensures some { IfOk result (λ count. 0 < count) }
         ensures within { IfOk result (λ count. count ≤ length items.now) }
@@ -339,7 +339,7 @@ impl<T: Keyed + Copy> Kid<T> {
         ensures items { IfOk result (λ count. self.new.items ≡ self.old.items ++ take count items.now) }
         ensures same { OnErr result (self.new.items ≡ self.old.items) }
     {
-        if items.len() > MANY || self.len() >= LONG - 4096 {
+        if items.len() > MANY || self.len() >= LONG - 8192 {
             return self.add_one(alloc, items);
         }
         if self.tree.height() == 0 || !self.tree.has_room() {

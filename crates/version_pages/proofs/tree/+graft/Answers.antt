@@ -1,5 +1,6 @@
 use Rattle.std.proofs.Common.{◌≡◌, ◌+◌, ◌-◌, ◌<◌, ◌≤◌, ◌^◌, ◌∙◌, ap, sym, subst, length, length-append, get_or, arith, rules}
 use Rattle.std.proofs.lemmas.List.{get_or_default}
+use Rattle.version_pages.specs.declared.tree.TheConstants.{WIDE}
 use Rattle.version_pages.specs.Nodes.{shape_of, IsKept}
 use Rattle.version_pages.specs.Shape.{Shape, fork_shape, items_of, joined, AreKids}
 use Rattle.version_pages.proofs.Appended.{append-last}
@@ -12,14 +13,14 @@ use Rattle.version_pages.proofs.tree.+graft.Goals as goal
 pub Tree::graft-invariant_of-self-in_err-ready_end-in-Fork : goal.Tree::graft-invariant_of-self-in_err-ready_end-in-Fork
 Tree::graft-invariant_of-self-in_err-ready_end-in-Fork g t c =
     let kept : AreKids c.in-Fork.height c.in-Fork.kids.items = (subst IsKept c.in-Fork.is c.self.invariant).0 in
-    let room : 0 < 32 - length c.in-Fork.kids.items = subst (λ (s : Shape _). 0 < s.room) (sym (ap shape_of (sym c.in-Fork.is) ∙ c.self.view_is)) c.requires.room in
+    let room : 0 < WIDE - length c.in-Fork.kids.items = subst (λ (s : Shape _). 0 < s.room) (sym (ap shape_of (sym c.in-Fork.is) ∙ c.self.view_is)) c.requires.room in
     (kids-ready _ _ _ kept room c.ready_end.ensures.least c.ready_end.ensures.most c.ready_end.ensures.under, c.ready_end.ensures.ends)
 
 pub Tree::graft-graft-requires : goal.Tree::graft-graft-requires
 Tree::graft-graft-requires g t c κs within =
     let kept : AreKids c.in-Fork.height c.in-Fork.kids.items = (subst IsKept c.in-Fork.is c.self.invariant).0 in
     let shape : fork_shape c.in-Fork.height c.in-Fork.kids.items ≡ c.args.self.now = ap shape_of (sym c.in-Fork.is) ∙ c.self.view_is in
-    let room : 0 < 32 - length c.in-Fork.kids.items = subst (λ (s : Shape _). 0 < s.room) (sym shape) c.requires.room in
+    let room : 0 < WIDE - length c.in-Fork.kids.items = subst (λ (s : Shape _). 0 < s.room) (sym shape) c.requires.room in
     let new : AreKids c.in-Fork.height c.ready_end.new.kids.items = kids-ready _ _ _ kept room c.ready_end.ensures.least c.ready_end.ensures.most c.ready_end.ensures.under in
     let e : joined c.ready_end.new.kids.items ≡ c.args.self.now.items = c.ready_end.ensures.same ∙ ap items_of shape in
     let last : c.len-last.result - 1 + 1 ≡ length c.ready_end.new.kids.items = omega (arith, new.two) in
@@ -37,7 +38,7 @@ Tree::graft-graft-requires g t c κs within =
 pub Tree::graft-invariant_of-self-in_err-graft-in-Fork : goal.Tree::graft-invariant_of-self-in_err-graft-in-Fork
 Tree::graft-invariant_of-self-in_err-graft-in-Fork g t c =
     let kept : AreKids c.in-Fork.height c.in-Fork.kids.items = (subst IsKept c.in-Fork.is c.self.invariant).0 in
-    let room : 0 < 32 - length c.in-Fork.kids.items = subst (λ (s : Shape _). 0 < s.room) (sym (ap shape_of (sym c.in-Fork.is) ∙ c.self.view_is)) c.requires.room in
+    let room : 0 < WIDE - length c.in-Fork.kids.items = subst (λ (s : Shape _). 0 < s.room) (sym (ap shape_of (sym c.in-Fork.is) ∙ c.self.view_is)) c.requires.room in
     let new : AreKids c.in-Fork.height c.ready_end.new.kids.items = kids-ready _ _ _ kept room c.ready_end.ensures.least c.ready_end.ensures.most c.ready_end.ensures.under in
     let child : c.len-last.result - 1 < length c.ready_end.new.kids.items = omega (arith, new.two) in
     let is = c.index_mut-kid.ensures.value in
@@ -60,7 +61,7 @@ Tree::graft-overflow_add-index_mut g t c =
 pub Tree::graft-invariant_of-self-in-Fork : goal.Tree::graft-invariant_of-self-in-Fork
 Tree::graft-invariant_of-self-in-Fork g t c =
     let kept : AreKids c.in-Fork.height c.in-Fork.kids.items = (subst IsKept c.in-Fork.is c.self.invariant).0 in
-    let room : 0 < 32 - length c.in-Fork.kids.items = subst (λ (s : Shape _). 0 < s.room) (sym (ap shape_of (sym c.in-Fork.is) ∙ c.self.view_is)) c.requires.room in
+    let room : 0 < WIDE - length c.in-Fork.kids.items = subst (λ (s : Shape _). 0 < s.room) (sym (ap shape_of (sym c.in-Fork.is) ∙ c.self.view_is)) c.requires.room in
     let new : AreKids c.in-Fork.height c.ready_end.new.kids.items = kids-ready _ _ _ kept room c.ready_end.ensures.least c.ready_end.ensures.most c.ready_end.ensures.under in
     let last : c.len-last.result - 1 + 1 ≡ length c.ready_end.new.kids.items = omega (arith, new.two) in
     let is = c.index_mut-kid.ensures.value in

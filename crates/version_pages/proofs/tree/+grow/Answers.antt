@@ -1,6 +1,7 @@
 use Rattle.std.proofs.Common.{◌≡◌, ◌+◌, ◌-◌, ◌<◌, ◌≤◌, ◌^◌, ◌∙◌, ap, sym, subst, length, get_or, set, take, drop, ◌++◌, arith, rules}
 use Rattle.std.proofs.lemmas.List.{take_at}
 use Rattle.std.proofs.lemmas.Grind.{common_steps}
+use Rattle.version_pages.specs.declared.tree.TheConstants.{WIDE}
 use Rattle.version_pages.specs.Growth.{grown, CanGrow}
 use Rattle.version_pages.specs.Keys.{first_key}
 use Rattle.version_pages.specs.Nodes.{shape_of, IsKept}
@@ -15,7 +16,7 @@ use Rattle.version_pages.proofs.tree.+grow.Goals as goal
 pub Tree::grow-invariant_of-self : goal.Tree::grow-invariant_of-self
 Tree::grow-invariant_of-self g t c =
     let kept : AreKids c.in-Fork.height c.in-Fork.kids.items = (subst IsKept c.in-Fork.is c.self.invariant).0 in
-    let room : 0 < 32 - length c.in-Fork.kids.items = subst (λ (s : Shape _). 0 < s.room) (sym (ap shape_of (sym c.in-Fork.is) ∙ c.self.view_is)) c.requires.room in
+    let room : 0 < WIDE - length c.in-Fork.kids.items = subst (λ (s : Shape _). 0 < s.room) (sym (ap shape_of (sym c.in-Fork.is) ∙ c.self.view_is)) c.requires.room in
     (kids-ready _ _ _ kept room c.ready.ensures.least c.ready.ensures.most c.ready.ensures.under, c.ready.ensures.ends)
 
 pub Tree::grow-returns-in-Fork-clause-items : goal.Tree::grow-returns-in-Fork-clause-items
@@ -34,7 +35,7 @@ Tree::grow-returns-in_err-grow-in-Fork-clause-items g t c =
 pub Tree::grow-invariant_of-self-in_err-grow-in-Fork : goal.Tree::grow-invariant_of-self-in_err-grow-in-Fork
 Tree::grow-invariant_of-self-in_err-grow-in-Fork g t c =
     let kept : AreKids c.in-Fork.height c.in-Fork.kids.items = (subst IsKept c.in-Fork.is c.self.invariant).0 in
-    let room : 0 < 32 - length c.in-Fork.kids.items = subst (λ (s : Shape _). 0 < s.room) (sym (ap shape_of (sym c.in-Fork.is) ∙ c.self.view_is)) c.requires.room in
+    let room : 0 < WIDE - length c.in-Fork.kids.items = subst (λ (s : Shape _). 0 < s.room) (sym (ap shape_of (sym c.in-Fork.is) ∙ c.self.view_is)) c.requires.room in
     let new : AreKids c.in-Fork.height c.ready.new.kids.items = kids-ready _ _ _ kept room c.ready.ensures.least c.ready.ensures.most c.ready.ensures.under in
     let at : IsAt c.ready.new.kids.items c.args.i c.in_ok-k-in-Fork.k c.in_ok-k-in-Fork.j = c.in_ok-k-in-Fork.ensures.child in
     let is = c.index_mut-kid.ensures.value in (
@@ -50,7 +51,7 @@ Tree::grow-lengthen-requires-clause-few g t c =
 pub Tree::grow-invariant_of-self-in-Fork : goal.Tree::grow-invariant_of-self-in-Fork
 Tree::grow-invariant_of-self-in-Fork g t c =
     let kept : AreKids c.in-Fork.height c.in-Fork.kids.items = (subst IsKept c.in-Fork.is c.self.invariant).0 in
-    let room : 0 < 32 - length c.in-Fork.kids.items = subst (λ (s : Shape _). 0 < s.room) (sym (ap shape_of (sym c.in-Fork.is) ∙ c.self.view_is)) c.requires.room in
+    let room : 0 < WIDE - length c.in-Fork.kids.items = subst (λ (s : Shape _). 0 < s.room) (sym (ap shape_of (sym c.in-Fork.is) ∙ c.self.view_is)) c.requires.room in
     let new : AreKids c.in-Fork.height c.ready.new.kids.items = kids-ready _ _ _ kept room c.ready.ensures.least c.ready.ensures.most c.ready.ensures.under in
     let at : IsAt c.ready.new.kids.items c.args.i c.in_ok-k-in-Fork.k c.in_ok-k-in-Fork.j = c.in_ok-k-in-Fork.ensures.child in
     let is = c.index_mut-kid.ensures.value in
@@ -71,7 +72,7 @@ Tree::grow-grow-requires g t c κs within =
     let can : CanGrow c.args.growth c.index_mut-kid.result.now.items c.in_ok-k-in-Fork.j = can-at _ _ _ _ _ _ c.args.growth e at is c.requires.inside in
     let kept : AreKids c.in-Fork.height c.in-Fork.kids.items = (subst IsKept c.in-Fork.is c.self.invariant).0 in
     let shape : fork_shape c.in-Fork.height c.in-Fork.kids.items ≡ c.args.self.now = ap shape_of (sym c.in-Fork.is) ∙ c.self.view_is in
-    let room : 0 < 32 - length c.in-Fork.kids.items = subst (λ (s : Shape _). 0 < s.room) (sym shape) c.requires.room in
+    let room : 0 < WIDE - length c.in-Fork.kids.items = subst (λ (s : Shape _). 0 < s.room) (sym shape) c.requires.room in
     let new : AreKids c.in-Fork.height c.ready.new.kids.items = kids-ready _ _ _ kept room c.ready.ensures.least c.ready.ensures.most c.ready.ensures.under in
     let level : c.index_mut-kid.result.now.height + 1 ≡ c.in-Fork.height = kid-level _ _ _ _ new at.child is in
     let high : c.in-Fork.height ≡ c.args.self.now.height = ap (λ (s : Shape _). s.height) shape in

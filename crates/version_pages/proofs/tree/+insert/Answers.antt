@@ -1,5 +1,6 @@
 use Rattle.std.proofs.Common.{◌≡◌, ◌+◌, ◌-◌, ◌<◌, ◌≤◌, ◌^◌, ◌∙◌, ap, sym, subst, length, get_or, set, take, drop, ◌++◌, arith, rules}
 use Rattle.std.proofs.lemmas.List.{take_at}
+use Rattle.version_pages.specs.declared.tree.TheConstants.{WIDE}
 use Rattle.version_pages.specs.Nodes.{shape_of, IsKept}
 use Rattle.version_pages.specs.Shape.{Shape, fork_shape, items_of, joined, AreEnds, AreKids, AreLonger, IsAt}
 use Rattle.version_pages.proofs.Edits.{on-err}
@@ -12,14 +13,14 @@ use Rattle.version_pages.proofs.tree.+insert.Goals as goal
 pub Tree::insert_some-invariant_of-self : goal.Tree::insert_some-invariant_of-self
 Tree::insert_some-invariant_of-self g t c =
     let kept : AreKids c.in-Fork.height c.in-Fork.kids.items = (subst IsKept c.in-Fork.is c.self.invariant).0 in
-    let room : 0 < 32 - length c.in-Fork.kids.items = subst (λ (s : Shape _). 0 < s.room) (sym (ap shape_of (sym c.in-Fork.is) ∙ c.self.view_is)) c.requires.room in
+    let room : 0 < WIDE - length c.in-Fork.kids.items = subst (λ (s : Shape _). 0 < s.room) (sym (ap shape_of (sym c.in-Fork.is) ∙ c.self.view_is)) c.requires.room in
     (kids-ready _ _ _ kept room c.ready.ensures.least c.ready.ensures.most c.ready.ensures.under, c.ready.ensures.ends)
 
 pub Tree::insert_some-insert_some-requires : goal.Tree::insert_some-insert_some-requires
 Tree::insert_some-insert_some-requires g t c κs within =
     let kept : AreKids c.in-Fork.height c.in-Fork.kids.items = (subst IsKept c.in-Fork.is c.self.invariant).0 in
     let shape : fork_shape c.in-Fork.height c.in-Fork.kids.items ≡ c.args.self.now = ap shape_of (sym c.in-Fork.is) ∙ c.self.view_is in
-    let room : 0 < 32 - length c.in-Fork.kids.items = subst (λ (s : Shape _). 0 < s.room) (sym shape) c.requires.room in
+    let room : 0 < WIDE - length c.in-Fork.kids.items = subst (λ (s : Shape _). 0 < s.room) (sym shape) c.requires.room in
     let new : AreKids c.in-Fork.height c.ready.new.kids.items = kids-ready _ _ _ kept room c.ready.ensures.least c.ready.ensures.most c.ready.ensures.under in
     let e : joined c.ready.new.kids.items ≡ c.args.self.now.items = c.ready.ensures.same ∙ ap items_of shape in
     let at : IsAt c.ready.new.kids.items c.args.i c.in_ok-k-in-Fork.k c.in_ok-k-in-Fork.j = c.in_ok-k-in-Fork.ensures.child in
@@ -35,7 +36,7 @@ Tree::insert_some-insert_some-requires g t c κs within =
 pub Tree::insert_some-invariant_of-self-in_err-count-in-Fork : goal.Tree::insert_some-invariant_of-self-in_err-count-in-Fork
 Tree::insert_some-invariant_of-self-in_err-count-in-Fork g t c =
     let kept : AreKids c.in-Fork.height c.in-Fork.kids.items = (subst IsKept c.in-Fork.is c.self.invariant).0 in
-    let room : 0 < 32 - length c.in-Fork.kids.items = subst (λ (s : Shape _). 0 < s.room) (sym (ap shape_of (sym c.in-Fork.is) ∙ c.self.view_is)) c.requires.room in
+    let room : 0 < WIDE - length c.in-Fork.kids.items = subst (λ (s : Shape _). 0 < s.room) (sym (ap shape_of (sym c.in-Fork.is) ∙ c.self.view_is)) c.requires.room in
     let new : AreKids c.in-Fork.height c.ready.new.kids.items = kids-ready _ _ _ kept room c.ready.ensures.least c.ready.ensures.most c.ready.ensures.under in
     let at : IsAt c.ready.new.kids.items c.args.i c.in_ok-k-in-Fork.k c.in_ok-k-in-Fork.j = c.in_ok-k-in-Fork.ensures.child in
     let is = c.index_mut-kid.ensures.value in
@@ -56,7 +57,7 @@ Tree::insert_some-lengthen-requires-clause-few g t c =
 pub Tree::insert_some-invariant_of-self-in-Fork : goal.Tree::insert_some-invariant_of-self-in-Fork
 Tree::insert_some-invariant_of-self-in-Fork g t c =
     let kept : AreKids c.in-Fork.height c.in-Fork.kids.items = (subst IsKept c.in-Fork.is c.self.invariant).0 in
-    let room : 0 < 32 - length c.in-Fork.kids.items = subst (λ (s : Shape _). 0 < s.room) (sym (ap shape_of (sym c.in-Fork.is) ∙ c.self.view_is)) c.requires.room in
+    let room : 0 < WIDE - length c.in-Fork.kids.items = subst (λ (s : Shape _). 0 < s.room) (sym (ap shape_of (sym c.in-Fork.is) ∙ c.self.view_is)) c.requires.room in
     let new : AreKids c.in-Fork.height c.ready.new.kids.items = kids-ready _ _ _ kept room c.ready.ensures.least c.ready.ensures.most c.ready.ensures.under in
     let at : IsAt c.ready.new.kids.items c.args.i c.in_ok-k-in-Fork.k c.in_ok-k-in-Fork.j = c.in_ok-k-in-Fork.ensures.child in
     let is = c.index_mut-kid.ensures.value in

@@ -479,16 +479,46 @@ fn a_search_after_a_row(rt: HostRuntime) -> Result<(), Fail> {
     Ok(())
 }
 
-/// Makes each number one more. It answers how many there are.
-fn raise(run: &mut [u64]) -> u64 {
+/// Makes the first of some numbers one more each, so many at most. It answers how many.
+fn raise(run: &mut [u64], most: u64) -> u64 {
+    let mut count = 0;
     for number in run.iter_mut() {
-        *number = number.saturating_add(1);
+        if count < most {
+            *number = number.saturating_add(1);
+            count += 1;
+        }
     }
-    run.len() as u64
+    count
 }
 
-/// Makes the numbers of both from a place on one more, those of the list page by page.
+/// Makes numbers of both from a place on one more each, so many at most, where the list has them in one page. It answers
+/// how many.
+fn raise_both(
+    rt: &impl Abort,
+    alloc: Global,
+    pages: &mut Pages<u64>,
+    plain: &mut Vec<u64>,
+    from: u64,
+    most: u64,
+) -> Result<u64, OutOfMemory> {
+    if from >= pages.len() {
+        return Ok(0);
+    }
+    let shown = pages.run_from(from).len() as u64;
+    let count = pages.change_run(alloc, from, |run| raise(run, most))?;
+    assert_eq!(rt; count, shown.min(most));
+    for k in 0..plain.len() {
+        let at = k as u64;
+        if from <= at && at - from < count {
+            plain[k] = plain[k].saturating_add(1);
+        }
+    }
+    Ok(count)
+}
+
+/// Makes all numbers of both from a place on one more each, those of the list page by page.
 fn raise_from(
+    rt: &impl Abort,
     alloc: Global,
     pages: &mut Pages<u64>,
     plain: &mut Vec<u64>,
@@ -496,15 +526,8 @@ fn raise_from(
 ) -> Result<(), OutOfMemory> {
     let mut at = from;
     for _ in 0..1_000u64 {
-        if at < pages.len() {
-            let count = pages.change_run(alloc, at, |run| raise(run))?;
-            at = at.saturating_add(count);
-        }
-    }
-    for k in 0..plain.len() {
-        if from <= k as u64 {
-            plain[k] = plain[k].saturating_add(1);
-        }
+        let count = raise_both(rt, alloc, pages, plain, at, u64::MAX)?;
+        at = at.saturating_add(count);
     }
     Ok(())
 }
@@ -517,11 +540,38 @@ fn pages_are_changed_in_their_places(rt: HostRuntime) -> Result<(), Fail> {
     let (mut pages, mut plain) = rising(alloc, 5_000)?;
     let held = pages.copy()?;
     let old = plain.clone()?;
-    raise_from(alloc, &mut pages, &mut plain, 70)?;
+    raise_from(&rt, alloc, &mut pages, &mut plain, 70)?;
     compare(&rt, &pages, &plain);
-    raise_from(alloc, &mut pages, &mut plain, 0)?;
+    raise_from(&rt, alloc, &mut pages, &mut plain, 0)?;
     compare(&rt, &pages, &plain);
     are_found(&rt, &pages, 5_000);
+    compare(&rt, &held, &old);
+    Ok(())
+}
+
+/// Up to 80 neighbours are changed at places all over. Every seventh time a copy holds all pages from then on. The list
+/// has what a plain `Vec` has, and each copy what it had.
+#[test]
+fn neighbours_all_over(rt: HostRuntime) -> Result<(), Fail> {
+    let alloc = rt.alloc();
+    let (mut pages, mut plain) = rising(alloc, 3_000)?;
+    let mut held = pages.copy()?;
+    let mut old = plain.clone()?;
+    let mut state = 1u64;
+    for k in 0..300u64 {
+        state = state
+            .wrapping_mul(6364136223846793005)
+            .wrapping_add(1442695040888963407);
+        let from = (state >> 33) % 3_000;
+        raise_both(&rt, alloc, &mut pages, &mut plain, from, (state >> 20) % 81)?;
+        if k % 7 == 0 {
+            compare(&rt, &pages, &plain);
+            compare(&rt, &held, &old);
+            held = pages.copy()?;
+            old = plain.clone()?;
+        }
+    }
+    compare(&rt, &pages, &plain);
     compare(&rt, &held, &old);
     Ok(())
 }

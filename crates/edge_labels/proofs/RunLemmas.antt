@@ -1,5 +1,5 @@
 -- A router's code at atoms that stand side by side.
-use Rattle.std.proofs.Common.{IfOk, ◌≡◌, ◌≢◌, ℕ, ◌+◌, ◌-◌, ◌*◌, ◌/◌, ◌%◌, ◌<◌, ◌≤◌, List, [], ◌++◌, length, map, take, drop, get_or, set, refl, ap, sym, subst, append_assoc, ⊎_elim, ◌∙◌, arith, length-append, get_or-set_other, get_or-set_same}
+use Rattle.std.proofs.Common.{IfOk, ◌≡◌, ◌≢◌, ℕ, ◌+◌, ◌-◌, ◌*◌, ◌/◌, ◌%◌, ◌<◌, ◌≤◌, List, [], ◌++◌, length, map, take, drop, get_or, set, refl, ap, sym, subst, append_assoc, ⊎_elim, ◌∙◌, arith, get_or-set_other, get_or-set_same}
 use Rattle.std.specs.declared.result.Result.{Result}
 use Rattle.std.specs.declared.result.Result.TheVariants.{Ok, Err}
 use Rattle.std.specs.Fn.{FnOnceReturnsAtMut}
@@ -12,14 +12,14 @@ use Rattle.version_pages.specs.Changes.{ChangesRun}
 use Rattle.dn_model.specs.declared.target.Target.{Target}
 use Rattle.edge_labels.specs.declared.code_chunk.CodeChunk.{CodeChunk}
 use Rattle.edge_labels.specs.declared.codes.Edge.{Edge}
-use Rattle.edge_labels.specs.ChunkRows.{AreChunkRows, AreWritten, codes_in, IsColumnWritten, IsFrontWritten, IsWritten, labels_in, lane_at, no_codes, stride_of}
+use Rattle.edge_labels.specs.ChunkRows.{AreChunkRows, AreWritten, codes_in, IsColumnWritten, IsFrontWritten, labels_in, lane_at, no_codes, stride_of}
 use Rattle.edge_labels.specs.Codes.{edge_at, IsCoded}
 use Rattle.edge_labels.specs.Labels.{Labels, moved_run, targets_of}
 use Rattle.edge_labels.specs.Rows.{AreRows, code_at, codes_of, IsCodeOf, labels_of, targets_by}
 use Rattle.edge_labels.proofs.ChunkLemmas.{code-flat, length-codes, same-place}
 use Rattle.edge_labels.proofs.MovedRun.{moved_run-away, moved_run-long, moved_run-row}
 use Rattle.edge_labels.proofs.Patched.{patched-before, patched-behind, patched-here, patched-long}
-use Rattle.edge_labels.proofs.RowLemmas.{length-row, map-agree, place-atom, place-router, row-at}
+use Rattle.edge_labels.proofs.RowLemmas.{length-row, place-atom, place-router, row-at}
 use Rattle.edge_labels.proofs.TargetLemmas.{coded-within, still, targets-kept}
 use denote.Param.Members.{Once}
 use denote.Ref.{MutBor}
@@ -37,25 +37,6 @@ written-none chunks from stride lane code = record {
 -- two of them are apart
 apart : (i k stride : ℕ) → i < k → 0 < stride → i * stride < k * stride
 apart i k stride l some = let m : (i + 1) * stride ≤ k * stride = mul-le (i + 1) stride k stride (omega arith) (omega arith) in omega arith
-
-pub written-more : (old now new : List CodeChunk) (from stride lane count code : ℕ) → 0 < stride → from + count * stride < length now → AreWritten old now from stride lane count code → IsWritten now new (from + count * stride) lane code → AreWritten old new from stride lane (count + 1) code
-written-more old now new from stride lane count code some there so is = record {
-  long = is.long ∙ so.long;
-  inside = λ k l.
-      ⊎_elim
-      (λ (m : k < count). so.inside k m)
-      (λ (m : count ≤ k).
-      let last : k ≡ count = omega arith in
-      let at : from + k * stride ≡ from + count * stride = ap (λ x. from + x * stride) last in
-      omega (arith, so.long))
-      (cases_lt k count);
-  here = λ k l.
-      ⊎_elim
-      (λ (m : k < count). is.others (from + k * stride) lane (λ e f. omega (arith, apart k count stride m some)) ∙ so.here k m)
-      (λ (m : count ≤ k). let last : k ≡ count = omega arith in ap (λ x. lane_at new (from + x * stride) lane) last ∙ is.here)
-      (cases_lt k count);
-  others = λ j m ne. is.others j m (λ e f. ne count (omega arith) e f) ∙ so.others j m (λ k l e f. ne k (omega arith) e f);
-}
 
 further : (from stride done i : ℕ) → from + done * stride + i * stride ≡ from + (done + i) * stride
 further from stride done i = omega arith
@@ -80,23 +61,6 @@ written-on old now new from stride lane done more code some so on = record {
   where
     behind : (k : ℕ) → done ≤ k → from + done * stride + (k - done) * stride ≡ from + k * stride
     behind k l = let back : done + (k - done) ≡ k = omega arith in further from stride done (k - done) ∙ ap (λ x. from + x * stride) back
-
--- a chunk with one code more stands in the place of the one before
-pub put-written : (old : List CodeChunk) (x y : CodeChunk) (i lane code : ℕ) → i < length old → ((d : CodeChunk) → x ≡ get_or old i d) → get_or y.codes lane 0 ≡ code → ((k : ℕ) → (k ≡ lane → ⊥) → get_or y.codes k 0 ≡ get_or x.codes k 0) → IsWritten old (set old i y) i lane code
-put-written old x y i lane code inside is here others = record {
-  long = length-set old i y;
-  here = ap (λ c. get_or c.codes lane 0) (get_or-set_same old i y no_codes inside) ∙ here;
-  others = λ j k ne.
-      ⊎_elim
-      (λ (same : j ≡ i).
-      ap (λ p. lane_at (set old i y) p k) same
-      ∙ ap (λ c. get_or c.codes k 0) (get_or-set_same old i y no_codes inside)
-      ∙ others k (ne same)
-      ∙ ap (λ c. get_or c.codes k 0) (is no_codes)
-      ∙ ap (λ p. lane_at old p k) (sym same))
-      (λ (away : j ≢ i). ap (λ c. get_or c.codes k 0) (get_or-set_other old i j y no_codes away))
-      (cases_eq j i);
-}
 
 -- what is written in a part is written in the whole
 pub part-written : (old part new : List CodeChunk) (i len stride lane count code : ℕ) → i + len ≤ length old → length part ≡ len → new ≡ take i old ++ part ++ drop (i + len) old → AreWritten (take len (drop i old)) part 0 stride lane count code → AreWritten old new i stride lane count code
@@ -167,17 +131,6 @@ column-more n r first done more code i stride lane old now new lr wide place at-
     (subst (λ (x : ℕ). AreWritten now new x (stride_of n) (r % 8) more code) at
     (subst (λ (x : ℕ). AreWritten now new i x (r % 8) more code) wide
     (subst (λ (x : ℕ). AreWritten now new i stride x more code) at-lane on)))
-
--- all of it is done, or nothing more
-pub column-all : (n r first done count code : ℕ) (old now : List CodeChunk) → done ≤ count → count ≤ done → IsColumnWritten n r first old now done code → IsColumnWritten n r first old now count code
-column-all n r first done count code old now few many so = let same : done ≡ count = omega arith in subst (λ (x : ℕ). IsColumnWritten n r first old now x code) same so
-
-pub column-front : (n r first done count code : ℕ) (old now new : List CodeChunk) → done ≤ count → new ≡ now → IsColumnWritten n r first old now done code → IsFrontWritten n r first old new count code
-column-front n r first done count code old now new few same so = record {
-  done = done;
-  few = few;
-  written = subst (λ (cs : List CodeChunk). IsColumnWritten n r first old cs done code) (sym same) so;
-}
 
 -- ---- codes one after another
 

@@ -131,24 +131,6 @@ moved-rows n atoms r a code codes now edges new t kept coded is lr la = record {
         from true false e f = other (λ s u. false≢true (sym f ∙ itself q r u))
         from false v e f = other (λ s u. false≢true (sym e ∙ itself b a s))
 
--- a code more changes no row
-pub coded-rows : (n atoms r code : ℕ) (codes : List ℕ) (edges new : List Edge) (t : Target) → AreRows n atoms codes edges → IsCoded edges new (record { router = r; target = t }) code → r < n → AreRows n atoms codes new
-coded-rows n atoms r code codes edges new t kept coded lr = record {
-  long = kept.long;
-  few = kept.few;
-  own = λ b q lb lq. still edges new (record { router = r; target = t }) q (code_at n codes b q) code coded (kept.own b q lb lq);
-  within = λ c l. coded-within n r code edges new t kept.within coded lr c l;
-}
-
--- no rows are kept
-pub rows-gone : (n atoms : ℕ) (codes now : List ℕ) (edges : List Edge) → AreRows n atoms codes edges → now ≡ [] → AreRows n 0 now edges
-rows-gone n atoms codes now edges kept gone = record {
-  long = let none : length now ≡ 0 = ap length gone in omega arith;
-  few = lit≤ tt;
-  own = λ b q lb lq. absurd (let no : ⊥ = omega arith in no);
-  within = kept.within;
-}
-
 -- codes that stay mean the same
 pub targets-kept : (n atoms r b code : ℕ) (codes : List ℕ) (edges new : List Edge) (t : Target) → AreRows n atoms codes edges → IsCoded edges new (record { router = r; target = t }) code → b < atoms → targets_by new (codes_of n codes b) ≡ targets_by edges (codes_of n codes b)
 targets-kept n atoms r b code codes edges new t kept coded l = map-agree (λ c. (edge_at new c).target) (λ c. (edge_at edges c).target) (codes_of n codes b) (λ q m.

@@ -254,7 +254,7 @@ fn hundred_and_two(rt: &impl Abort, alloc: Global) -> TargetRows
     ensures atoms { length result.rows ≡ 102 }
 {
     let mut rows = seventeen(rt, alloc);
-    for _cut in 0..100 {
+    for _cut in 0..100u64 {
         cut_first(rt, alloc, &mut rows);
     }
     rows

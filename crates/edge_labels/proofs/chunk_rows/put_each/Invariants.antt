@@ -1,4 +1,4 @@
-use Rattle.std.proofs.Common.{◌≡◌, ◌≤◌, ◌<◌, ◌*◌, ◌-◌, length}
+use Rattle.std.proofs.Common.{◌≡◌, ◌≤◌, ◌*◌, ◌-◌}
 use Rattle.edge_labels.specs.ChunkRows.{AreWritten}
 use Rattle.edge_labels.proofs.chunk_rows.put_each.Given as goal
 

@@ -1,5 +1,4 @@
-use Rattle.std.proofs.Common.{◌+◌, ◌*◌, ◌<◌, ◌≡◌, ◌/◌, arith}
-use Rattle.edge_labels.specs.ChunkRows.{stride_of}
+use Rattle.std.proofs.Common.{◌+◌, arith}
 use Rattle.edge_labels.proofs.ChunkLemmas.{place-inside}
 use Rattle.edge_labels.proofs.RunLemmas.{column-more, column-none}
 use Rattle.edge_labels.proofs.chunk_rows.write_column.Goals as goal

@@ -1,4 +1,4 @@
-use Rattle.std.proofs.Common.{◌≡◌, ◌<◌, ◌≤◌, ◌^◌, ◌+◌, ◌-◌, ◌*◌, arith}
+use Rattle.std.proofs.Common.{◌<◌, ◌≤◌, ◌^◌, ◌+◌, ◌-◌, arith}
 use Rattle.std.proofs.lemmas.Nat.{mul-le}
 use Rattle.edge_labels.specs.ChunkRows.{stride_of}
 use Rattle.edge_labels.proofs.ChunkLemmas.{atoms-in, routers-in}

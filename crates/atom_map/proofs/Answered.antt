@@ -8,7 +8,7 @@ use Rattle.dn_model.specs.declared.atom_row.AtomRow.{AtomRow}
 use Rattle.dn_model.specs.declared.ids.AtomId.{AtomId}
 use Rattle.dn_model.proofs.Covers.{high-at}
 use Rattle.dn_model.proofs.Cuts.{cut-at, length-after-cut}
-use Rattle.atom_map.specs.Index.{AgreeBelow, IsIndexed, IsNoted, IsPartedAt, first_below}
+use Rattle.atom_map.specs.Index.{AgreeBelow, IsAtomAt, IsIndexed, IsNoted, IsPartedAt, first_below}
 use Rattle.atom_map.proofs.Begun.{atom-at, below-at, contained, cut-indexed, few-atoms, no-boundary, number-at}
 use Rattle.atom_map.proofs.Meeting.{atoms-met, from-place}
 use Rattle.atom_map.proofs.Placed.{two-for-one}
@@ -29,14 +29,29 @@ found-in self rows place a row e h inside is from to =
     let F : List AtomRow → Type 0 = λ xs. Found xs place a row in
     subst F e (record { atoms = h; inside = inside; is = is row; from = from row; to = to row })
 
-pub found-now : (self rows : List AtomRow) (place a : ℕ) (row : AtomRow) → rows ≡ self → AreAtoms rows → place < length self → ((d : AtomRow) → row ≡ get_or rows place d) → ((d : AtomRow) → (get_or self place d).low ≤ a) → ((d : AtomRow) → a < (get_or self place d).past) → Found self place a row
-found-now self rows place a row e h inside is from to = record {
-  atoms = subst (λ (xs : List AtomRow). AreAtoms xs) e h;
-  inside = inside;
-  is = is row ∙ ap (λ (xs : List AtomRow). get_or xs place row) e;
-  from = from row;
-  to = to row;
+-- an atom that was found, and what was found of one
+pub found-at : (self items : List AtomRow) (place a : ℕ) (row : AtomRow) → items ≡ self → AreAtoms items → IsAtomAt self place a row → Found self place a row
+found-at self items place a row e h s = record {
+  atoms = atoms-same self items e h;
+  inside = s.inside;
+  is = s.is row;
+  from = subst (λ (r : AtomRow). atom_low r ≤ a) (s.is row) s.from;
+  to = subst (λ (r : AtomRow). a < atom_past r) (s.is row) s.to;
 }
+
+pub atom-read : (rows : List AtomRow) (place a : ℕ) (row : AtomRow) → place < length rows → ((d : AtomRow) → row ≡ get_or rows place d) → ((d : AtomRow) → (get_or rows place d).low ≤ a) → ((d : AtomRow) → a < (get_or rows place d).past) → IsAtomAt rows place a row
+atom-read rows place a row l is from to = record {
+  inside = l;
+  is = is;
+  from = subst (λ (r : AtomRow). atom_low r ≤ a) (sym (is row)) (from row);
+  to = subst (λ (r : AtomRow). a < atom_past r) (sym (is row)) (to row);
+}
+
+pub from-spot : (rows : List AtomRow) (place a : ℕ) (row d : AtomRow) → IsAtomAt rows place a row → (get_or rows place d).low ≤ a
+from-spot rows place a row d s = subst (λ (r : AtomRow). atom_low r ≤ a) (s.is d) s.from
+
+pub to-spot : (rows : List AtomRow) (place a : ℕ) (row d : AtomRow) → IsAtomAt rows place a row → a < (get_or rows place d).past
+to-spot rows place a row d s = subst (λ (r : AtomRow). a < atom_past r) (s.is d) s.to
 
 pub atom-found : (self : List AtomRow) (place a : ℕ) (row : AtomRow) → Found self place a row → option_map atom_of (row_at self a) ≡ Some row.atom
 atom-found self place a row f = atom-at self place a row f.atoms f.inside f.is f.from f.to

@@ -6,7 +6,7 @@ use Rattle.std.proofs.lemmas.List.{get_or-drop, get_or-take, get_or_default, len
 use Rattle.dn_model.specs.Atoms.{AreAtoms, atom_low, atom_past, row_of}
 use Rattle.dn_model.specs.declared.atom_row.AtomRow.{AtomRow}
 use Rattle.dn_model.proofs.Covers.{few-rows, some-row, first-low, halved}
-use Rattle.atom_map.specs.Index.{IsLeft}
+use Rattle.atom_map.specs.Index.{IsAtomPlace, IsLeft}
 
 pub some-atom : (rows : List AtomRow) → AreAtoms rows → 0 < length rows
 some-atom rows h = some-row atom_low atom_past 0 rows h.cover (lit< tt)
@@ -69,3 +69,11 @@ run-few rows run near below h is l =
     let inside : near + below < length rows = run-inside rows run near below is l in
     let few : 0 + length rows ≤ 2 ^ 32 = few-rows atom_low atom_past 0 rows h.cover in
     omega arith
+
+-- and so does the atom of an address
+pub run-place : (rows run : List AtomRow) (near below a : ℕ) → take (length run) (drop near rows) ≡ run → IsAtomPlace run below a → IsAtomPlace rows (near + below) a
+run-place rows run near below a is p = record {
+  inside = run-inside rows run near below is p.inside;
+  from = λ d. subst (λ (x : AtomRow). atom_low x ≤ a) (sym (run-read rows run near below d d is p.inside)) (p.from d);
+  to = λ d. subst (λ (x : AtomRow). a < atom_past x) (sym (run-read rows run near below d d is p.inside)) (p.to d);
+}

@@ -34,6 +34,19 @@ pub record IsLeft (rows : List AtomRow) (a place past : ℕ) : Type 0 where
   pub from : (d : AtomRow) → (slice_index_or rows place d).low ≤ a
   pub next : (d : AtomRow) → past < length rows → a < (slice_index_or rows past d).low
 
+-- the atom of an address `a` stands at this place
+pub record IsAtomPlace (rows : List AtomRow) (place a : ℕ) : Type 0 where
+  pub inside : place < length rows
+  pub from : (d : AtomRow) → (slice_index_or rows place d).low ≤ a
+  pub to : (d : AtomRow) → a < (slice_index_or rows place d).past
+
+-- and it is this one
+pub record IsAtomAt (rows : List AtomRow) (place a : ℕ) (row : AtomRow) : Type 0 where
+  pub inside : place < length rows
+  pub is : (d : AtomRow) → row ≡ slice_index_or rows place d
+  pub from : row.low ≤ a
+  pub to : a < row.past
+
 -- what stands in a list before a place, another has too
 pub record AgreeBelow (old new : List ℕ) (number : ℕ) : Type 0 where
   pub long : number ≤ length new

@@ -10,3 +10,4 @@ mod tests;
 
 pub use guide::{BEFORE, Guide};
 pub use map::AtomMap;
+pub use search::AtomSpot;

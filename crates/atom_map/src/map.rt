@@ -3,10 +3,12 @@
 ghost use Rattle.std.specs.Prelude.{◌≡◌, ◌<◌, ◌≤◌, ◌^◌, Some, OnErr, IfOk, IfSome, Contains, length, map, option_map, take, drop, slice_index_or};
 ghost use Rattle.dn_model.specs.Atoms.{AreAtoms, IsCut, atom_of, atoms_in, bounds_of, row_at, row_of};
 ghost use Rattle.dn_model.specs.declared.atom_row.AtomRow.{AtomRow};
-ghost use Rattle.atom_map.specs.Index.{one_atom};
+ghost use Rattle.atom_map.specs.Index.{one_atom, IsAtomAt, IsAtomPlace};
 
-use crate::guide::Guide;
-use crate::search::{atoms_below, part, place_from, place_of, read};
+use crate::guide::{BEFORE, Guide};
+use crate::search::{
+    AtomSpot, atoms_below, part, place_from, place_of, places_near, read, spot_from, spot_near,
+};
 use dn_model::{AtomId, AtomRow, List, OutOfMemory};
 use std::alloc::Global;
 use std::marker::Model;
@@ -14,6 +16,9 @@ use version_pages::Pages;
 
 /// The address after the last.
 const END: u64 = 0x1_0000_0000;
+
+/// How many places behind one that is at hand an atom is expected that is looked for from there.
+const AHEAD: usize = 1;
 
 /// The addresses, cut into atoms. A contract sees it as the list of the atoms with their bounds, in order: they cover
 /// the addresses from 0 to 2^32 once, and their numbers are those below their count.
@@ -67,32 +72,31 @@ impl AtomMap {
         ensures form { AreAtoms self.new }
         ensures there { IfOk result (λ cut. IfSome cut (λ p. (p.0.0 < length self.new) × (p.1.0 < length self.new))) }
     {
-        let place = self.place_of(at);
-        return self.cut_at(alloc, place, at);
+        let spot = self.spot_of(at);
+        return self.cut_at(alloc, spot, at);
     }
 
-    /// Cuts the atom at a place, which has the address, as `cut` does. So a caller that needs the place searches once.
+    /// Cuts the atom of an address, which was found, as `cut` does. So a caller that needs its place searches once, and the
+    /// atom isn't read again.
     pub fn cut_at(
         &mut self,
         alloc: Global,
-        place: u64,
+        spot: AtomSpot,
         at: u32,
     ) -> Result<Option<(AtomId, AtomId)>, OutOfMemory>
-        requires inside { place < length self.old }
-        requires from { (d : AtomRow) → (slice_index_or self.old place d).low ≤ at }
-        requires to { (d : AtomRow) → at < (slice_index_or self.old place d).past }
+        requires { IsAtomAt self.old spot.place at spot.row }
         ensures ok { IfOk result (IsCut self.old self.new at) }
         ensures err { OnErr result (self.new ≡ self.old) }
         ensures form { AreAtoms self.new }
         ensures there { IfOk result (λ cut. IfSome cut (λ p. (p.0.0 < length self.new) × (p.1.0 < length self.new))) }
     {
-        let row = read(&self.rows, place);
-        if row.low == at as u64 {
+        let _ = &self.rows;
+        if spot.row.low == at as u64 {
             return Ok(None);
         }
-        let new = part(alloc, &mut self.rows, &mut self.lows, place, at)?;
+        let new = part(alloc, &mut self.rows, &mut self.lows, spot, at)?;
         self.guide.count(at);
-        Ok(Some((row.atom, new)))
+        Ok(Some((spot.row.atom, new)))
     }
 
     /// The atom of an address. It takes no memory.
@@ -119,6 +123,63 @@ impl AtomMap {
         ensures to { (d : AtomRow) → a < (slice_index_or self.now result d).past }
     {
         place_from(&self.rows, self.guide.place(a), a)
+    }
+
+    /// The place of the atom that has an address. It looks first in the page of a place that is at hand, from there on: where
+    /// the atom is that one or little behind it, it is found in one descent.
+    pub fn place_from(&self, near: u64, a: u32) -> u64
+        ensures inside { result < length self.now }
+        ensures from { (d : AtomRow) → (slice_index_or self.now result d).low ≤ a }
+        ensures to { (d : AtomRow) → a < (slice_index_or self.now result d).past }
+    {
+        match spot_near(&self.rows, near, AHEAD, a) {
+            Some(spot) => spot.place,
+            None => self.place_of(a),
+        }
+    }
+
+    /// The places of the atoms that have two addresses, the second of which isn't below the first. It looks first in the page
+    /// of a place that may be at hand, from there on: where both atoms stand there, they are found in one descent.
+    pub fn places_from(&self, near: Option<u64>, lo: u32, hi: u32) -> (u64, u64)
+        ensures first { IsAtomPlace self.now result.0 lo }
+        ensures last { IsAtomPlace self.now result.1 hi }
+    {
+        match self.places_at_hand(near, lo, hi) {
+            Some(places) => places,
+            None => {
+                let first = self.place_of(lo);
+                (first, self.place_from(first, hi))
+            }
+        }
+    }
+
+    /// The places of the atoms that have two addresses, where both stand in the page of a place that is at hand, or, where none
+    /// is, in that of the place that the guide says.
+    fn places_at_hand(&self, near: Option<u64>, lo: u32, hi: u32) -> Option<(u64, u64)>
+        ensures first { IfSome result (λ places. IsAtomPlace self.now places.0 lo) }
+        ensures last { IfSome result (λ places. IsAtomPlace self.now places.1 hi) }
+    {
+        match near {
+            Some(place) => places_near(&self.rows, place, AHEAD, lo, hi),
+            None => places_near(&self.rows, self.guide.place(lo), BEFORE, lo, hi),
+        }
+    }
+
+    /// The atom of an address and its place. It takes no memory.
+    pub fn spot_of(&self, a: u32) -> AtomSpot
+        ensures { IsAtomAt self.now result.place a result.row }
+    {
+        spot_from(&self.rows, self.guide.place(a), a)
+    }
+
+    /// The atom of an address and its place. It looks first in the page of a place that is at hand, from there on.
+    pub fn spot_from(&self, near: u64, a: u32) -> AtomSpot
+        ensures { IsAtomAt self.now result.place a result.row }
+    {
+        match spot_near(&self.rows, near, AHEAD, a) {
+            Some(spot) => spot,
+            None => self.spot_of(a),
+        }
     }
 
     /// The atom at a place, with its bounds.

@@ -3,12 +3,19 @@
 ghost use Rattle.std.specs.Prelude.{◌≡◌, ◌<◌, ◌≤◌, ◌^◌, IfOk, IfSome, OnOk, OnErr, length, map, drop, slice_index_or};
 ghost use Rattle.dn_model.specs.Atoms.{AreAtoms, atom_of};
 ghost use Rattle.dn_model.specs.declared.atom_row.AtomRow.{AtomRow};
-ghost use Rattle.atom_map.specs.Index.{first_below, AgreeBelow, IsNoted, IsPartedAt};
+ghost use Rattle.atom_map.specs.Index.{first_below, AgreeBelow, IsAtomAt, IsAtomPlace, IsNoted, IsPartedAt};
 
 use crate::guide::BEFORE;
 use dn_model::{AtomId, AtomRow, OutOfMemory};
 use std::alloc::Global;
 use version_pages::{Keyed, Pages};
+
+/// The atom of an address, and its place: how many atoms go before it.
+#[derive(Clone, Copy, Debug, PartialEq, Eq)]
+pub struct AtomSpot {
+    pub place: u64,
+    pub row: AtomRow,
+}
 
 /// The element at a place of a list in pages.
 pub fn read<T: Keyed + Copy>(pages: &Pages<T>, i: u64) -> T
@@ -89,53 +96,108 @@ fn count_below(run: &[AtomRow], expected: usize, a: u32) -> usize
     return count_down(run, first, a);
 }
 
-/// The place of the atom that has an address, where it stands in one page with the atom at a place and not before it. It
-/// looks first so many places behind that place as the atom is expected to be.
-fn place_near(rows: &Pages<AtomRow>, near: u64, expected: usize, a: u32) -> Option<u64>
-    requires { AreAtoms rows.now }
-    ensures inside { IfSome result (λ place. place < length rows.now) }
-    ensures from { IfSome result (λ place. (d : AtomRow) → (slice_index_or rows.now place d).low ≤ a) }
-    ensures to { IfSome result (λ place. (d : AtomRow) → a < (slice_index_or rows.now place d).past) }
+/// Which of these atoms has an address. It looks first where it is expected.
+fn place_in(run: &[AtomRow], expected: usize, a: u32) -> Option<usize>
+    ensures { IfSome result (λ place. IsAtomPlace run.now place a) }
 {
-    let run = rows.run_from(near);
     let below = count_below(run, expected, a);
     if below == run.len() {
         return None;
     }
     let low = run[below].low;
-    if low > a as u64 {
+    if low > u64::from(a) {
         return None;
     }
-    let place = near + below as u64;
-    Some(place)
+    Some(below)
 }
 
-/// The place of the atom that has an address. It looks first in the page that follows that of a place.
-fn place_behind(rows: &Pages<AtomRow>, near: u64, a: u32) -> u64
+/// The atom of an address, where it stands in one page with the atom at a place and not before it. It looks first so many
+/// places behind that place as the atom is expected to be.
+pub fn spot_near(rows: &Pages<AtomRow>, near: u64, expected: usize, a: u32) -> Option<AtomSpot>
     requires { AreAtoms rows.now }
-    ensures inside { result < length rows.now }
-    ensures from { (d : AtomRow) → (slice_index_or rows.now result d).low ≤ a }
-    ensures to { (d : AtomRow) → a < (slice_index_or rows.now result d).past }
+    ensures { IfSome result (λ spot. IsAtomAt rows.now spot.place a spot.row) }
+{
+    let run = rows.run_from(near);
+    let below = place_in(run, expected, a)?;
+    let place = near + below as u64;
+    Some(AtomSpot {
+        place,
+        row: run[below],
+    })
+}
+
+/// The places of the atoms that have two addresses, where both stand in one page with the atom at a place and not before
+/// it. It looks first for the atom of the first address where that is expected, and for the other from there.
+pub fn places_near(
+    rows: &Pages<AtomRow>,
+    near: u64,
+    expected: usize,
+    lo: u32,
+    hi: u32,
+) -> Option<(u64, u64)>
+    requires { AreAtoms rows.now }
+    ensures first { IfSome result (λ places. IsAtomPlace rows.now places.0 lo) }
+    ensures last { IfSome result (λ places. IsAtomPlace rows.now places.1 hi) }
+{
+    let run = rows.run_from(near);
+    let first = place_in(run, expected, lo)?;
+    let last = place_in(run, first, hi)?;
+    Some((near + first as u64, near + last as u64))
+}
+
+/// The atom of an address, where it stands in the page that follows that of a place.
+fn spot_behind(rows: &Pages<AtomRow>, near: u64, a: u32) -> Option<AtomSpot>
+    requires { AreAtoms rows.now }
+    ensures { IfSome result (λ spot. IsAtomAt rows.now spot.place a spot.row) }
 {
     let rest = rows.run_from(near).len();
     let next = near.wrapping_add(rest as u64);
-    match place_near(rows, next, BEFORE.saturating_sub(rest), a) {
-        Some(place) => place,
-        None => place_of(rows, a),
+    spot_near(rows, next, BEFORE.saturating_sub(rest), a)
+}
+
+/// The atom of an address, where it stands in the page of a place that a guide gave, from there on, or in the next page.
+fn spot_guided(rows: &Pages<AtomRow>, near: u64, a: u32) -> Option<AtomSpot>
+    requires { AreAtoms rows.now }
+    ensures { IfSome result (λ spot. IsAtomAt rows.now spot.place a spot.row) }
+{
+    match spot_near(rows, near, BEFORE, a) {
+        Some(spot) => Some(spot),
+        None => spot_behind(rows, near, a),
     }
 }
 
-/// The place of the atom that has an address. It looks first in the page of a place that a guide gave, from there on.
+/// The place of the atom that has an address. It looks first where a guide says.
 pub fn place_from(rows: &Pages<AtomRow>, near: u64, a: u32) -> u64
     requires { AreAtoms rows.now }
     ensures inside { result < length rows.now }
     ensures from { (d : AtomRow) → (slice_index_or rows.now result d).low ≤ a }
     ensures to { (d : AtomRow) → a < (slice_index_or rows.now result d).past }
 {
-    match place_near(rows, near, BEFORE, a) {
-        Some(place) => place,
-        None => place_behind(rows, near, a),
+    match spot_guided(rows, near, a) {
+        Some(spot) => spot.place,
+        None => place_of(rows, a),
     }
+}
+
+/// The atom of an address. It looks first where a guide says.
+pub fn spot_from(rows: &Pages<AtomRow>, near: u64, a: u32) -> AtomSpot
+    requires { AreAtoms rows.now }
+    ensures { IsAtomAt rows.now result.place a result.row }
+{
+    match spot_guided(rows, near, a) {
+        Some(spot) => spot,
+        None => spot_of(rows, a),
+    }
+}
+
+/// The atom of an address, found in one descent.
+fn spot_of(rows: &Pages<AtomRow>, a: u32) -> AtomSpot
+    requires { AreAtoms rows.now }
+    ensures { IsAtomAt rows.now result.place a result.row }
+{
+    let place = place_of(rows, a);
+    let row = read(rows, place);
+    AtomSpot { place, row }
 }
 
 /// The first atoms from a place on, up to the first that begins at this address or above it.
@@ -180,19 +242,20 @@ pub fn part(
     alloc: Global,
     rows: &mut Pages<AtomRow>,
     lows: &mut Pages<u32>,
-    place: u64,
+    spot: AtomSpot,
     at: u32,
 ) -> Result<AtomId, OutOfMemory>
-    requires inside { place < length rows.old }
+    requires inside { spot.place < length rows.old }
+    requires row { (d : AtomRow) → spot.row ≡ slice_index_or rows.old spot.place d }
     requires few { length rows.old < 2 ^ 32 }
     requires begun { length rows.old ≤ length lows.old }
     ensures number { IfOk result (λ new. new.0 ≡ length rows.old) }
-    ensures rows { IfOk result (λ new. (d : AtomRow) → IsPartedAt rows.old rows.new place at new d) }
+    ensures rows { IfOk result (λ new. (d : AtomRow) → IsPartedAt rows.old rows.new spot.place at new d) }
     ensures same { OnErr result (rows.new ≡ rows.old) }
     ensures below { AgreeBelow lows.old lows.new (length rows.old) }
     ensures noted { OnOk result (IsNoted lows.new (length rows.old) at) }
 {
-    let row = read(rows, place);
+    let row = spot.row;
     let number = rows.len();
     let new = AtomId(number as u32);
     let lower = AtomRow {
@@ -206,6 +269,6 @@ pub fn part(
         past: row.past,
     };
     note(alloc, lows, number, at)?;
-    rows.replace_by_two(alloc, place, lower, upper)?;
+    rows.replace_by_two(alloc, spot.place, lower, upper)?;
     Ok(new)
 }

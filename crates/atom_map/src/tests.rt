@@ -74,7 +74,19 @@ fn compare_many(rt: &impl Abort, atoms: &AtomMap) {
         let at = (200 - k) * 20_000_000;
         assert_eq!(rt; atoms.atom_of(at), AtomId(k));
         assert_eq!(rt; atoms.place_of(at), (201 - k) as u64);
+        assert_eq!(rt; atoms.place_from(k as u64, at), (201 - k) as u64);
     }
+}
+
+/// The atoms of two addresses are the same wherever they are looked for.
+fn compare_ends(rt: &impl Abort, atoms: &AtomMap) {
+    let (lo, hi) = (45_000_000, 3_999_999_999);
+    for near in 0..250 {
+        assert_eq!(rt; atoms.places_from(Some(near), lo, lo), (3, 3));
+        assert_eq!(rt; atoms.places_from(Some(near), lo, hi), (3, 200));
+        assert_eq!(rt; atoms.spot_from(near, hi), atoms.spot_of(hi));
+    }
+    assert_eq!(rt; atoms.places_from(None, lo, hi), (3, 200));
 }
 
 #[test]
@@ -88,4 +100,6 @@ fn many_cuts_are_told_in_order(rt: HostRuntime) {
     assert_eq!(rt; bounds_at(&old, 30_000_000), (20_000_000, 40_000_000));
     assert_eq!(rt; bounds_at(&atoms, 30_000_000), (30_000_000, 40_000_000));
     compare_many(&rt, &atoms);
+    compare_ends(&rt, &atoms);
+    compare_ends(&rt, &copied(&rt, &atoms));
 }

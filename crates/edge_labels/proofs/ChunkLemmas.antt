@@ -1,23 +1,23 @@
 -- Rows of codes in chunks of eight, seen as codes one after another.
-use Rattle.std.proofs.Common.{◌≡◌, ◌≢◌, ℕ, zero, suc, ◌+◌, ◌-◌, ◌*◌, ◌/◌, ◌%◌, ◌<◌, ◌≤◌, cond, eqb, ltb, Bool, true, false, List, [], ◌∷◌, ◌++◌, length, map, take, drop, get_or, set, refl, ap, sym, subst, append_assoc, ⊎_elim, ◌∙◌, arith, length-append, get_or-set_other, get_or-set_same}
+use Rattle.std.proofs.Common.{◌≡◌, ◌≢◌, ℕ, ◌+◌, ◌-◌, ◌*◌, ◌/◌, ◌%◌, ◌<◌, ◌≤◌, cond, eqb, ltb, Bool, true, false, List, [], ◌++◌, length, map, take, drop, get_or, set, refl, ap, sym, subst, append_assoc, ⊎_elim, ◌∙◌, arith, length-append, get_or-set_other, get_or-set_same}
 use Rattle.std.specs.Fn.{FnOnceReturnsAtMut}
 use Rattle.std.specs.List.{insert, range_with_len}
 use Rattle.std.proofs.lemmas.Bool.{cases_lt, le-ltb, lt-ltb}
 use Rattle.std.proofs.lemmas.Bool.Decides.{nat_tests}
-use Rattle.std.proofs.lemmas.List.{get_or-append-add, get_or-drop, get_or-take, get_or_append_left, get_or_default, length-drop, length-set, length-take-le, same_lists, take-append-drop, take_more}
-use Rattle.std.proofs.lemmas.List.Edits.{get_or-insert_above, get_or-insert_at, get_or-insert_below, insert-append_right, length-insert}
+use Rattle.std.proofs.lemmas.List.{get_or-append-add, get_or-drop, get_or-take, get_or_append_left, get_or_default, length-drop, length-set, length-take-le, same_lists}
+use Rattle.std.proofs.lemmas.List.Edits.{get_or-insert_above, get_or-insert_at, get_or-insert_below, length-insert}
 use Rattle.std.proofs.lemmas.List.FromFn.{get_or-map-range_with_len, length-map-range_with_len}
-use Rattle.std.proofs.lemmas.Nat.{div-add-mod', div-mul-add, div_below, mod-mul-add, mod_below}
+use Rattle.std.proofs.lemmas.Nat.{div-mul-add, mod-mul-add}
 use Rattle.version_pages.specs.Changes.{Changes}
 use Rattle.dn_model.specs.declared.target.Target.{Target}
 use Rattle.edge_labels.specs.declared.code_chunk.CodeChunk.{CodeChunk}
 use Rattle.edge_labels.specs.declared.codes.Edge.{Edge}
 use Rattle.edge_labels.specs.ChunkRows.{AreChunkRows, AreLaid, code_in, codes_in, IsWritten, labels_in, lane_at, no_codes, stride_of}
-use Rattle.edge_labels.specs.Codes.{edge_at, IsCoded}
-use Rattle.edge_labels.specs.Labels.{Labels, first_labels, moved, parted, target_at}
+use Rattle.edge_labels.specs.Codes.{edge_at}
+use Rattle.edge_labels.specs.Labels.{Labels, first_labels, parted, target_at}
 use Rattle.edge_labels.specs.Rows.{AreFirst, AreRows, codes_of, IsCodeOf, labels_of, targets_by}
 use Rattle.edge_labels.proofs.RowLemmas.{length-row, place-atom, place-router, row-fits}
-use Rattle.edge_labels.proofs.TargetLemmas.{atoms-of, code-known, coded-rows, first-rows, first-seen, moved-labels, moved-rows, routers-of}
+use Rattle.edge_labels.proofs.TargetLemmas.{atoms-of, code-known, first-rows, first-seen, routers-of}
 use denote.Param.Members.{Once}
 use denote.Ref.{MutBor}
 
@@ -55,43 +55,7 @@ code-flat n atoms a r d chunks la lr =
     ∙ ap (λ x. code_in n chunks x ((a * n + r) % n)) (div-mul-add a n r lr)
     ∙ ap (λ x. code_in n chunks a x) (mod-mul-add a n r lr)
 
--- what holds of each atom's and router's place holds of each place
-at-places : (n atoms k : ℕ) (P : ℕ → Type 0) → ((a r : ℕ) → a < atoms → r < n → P (a * n + r)) → k < atoms * n → P k
-at-places n atoms k P each l = by n refl
-  where
-    by : (m : ℕ) → n ≡ m → P k
-    by zero e =
-        let none : atoms * n ≡ 0 = ap (λ x. atoms * x) e ∙ omega arith in
-        absurd (let fails : ⊥ = omega arith in fails)
-    by (suc m) e =
-        let some : 0 < n = omega arith in
-        subst P (div-add-mod' k n) (each (k / n) (k % n) (div_below k n atoms some l) (mod_below k n some))
-
 -- ---- one code is written
-
-pub written-codes : (n atoms a r code : ℕ) (old new : List CodeChunk) → IsWritten old new (a * stride_of n + r / 8) (r % 8) code → r < n → a < atoms → codes_in n atoms new ≡ set (codes_in n atoms old) (a * n + r) code
-written-codes n atoms a r code old new is lr la =
-    same_lists (codes_in n atoms new) (set (codes_in n atoms old) (a * n + r) code)
-    (length-codes n atoms new ∙ sym (length-set (codes_in n atoms old) (a * n + r) code ∙ length-codes n atoms old))
-    (λ k d l. at-places n atoms k (λ j. get_or (codes_in n atoms new) j d ≡ get_or (set (codes_in n atoms old) (a * n + r) code) j d) (λ b q lb lq. at b q d lb lq (eqb (b * n + q) (a * n + r)) refl) (omega (arith, length-codes n atoms new)))
-  where
-    at : (b q d : ℕ) → b < atoms → q < n → (t : Bool) → eqb (b * n + q) (a * n + r) ≡ t → get_or (codes_in n atoms new) (b * n + q) d ≡ get_or (set (codes_in n atoms old) (a * n + r) code) (b * n + q) d
-    at b q d lb lq true e =
-        let same : b * n + q ≡ a * n + r = grind (arith, nat_tests) in
-        ap (λ k. get_or (codes_in n atoms new) k d) same
-        ∙ code-flat n atoms a r d new la lr
-        ∙ is.here
-        ∙ sym (get_or-set_same (codes_in n atoms old) (a * n + r) code d (omega (arith, length-codes n atoms old, row-fits a atoms n la)))
-        ∙ ap (λ k. get_or (set (codes_in n atoms old) (a * n + r) code) k d) (sym same)
-    at b q d lb lq false e =
-        let ne : b * n + q ≢ a * n + r = grind (arith, nat_tests) in
-        code-flat n atoms b q d new lb lq
-        ∙ is.others (b * stride_of n + q / 8) (q % 8) (λ c m. ne (same-place a b q r n lq lr c m))
-        ∙ sym (code-flat n atoms b q d old lb lq)
-        ∙ sym (get_or-set_other (codes_in n atoms old) (a * n + r) (b * n + q) code d ne)
-
-pub written-at : (old new : List CodeChunk) (i j lane m code : ℕ) → i ≡ j → lane ≡ m → IsWritten old new i lane code → IsWritten old new j m code
-written-at old new i j lane m code at-chunk at-lane is = subst (λ (x : ℕ). IsWritten old new x m code) at-chunk (subst (λ (x : ℕ). IsWritten old new i x code) at-lane is)
 
 -- what a call that changes a chunk leaves
 pub changed-written : {F R : Type 0} (g : Once F (MutBor CodeChunk × Unit {0}) (R × (MutBor CodeChunk × Unit {0}))) (h : F) (old new : List CodeChunk) (i lane code : ℕ) (r : R) → i < length old → Changes g h old new i r → ((x y : CodeChunk) → FnOnceReturnsAtMut g h x r y → (get_or y.codes lane 0 ≡ code) × ((k : ℕ) → (k ≡ lane → ⊥) → get_or y.codes k 0 ≡ get_or x.codes k 0)) → IsWritten old new i lane code
@@ -320,31 +284,6 @@ module _ (n atoms a : ℕ) (old new : List CodeChunk) (long : length old ≡ ato
       ∙ sym (inserted-read edges k d lk)))
       ∙ ap (λ l. parted l a) seen
 
--- one more of some chunks is put behind those of them that stand there
-pub inserted-none : (chunks row : List CodeChunk) (at : ℕ) → chunks ≡ take at chunks ++ (take 0 row ++ drop at chunks)
-inserted-none chunks row at = sym (take-append-drop at chunks)
-
-pub inserted-more : (chunks row now new : List CodeChunk) (at i : ℕ) (x d : CodeChunk) → at ≤ length chunks → i < length row → now ≡ take at chunks ++ (take i row ++ drop at chunks) → x ≡ get_or row i d → new ≡ insert now (at + i) x → new ≡ take at chunks ++ (take (i + 1) row ++ drop at chunks)
-inserted-more chunks row now new at i x d la li was is made =
-    let same : at + i - at ≡ i = omega arith in
-    let none : i - i ≡ 0 = omega arith in
-    made
-    ∙ ap (λ cs. insert cs (at + i) x) was
-    ∙ insert-append_right (take at chunks) (take i row ++ drop at chunks) at (at + i) x (length-take-le at chunks la) (omega arith)
-    ∙ ap (λ k. take at chunks ++ insert (take i row ++ drop at chunks) k x) same
-    ∙ ap (λ cs. take at chunks ++ cs) (insert-append_right (take i row) (drop at chunks) i i x (length-take-le i row (omega arith)) (omega arith))
-    ∙ ap (λ k. take at chunks ++ (take i row ++ insert (drop at chunks) k x)) none
-    ∙ ap (λ cs. take at chunks ++ cs) (sym (append_assoc (take i row) (x ∷ []) (drop at chunks)))
-    ∙ ap (λ y. take at chunks ++ ((take i row ++ y ∷ []) ++ drop at chunks)) is
-    ∙ ap (λ cs. take at chunks ++ (cs ++ drop at chunks)) (sym (take_more row i d li))
-
-pub inserted-long : (chunks row now : List CodeChunk) (at i : ℕ) → at ≤ length chunks → i ≤ length row → now ≡ take at chunks ++ (take i row ++ drop at chunks) → at + i ≤ length now
-inserted-long chunks row now at i la li is =
-    let whole : length (take at chunks ++ (take i row ++ drop at chunks)) ≡ length (take at chunks) + length (take i row ++ drop at chunks) = length-append (take at chunks) (take i row ++ drop at chunks) in
-    let rest : length (take i row ++ drop at chunks) ≡ length (take i row) + length (drop at chunks) = length-append (take i row) (drop at chunks) in
-    let same : length now ≡ length (take at chunks ++ (take i row ++ drop at chunks)) = ap length is in
-    omega (arith, length-take-le at chunks la, length-take-le i row li)
-
 -- ---- the first row
 
 pub laid-none : (codes : List ℕ) (chunks : List CodeChunk) (count : ℕ) → length chunks ≡ stride_of count → AreLaid codes chunks count 0
@@ -411,19 +350,3 @@ code-seen n atoms r a i lane code chunks edges g is kept lr la at-chunk at-lane 
     read ∙ ap (λ x. lane_at chunks x lane) at-chunk ∙ ap (λ x. lane_at chunks (a * stride_of n + r / 8) x) at-lane ∙ sym (code-flat n atoms a r 0 chunks la' lr') in
     let known = code-known n atoms r a (a * n + r) code (codes_in n atoms chunks) edges g is kept.rows lr la refl flat in
     (known.0, known.1)
-
--- a code more changes no row
-pub coded-chunks : (n atoms r code : ℕ) (chunks : List CodeChunk) (edges new : List Edge) (t : Target) → AreChunkRows n atoms chunks edges → IsCoded edges new (record { router = r; target = t }) code → r < n → AreChunkRows n atoms chunks new
-coded-chunks n atoms r code chunks edges new t kept coded lr = record {
-  long = kept.long;
-  rows = coded-rows n atoms r code (codes_in n atoms chunks) edges new t kept.rows coded lr;
-}
-
-pub moved-chunks : (n atoms r a code : ℕ) (chunks now : List CodeChunk) (edges new : List Edge) (t : Target) → AreChunkRows n atoms chunks edges → IsCoded edges new (record { router = r; target = t }) code → IsWritten chunks now (a * stride_of n + r / 8) (r % 8) code → r < n → a < atoms → AreChunkRows n atoms now new
-moved-chunks n atoms r a code chunks now edges new t kept coded is lr la = record {
-  long = is.long ∙ kept.long;
-  rows = moved-rows n atoms r a code (codes_in n atoms chunks) (codes_in n atoms now) edges new t kept.rows coded (written-codes n atoms a r code chunks now is lr la) lr la;
-}
-
-pub moved-chunks-seen : (n atoms r a code : ℕ) (chunks now : List CodeChunk) (edges new : List Edge) (t : Target) (g : Labels) → labels_in n atoms chunks edges ≡ g → AreChunkRows n atoms chunks edges → IsCoded edges new (record { router = r; target = t }) code → IsWritten chunks now (a * stride_of n + r / 8) (r % 8) code → r < n → a < atoms → labels_in n atoms now new ≡ moved g r a t
-moved-chunks-seen n atoms r a code chunks now edges new t g seen kept coded is lr la = moved-labels n atoms r a code (codes_in n atoms chunks) (codes_in n atoms now) edges new t g seen kept.rows coded (written-codes n atoms a r code chunks now is lr la) lr la

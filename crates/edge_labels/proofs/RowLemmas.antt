@@ -1,19 +1,14 @@
 -- Rows of codes in one list.
-use Rattle.std.proofs.Common.{◌≡◌, ℕ, zero, suc, ◌+◌, ◌-◌, ◌*◌, ◌/◌, ◌%◌, ◌<◌, ◌≤◌, ◌||◌, ◌&&◌, eqb, ltb, Bool, true, false, List, [], ◌∷◌, ◌++◌, length, map, take, drop, get_or, set, refl, ap, sym, ◌∙◌, arith, length-append}
-use Rattle.std.specs.List.{list_any, range_with_len}
+use Rattle.std.proofs.Common.{◌≡◌, ℕ, zero, suc, ◌+◌, ◌-◌, ◌*◌, ◌/◌, ◌%◌, ◌<◌, ◌≤◌, ltb, Bool, true, false, List, [], ◌∷◌, ◌++◌, length, map, take, drop, get_or, set, refl, ap, sym, ◌∙◌, arith, length-append}
+use Rattle.std.specs.List.{range_with_len}
 use Rattle.std.proofs.lemmas.Bool.Decides.{nat_tests}
 use Rattle.std.proofs.lemmas.List.{drop-append-le, drop-set-add, drop-set-lt, drop_at, get_or-append-add, get_or-drop, get_or-take, get_or_append_left, length-drop, length-take-le, take-append-le, take-set-le, take-take, take_all, drop-drop}
-use Rattle.std.proofs.lemmas.List.Folds.{list_any-append}
 use Rattle.std.proofs.lemmas.Nat.{div-mul-add, mod-mul-add, mul-le}
 use Rattle.std.proofs.Math.Seq.{take-add, take-set-lt}
-use Rattle.edge_labels.specs.Atoms.{has_atom}
-use Rattle.edge_labels.specs.Rows.{AreJoined, AreRowJoined, code_at, codes_of}
+use Rattle.edge_labels.specs.Rows.{code_at, codes_of}
 
 pub row-fits : (a atoms n : ℕ) → a < atoms → a * n + n ≤ atoms * n
 row-fits a atoms n l = let m : (a + 1) * n ≤ atoms * n = mul-le (a + 1) n atoms n (omega arith) (omega arith) in omega arith
-
-pub place-fits : (a r n : ℕ) → a < 4294967296 → n < 4294967296 → r < n → a * n + r < 18446744073709551616
-place-fits a r n la ln lr = let m : a * n ≤ 4294967295 * 4294967295 = mul-le a n 4294967295 4294967295 (omega arith) (omega arith) in omega arith
 
 pub length-row : (n atoms a : ℕ) (codes : List ℕ) → length codes ≡ atoms * n → a < atoms → length (codes_of n codes a) ≡ n
 length-row n atoms a codes long l = length-take-le n (drop (a * n) codes) (omega (arith, length-drop (a * n) codes, row-fits a atoms n l))
@@ -88,33 +83,6 @@ row-more codes row run from more so page few =
     ∙ ap (λ n. take n (drop from codes)) (sym long)
 
 -- ---- the codes of a row are joined
-
-pub joined-none : (sets : List (List ℕ)) (atom : ℕ) → AreRowJoined sets sets [] atom
-joined-none sets atom = record { long = refl; exact = λ c a. refl }
-
-or-in : (p q t h : Bool) → ((p && t) || ((q && t) || h)) ≡ (((q || (p || false)) && t) || h)
-or-in true true true h = refl
-or-in true true false h = refl
-or-in true false true h = refl
-or-in true false false h = refl
-or-in false true true h = refl
-or-in false true false h = refl
-or-in false false true h = refl
-or-in false false false h = refl
-
-flip : (a b : ℕ) → eqb a b ≡ eqb b a
-flip a b = grind (arith, nat_tests)
-
-pub joined-more : (old now new : List (List ℕ)) (row : List ℕ) (code atom : ℕ) → AreRowJoined old now row atom → AreJoined now new code atom → AreRowJoined old new (row ++ code ∷ []) atom
-joined-more old now new row code atom before more = record {
-  long = more.long ∙ before.long;
-  exact = λ c a.
-      more.exact c a
-      ∙ ap (λ b. (eqb c code && eqb a atom) || b) (before.exact c a)
-      ∙ ap (λ p. (p && eqb a atom) || ((list_any (λ k. eqb k c) row && eqb a atom) || has_atom (get_or old c []) a)) (flip c code)
-      ∙ or-in (eqb code c) (list_any (λ k. eqb k c) row) (eqb a atom) (has_atom (get_or old c []) a)
-      ∙ ap (λ p. (p && eqb a atom) || has_atom (get_or old c []) a) (sym (list_any-append (λ k. eqb k c) row (code ∷ [])));
-}
 
 pub from-fits : (a n : ℕ) → a < 4294967296 → n < 4294967296 → a * n + n < 18446744073709551616
 from-fits a n la ln = let m : a * n ≤ 4294967295 * 4294967295 = mul-le a n 4294967295 4294967295 (omega arith) (omega arith) in omega arith

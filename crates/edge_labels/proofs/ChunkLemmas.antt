@@ -320,31 +320,6 @@ module _ (n atoms a : ℕ) (old new : List CodeChunk) (long : length old ≡ ato
       ∙ sym (inserted-read edges k d lk)))
       ∙ ap (λ l. parted l a) seen
 
--- one more of some chunks is put behind those of them that stand there
-pub inserted-none : (chunks row : List CodeChunk) (at : ℕ) → chunks ≡ take at chunks ++ (take 0 row ++ drop at chunks)
-inserted-none chunks row at = sym (take-append-drop at chunks)
-
-pub inserted-more : (chunks row now new : List CodeChunk) (at i : ℕ) (x d : CodeChunk) → at ≤ length chunks → i < length row → now ≡ take at chunks ++ (take i row ++ drop at chunks) → x ≡ get_or row i d → new ≡ insert now (at + i) x → new ≡ take at chunks ++ (take (i + 1) row ++ drop at chunks)
-inserted-more chunks row now new at i x d la li was is made =
-    let same : at + i - at ≡ i = omega arith in
-    let none : i - i ≡ 0 = omega arith in
-    made
-    ∙ ap (λ cs. insert cs (at + i) x) was
-    ∙ insert-append_right (take at chunks) (take i row ++ drop at chunks) at (at + i) x (length-take-le at chunks la) (omega arith)
-    ∙ ap (λ k. take at chunks ++ insert (take i row ++ drop at chunks) k x) same
-    ∙ ap (λ cs. take at chunks ++ cs) (insert-append_right (take i row) (drop at chunks) i i x (length-take-le i row (omega arith)) (omega arith))
-    ∙ ap (λ k. take at chunks ++ (take i row ++ insert (drop at chunks) k x)) none
-    ∙ ap (λ cs. take at chunks ++ cs) (sym (append_assoc (take i row) (x ∷ []) (drop at chunks)))
-    ∙ ap (λ y. take at chunks ++ ((take i row ++ y ∷ []) ++ drop at chunks)) is
-    ∙ ap (λ cs. take at chunks ++ (cs ++ drop at chunks)) (sym (take_more row i d li))
-
-pub inserted-long : (chunks row now : List CodeChunk) (at i : ℕ) → at ≤ length chunks → i ≤ length row → now ≡ take at chunks ++ (take i row ++ drop at chunks) → at + i ≤ length now
-inserted-long chunks row now at i la li is =
-    let whole : length (take at chunks ++ (take i row ++ drop at chunks)) ≡ length (take at chunks) + length (take i row ++ drop at chunks) = length-append (take at chunks) (take i row ++ drop at chunks) in
-    let rest : length (take i row ++ drop at chunks) ≡ length (take i row) + length (drop at chunks) = length-append (take i row) (drop at chunks) in
-    let same : length now ≡ length (take at chunks ++ (take i row ++ drop at chunks)) = ap length is in
-    omega (arith, length-take-le at chunks la, length-take-le i row li)
-
 -- ---- the first row
 
 pub laid-none : (codes : List ℕ) (chunks : List CodeChunk) (count : ℕ) → length chunks ≡ stride_of count → AreLaid codes chunks count 0

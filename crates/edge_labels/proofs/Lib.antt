@@ -10,3 +10,6 @@ pub mod RowLemmas
 pub mod TargetLemmas
 pub mod SetLemmas
 pub mod Swapped
+pub mod Patched
+pub mod MovedRun
+pub mod RunLemmas

@@ -100,7 +100,7 @@ code-other n r a code b q codes now is lr lq ne = ap (λ cs. get_or cs (b * n + 
 pub still : (edges new : List Edge) (e : Edge) (q c code : ℕ) → IsCoded edges new e code → IsCodeOf edges q c → IsCodeOf new q c
 still edges new e q c code coded k = record { there = omega (arith, k.there, coded.many); router = ap (λ x. x.router) (coded.same c k.there) ∙ k.router }
 
-coded-within : (n r code : ℕ) (edges new : List Edge) (t : Target) → ((c : ℕ) → c < length edges → (edge_at edges c).router < n) → IsCoded edges new (record { router = r; target = t }) code → r < n → (c : ℕ) → c < length new → (edge_at new c).router < n
+pub coded-within : (n r code : ℕ) (edges new : List Edge) (t : Target) → ((c : ℕ) → c < length edges → (edge_at edges c).router < n) → IsCoded edges new (record { router = r; target = t }) code → r < n → (c : ℕ) → c < length new → (edge_at new c).router < n
 coded-within n r code edges new t within coded lr c l = from (ltb c (length edges)) refl
   where
     from : (u : Bool) → ltb c (length edges) ≡ u → (edge_at new c).router < n
@@ -149,6 +149,13 @@ rows-gone n atoms codes now edges kept gone = record {
   within = kept.within;
 }
 
+-- codes that stay mean the same
+pub targets-kept : (n atoms r b code : ℕ) (codes : List ℕ) (edges new : List Edge) (t : Target) → AreRows n atoms codes edges → IsCoded edges new (record { router = r; target = t }) code → b < atoms → targets_by new (codes_of n codes b) ≡ targets_by edges (codes_of n codes b)
+targets-kept n atoms r b code codes edges new t kept coded l = map-agree (λ c. (edge_at new c).target) (λ c. (edge_at edges c).target) (codes_of n codes b) (λ q m.
+    let lq : q < n = omega (arith, length-row n atoms b codes kept.long l) in
+    let known : get_or (codes_of n codes b) q 0 < length edges = subst (λ (x : ℕ). x < length edges) (sym (row-at n b q codes lq)) (kept.own b q l lq).there in
+    ap (λ e. e.target) (coded.same (get_or (codes_of n codes b) q 0) known))
+
 pub moved-labels : (n atoms r a code : ℕ) (codes now : List ℕ) (edges new : List Edge) (t : Target) (g : Labels) → labels_of n atoms codes edges ≡ g → AreRows n atoms codes edges → IsCoded edges new (record { router = r; target = t }) code → now ≡ set codes (a * n + r) code → r < n → a < atoms → labels_of n atoms now new ≡ moved g r a t
 unfolding labels_of
 moved-labels n atoms r a code codes now edges new t g is kept coded made lr la =
@@ -162,18 +169,12 @@ moved-labels n atoms r a code codes now edges new t g is kept coded made lr la =
     rows : List (List Target)
     rows = map (λ b. targets_by edges (codes_of n codes b)) (range_with_len 0 atoms)
 
-    agree : (b : ℕ) → b < atoms → targets_by new (codes_of n codes b) ≡ targets_by edges (codes_of n codes b)
-    agree b l = map-agree (λ c. (edge_at new c).target) (λ c. (edge_at edges c).target) (codes_of n codes b) (λ q m.
-        let lq : q < n = omega (arith, length-row n atoms b codes kept.long l) in
-        let known : get_or (codes_of n codes b) q 0 < length edges = subst (λ (x : ℕ). x < length edges) (sym (row-at n b q codes lq)) (kept.own b q l lq).there in
-        ap (λ e. e.target) (coded.same (get_or (codes_of n codes b) q 0) known))
-
     each : (b : ℕ) → b < atoms → (u : Bool) → eqb b a ≡ u → get_or (set rows a (set (get_or rows a []) r t)) b [] ≡ targets_by new (codes_of n now b)
     each b l true e =
         let here : b ≡ a = same-from b a e in
         ap (λ x. get_or (set rows a (set (get_or rows a []) r t)) x []) here
         ∙ get_or-set_same rows a (set (get_or rows a []) r t) [] (omega (arith, length-map-range_with_len before_move 0 atoms))
-        ∙ ap (λ xs. set xs r t) (get_or-map-range_with_len before_move 0 atoms a a [] la (omega arith) ∙ sym (agree a la))
+        ∙ ap (λ xs. set xs r t) (get_or-map-range_with_len before_move 0 atoms a a [] la (omega arith) ∙ sym (targets-kept n atoms r a code codes edges new t kept coded la))
         ∙ ap (λ x. set (targets_by new (codes_of n codes a)) r x) (sym (ap (λ x. x.target) coded.is))
         ∙ sym (map-set (λ c. (edge_at new c).target) (codes_of n codes a) r code)
         ∙ ap (targets_by new) (sym (row-written n a r code codes lr))
@@ -183,7 +184,7 @@ moved-labels n atoms r a code codes now edges new t g is kept coded made lr la =
         let ne : b ≢ a = λ s. false≢true (sym e ∙ itself b a s) in
         get_or-set_other rows a b (set (get_or rows a []) r t) [] ne
         ∙ get_or-map-range_with_len before_move 0 atoms b b [] l (omega arith)
-        ∙ sym (agree b l)
+        ∙ sym (targets-kept n atoms r b code codes edges new t kept coded l)
         ∙ ap (targets_by new) (sym (row-other n a b r code codes lr ne))
         ∙ ap (λ cs. targets_by new (codes_of n cs b)) (sym made)
 

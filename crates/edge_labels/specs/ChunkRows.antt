@@ -1,6 +1,6 @@
 -- How rows of codes stand in chunks of eight, in order: each atom's row has so many whole chunks that each router has a place.
 -- What stands behind the last router's code means nothing.
-use Rattle.std.specs.Prelude.{ℕ, List, length, map, replicate, slice_index, slice_index_or, ◌≡◌, ◌+◌, ◌*◌, ◌/◌, ◌%◌, ◌<◌}
+use Rattle.std.specs.Prelude.{ℕ, List, length, map, replicate, slice_index, slice_index_or, ◌≡◌, ◌+◌, ◌*◌, ◌/◌, ◌%◌, ◌<◌, ◌≤◌}
 use Rattle.std.specs.List.{range_with_len}
 use Rattle.edge_labels.specs.declared.code_chunk.CodeChunk.{CodeChunk}
 use Rattle.edge_labels.specs.declared.codes.Edge.{Edge}
@@ -42,6 +42,24 @@ pub record IsWritten (old new : List CodeChunk) (i lane code : ℕ) : Type 0 whe
   pub long : length new ≡ length old
   pub here : lane_at new i lane ≡ code
   pub others : (j k : ℕ) → (j ≡ i → k ≡ lane → ⊥) → lane_at new j k ≡ lane_at old j k
+
+-- one code is written at so many chunks, each so much further on than the one before, and all else stays
+pub record AreWritten (old new : List CodeChunk) (from stride lane count code : ℕ) : Type 0 where
+  pub long : length new ≡ length old
+  pub inside : (k : ℕ) → k < count → from + k * stride < length old
+  pub here : (k : ℕ) → k < count → lane_at new (from + k * stride) lane ≡ code
+  pub others : (j m : ℕ) → ((k : ℕ) → k < count → j ≡ from + k * stride → m ≡ lane → ⊥) → lane_at new j m ≡ lane_at old j m
+
+-- a router has this code at so many atoms that stand side by side, and all else stays
+abbrev pub IsColumnWritten : ℕ → ℕ → ℕ → List CodeChunk → List CodeChunk → ℕ → ℕ → Type 0
+IsColumnWritten routers r first old new count code =
+    AreWritten old new (first * stride_of routers + r / 8) (stride_of routers) (r % 8) count code
+
+-- it has it at the first of them
+pub record IsFrontWritten (routers r first : ℕ) (old new : List CodeChunk) (count code : ℕ) : Type 0 where
+  pub done : ℕ
+  pub few : done ≤ count
+  pub written : IsColumnWritten routers r first old new done code
 
 -- the first of some codes stand in a row of chunks
 pub record AreLaid (codes : List ℕ) (chunks : List CodeChunk) (count so_far : ℕ) : Type 0 where

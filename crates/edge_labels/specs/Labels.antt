@@ -1,6 +1,6 @@
 -- What routers do with atoms, and the labels of edges: an edge's label is the set of the atoms that are forwarded over it
 -- (Delta-net, NSDI 2017). Here each target of a router has a label, that of no route and of dropped packets too.
-use Rattle.std.specs.Prelude.{ℕ, List, [], ◌∷◌, ◌+◌, ◌++◌, insert, length, replicate, slice_index_or, slice_set, IsTrue, ◌≡◌, ◌<◌, ◌↔◌}
+use Rattle.std.specs.Prelude.{ℕ, List, [], ◌∷◌, ◌+◌, ◌-◌, ◌++◌, drop, insert, length, map, replicate, slice_index_or, slice_set, take, IsTrue, ◌≡◌, ◌<◌, ◌↔◌}
 use Rattle.std.specs.List.Sorted.{IsStrictlyIncreasing}
 use Rattle.dn_model.specs.declared.target.Target.{Target}
 use Rattle.dn_model.specs.declared.target.Target.TheVariants.{NoRoute}
@@ -28,6 +28,13 @@ first_labels n = record { routers = n; rows = replicate n NoRoute ∷ [] }
 -- one router does something else with one atom, and nothing else changes
 abbrev pub moved : Labels → ℕ → ℕ → Target → Labels
 moved g r a after = record { routers = g.routers; rows = slice_set g.rows a (slice_set (targets_of g a) r after) }
+
+-- one router does something else with the atoms at the places from `first` up to, and without, `past`, and nothing else changes
+abbrev pub moved_run : Labels → ℕ → ℕ → ℕ → Target → Labels
+moved_run g r first past after = record {
+  routers = g.routers;
+  rows = take first g.rows ++ (map (λ targets. slice_set targets r after) (take (past - first) (drop first g.rows)) ++ drop past g.rows);
+}
 
 -- an atom of the next number is added, with which each router does what it does with an old one
 abbrev pub inherited : Labels → ℕ → Labels

@@ -2,7 +2,7 @@
 //! chunks that each router has a code in it. What stands behind the last router's code means nothing.
 
 ghost use Rattle.std.specs.Prelude.{◌≡◌, ◌+◌, ◌*◌, ◌/◌, ◌%◌, ◌<◌, ◌^◌, ◌≤◌, ◌++◌, length, take, drop, IfOk, OnOk, OnErr};
-ghost use Rattle.edge_labels.specs.ChunkRows.{AreLaid, IsWritten, lane_at, stride_of};
+ghost use Rattle.edge_labels.specs.ChunkRows.{AreLaid, AreWritten, IsColumnWritten, IsFrontWritten, IsWritten, lane_at, stride_of};
 
 use crate::code_chunk::CodeChunk;
 use crate::code_rows::read;
@@ -15,6 +15,15 @@ use version_pages::Pages;
 pub struct Place {
     pub chunk: u64,
     pub lane: u32,
+}
+
+/// The codes of a router at so many atoms, from the one of a place on, in rows of this number of routers.
+#[derive(Clone, Copy, Debug, PartialEq, Eq)]
+pub struct Column {
+    pub routers: u32,
+    pub r: RouterId,
+    pub first: u64,
+    pub count: u64,
 }
 
 /// How many chunks a row has.
@@ -129,20 +138,78 @@ pub fn chunks_from(
     Ok(row)
 }
 
-/// Puts chunks before the one that stands at a place now, or at the end. Where it fails, for which want of memory is the
-/// one cause, some of them may stand there.
-pub fn insert_chunks(
+/// Puts a code into a chunk of a run, and into each one that stands so much further on than the one before, from the
+/// first chunk on and in at most so many. It answers in how many.
+fn put_each(run: &mut [CodeChunk], stride: u64, lane: u32, code: u32, most: u64) -> u64
+    requires some { 0 < stride }
+    requires few { stride < 2 ^ 32 }
+    requires lane { lane < 8 }
+    ensures some { 0 < length run.old → 0 < most → 0 < result }
+    ensures few { result ≤ most }
+    ensures written { AreWritten run.old run.new 0 stride lane result code }
+{
+    let mut at = 0;
+    let mut count = 0;
+    'chunks: while count < most && at < run.len() {
+        run[at].put(lane, code);
+        at += stride as usize;
+        count += 1;
+    }
+    count
+}
+
+/// Puts a code at a place, and at the same place of each chunk that stands so much further on than the one before, up to
+/// the end of the first one's page and at most so often. It answers how often. After `OutOfMemory`, for which alone it
+/// fails, all codes are as before.
+fn write_some(
     alloc: Global,
     chunks: &mut Pages<CodeChunk>,
-    at: u64,
-    row: &[CodeChunk],
-) -> Result<(), OutOfMemory>
-    requires inside { at ≤ length chunks.old }
-    requires fits { at + length row.now < 2 ^ 64 }
-    ensures { OnOk result (chunks.new ≡ take at chunks.old ++ row.now ++ drop at chunks.old) }
+    place: Place,
+    stride: u64,
+    code: u32,
+    most: u64,
+) -> Result<u64, OutOfMemory>
+    requires chunk { place.chunk < length chunks.old }
+    requires lane { place.lane < 8 }
+    requires apart { 0 < stride }
+    requires near { stride < 2 ^ 32 }
+    requires some { 0 < most }
+    ensures some { IfOk result (λ count. 0 < count) }
+    ensures few { IfOk result (λ count. count ≤ most) }
+    ensures written { IfOk result (λ count. AreWritten chunks.old chunks.new place.chunk stride place.lane count code) }
+    ensures same { OnErr result (chunks.new ≡ chunks.old) }
 {
-    for i in 0..row.len() {
-        chunks.insert_at(alloc, at + i as u64, row[i])?;
+    let lane = place.lane;
+    chunks.change_run(alloc, place.chunk, |run: &mut [CodeChunk]| {
+        put_each(run, stride, lane, code, most)
+    })
+}
+
+/// Puts a code at each place of a column, page by page. Where it fails, for which want of memory is the one cause, it
+/// stands at the first of them.
+pub fn write_column(
+    alloc: Global,
+    chunks: &mut Pages<CodeChunk>,
+    column: Column,
+    code: u32,
+) -> Result<(), OutOfMemory>
+    requires router { column.r.0 < column.routers }
+    requires atoms { column.first + column.count ≤ 2 ^ 32 }
+    requires inside { (column.first + column.count) * stride_of column.routers ≤ length chunks.old }
+    ensures all { OnOk result
+        (IsColumnWritten column.routers column.r.0 column.first chunks.old chunks.new column.count code) }
+    ensures front { IsFrontWritten column.routers column.r.0 column.first chunks.old chunks.new column.count code }
+{
+    let Column {
+        routers,
+        r,
+        first,
+        count,
+    } = column;
+    let mut done = 0;
+    'pages: while done < count {
+        let place = place_in(routers, r, first + done);
+        done += write_some(alloc, chunks, place, stride(routers), code, count - done)?;
     }
     Ok(())
 }

@@ -1,14 +1,14 @@
 //! What each router does with each atom.
 
-ghost use Rattle.std.specs.Prelude.{◌≡◌, ◌<◌, ◌^◌, length, IfOk, OnOk};
-ghost use Rattle.edge_labels.specs.Labels.{first_labels, moved, parted, target_at};
+ghost use Rattle.std.specs.Prelude.{◌≡◌, ◌<◌, ◌≤◌, ◌^◌, length, IfOk, OnOk};
+ghost use Rattle.edge_labels.specs.Labels.{first_labels, moved_run, parted, target_at};
 
 use crate::chunk_rows::{
-    chunks_from, chunks_of, code_at, insert_chunks, place_in, start_of, stride, write,
+    Column, chunks_from, chunks_of, code_at, place_in, start_of, stride, write_column,
 };
 use crate::code_book::CodeBook;
 use crate::code_chunk::CodeChunk;
-use crate::code_rows::{FirstRow, first_row, is_same};
+use crate::code_rows::{FirstRow, first_row};
 use crate::codes::Edge;
 use dn_model::{OutOfMemory, RouterId, Target};
 use std::alloc::Global;
@@ -18,9 +18,10 @@ use version_pages::Pages;
 /// What each router does with each atom, as a row of codes by the atom's place in the list of all atoms. A contract sees
 /// the number of routers and, for each atom in order, the targets by router. Rows stand in the order of addresses, so
 /// that a walk over the atoms of a prefix, or over all, reads and writes memory in order. Each router with a target has a
-/// code. No set of atoms is kept, so that a move writes one code, and a cut one row. A row has whole chunks of eight
-/// codes: a page has 64 chunks, so few forks stand above each code. A copy is a few counts. The code that was written last is a guess of the
-/// next one, since an update writes the same at many atoms; no clause and no invariant speaks of it.
+/// code. No set of atoms is kept, so that a move writes one code for each atom, and a cut one row. A row has whole chunks
+/// of eight codes: a page has 64 chunks, so few forks stand above each code. A copy is a few counts. The code that was
+/// written last is a guess of the next one, since an update writes the same at many atoms; no clause and no invariant
+/// speaks of it.
 #[derive(Drop)]
 pub struct TargetRows {
     routers: u32,
@@ -67,48 +68,34 @@ impl TargetRows {
         self.book.edge(code).target
     }
 
-    /// A router does something else with the atom at a place. It fails for want of memory alone, and then nothing is said
-    /// of the rows.
-    pub fn move_at(
+    /// A router does something else with the atoms at the places from `first` up to, and without, `past`: it goes down
+    /// to each page of their codes once. It fails for want of memory alone, and then nothing is said of the rows.
+    pub fn move_run(
         &mut self,
         alloc: Global,
         r: RouterId,
-        place: u64,
-        before: Target,
+        first: u64,
+        past: u64,
         after: Target,
     ) -> Result<(), OutOfMemory>
         requires router { r.0 < self.old.routers }
-        requires place { place < length self.old.rows }
-        requires before { target_at self.old r.0 place ≡ before }
-        ensures { OnOk result (self.new ≡ moved self.old r.0 place after) }
+        requires order { first ≤ past }
+        requires inside { past ≤ length self.old.rows }
+        ensures { OnOk result (self.new ≡ moved_run self.old r.0 first past after) }
     {
-        if is_same(&before, &after) {
-            return Ok(());
-        }
-        self.change(alloc, r, place, after)
-    }
-
-    /// A router does something else with the atom at a place. Where memory is wanting after its code was found, a code
-    /// more than before may stand in the book, which no atom has.
-    fn change(
-        &mut self,
-        alloc: Global,
-        r: RouterId,
-        place: u64,
-        after: Target,
-    ) -> Result<(), OutOfMemory>
-        requires router { r.0 < self.old.routers }
-        requires place { place < length self.old.rows }
-        ensures { OnOk result (self.new ≡ moved self.old r.0 place after) }
-    {
-        let spot = place_in(self.routers, r, place);
         let edge = Edge {
             router: r.0 as u32,
             target: after,
         };
         let code = self.book.code_near(alloc, edge, self.last)?;
-        write(alloc, &mut self.chunks, spot, code)?;
         self.last = code;
+        let column = Column {
+            routers: self.routers,
+            r,
+            first,
+            count: past - first,
+        };
+        write_column(alloc, &mut self.chunks, column, code)?;
         Ok(())
     }
 
@@ -122,7 +109,7 @@ impl TargetRows {
         let from = start_of(self.routers, place);
         let next = start_of(self.routers, place + 1);
         let row = chunks_from(alloc, &self.chunks, from, stride(self.routers))?;
-        match insert_chunks(alloc, &mut self.chunks, next, &row) {
+        match self.chunks.insert_all(alloc, next, &row) {
             Ok(()) => {
                 self.atoms += 1;
                 Ok(())

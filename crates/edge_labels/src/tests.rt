@@ -1,6 +1,6 @@
 //! Sets that were worked out by hand or are compared with a plain list, and a network of one router.
 
-ghost use Rattle.std.specs.Prelude.{◌≡◌, ◌+◌, ◌<◌, ◌^◌, ◌∷◌, [], length, IfOk, OnOk};
+ghost use Rattle.std.specs.Prelude.{◌≡◌, ◌+◌, ◌<◌, ◌≤◌, ◌^◌, ◌∷◌, [], length, IfOk, OnOk};
 ghost use Rattle.dn_model.specs.declared.target.Target.TheVariants.{Exit, Local};
 ghost use Rattle.edge_labels.specs.Labels.{Labels};
 
@@ -144,7 +144,7 @@ fn parted_rows(alloc: Global) -> Result<TargetRows, OutOfMemory>
         (λ rows. rows ≡ record { routers = 1; rows = (Exit 1 ∷ []) ∷ (Exit 1 ∷ []) ∷ [] }) }
 {
     let mut rows = TargetRows::new(alloc, 1)?;
-    rows.move_at(alloc, RouterId(0), 0, Target::NoRoute, Target::Exit(1))?;
+    rows.move_run(alloc, RouterId(0), 0, 1, Target::Exit(1))?;
     rows.part(alloc, 0)?;
     Ok(rows)
 }
@@ -154,7 +154,7 @@ fn with_own_rows(alloc: Global, rows: &mut TargetRows) -> Result<(), OutOfMemory
     requires { rows.old ≡ record { routers = 1; rows = (Exit 1 ∷ []) ∷ (Exit 1 ∷ []) ∷ [] } }
     ensures { OnOk result (rows.new ≡ record { routers = 1; rows = (Local ∷ []) ∷ (Exit 1 ∷ []) ∷ [] }) }
 {
-    rows.move_at(alloc, RouterId(0), 0, Target::Exit(1), Target::Local)
+    rows.move_run(alloc, RouterId(0), 0, 1, Target::Local)
 }
 
 #[test]
@@ -167,15 +167,23 @@ fn a_copy_keeps_its_rows(rt: HostRuntime) {
     assert_eq!(rt; copy.target(RouterId(0), 0), Target::Exit(1));
 }
 
-/// A router does something else with an atom, whatever it does now.
-fn turn(rt: &impl Abort, alloc: Global, rows: &mut TargetRows, r: u16, place: u64, after: Target)
+/// A router does something else with the atoms of some places.
+fn turn(
+    rt: &impl Abort,
+    alloc: Global,
+    rows: &mut TargetRows,
+    r: u16,
+    first: u64,
+    past: u64,
+    after: Target,
+)
     requires router { r < rows.old.routers }
-    requires place { place < length rows.old.rows }
+    requires order { first ≤ past }
+    requires inside { past ≤ length rows.old.rows }
     ensures routers { rows.new.routers ≡ rows.old.routers }
     ensures atoms { length rows.new.rows ≡ length rows.old.rows }
 {
-    let before = rows.target(RouterId(r), place);
-    rows.move_at(alloc, RouterId(r), place, before, after)
+    rows.move_run(alloc, RouterId(r), first, past, after)
         .expect(rt, "memory");
 }
 
@@ -196,7 +204,7 @@ fn seventeen(rt: &impl Abort, alloc: Global) -> TargetRows
 {
     let mut rows = TargetRows::new(alloc, 17).expect(rt, "memory");
     for r in 0..17 {
-        turn(rt, alloc, &mut rows, r, 0, Target::Exit(u32::from(r)));
+        turn(rt, alloc, &mut rows, r, 0, 1, Target::Exit(u32::from(r)));
     }
     cut_first(rt, alloc, &mut rows);
     rows
@@ -221,8 +229,8 @@ fn compare_row(rt: &impl Abort, rows: &TargetRows, place: u64, own: u16)
 fn codes_of_a_row_stand_in_three_chunks(rt: HostRuntime) {
     let mut rows = seventeen(&rt, rt.alloc());
     let copy = rows.copy().expect(&rt, "memory");
-    turn(&rt, rt.alloc(), &mut rows, 16, 0, Target::Local);
-    turn(&rt, rt.alloc(), &mut rows, 8, 1, Target::Local);
+    turn(&rt, rt.alloc(), &mut rows, 16, 0, 1, Target::Local);
+    turn(&rt, rt.alloc(), &mut rows, 8, 1, 2, Target::Local);
     compare_row(&rt, &rows, 0, 16);
     compare_row(&rt, &rows, 1, 8);
     compare_row(&rt, &copy, 0, 17);
@@ -232,10 +240,47 @@ fn codes_of_a_row_stand_in_three_chunks(rt: HostRuntime) {
 #[test]
 fn a_row_that_is_cut_keeps_those_behind_it(rt: HostRuntime) {
     let mut rows = seventeen(&rt, rt.alloc());
-    turn(&rt, rt.alloc(), &mut rows, 3, 0, Target::Local);
-    turn(&rt, rt.alloc(), &mut rows, 16, 1, Target::Local);
+    turn(&rt, rt.alloc(), &mut rows, 3, 0, 1, Target::Local);
+    turn(&rt, rt.alloc(), &mut rows, 16, 1, 2, Target::Local);
     cut_first(&rt, rt.alloc(), &mut rows);
     compare_row(&rt, &rows, 0, 3);
     compare_row(&rt, &rows, 1, 3);
     compare_row(&rt, &rows, 2, 16);
+}
+
+/// Rows of seventeen routers, which stand in more than five pages.
+fn hundred_and_two(rt: &impl Abort, alloc: Global) -> TargetRows
+    ensures routers { result.routers ≡ 17 }
+    ensures atoms { length result.rows ≡ 102 }
+{
+    let mut rows = seventeen(rt, alloc);
+    for _cut in 0..100 {
+        cut_first(rt, alloc, &mut rows);
+    }
+    rows
+}
+
+/// A router has the atoms of the places from `first` up to, and without, `past` as its own, and no router has another.
+fn compare_rows(rt: &impl Abort, rows: &TargetRows, own: u16, first: u64, past: u64)
+    requires routers { rows.now.routers ≡ 17 }
+    requires atoms { length rows.now.rows ≡ 102 }
+{
+    for place in 0..102 {
+        let here = first <= place && place < past;
+        compare_row(rt, rows, place, if here { own } else { 17 });
+    }
+}
+
+#[test]
+fn a_run_of_atoms_over_many_pages(rt: HostRuntime) {
+    let mut rows = hundred_and_two(&rt, rt.alloc());
+    let copy = rows.copy().expect(&rt, "memory");
+    turn(&rt, rt.alloc(), &mut rows, 9, 40, 40, Target::Local);
+    compare_rows(&rt, &rows, 17, 0, 0);
+    turn(&rt, rt.alloc(), &mut rows, 9, 7, 95, Target::Local);
+    compare_rows(&rt, &rows, 9, 7, 95);
+    turn(&rt, rt.alloc(), &mut rows, 9, 0, 102, Target::Exit(9));
+    turn(&rt, rt.alloc(), &mut rows, 16, 101, 102, Target::Local);
+    compare_rows(&rt, &rows, 16, 101, 102);
+    compare_rows(&rt, &copy, 17, 0, 0);
 }

@@ -13,14 +13,28 @@ middle-put a b c v i j m n e f l o =
     let last : drop j (a ++ (b ++ c)) ≡ drop n b ++ c = ap (λ p. drop p (a ++ (b ++ c))) f ∙ drop-append-add a (b ++ c) n ∙ drop-append-le n b c o in
     ap (λ t. t ++ v ++ drop j (a ++ (b ++ c))) first ∙ ap (λ t. (a ++ take m b) ++ v ++ t) last ∙ simp append_assoc
 
--- what goes in at a place of a child goes in at one of the fork
-pub put-in : {T : Type 0} (kids : List (Shape T)) (all v : List T) (i k j : ℕ) (kid x : Shape T) → joined kids ≡ all → IsAt kids i k j → kid ≡ get_or kids k kid → j ≤ length (items_of kid) → items_of x ≡ take j (items_of kid) ++ v ++ drop j (items_of kid) → joined (set kids k x) ≡ take i all ++ v ++ drop i all
-put-in kids all v i k j kid x e at is l made =
-    let whole : joined kids ≡ joined (take k kids) ++ (items_of kid ++ joined (drop (k + 1) kids)) = joined-at kids k kid at.child ∙ ap (λ s. joined (take k kids) ++ (items_of s ++ joined (drop (k + 1) kids))) (sym is) in
-    joined-set kids k x at.child
-    ∙ ap (λ t. joined (take k kids) ++ (t ++ joined (drop (k + 1) kids))) made
-    ∙ sym (middle-put (joined (take k kids)) (items_of kid) (joined (drop (k + 1) kids)) v i i j j at.place at.place l l)
-    ∙ ap (λ t. take i t ++ v ++ drop i t) (sym whole ∙ e)
+-- what is left of them from a place on
+middle-run : {X : Type 0} (a b c : List X) (i m n : ℕ) → i ≡ length a + m → m + n ≤ length b → take n (drop i (a ++ (b ++ c))) ≡ take n (drop m b)
+middle-run a b c i m n e l =
+    ap (λ p. take n (drop p (a ++ (b ++ c)))) e
+    ∙ ap (take n) (drop-append-add a (b ++ c) m ∙ drop-append-le m b c (omega arith))
+    ∙ take-append-le n (drop m b) c (omega (arith, length-drop m b))
+
+module _ {T : Type 0} (kids : List (Shape T)) (all : List T) (i k j : ℕ) (kid : Shape T) (e : joined kids ≡ all) (child : k < length kids) (is : kid ≡ get_or kids k kid) (place : i ≡ length (joined (take k kids)) + j) where
+  whole : all ≡ joined (take k kids) ++ (items_of kid ++ joined (drop (k + 1) kids))
+  whole = sym e ∙ joined-at kids k kid child ∙ ap (λ s. joined (take k kids) ++ (items_of s ++ joined (drop (k + 1) kids))) (sym is)
+
+  -- what stands in the place of some elements of a child stands in that of those of the fork
+  pub put-in : (v : List T) (m n : ℕ) (x : Shape T) → m ≡ length (joined (take k kids)) + n → j ≤ length (items_of kid) → n ≤ length (items_of kid) → items_of x ≡ take j (items_of kid) ++ v ++ drop n (items_of kid) → joined (set kids k x) ≡ take i all ++ v ++ drop m all
+  put-in v m n x past l o made =
+      joined-set kids k x child
+      ∙ ap (λ t. joined (take k kids) ++ (t ++ joined (drop (k + 1) kids))) made
+      ∙ sym (middle-put (joined (take k kids)) (items_of kid) (joined (drop (k + 1) kids)) v i m j n place past l o)
+      ∙ ap (λ t. take i t ++ v ++ drop m t) (sym whole)
+
+  -- and these are the same
+  pub run-in : (n : ℕ) → j + n ≤ length (items_of kid) → take n (drop j (items_of kid)) ≡ take n (drop i all)
+  run-in n l = sym (middle-run (joined (take k kids)) (items_of kid) (joined (drop (k + 1) kids)) i j n place l) ∙ ap (λ t. take n (drop i t)) (sym whole)
 
 -- the place is one of the child's, or its end
 pub place-in : {T : Type 0} (kids : List (Shape T)) (all : List T) (i k j : ℕ) (kid : Shape T) → joined kids ≡ all → IsAt kids i k j → kid ≡ get_or kids k kid → i ≤ length all → j ≤ length (items_of kid)

@@ -2,7 +2,7 @@
 
 ghost use Rattle.std.specs.Prelude.{◌≡◌, ◌+◌, ◌*◌, ◌<◌, ◌≤◌, ◌^◌, ◌↔◌, ◌++◌, ◌∷◌, []};
 ghost use Rattle.std.specs.Prelude.{IfErr, IfOk, OnErr, OnOk, IfSome, IsSome, is_ok, if◌then◌else◌, length, set, insert, take, drop, slice_index_or};
-ghost use Rattle.version_pages.specs.Changes.{Changes, IsExtended, IsInserted};
+ghost use Rattle.version_pages.specs.Changes.{Changes, ChangesRun, IsExtended, IsInserted};
 ghost use Rattle.version_pages.specs.Growth.{grown, CanGrow};
 ghost use Rattle.version_pages.specs.Search.{EndsBelow};
 
@@ -125,6 +125,26 @@ impl<T: Keyed + Clone> Pages<T> {
             return Err(OutOfMemory);
         };
         return root.change(alloc, i, change);
+    }
+
+    /// Has the elements from a place to the end of its page, as `run_from` shows them, changed in their places: many
+    /// neighbours in one descent. After `OutOfMemory` the list is as before, and the change was not called.
+    pub fn change_run<R, F: FnOnce(&mut [T]) -> R>(
+        &mut self,
+        alloc: Global,
+        i: u64,
+        change: F,
+    ) -> Result<R, OutOfMemory>
+        requires inside { i < length self.old }
+        requires clones { (x y : T) → T.is_clone x y → y ≡ x }
+        requires callable { F.IsAlwaysCallable change }
+        ensures changed { IfOk result (ChangesRun F.FnOnce change self.old self.new i) }
+        ensures same { OnErr result (self.new ≡ self.old) }
+    {
+        let Some(root) = &mut self.root else {
+            return Err(OutOfMemory);
+        };
+        return root.change_run(alloc, i, change);
     }
 
     /// Puts another value in the place of an element. After `OutOfMemory` the list is as before.

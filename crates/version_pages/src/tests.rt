@@ -478,3 +478,50 @@ fn a_search_after_a_row(rt: HostRuntime) -> Result<(), Fail> {
     compare_rising(&rt, &pages, 5_000);
     Ok(())
 }
+
+/// Makes each number one more. It answers how many there are.
+fn raise(run: &mut [u64]) -> u64 {
+    for number in run.iter_mut() {
+        *number = number.saturating_add(1);
+    }
+    run.len() as u64
+}
+
+/// Makes the numbers of both from a place on one more, those of the list page by page.
+fn raise_from(
+    alloc: Global,
+    pages: &mut Pages<u64>,
+    plain: &mut Vec<u64>,
+    from: u64,
+) -> Result<(), OutOfMemory> {
+    let mut at = from;
+    for _ in 0..1_000u64 {
+        if at < pages.len() {
+            let count = pages.change_run(alloc, at, |run| raise(run))?;
+            at = at.saturating_add(count);
+        }
+    }
+    for k in 0..plain.len() {
+        if from <= k as u64 {
+            plain[k] = plain[k].saturating_add(1);
+        }
+    }
+    Ok(())
+}
+
+/// All elements from a place on are changed, page by page: first while a copy holds all of them, and then once more, when
+/// nobody else holds what was copied. A search finds each at its place, and the copy has what it had.
+#[test]
+fn pages_are_changed_in_their_places(rt: HostRuntime) -> Result<(), Fail> {
+    let alloc = rt.alloc();
+    let (mut pages, mut plain) = rising(alloc, 5_000)?;
+    let held = pages.copy()?;
+    let old = plain.clone()?;
+    raise_from(alloc, &mut pages, &mut plain, 70)?;
+    compare(&rt, &pages, &plain);
+    raise_from(alloc, &mut pages, &mut plain, 0)?;
+    compare(&rt, &pages, &plain);
+    are_found(&rt, &pages, 5_000);
+    compare(&rt, &held, &old);
+    Ok(())
+}

@@ -74,4 +74,5 @@ Tree::insert_some-returns-in-Fork-clause-items g t c =
     let e : joined c.ready.new.kids.items ≡ c.args.self.now.items = c.ready.ensures.same ∙ ap items_of (ap shape_of (sym c.in-Fork.is) ∙ c.self.view_is) in
     let at : IsAt c.ready.new.kids.items c.args.i c.in_ok-k-in-Fork.k c.in_ok-k-in-Fork.j = c.in_ok-k-in-Fork.ensures.child in
     let is = c.index_mut-kid.ensures.value in
-    put-in c.ready.new.kids.items _ _ c.args.i c.in_ok-k-in-Fork.k c.in_ok-k-in-Fork.j _ _ e at is (place-in _ _ _ _ _ _ e at is c.requires.inside) c.in_ok-count-in-Fork.ensures.items
+    let inside : c.in_ok-k-in-Fork.j ≤ length c.index_mut-kid.result.now.items = place-in _ _ _ _ _ _ e at is c.requires.inside in
+    put-in c.ready.new.kids.items _ c.args.i c.in_ok-k-in-Fork.k c.in_ok-k-in-Fork.j _ e at.child is at.place _ c.args.i c.in_ok-k-in-Fork.j _ at.place inside inside c.in_ok-count-in-Fork.ensures.items

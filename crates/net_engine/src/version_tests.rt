@@ -245,7 +245,7 @@ fn of_two_metrics_the_lesser_wins(rt: HostRuntime) -> Result<(), Fail> {
 }
 
 /// The routes of the first router after some updates, by the plain evaluator.
-fn routes_after(alloc: Global, updates: &[Update]) -> Result<Vec<Route>, OutOfMemory> {
+fn routes_after(alloc: Global, updates: &[Update]) -> Result<List<Route>, OutOfMemory> {
     let mut entries = Vec::new(alloc);
     for update in updates {
         entries.push(entry(*update))?;
@@ -267,10 +267,10 @@ fn a_copy_that_is_held_keeps_its_answers(rt: HostRuntime) -> Result<(), Fail> {
     let (version, _) = advanced::<Brand>(alloc, version, clear(ten(), None), Blank::new(1))?;
     let before = [set(ten(), 20, 2), inside];
     let after = [set(ten(), 20, 2), inside, around, clear(ten(), None)];
-    compare(&rt, &held, &routes_after(alloc, &before)?);
-    compare(&rt, &version, &routes_after(alloc, &after)?);
+    compare(&rt, &held, routes_after(alloc, &before)?.as_slice());
+    compare(&rt, &version, routes_after(alloc, &after)?.as_slice());
     let (held, _) = advanced::<Brand>(alloc, held, clear(ten(), None), Blank::new(1))?;
-    compare(&rt, &held, &routes_after(alloc, &[inside])?);
+    compare(&rt, &held, routes_after(alloc, &[inside])?.as_slice());
     Ok(())
 }
 

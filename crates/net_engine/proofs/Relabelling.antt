@@ -1,111 +1,64 @@
--- A router does something else with the atoms of a span, one after another.
-use Rattle.std.proofs.Common.{◌≡◌, ℕ, ◌+◌, ◌<◌, ◌≤◌, ◌^◌, ◌∙◌, ⊎_elim, zero, suc, true, false, List, [], ◌∷◌, length, get_or, set, refl, ap, sym, subst, arith, eqb}
-use Rattle.std.proofs.lemmas.Bool.{both_ways, cases_Bool, cases_eq, cases_lt, eqb-true, ne_eqb}
-use Rattle.std.proofs.lemmas.List.{get_or-set_other, get_or-set_same, length-set}
+-- A router does something else with the atoms of a span, which stand side by side.
+use Rattle.std.proofs.Common.{◌≡◌, ℕ, ◌+◌, ◌<◌, ◌≤◌, ◌^◌, ◌∙◌, ◌⊎◌, ⊎_elim, inl, inr, zero, suc, true, false, List, [], ◌∷◌, length, get_or, drop, refl, ap, sym, subst, arith, eqb}
+use Rattle.std.proofs.lemmas.Bool.{both_ways, cases_Bool, cases_lt, eqb-true, ne_eqb}
 use Rattle.dn_model.specs.Atoms.{AreAtoms, atom_low, atom_past, is_boundary}
 use Rattle.dn_model.specs.Forwarding.{forwarding_at, row_low, row_past}
-use Rattle.dn_model.specs.Rows.{is_within}
+use Rattle.dn_model.specs.Rows.{CoverFrom, is_within}
 use Rattle.dn_model.specs.declared.atom_row.AtomRow.{AtomRow}
-use Rattle.dn_model.specs.declared.forwarding_row.ForwardingRow.{ForwardingRow}
 use Rattle.dn_model.specs.declared.target.Target.{Target}
 use Rattle.dn_model.specs.declared.target.Target.TheVariants.{NoRoute}
-use Rattle.dn_model.proofs.Covers.{high-at, holder-at, holder-first, holder-rest, last-high, next-low, ordered-at, within-above, within-below, within-yes}
+use Rattle.dn_model.proofs.Covers.{high-at, holder-first, holder-rest, last-high, low-at, next-low, ordered-at, within-above, within-yes}
 use Rattle.dn_model.proofs.Cuts.{boundary-at}
-use Rattle.edge_labels.specs.Labels.{Labels, moved, target_at, targets_of}
+use Rattle.edge_labels.specs.Labels.{Labels, moved_run, target_at, targets_of}
+use Rattle.edge_labels.proofs.MovedRun.{moved_run-away, moved_run-here, moved_run-long, moved_run-others, moved_run-wide}
 use Rattle.net_engine.specs.Paired.{AreLabelled, does_at, does_in, rows_with}
-use Rattle.net_engine.specs.Reruled.{AtomBegins, IsRelabelled}
-use Rattle.net_engine.proofs.Standing.{cover-rows, row-at_place, row_with, rows-inside}
+use Rattle.net_engine.specs.Reruled.{AtomBegins, AtomsEnd, IsRelabelled}
+use Rattle.net_engine.proofs.Held.{within-high, within-low}
+use Rattle.net_engine.proofs.Standing.{row_with}
 
--- ---- one atom
+-- ---- what stands at the place of the atom that has an address
 
--- what a router does with an address of the atom at a place stands there
-pub does-there : (rows : List AtomRow) (x : Labels) (r place a : ℕ) (d : AtomRow) → AreAtoms rows → place < length rows → atom_low (get_or rows place d) ≤ a → a < atom_past (get_or rows place d) → does_at rows x r a ≡ target_at x r place
-does-there rows x r place a d h l from to =
-    let none : ForwardingRow = row_with d [] in
-    let there : get_or (rows_with rows x.rows) place none ≡ row_with (get_or rows place d) (targets_of x place) = row-at_place rows x.rows place d none l in
-    ap (does_in r) (holder-at row_low row_past 0 (rows_with rows x.rows) place none a (cover-rows 0 rows x.rows h.cover) (rows-inside rows x.rows place l)
-    (subst (λ (z : ForwardingRow). z.low ≤ a) (sym there) from)
-    (subst (λ (z : ForwardingRow). a < z.past) (sym there) to))
-    ∙ ap (λ (z : ForwardingRow). get_or z.targets r NoRoute) there
+rest-at : (tss : List (List Target)) (k : ℕ) → get_or (drop 1 tss) k [] ≡ get_or tss (suc k) []
+rest-at [] k = refl
+rest-at (ts ∷ more) k = refl
 
--- other targets at a place leave the rows of the other places
-row-away : (rows : List AtomRow) (tss : List (List Target)) (place a : ℕ) (ts : List Target) (d : AtomRow) → place < length rows → is_within (atom_low (get_or rows place d)) (atom_past (get_or rows place d)) a ≡ false → forwarding_at (rows_with rows (set tss place ts)) a ≡ forwarding_at (rows_with rows tss) a
-row-away [] tss place a ts d l n = refl
-row-away (r ∷ rs) [] place a ts d l n = refl
-row-away (r ∷ rs) (us ∷ more) zero a ts d l n =
-    holder-rest row_low row_past (row_with r ts) (rows_with rs more) a n
-    ∙ sym (holder-rest row_low row_past (row_with r us) (rows_with rs more) a n)
-row-away (r ∷ rs) (us ∷ more) (suc place) a ts d l n = ⊎_elim
+-- whether the atom at a place has the address
+abbrev has_at : List AtomRow → ℕ → AtomRow → ℕ → Type 0
+has_at rows k d a = is_within (atom_low (get_or rows k d)) (atom_past (get_or rows k d)) a ≡ true
+
+-- where the same stands there, a router does the same
+same-there : (rows : List AtomRow) (tss uss : List (List Target)) (q a : ℕ) → ((k : ℕ) (d : AtomRow) → k < length rows → has_at rows k d a → get_or (get_or tss k []) q NoRoute ≡ get_or (get_or uss k []) q NoRoute) → does_in q (forwarding_at (rows_with rows tss) a) ≡ does_in q (forwarding_at (rows_with rows uss) a)
+same-there [] tss uss q a same = refl
+same-there (r ∷ rs) tss uss q a same = ⊎_elim
     (λ (y : is_within r.low r.past a ≡ true).
-    holder-first row_low row_past (row_with r us) (rows_with rs (set more place ts)) a y
-    ∙ sym (holder-first row_low row_past (row_with r us) (rows_with rs more) a y))
-    (λ (m : is_within r.low r.past a ≡ false).
-    holder-rest row_low row_past (row_with r us) (rows_with rs (set more place ts)) a m
-    ∙ row-away rs more place a ts d (omega arith) n
-    ∙ sym (holder-rest row_low row_past (row_with r us) (rows_with rs more) a m))
+    ap (does_in q) (holder-first row_low row_past (row_with r (get_or tss 0 [])) (rows_with rs (drop 1 tss)) a y)
+    ∙ same 0 r (omega arith) y
+    ∙ sym (ap (does_in q) (holder-first row_low row_past (row_with r (get_or uss 0 [])) (rows_with rs (drop 1 uss)) a y)))
+    (λ (n : is_within r.low r.past a ≡ false).
+    ap (does_in q) (holder-rest row_low row_past (row_with r (get_or tss 0 [])) (rows_with rs (drop 1 tss)) a n)
+    ∙ same-there rs (drop 1 tss) (drop 1 uss) q a
+    (λ k d l w.
+    ap (λ (ts : List Target). get_or ts q NoRoute) (rest-at tss k)
+    ∙ same (suc k) d (omega arith) w
+    ∙ sym (ap (λ (ts : List Target). get_or ts q NoRoute) (rest-at uss k)))
+    ∙ sym (ap (does_in q) (holder-rest row_low row_past (row_with r (get_or uss 0 [])) (rows_with rs (drop 1 uss)) a n)))
     (cases_Bool (is_within r.low r.past a))
 
--- and another router does what it did
-others-as_before : (rows : List AtomRow) (tss : List (List Target)) (r q place a : ℕ) (after : Target) → (q ≡ r → ⊥) → does_in q (forwarding_at (rows_with rows (set tss place (set (get_or tss place []) r after))) a) ≡ does_in q (forwarding_at (rows_with rows tss) a)
-others-as_before [] tss r q place a after other = refl
-others-as_before (row ∷ rows) [] r q place a after other = refl
-others-as_before (row ∷ rows) (us ∷ more) r q zero a after other = ⊎_elim
-    (λ (y : is_within row.low row.past a ≡ true).
-    ap (does_in q) (holder-first row_low row_past (row_with row (set us r after)) (rows_with rows more) a y)
-    ∙ get_or-set_other us r q after NoRoute other
-    ∙ sym (ap (does_in q) (holder-first row_low row_past (row_with row us) (rows_with rows more) a y)))
-    (λ (m : is_within row.low row.past a ≡ false).
-    ap (does_in q) (holder-rest row_low row_past (row_with row (set us r after)) (rows_with rows more) a m)
-    ∙ sym (ap (does_in q) (holder-rest row_low row_past (row_with row us) (rows_with rows more) a m)))
-    (cases_Bool (is_within row.low row.past a))
-others-as_before (row ∷ rows) (us ∷ more) r q (suc place) a after other = ⊎_elim
-    (λ (y : is_within row.low row.past a ≡ true).
-    ap (does_in q) (holder-first row_low row_past (row_with row us) (rows_with rows (set more place (set (get_or more place []) r after))) a y)
-    ∙ sym (ap (does_in q) (holder-first row_low row_past (row_with row us) (rows_with rows more) a y)))
-    (λ (m : is_within row.low row.past a ≡ false).
-    ap (does_in q) (holder-rest row_low row_past (row_with row us) (rows_with rows (set more place (set (get_or more place []) r after))) a m)
-    ∙ others-as_before rows more r q place a after other
-    ∙ sym (ap (does_in q) (holder-rest row_low row_past (row_with row us) (rows_with rows more) a m)))
-    (cases_Bool (is_within row.low row.past a))
-
-module _ (rows : List AtomRow) (x : Labels) (r place : ℕ) (after : Target) (row : AtomRow) (h : AreLabelled rows x) (is : row ≡ get_or rows place row) (below : place < length rows) (inside : r < x.routers) where
-  abbrev made : Labels
-  made = moved x r place after
-
-  long : length (targets_of x place) ≡ x.routers
-  long = h.wide place below
-
-  there : place < length x.rows
-  there = subst (λ n. place < n) (sym h.there) below
-
-  same-targets : targets_of made place ≡ set (targets_of x place) r after
-  same-targets = get_or-set_same x.rows place (set (targets_of x place) r after) [] there
-
-  other-targets : (n : ℕ) → (n ≡ place → ⊥) → targets_of made n ≡ targets_of x n
-  other-targets n other = get_or-set_other x.rows place n (set (targets_of x place) r after) [] other
-
-  moved-labelled : AreLabelled rows made
-  moved-labelled = record {
-    atoms = h.atoms;
-    there = length-set x.rows place (set (targets_of x place) r after) ∙ h.there;
-    wide = λ n l. ⊎_elim
-        (λ (e : n ≡ place).
-        ap (λ k. length (targets_of made k)) e ∙ ap (λ (ts : List Target). length ts) same-targets ∙ length-set (targets_of x place) r after ∙ long)
-        (λ (other : n ≡ place → ⊥). ap (λ (ts : List Target). length ts) (other-targets n other) ∙ h.wide n l)
-        (cases_eq n place);
-  }
-
-  moved-here : (a : ℕ) → row.low ≤ a → a < row.past → does_at rows made r a ≡ after
-  moved-here a l m =
-      does-there rows made r place a row h.atoms below (subst (λ (z : AtomRow). z.low ≤ a) is l) (subst (λ (z : AtomRow). a < z.past) is m)
-      ∙ ap (λ (ts : List Target). get_or ts r NoRoute) same-targets
-      ∙ get_or-set_same (targets_of x place) r after NoRoute (subst (λ n. r < n) (sym long) inside)
-
-  moved-away : (a : ℕ) → is_within row.low row.past a ≡ false → does_at rows made r a ≡ does_at rows x r a
-  moved-away a n = ap (does_in r) (row-away rows x.rows place a (set (targets_of x place) r after) row below (subst (λ (z : AtomRow). is_within z.low z.past a ≡ false) is n))
-
-  moved-others : (q a : ℕ) → (q ≡ r → ⊥) → does_at rows made q a ≡ does_at rows x q a
-  moved-others q a other = others-as_before rows x.rows r q place a after other
+-- and where a target stands there, it does that
+does-what_stands : (start : ℕ) (rows : List AtomRow) (tss : List (List Target)) (q a : ℕ) (t : Target) → CoverFrom atom_low atom_past start rows → start ≤ a → a < 2 ^ 32 → ((k : ℕ) (d : AtomRow) → k < length rows → has_at rows k d a → get_or (get_or tss k []) q NoRoute ≡ t) → does_in q (forwarding_at (rows_with rows tss) a) ≡ t
+does-what_stands start [] tss q a t h l b is = let e : start ≡ 2 ^ 32 = h in absurd (omega arith)
+does-what_stands start (r ∷ rs) tss q a t h l b is =
+    let e : r.low ≡ start = h.0 in
+    ⊎_elim
+    (λ (m : a < r.past).
+    let y : is_within r.low r.past a ≡ true = within-yes r.low r.past a (omega arith) m in
+    ap (does_in q) (holder-first row_low row_past (row_with r (get_or tss 0 [])) (rows_with rs (drop 1 tss)) a y)
+    ∙ is 0 r (omega arith) y)
+    (λ (m : r.past ≤ a).
+    ap (does_in q) (holder-rest row_low row_past (row_with r (get_or tss 0 [])) (rows_with rs (drop 1 tss)) a (within-above r.low r.past a m))
+    ∙ does-what_stands r.past rs (drop 1 tss) q a t h.2 m b
+    (λ k d n w. ap (λ (ts : List Target). get_or ts q NoRoute) (rest-at tss k) ∙ is (suc k) d (omega arith) w))
+    (cases_lt a r.past)
 
 -- ---- atoms by place
 
@@ -115,62 +68,115 @@ atom-begins rows place at h l from to b = record {
   low = λ d. eqb-true (atom_low (get_or rows place d)) at (sym (boundary-at 0 rows place d at h.cover l (from d) (to d)) ∙ b);
 }
 
--- the row at a place where an atom begins
-pub record Stands (rows : List AtomRow) (place at : ℕ) (row : AtomRow) : Type 0 where
-  pub low : row.low ≡ at
-  pub order : row.low < row.past
-  pub ends : row.past ≤ 2 ^ 32
-  pub is : row ≡ get_or rows place row
-  pub inside : place < length rows
-  pub next : row.past < 2 ^ 32 → AtomBegins rows (place + 1) row.past
-  pub within : (past : ℕ) → at < past → past ≤ 2 ^ 32 → (past < 2 ^ 32 → is_boundary rows past ≡ true) → row.past ≤ past
+-- an atom that stands before another ends where the other begins or below
+past-low : (start : ℕ) (rows : List AtomRow) (i j : ℕ) (d : AtomRow) → CoverFrom atom_low atom_past start rows → i < j → j < length rows → atom_past (get_or rows i d) ≤ atom_low (get_or rows j d)
+past-low start [] i j d h m l = absurd (omega arith)
+past-low start (r ∷ rs) i zero d h m l = absurd (omega arith)
+past-low start (r ∷ rs) zero (suc j) d h m l = low-at atom_low atom_past r.past rs j d h.2 (omega arith)
+past-low start (r ∷ rs) (suc i) (suc j) d h m l = past-low r.past rs i j d h.2 (omega arith) (omega arith)
 
-pub stands-at : (rows : List AtomRow) (place at : ℕ) (row : AtomRow) → AreAtoms rows → AtomBegins rows place at → ((d : AtomRow) → row ≡ get_or rows place d) → Stands rows place at row
-stands-at rows place at row h b is =
-    let e : get_or rows place row ≡ row = sym (is row) in
-    let low : row.low ≡ at = subst (λ (z : AtomRow). z.low ≡ at) e (b.low row) in
-    let order : row.low < row.past = subst (λ (z : AtomRow). atom_low z < atom_past z) e (ordered-at atom_low atom_past 0 rows place row h.cover b.inside) in
-    let ends : row.past ≤ 2 ^ 32 = subst (λ (z : AtomRow). atom_past z ≤ 2 ^ 32) e (high-at atom_low atom_past 0 rows place row h.cover b.inside) in
-    let one : suc place ≡ place + 1 = omega arith in
+low-low : (rows : List AtomRow) (i j : ℕ) (d : AtomRow) → AreAtoms rows → i ≤ j → j < length rows → atom_low (get_or rows i d) ≤ atom_low (get_or rows j d)
+low-low rows i j d h m l = ⊎_elim
+    (λ (k : i < j).
+    let o : atom_low (get_or rows i d) < atom_past (get_or rows i d) = ordered-at atom_low atom_past 0 rows i d h.cover (omega arith) in
+    let n : atom_past (get_or rows i d) ≤ atom_low (get_or rows j d) = past-low 0 rows i j d h.cover k l in
+    omega arith)
+    (λ (k : j ≤ i).
+    let e : i ≡ j = omega arith in
+    let s : atom_low (get_or rows i d) ≡ atom_low (get_or rows j d) = ap (λ n. atom_low (get_or rows n d)) e in
+    omega arith)
+    (cases_lt i j)
+
+-- the atom that has the last address of a span ends with it
+ends-at : (rows : List AtomRow) (k past : ℕ) (d : AtomRow) → AreAtoms rows → k < length rows → atom_low (get_or rows k d) < past → past ≤ atom_past (get_or rows k d) → past ≤ 2 ^ 32 → (past < 2 ^ 32 → is_boundary rows past ≡ true) → atom_past (get_or rows k d) ≡ past
+ends-at rows k past d h l from to b f = ⊎_elim
+    (λ (m : past < atom_past (get_or rows k d)).
+    let o : atom_past (get_or rows k d) ≤ 2 ^ 32 = high-at atom_low atom_past 0 rows k d h.cover l in
+    let n : is_boundary rows past ≡ false = boundary-at 0 rows k d past h.cover l (omega arith) m ∙ ne_eqb (atom_low (get_or rows k d)) past (λ z. omega arith) in
+    absurd (both_ways (is_boundary rows past) n (f (omega arith))))
+    (λ (m : atom_past (get_or rows k d) ≤ past). omega arith)
+    (cases_lt past (atom_past (get_or rows k d)))
+
+end-after : (rows : List AtomRow) (k past : ℕ) (d : AtomRow) → AreAtoms rows → k < length rows → ((d : AtomRow) → atom_past (get_or rows k d) ≡ past) → past < 2 ^ 32 → AtomBegins rows (suc k) past
+end-after rows k past d h l e m = ⊎_elim
+    (λ (n : suc k < length rows). record {
+      inside = n;
+      low = λ d. next-low atom_low atom_past 0 rows k d h.cover n ∙ e d;
+    })
+    (λ (n : length rows ≤ suc k).
+    let w : atom_past (get_or rows k d) ≡ 2 ^ 32 = last-high atom_low atom_past 0 rows k d h.cover (omega arith) in
+    let v : atom_past (get_or rows k d) ≡ past = e d in
+    absurd (omega arith))
+    (cases_lt (suc k) (length rows))
+
+last-of_all : (rows : List AtomRow) (k past : ℕ) (d : AtomRow) → AreAtoms rows → k < length rows → atom_past (get_or rows k d) ≡ past → 2 ^ 32 ≤ past → suc k ≡ length rows
+last-of_all rows k past d h l e m = ⊎_elim
+    (λ (n : suc k < length rows).
+    let w : atom_low (get_or rows (suc k) d) ≡ atom_past (get_or rows k d) = next-low atom_low atom_past 0 rows k d h.cover n in
+    let o : atom_low (get_or rows (suc k) d) < atom_past (get_or rows (suc k) d) = ordered-at atom_low atom_past 0 rows (suc k) d h.cover n in
+    let p : atom_past (get_or rows (suc k) d) ≤ 2 ^ 32 = high-at atom_low atom_past 0 rows (suc k) d h.cover n in
+    absurd (omega arith))
+    (λ (n : length rows ≤ suc k). omega arith)
+    (cases_lt (suc k) (length rows))
+
+pub atoms-end : (rows : List AtomRow) (k last past : ℕ) → AreAtoms rows → k < length rows → ((d : AtomRow) → (get_or rows k d).low ≤ last) → ((d : AtomRow) → last < (get_or rows k d).past) → last + 1 ≡ past → past ≤ 2 ^ 32 → (past < 2 ^ 32 → is_boundary rows past ≡ true) → AtomsEnd rows (k + 1) past
+atoms-end rows k last past h l from to s b f =
+    let e : (d : AtomRow) → atom_past (get_or rows k d) ≡ past = λ d.
+    let low : atom_low (get_or rows k d) ≤ last = from d in
+    let high : last < atom_past (get_or rows k d) = to d in
+    ends-at rows k past d h l (omega arith) (omega arith) b f in
+    let none : AtomRow = record { atom = record { 0 = 0 }; low = 0; past = 0 } in
+    let one : suc k ≡ k + 1 = omega arith in
     record {
-      low = low;
-      order = order;
-      ends = ends;
-      is = is row;
-      inside = b.inside;
-      next = λ l. ⊎_elim
-          (λ (m : suc place < length rows).
-          subst (λ n. AtomBegins rows n row.past) one (record {
-            inside = m;
-            low = λ d. next-low atom_low atom_past 0 rows place d h.cover m ∙ ap atom_past (sym (is d));
-          }))
-          (λ (m : length rows ≤ suc place).
-          let b' : place < length rows = b.inside in
-          let last : suc place ≡ length rows = omega arith in
-          let q : atom_past (get_or rows place row) ≡ 2 ^ 32 = last-high atom_low atom_past 0 rows place row h.cover last in
-          let w : row.past ≡ 2 ^ 32 = ap atom_past (is row) ∙ q in
-          absurd (omega arith))
-          (cases_lt (suc place) (length rows));
-      within = λ past l m f. ⊎_elim
-          (λ (k : past < row.past).
-          let c : is_boundary rows past ≡ eqb (atom_low (get_or rows place row)) past = boundary-at 0 rows place row past h.cover b.inside (subst (λ (z : AtomRow). atom_low z ≤ past) (is row) (omega arith)) (subst (λ (z : AtomRow). past < atom_past z) (is row) k) in
-          let apart : row.low ≡ past → ⊥ = λ z. omega arith in
-          let n : is_boundary rows past ≡ false = c ∙ ap (λ (z : AtomRow). eqb (atom_low z) past) e ∙ ne_eqb row.low past apart in
-          absurd (both_ways (is_boundary rows past) n (f (omega arith))))
-          (λ (k : row.past ≤ past). k)
-          (cases_lt past row.past);
+      inside = omega arith;
+      below = λ m. subst (λ n. AtomBegins rows n past) one (end-after rows k past none h l e m);
+      all = λ m. sym one ∙ last-of_all rows k past none h l (e none) m;
     }
 
--- ---- one after another
+-- the atom of an address stands where the first of a span does or behind it, or before it
+from-first : (rows : List AtomRow) (first lo k a : ℕ) (d : AtomRow) → AreAtoms rows → AtomBegins rows first lo → k < length rows → lo ≤ a → a < atom_past (get_or rows k d) → first ≤ k
+from-first rows first lo k a d h b l from to = ⊎_elim
+    (λ (m : k < first).
+    let e : atom_low (get_or rows first d) ≡ lo = b.low d in
+    let o : atom_past (get_or rows k d) ≤ atom_low (get_or rows first d) = past-low 0 rows k first d h.cover m b.inside in
+    absurd (omega arith))
+    (λ (m : first ≤ k). m)
+    (cases_lt k first)
 
-pub relabelled-none : (rows : List AtomRow) (x : Labels) (r lo : ℕ) (after : Target) → AreLabelled rows x → IsRelabelled rows x x r lo lo after
-relabelled-none rows x r lo after h = record {
-  labelled = h;
-  routers = refl;
-  here = λ a l m. absurd (omega arith);
-  away = λ a n. refl;
-  others = λ q a n. refl;
-}
+before-first : (rows : List AtomRow) (first lo k a : ℕ) (d : AtomRow) → AreAtoms rows → AtomBegins rows first lo → k < length rows → a < lo → atom_low (get_or rows k d) ≤ a → k < first
+before-first rows first lo k a d h b l to from = ⊎_elim
+    (λ (m : k < first). m)
+    (λ (m : first ≤ k).
+    let e : atom_low (get_or rows first d) ≡ lo = b.low d in
+    let o : atom_low (get_or rows first d) ≤ atom_low (get_or rows k d) = low-low rows first k d h m l in
+    absurd (omega arith))
+    (cases_lt k first)
+
+-- and before the end of a span, or behind it
+before-end : (rows : List AtomRow) (last past k a : ℕ) (d : AtomRow) → AreAtoms rows → AtomsEnd rows last past → k < length rows → a < past → atom_low (get_or rows k d) ≤ a → k < last
+before-end rows last past k a d h b l to from = ⊎_elim
+    (λ (m : past < 2 ^ 32). before-first rows last past k a d h (b.below m) l to from)
+    (λ (m : 2 ^ 32 ≤ past). let e : last ≡ length rows = b.all m in omega arith)
+    (cases_lt past (2 ^ 32))
+
+from-end : (rows : List AtomRow) (last past k a : ℕ) (d : AtomRow) → AreAtoms rows → AtomsEnd rows last past → k < length rows → past ≤ a → a < atom_past (get_or rows k d) → last ≤ k
+from-end rows last past k a d h b l from to = ⊎_elim
+    (λ (m : past < 2 ^ 32). from-first rows last past k a d h (b.below m) l from to)
+    (λ (m : 2 ^ 32 ≤ past).
+    let o : atom_past (get_or rows k d) ≤ 2 ^ 32 = high-at atom_low atom_past 0 rows k d h.cover l in
+    absurd (omega arith))
+    (cases_lt past (2 ^ 32))
+
+no-atom : AtomRow
+no-atom = record { atom = record { 0 = 0 }; low = 0; past = 0 }
+
+pub in-order : (rows : List AtomRow) (first last lo past : ℕ) → AreAtoms rows → AtomBegins rows first lo → AtomsEnd rows last past → lo < past → first ≤ last
+in-order rows first last lo past h b e o =
+    let low : atom_low (get_or rows first no-atom) ≡ lo = b.low no-atom in
+    let m : first < last = before-end rows last past first lo no-atom h e b.inside o (omega arith) in
+    omega arith
+
+-- ---- the rows of a span
 
 -- where nothing changes
 pub relabelled-same : (rows : List AtomRow) (x : Labels) (r lo past : ℕ) (before after : Target) → AreLabelled rows x → before ≡ after → ((a : ℕ) → lo ≤ a → a < past → does_at rows x r a ≡ before) → IsRelabelled rows x x r lo past after
@@ -182,39 +188,53 @@ relabelled-same rows x r lo past before after h e was = record {
   others = λ q a n. refl;
 }
 
--- what is moved next does what it did
-pub not-yet : (rows : List AtomRow) (x y : Labels) (r lo at place : ℕ) (after before : Target) (row : AtomRow) → IsRelabelled rows x y r lo at after → Stands rows place at row → does_at rows x r at ≡ before → target_at y r place ≡ before
-not-yet rows x y r lo at place after before row v s was =
-    let low : row.low ≡ at = s.low in
-    let order : row.low < row.past = s.order in
-    let from : row.low ≤ at = omega arith in
-    let to : at < row.past = omega arith in
-    sym (does-there rows y r place at row v.labelled.atoms s.inside (subst (λ (z : AtomRow). z.low ≤ at) s.is from) (subst (λ (z : AtomRow). at < z.past) s.is to))
-    ∙ v.away at (within-above lo at at (omega arith))
-    ∙ was
+-- a router does something else with the atoms from one place on up to another
+pub record IsRunMoved (x y : Labels) (r first last : ℕ) (after : Target) : Type 0 where
+  pub routers : y.routers ≡ x.routers
+  pub long : length y.rows ≡ length x.rows
+  pub wide : (k : ℕ) → length (targets_of y k) ≡ length (targets_of x k)
+  pub here : (k : ℕ) → first ≤ k → k < last → target_at y r k ≡ after
+  pub away : (k : ℕ) → (k < first) ⊎ (last ≤ k) → target_at y r k ≡ target_at x r k
+  pub others : (q k : ℕ) → (q ≡ r → ⊥) → target_at y q k ≡ target_at x q k
 
-pub relabelled-more : (rows : List AtomRow) (x y z : Labels) (r lo at place : ℕ) (after : Target) (row : AtomRow) → lo ≤ at → IsRelabelled rows x y r lo at after → Stands rows place at row → r < x.routers → z ≡ moved y r place after → IsRelabelled rows x z r lo row.past after
-relabelled-more rows x y z r lo at place after row o v s inside is =
-    let low : row.low ≡ at = s.low in
-    let order : row.low < row.past = s.order in
-    let mine : r < y.routers = subst (λ n. r < n) (sym v.routers) inside in
-    subst (λ (l : Labels). IsRelabelled rows x l r lo row.past after) (sym is) (record {
-      labelled = moved-labelled rows y r place after row v.labelled s.is s.inside mine;
-      routers = v.routers;
-      here = λ a l m. ⊎_elim
-          (λ (k : a < at). moved-away rows y r place after row v.labelled s.is s.inside mine a (within-below row.low row.past a (omega arith)) ∙ v.here a l k)
-          (λ (k : at ≤ a). moved-here rows y r place after row v.labelled s.is s.inside mine a (omega arith) m)
-          (cases_lt a at);
-      away = λ a n. ⊎_elim
-          (λ (k : a < lo).
-          moved-away rows y r place after row v.labelled s.is s.inside mine a (within-below row.low row.past a (omega arith))
-          ∙ v.away a (within-below lo at a k))
-          (λ (k : lo ≤ a). ⊎_elim
-          (λ (m : a < row.past). absurd (both_ways (is_within lo row.past a) n (within-yes lo row.past a k m)))
-          (λ (m : row.past ≤ a).
-          moved-away rows y r place after row v.labelled s.is s.inside mine a (within-above row.low row.past a m)
-          ∙ v.away a (within-above lo at a (omega arith)))
-          (cases_lt a row.past))
-          (cases_lt a lo);
-      others = λ q a n. moved-others rows y r place after row v.labelled s.is s.inside mine q a n ∙ v.others q a n;
+-- an address outside of a span is one of an atom before the first or behind the last
+outside : (rows : List AtomRow) (first last lo past k a : ℕ) (d : AtomRow) → AreAtoms rows → AtomBegins rows first lo → AtomsEnd rows last past → k < length rows → has_at rows k d a → is_within lo past a ≡ false → (k < first) ⊎ (last ≤ k)
+outside rows first last lo past k a d h b e l w n =
+    let from : atom_low (get_or rows k d) ≤ a = within-low (atom_low (get_or rows k d)) (atom_past (get_or rows k d)) a w in
+    let to : a < atom_past (get_or rows k d) = within-high (atom_low (get_or rows k d)) (atom_past (get_or rows k d)) a w in
+    ⊎_elim
+    (λ (m : a < lo). inl (before-first rows first lo k a d h b l m from))
+    (λ (m : lo ≤ a). ⊎_elim
+    (λ (p : a < past). absurd (both_ways (is_within lo past a) n (within-yes lo past a m p)))
+    (λ (p : past ≤ a). inr (from-end rows last past k a d h e l p to))
+    (cases_lt a past))
+    (cases_lt a lo)
+
+pub relabelled-run : (rows : List AtomRow) (x y : Labels) (r lo past first last : ℕ) (after : Target) → AreLabelled rows x → AtomBegins rows first lo → AtomsEnd rows last past → past ≤ 2 ^ 32 → IsRunMoved x y r first last after → IsRelabelled rows x y r lo past after
+relabelled-run rows x y r lo past first last after h b e o m = record {
+  labelled = record {
+    atoms = h.atoms;
+    there = m.long ∙ h.there;
+    wide = λ n l. m.wide n ∙ h.wide n l ∙ sym m.routers;
+  };
+  routers = m.routers;
+  here = λ a l n. does-what_stands 0 rows y.rows r a after h.atoms.cover (omega arith) (omega arith)
+      (λ k d i w.
+      let from : atom_low (get_or rows k d) ≤ a = within-low (atom_low (get_or rows k d)) (atom_past (get_or rows k d)) a w in
+      let to : a < atom_past (get_or rows k d) = within-high (atom_low (get_or rows k d)) (atom_past (get_or rows k d)) a w in
+      m.here k (from-first rows first lo k a d h.atoms b i l to) (before-end rows last past k a d h.atoms e i n from));
+  away = λ a n. same-there rows y.rows x.rows r a (λ k d i w. m.away k (outside rows first last lo past k a d h.atoms b e i w n));
+  others = λ q a n. same-there rows y.rows x.rows q a (λ k d i w. m.others q k n);
+}
+
+pub run-moved : (rows : List AtomRow) (x y : Labels) (r first last : ℕ) (after : Target) → AreLabelled rows x → r < x.routers → first ≤ last → last ≤ length rows → y ≡ moved_run x r first last after → IsRunMoved x y r first last after
+run-moved rows x y r first last after h mine order inside is =
+    let there : last ≤ length x.rows = subst (λ n. last ≤ n) (sym h.there) inside in
+    subst (λ (l : Labels). IsRunMoved x l r first last after) (sym is) (record {
+      routers = refl;
+      long = moved_run-long x r first last after order there;
+      wide = moved_run-wide x r first last after order there;
+      here = λ k l m. moved_run-here x r first last after order there k l m (subst (λ n. r < n) (sym (h.wide k (omega arith))) mine);
+      away = λ k o. ap (λ (ts : List Target). get_or ts r NoRoute) (moved_run-away x r first last after order there k (λ l m. ⊎_elim (λ (n : k < first). omega arith) (λ (n : last ≤ k). omega arith) o));
+      others = moved_run-others x r first last after order there;
     })

@@ -33,6 +33,12 @@ pub record AtomBegins (rows : List AtomRow) (place at : ℕ) : Type 0 where
   pub inside : place < length rows
   pub low : (d : AtomRow) → (slice_index_or rows place d).low ≡ at
 
+-- so many atoms begin below an address where one begins, and all do below the end of all addresses
+pub record AtomsEnd (rows : List AtomRow) (place past : ℕ) : Type 0 where
+  pub inside : place ≤ length rows
+  pub below : past < 2 ^ 32 → AtomBegins rows place past
+  pub all : 2 ^ 32 ≤ past → place ≡ length rows
+
 -- a router does something with the addresses of a span, and nothing else changes
 pub record IsRelabelled (rows : List AtomRow) (x y : Labels) (r lo past : ℕ) (after : Target) : Type 0 where
   pub labelled : AreLabelled rows y

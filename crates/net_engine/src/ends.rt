@@ -21,8 +21,9 @@ pub fn past_of(prefix: Prefix) -> u64
     u64::from(prefix.base()) + (1u64 << (32 - prefix.len()))
 }
 
-/// Cuts atoms at both ends of a prefix. It fails for want of memory alone, and then nothing is said of them.
-pub fn cut_ends(net: &mut Net, alloc: Global, prefix: Prefix) -> Result<(), OutOfMemory>
+/// Cuts atoms at both ends of a prefix, the second of which is looked for from the first on. It answers the place of the atom
+/// that begins where the prefix does. It fails for want of memory alone, and then nothing is said of them.
+pub fn cut_ends(net: &mut Net, alloc: Global, prefix: Prefix) -> Result<u64, OutOfMemory>
     requires { IsPaired net.old }
     ensures routers { OnOk result (net.new.routers ≡ net.old.routers) }
     ensures paired { OnOk result (IsPaired net.new) }
@@ -31,10 +32,10 @@ pub fn cut_ends(net: &mut Net, alloc: Global, prefix: Prefix) -> Result<(), OutO
     ensures sound { IsCidr prefix }
 {
     let past = past_of(prefix);
-    net.cut(alloc, prefix.base())?;
+    let first = net.cut(alloc, prefix.base(), None)?;
     if past == END {
-        return Ok(());
+        return Ok(first);
     }
-    net.cut(alloc, past as u32)?;
-    Ok(())
+    net.cut(alloc, past as u32, Some(first))?;
+    Ok(first)
 }

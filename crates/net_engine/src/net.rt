@@ -2,6 +2,7 @@
 
 ghost use Rattle.std.specs.Prelude.{◌≡◌, ◌+◌, ◌<◌, ◌≤◌, ◌^◌, ◌∷◌, [], true, IfOk, IfSome, OnOk, length, slice_index_or, replicate};
 ghost use Rattle.std.specs.Option.{is_some};
+ghost use Rattle.atom_map.specs.Index.{IsAtomAt};
 ghost use Rattle.dn_model.specs.Cidr.{IsCidr};
 ghost use Rattle.dn_model.specs.Forwarding.{target_of};
 ghost use Rattle.dn_model.specs.Version.{Atom, begins_at, first_of, past_of};
@@ -13,9 +14,9 @@ ghost use Rattle.net_engine.specs.Segments.{BeginsAt, has_rule_at};
 ghost use Rattle.net_engine.specs.Walked.{IsWalked};
 
 use crate::router_owners::RouterOwners;
-use crate::span::Span;
+use crate::span::{Known, Span};
 use crate::walk::{Reach, cut_both, walk_segments};
-use atom_map::AtomMap;
+use atom_map::{AtomMap, AtomSpot};
 use delta_graph::Delta;
 use dn_model::{Op, OutOfMemory, Prefix, RouterId, Target};
 use edge_labels::TargetRows;
@@ -54,20 +55,23 @@ impl Net {
     }
 
     /// Cuts the atom that has an address in two there, if it doesn't begin there: both parts have what the whole has.
-    /// No router's rules are copied. It fails for want of memory alone, and then nothing is said of it.
-    pub fn cut(&mut self, alloc: Global, at: u32) -> Result<(), OutOfMemory>
+    /// No router's rules are copied. It looks for the atom first at a place that may be at hand, from there on, and answers
+    /// the place of the atom that begins at the address then. It fails for want of memory alone, and then nothing is said of
+    /// it.
+    pub fn cut(&mut self, alloc: Global, at: u32, near: Option<u64>) -> Result<u64, OutOfMemory>
         requires { IsPaired self.old }
         ensures routers { OnOk result (self.new.routers ≡ self.old.routers) }
         ensures atoms { OnOk result ((net_in self.new).atoms ≡ cut_atoms (net_in self.old).atoms at) }
         ensures paired { OnOk result (IsPaired self.new) }
         ensures owners { OnOk result (self.new.owners.items ≡ self.old.owners.items) }
     {
-        let place = self.atoms.place_of(at);
-        let Some(_parts) = self.atoms.cut_at(alloc, place, at)? else {
-            return Ok(());
+        let spot = spot_near(&self.atoms, near, at);
+        let next = spot.place + 1;
+        let Some(_parts) = self.atoms.cut_at(alloc, spot, at)? else {
+            return Ok(spot.place);
         };
-        self.labels.part(alloc, place)?;
-        Ok(())
+        self.labels.part(alloc, spot.place)?;
+        Ok(next)
     }
 
     /// The place of a router's segment that begins where a prefix does, if one of its rules has the prefix's length:
@@ -89,15 +93,15 @@ impl Net {
     }
 
     /// Makes an update of a router at the addresses of a span, at whose ends atoms begin, and tells where the router
-    /// does something else than before. The place of its segment that begins at the first of them may be known. It fails
-    /// for want of memory alone, and then nothing is said of it.
+    /// does something else than before. It may be known where the first of them stands. It fails for want of memory alone,
+    /// and then nothing is said of it.
     pub fn update<L: Ledger>(
         &mut self,
         alloc: Global,
         r: RouterId,
         op: &Op,
         span: Span,
-        known: Option<u64>,
+        known: Known,
         steps: &mut Steps<L>,
     ) -> Result<Delta, OutOfMemory>
         requires paired { IsPaired self.old }
@@ -106,21 +110,22 @@ impl Net {
         requires end { span.past ≤ 2 ^ 32 }
         requires first { begins_at (net_in self.old).atoms span.lo ≡ true }
         requires last { span.past < 2 ^ 32 → begins_at (net_in self.old).atoms span.past ≡ true }
-        requires known { IfSome known (λ place. BeginsAt (segments_in self.old r) place span.lo) }
+        requires known { IfSome known.segment (λ place. BeginsAt (segments_in self.old r) place span.lo) }
         ensures routers { OnOk result (self.new.routers ≡ self.old.routers) }
         ensures paired { OnOk result (IsPaired self.new) }
         ensures walked { IfOk result (λ delta.
             IsWalked (net_in self.old).atoms (net_in self.new).atoms [] delta r op.now span.lo span.past) }
         ensures own { OnOk result (AreUpdatedAt self.old.owners.items self.new.owners.items r.0 span.lo) }
         ensures cost { steps.new ≤
-            steps.old + 1 + first_looks known + atoms_between (net_in self.old).atoms span.lo span.past }
+            steps.old + 1 + first_looks known.segment + atoms_between (net_in self.old).atoms span.lo span.past }
     {
         let own = &mut self.owners[usize::from(r.0)];
-        let place = cut_both(alloc, own, span, known, steps)?;
+        let place = cut_both(alloc, own, span, known.segment, steps)?;
         let reach = Reach {
             router: r,
             place,
             span,
+            near: known.atom,
         };
         let delta = walk_segments(alloc, &self.atoms, &mut self.labels, own, op, reach, steps)?;
         Ok(delta)
@@ -184,6 +189,16 @@ impl Net {
         ensures { (d : Atom) → result ≡ target_of (slice_index_or (net_in self.now).atoms i d).row r }
     {
         self.labels.target(r, i)
+    }
+}
+
+/// The atom of an address, and its place. It looks first at a place that may be at hand, from there on.
+fn spot_near(atoms: &AtomMap, near: Option<u64>, at: u32) -> AtomSpot
+    ensures { IsAtomAt atoms.now result.place at result.row }
+{
+    match near {
+        Some(place) => atoms.spot_from(place, at),
+        None => atoms.spot_of(at),
     }
 }
 

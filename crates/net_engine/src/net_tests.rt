@@ -14,8 +14,8 @@ fn three_atoms(alloc: Global) -> Result<Net, OutOfMemory>
     ensures paired { IfOk result IsPaired }
 {
     let mut net = Net::new(alloc, 2)?;
-    net.cut(alloc, 0x0A00_0000)?;
-    net.cut(alloc, 0x0B00_0000)?;
+    net.cut(alloc, 0x0A00_0000, None)?;
+    net.cut(alloc, 0x0B00_0000, None)?;
     Ok(net)
 }
 
@@ -32,7 +32,8 @@ fn a_new_network_has_one_atom_of_all_addresses(rt: HostRuntime) -> Result<(), Fa
 #[test]
 fn a_cut_is_made_once(rt: HostRuntime) -> Result<(), Fail> {
     let mut net = three_atoms(rt.alloc())?;
-    net.cut(rt.alloc(), 0x0A00_0000)?;
+    let place = net.cut(rt.alloc(), 0x0A00_0000, Some(2))?;
+    assert_eq!(rt; place, 1);
     let copy = net.copy(rt.alloc())?;
     assert_eq!(rt; copy.count(), 3);
     assert_eq!(rt; copy.place_of(0x0AFF_FFFF), 1);

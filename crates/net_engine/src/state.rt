@@ -13,7 +13,7 @@ ghost use Rattle.net_engine.specs.Walked.{BeginsAtEnds, IsClear, IsCutAt, IsSet,
 
 use crate::ends::{cut_ends, past_of};
 use crate::net::Net;
-use crate::span::Span;
+use crate::span::{Known, Span};
 use delta_graph::Delta;
 use dn_model::{Entry, Op, OutOfMemory, Prefix, RouterId, Topology};
 use std::alloc::Global;
@@ -42,36 +42,36 @@ impl State {
         Ok(State { topology: t, net })
     }
 
-    /// Makes atoms begin at the ends of a prefix too.
-    fn cut(&mut self, alloc: Global, prefix: Prefix) -> Result<(), OutOfMemory>
+    /// Makes atoms begin at the ends of a prefix too, and answers the place of the one that begins where the prefix does.
+    fn cut(&mut self, alloc: Global, prefix: Prefix) -> Result<u64, OutOfMemory>
         requires { IsSound self.old }
         ensures made { OnOk result (IsCutAt (kept_in self.old) (kept_in self.new) prefix) }
         ensures sound { OnOk result (IsSound self.new) }
     {
-        cut_ends(&mut self.net, alloc, prefix)?;
-        Ok(())
+        let first = cut_ends(&mut self.net, alloc, prefix)?;
+        Ok(first)
     }
 
-    /// Makes an update of one of the routers, at whose prefix's ends atoms begin. The place of the router's segment
-    /// that begins where the prefix does may be known.
+    /// Makes an update of one of the routers, at whose prefix's ends atoms begin. It may be known where the prefix's first
+    /// address stands.
     fn update<L: Ledger>(
         &mut self,
         alloc: Global,
         r: RouterId,
         op: &Op,
-        known: Option<u64>,
+        known: Known,
         steps: &mut Steps<L>,
     ) -> Result<Delta, OutOfMemory>
         requires sound { IsSound self.old }
         requires router { r.0 < length (kept_in self.old).topology.routers }
         requires op { IsOpOf (kept_in self.old).topology op.now }
         requires ends { BeginsAtEnds (kept_in self.old).atoms (prefix_of_op op.now) }
-        requires known { IfSome known (λ place.
+        requires known { IfSome known.segment (λ place.
             BeginsAt (segments_in self.old.net r) place (prefix_of_op op.now).base) }
         ensures made { IfOk result (λ delta. IsRemade (kept_in self.old) (kept_in self.new) r op.now delta) }
         ensures sound { OnOk result (IsSound self.new) }
         ensures cost { steps.new ≤
-            steps.old + 1 + first_looks known + atoms_met (kept_in self.old).atoms (prefix_of_op op.now) }
+            steps.old + 1 + first_looks known.segment + atoms_met (kept_in self.old).atoms (prefix_of_op op.now) }
     {
         let prefix = op.prefix();
         let span = Span {
@@ -101,7 +101,11 @@ impl State {
         let Some(place) = self.net.place_with(r, op.prefix(), steps) else {
             return Ok(Delta::new(alloc));
         };
-        self.update(alloc, r, op, Some(place), steps)
+        let known = Known {
+            segment: Some(place),
+            atom: None,
+        };
+        self.update(alloc, r, op, known, steps)
     }
 
     /// Makes a setting, which cuts atoms at the ends of the prefix.
@@ -120,8 +124,12 @@ impl State {
         ensures sound { OnOk result (IsSound self.new) }
         ensures cost { steps.new ≤ steps.old + 2 + atoms_met (kept_in self.old).atoms (prefix_of_op op.now) }
     {
-        self.cut(alloc, op.prefix())?;
-        self.update(alloc, r, op, None, steps)
+        let first = self.cut(alloc, op.prefix())?;
+        let known = Known {
+            segment: None,
+            atom: Some(first),
+        };
+        self.update(alloc, r, op, known, steps)
     }
 
     /// Makes an update of one of the routers.

@@ -244,6 +244,36 @@ fn of_two_metrics_the_lesser_wins(rt: HostRuntime) -> Result<(), Fail> {
     Ok(())
 }
 
+/// The routes of the first router after some updates, by the plain evaluator.
+fn routes_after(alloc: Global, updates: &[Update]) -> Result<List<Route>, OutOfMemory> {
+    let mut entries = Vec::new(alloc);
+    for update in updates {
+        entries.push(entry(*update))?;
+    }
+    plain_routes(alloc, entries.as_slice(), FIRST)
+}
+
+/// A copy has no guide of its own. It stands as it is while the version goes on, which searches from where it was.
+#[test]
+fn a_copy_that_is_held_keeps_its_answers(rt: HostRuntime) -> Result<(), Fail> {
+    let alloc = rt.alloc();
+    let inside = set(Prefix::new(0x0A01_0000, 16), 9, 4);
+    let around = set(Prefix::new(0, 0), 0, 1);
+    let version = first_version(alloc)?;
+    let (version, _) = advanced::<Brand>(alloc, version, set(ten(), 20, 2), Blank::new(1))?;
+    let (version, _) = advanced::<Brand>(alloc, version, inside, Blank::new(1))?;
+    let held = version.copy(alloc)?;
+    let (version, _) = advanced::<Brand>(alloc, version, around, Blank::new(1))?;
+    let (version, _) = advanced::<Brand>(alloc, version, clear(ten(), None), Blank::new(1))?;
+    let before = [set(ten(), 20, 2), inside];
+    let after = [set(ten(), 20, 2), inside, around, clear(ten(), None)];
+    compare(&rt, &held, routes_after(alloc, &before)?.as_slice());
+    compare(&rt, &version, routes_after(alloc, &after)?.as_slice());
+    let (held, _) = advanced::<Brand>(alloc, held, clear(ten(), None), Blank::new(1))?;
+    compare(&rt, &held, routes_after(alloc, &[inside])?.as_slice());
+    Ok(())
+}
+
 #[test]
 fn as_the_plain_evaluator(rt: HostRuntime) -> Result<(), Fail> {
     let alloc = rt.alloc();

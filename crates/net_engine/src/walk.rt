@@ -23,12 +23,14 @@ use step_count::Steps;
 /// The address after the last.
 const END: u64 = 0x1_0000_0000;
 
-/// A span of a router's addresses, and the place of the router's segment that begins at the first of them.
+/// A span of a router's addresses, and the place of the router's segment that begins at the first of them. There may be a
+/// place from which on to look for the atom that begins there.
 #[derive(Clone, Copy, Debug, PartialEq, Eq)]
 pub struct Reach {
     pub router: RouterId,
     pub place: u64,
     pub span: Span,
+    pub near: Option<u64>,
 }
 
 /// Cuts a router's segments at both ends of a span, and answers the place of the segment that begins at its first
@@ -56,11 +58,13 @@ pub fn cut_both<L: Ledger>(
     Ok(place)
 }
 
-/// Where a walk over segments stands: at this place and address.
+/// Where a walk over segments stands: at this place and address. There may be a place from which on to look for the atom
+/// that begins there.
 #[derive(Clone, Copy, Debug, PartialEq, Eq)]
 struct Walk {
     place: u64,
     at: u64,
+    near: Option<u64>,
 }
 
 /// Tells what a router does with the addresses of a span, if that is something else than before.
@@ -117,11 +121,12 @@ fn step<L: Ledger>(
         past,
     };
     let targets = owners.change(alloc, walk.place, op, steps)?;
-    relabel(alloc, atoms, labels, r, span, targets)?;
+    let near = relabel(alloc, atoms, labels, r, span, targets, walk.near)?;
     tell(delta, r, span, targets)?;
     Ok(Walk {
         place: walk.place + 1,
         at: past,
+        near,
     })
 }
 
@@ -152,6 +157,7 @@ pub fn walk_segments<L: Ledger>(
     let mut walk = Walk {
         place: reach.place,
         at: u64::from(reach.span.lo),
+        near: reach.near,
     };
     'segments: while walk.at < reach.span.past {
         walk = step(

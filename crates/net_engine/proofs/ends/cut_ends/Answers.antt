@@ -10,12 +10,12 @@ pub returns-then-past-eq-END-clause-parted : goal.returns-then-past-eq-END-claus
 returns-then-past-eq-END-clause-parted c =
     parted-once (net_in c.args.net.now).atoms (net_in c.cut.new.self).atoms c.args.prefix (net-form c.args.net.now c.requires).cover c.past_of-past.ensures.sound
     (sym c.past_of-past.ensures.value ∙ c.if-past-eq-END.true)
-    (c.in_ok-cut.ensures.atoms ∙ ap (cut_atoms (net_in c.args.net.now).atoms) c.base.ensures.value)
+    (c.in_ok-first.ensures.atoms ∙ ap (cut_atoms (net_in c.args.net.now).atoms) c.base.ensures.value)
 
 pub returns-clause-parted : goal.returns-clause-parted
 returns-clause-parted c =
     let value : c.past_of-past.result ≡ c.args.prefix.base + size c.args.prefix = c.past_of-past.ensures.value in
     let below : c.args.prefix.base + size c.args.prefix < 2 ^ 32 = omega (arith, c.past_of-past.ensures.end, c.if-past-eq-END.false) in
-    parted-twice (net_in c.args.net.now).atoms (net_in c.cut.new.self).atoms (net_in c.cut-2.new.self).atoms c.args.prefix (net-form c.args.net.now c.requires).cover (net-form c.cut.new.self c.in_ok-cut.ensures.paired).cover c.past_of-past.ensures.sound below
-    (c.in_ok-cut.ensures.atoms ∙ ap (cut_atoms (net_in c.args.net.now).atoms) c.base.ensures.value)
-    (c.in_ok-cut-2.ensures.atoms ∙ ap (cut_atoms (net_in c.cut.new.self).atoms) value)
+    parted-twice (net_in c.args.net.now).atoms (net_in c.cut.new.self).atoms (net_in c.cut-2.new.self).atoms c.args.prefix (net-form c.args.net.now c.requires).cover (net-form c.cut.new.self c.in_ok-first.ensures.paired).cover c.past_of-past.ensures.sound below
+    (c.in_ok-first.ensures.atoms ∙ ap (cut_atoms (net_in c.args.net.now).atoms) c.base.ensures.value)
+    (c.in_ok-cut.ensures.atoms ∙ ap (cut_atoms (net_in c.cut.new.self).atoms) value)

@@ -41,4 +41,4 @@ pub returns-clause-begins : goal.returns-clause-begins
 returns-clause-begins g c = step-begins c.args.atoms.now c.args.labels.now c.args.owners.now c.change.new.self c.args.r c.args.op.now c.args.walk.place c.args.walk.at c.past-past.result c.in_ok-targets.targets c.requires.labelled c.requires.along c.requires.begins c.past-past.ensures c.in_ok-targets.ensures.made
 
 pub returns-clause-made : goal.returns-clause-made
-returns-clause-made g c = step-made c.args.atoms.now c.args.labels.now c.args.owners.now c.change.new.self c.args.r c.args.op.now c.args.walk.place c.args.walk.at c.past-past.result c.in_ok-targets.targets c.requires.labelled c.requires.along c.requires.begins c.past-past.ensures c.in_ok-targets.ensures.made c.relabel.new.labels c.args.delta.now c.tell.new.delta c.in_ok-relabel.ensures c.in_ok-tell.ensures
+returns-clause-made g c = step-made c.args.atoms.now c.args.labels.now c.args.owners.now c.change.new.self c.args.r c.args.op.now c.args.walk.place c.args.walk.at c.past-past.result c.in_ok-targets.targets c.requires.labelled c.requires.along c.requires.begins c.past-past.ensures c.in_ok-targets.ensures.made c.relabel.new.labels c.args.delta.now c.tell.new.delta c.in_ok-near.ensures c.in_ok-tell.ensures

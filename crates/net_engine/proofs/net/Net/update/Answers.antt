@@ -8,7 +8,7 @@ use Rattle.net_engine.proofs.net.Net.update.Goals as goal
 pub cut_both-requires-clause-known : goal.cut_both-requires-clause-known
 cut_both-requires-clause-known g c =
     let inside : c.args.r.0 < c.args.self.now.routers = router-now (net_in c.args.self.now) c.args.self.now.routers c.args.self.now.atoms c.args.self.now.labels c.args.self.now.owners.items c.args.r.0 refl c.requires.router in
-    subst (λ (ss : List Segment). IfSome c.args.known (λ place. BeginsAt ss place c.args.span.lo))
+    subst (λ (ss : List Segment). IfSome c.args.known.segment (λ place. BeginsAt ss place c.args.span.lo))
     (sym (own-found c.args.self.now.owners.items c.from.result c.args.r.0 c.index_mut-own.result.now c.from.ensures (subst (λ n. c.args.r.0 < n) (sym c.requires.paired.each) inside) c.index_mut-own.ensures.value))
     c.requires.known
 

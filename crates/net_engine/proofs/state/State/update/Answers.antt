@@ -11,7 +11,7 @@ use Rattle.net_engine.proofs.state.State.update.Goals as goal
 
 pub update-requires-clause-known : goal.update-requires-clause-known
 update-requires-clause-known g c =
-    subst (λ n. IfSome c.args.known (λ place. BeginsAt (segments_in c.args.self.now.net c.args.r) place n))
+    subst (λ n. IfSome c.args.known.segment (λ place. BeginsAt (segments_in c.args.self.now.net c.args.r) place n))
     (sym (base-now c.prefix-prefix.result c.args.op.now c.base.result c.prefix-prefix.ensures c.base.ensures.value)) c.requires.known
 
 pub returns-clause-made : goal.returns-clause-made
@@ -31,7 +31,7 @@ returns-clause-sound g c =
     }
 
 pub returns-clause-cost : goal.returns-clause-cost
-returns-clause-cost g c = looks-made (kept_in c.args.self.now) (arc_value c.args.self.now.topology) (net_in c.args.self.now.net).atoms _ c.args.op.now c.prefix-prefix.result _ _ c.args.steps.now (first_looks c.args.known) c.update.new.steps refl c.prefix-prefix.ensures c.base.ensures.value c.past_of.ensures.value c.update.ensures.cost
+returns-clause-cost g c = looks-made (kept_in c.args.self.now) (arc_value c.args.self.now.topology) (net_in c.args.self.now.net).atoms _ c.args.op.now c.prefix-prefix.result _ _ c.args.steps.now (first_looks c.args.known.segment) c.update.new.steps refl c.prefix-prefix.ensures c.base.ensures.value c.past_of.ensures.value c.update.ensures.cost
 
 pub returns-in_err-delta-clause-cost : goal.returns-in_err-delta-clause-cost
-returns-in_err-delta-clause-cost g c = looks-made (kept_in c.args.self.now) (arc_value c.args.self.now.topology) (net_in c.args.self.now.net).atoms _ c.args.op.now c.prefix-prefix.result _ _ c.args.steps.now (first_looks c.args.known) c.update.new.steps refl c.prefix-prefix.ensures c.base.ensures.value c.past_of.ensures.value c.update.ensures.cost
+returns-in_err-delta-clause-cost g c = looks-made (kept_in c.args.self.now) (arc_value c.args.self.now.topology) (net_in c.args.self.now.net).atoms _ c.args.op.now c.prefix-prefix.result _ _ c.args.steps.now (first_looks c.args.known.segment) c.update.new.steps refl c.prefix-prefix.ensures c.base.ensures.value c.past_of.ensures.value c.update.ensures.cost

@@ -1,0 +1,17 @@
+use Rattle.std.proofs.Common.{◌+◌, ◌<◌, ◌≤◌, ◌^◌, length, arith}
+use Rattle.dn_model.specs.Atoms.{atom_low, atom_past}
+use Rattle.dn_model.proofs.Covers.{few-rows}
+use Rattle.net_engine.proofs.Relabelling.{atom-begins, atoms-end}
+use Rattle.net_engine.proofs.relabel.places.Goals as goal
+
+pub overflow_add-result : goal.overflow_add-result
+overflow_add-result c =
+    let inside : c.places_from-first.result.1 < length c.args.atoms.now = c.places_from-first.ensures.last.inside in
+    let few : 0 + length c.args.atoms.now ≤ 2 ^ 32 = few-rows atom_low atom_past 0 c.args.atoms.now c.requires.form.cover in
+    omega arith
+
+pub returns-clause-first : goal.returns-clause-first
+returns-clause-first c = atom-begins c.args.atoms.now c.places_from-first.result.0 c.args.span.lo c.requires.form c.places_from-first.ensures.first.inside c.places_from-first.ensures.first.from c.places_from-first.ensures.first.to c.requires.first
+
+pub returns-clause-past : goal.returns-clause-past
+returns-clause-past c = atoms-end c.args.atoms.now c.places_from-first.result.1 _ c.args.span.past c.requires.form c.places_from-first.ensures.last.inside c.places_from-first.ensures.last.from c.places_from-first.ensures.last.to (omega arith) c.requires.end c.requires.last

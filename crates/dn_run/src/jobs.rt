@@ -18,12 +18,13 @@ use crate::deal::{Undealt, deal};
 use crate::untaken::MOST_JOBS;
 use dn_formats::{FeedTold, JobTold, Script};
 use dn_io::{Gate, Source};
-use dn_model::{List, OutOfMemory, Posted, Topology};
+use dn_model::{OutOfMemory, Posted, Topology};
 use feed_threads::{JobDone, JobList, run_history};
 use route_feed::FeedReader;
 use std::alloc::Global;
 use std::sync::{Arc, Wait};
 use std::thread::Threads;
+use version_pages::Pages;
 use version_store::Store;
 
 /// A history has at most so many entries: a position in it has 32 bits.
@@ -32,7 +33,7 @@ const HISTORY_LIMIT: u32 = 4294967295;
 /// What the jobs of a run came to: the history that they made, what is told of each feed, and what is told of each job.
 #[derive(Drop)]
 pub struct JobsDone {
-    pub history: List<Posted>,
+    pub history: Pages<Posted>,
     pub feeds: Vec<FeedTold>,
     pub jobs: Vec<JobTold>,
 }
@@ -175,7 +176,7 @@ fn run_list<S: Source, G: Gate, R: Threads + Wait + Sync>(
     rooms: (Vec<(S, FeedTold)>, Vec<JobTold>),
     gate: &G,
 ) -> (
-    Result<(List<Posted>, Vec<JobTold>), OutOfMemory>,
+    Result<(Pages<Posted>, Vec<JobTold>), OutOfMemory>,
     Vec<(S, FeedTold)>,
 )
     requires few { length list ≤ 64 }
@@ -205,7 +206,7 @@ fn run_list<S: Source, G: Gate, R: Threads + Wait + Sync>(
     if wanted_memory {
         return (Err(OutOfMemory), backs);
     }
-    match store.history(alloc) {
+    match store.posted() {
         Ok(history) => (Ok((history, jobs)), backs),
         Err(e) => (Err(e), backs),
     }
@@ -221,7 +222,7 @@ fn run_dealt<S: Source, G: Gate, R: Threads + Wait + Sync>(
     rooms: (Vec<(S, FeedTold)>, Vec<JobTold>),
     gate: &G,
 ) -> (
-    Result<(List<Posted>, Vec<JobTold>), OutOfMemory>,
+    Result<(Pages<Posted>, Vec<JobTold>), OutOfMemory>,
     Vec<(S, FeedTold)>,
 )
     requires fresh { All (IsFresh (arc_value topology.now) S.faults) readers.items }

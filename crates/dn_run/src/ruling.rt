@@ -8,9 +8,10 @@ ghost use Rattle.dn_run.specs.Run.{IsLine, verdict_of, ended_well, is_faulted, s
 
 use crate::status::Verdict;
 use dn_formats::{ErrorLine, FeedEnd, FeedTold, JobTold};
-use dn_model::{List, OutOfMemory, Posted, Topology};
+use dn_model::{OutOfMemory, Posted, Topology};
 use run_report::{error_line, report_text};
 use std::alloc::Global;
+use version_pages::Pages;
 
 /// What a run comes to, and the text that is printed.
 #[derive(Drop)]
@@ -97,7 +98,7 @@ pub fn reported(
     alloc: Global,
     topology: &Topology,
     feeds: &[FeedTold],
-    history: &List<Posted>,
+    history: &Pages<Posted>,
     jobs: &[JobTold],
 ) -> Result<Ruling, OutOfMemory>
     ensures verdict { IfOk result (λ ruling. ruling.verdict ≡ verdict_of feeds.now) }

@@ -3,14 +3,15 @@
 //! A writer `push_..` adds its text at the end of `out`. After `OutOfMemory`, for which alone it fails, a part of the
 //! text may have been added.
 
-ghost use Rattle.std.specs.Prelude.{◌≡◌, ◌++◌, ◌∷◌, [], ◌≤◌, OnOk, codes, decimal, map};
+ghost use Rattle.std.specs.Prelude.{◌≡◌, ◌+◌, ◌<◌, ◌^◌, ◌++◌, ◌∷◌, [], ◌≤◌, OnOk, codes, decimal, length, map};
 ghost use Rattle.dn_model.specs.Entry.{entries};
 ghost use Rattle.dn_formats.specs.Report.{op_text, entry_line, entry_lines, history_lines};
 ghost use Rattle.dn_formats.specs.Texts.{line};
 ghost use Rattle.dn_model.specs.declared.entry.Op.TheVariants.{Set, Clear};
 
 use dn_formats::{push_bytes, push_decimal, push_labelled, push_prefix, push_router, push_target};
-use dn_model::{Entry, List, Op, OutOfMemory, Posted, Prefix, Target, Topology};
+use dn_model::{Entry, Op, OutOfMemory, Posted, Prefix, Target, Topology};
+use version_pages::Pages;
 
 /// Adds a route that is set.
 fn push_set(
@@ -79,14 +80,37 @@ fn push_entry_line(
     Ok(())
 }
 
-/// Adds the lines of all entries.
-fn push_entry_lines(out: &mut Vec<u8>, t: &Topology, history: &[Posted]) -> Result<(), OutOfMemory>
-    ensures { OnOk result (out.new.items ≡ out.old.items ++ entry_lines t.now 1 (entries history.now)) }
+/// Adds the lines of entries that follow so many others.
+fn push_entry_lines(
+    out: &mut Vec<u8>,
+    t: &Topology,
+    before: u64,
+    history: &[Posted],
+) -> Result<(), OutOfMemory>
+    requires fits { before + length history.now < 2 ^ 64 }
+    ensures { OnOk result (out.new.items ≡ out.old.items ++ entry_lines t.now (before + 1) (entries history.now)) }
 {
-    let mut position = 0;
+    let mut position = before;
     for posted in history {
         position += 1;
         push_entry_line(out, t, position, &posted.entry)?;
+    }
+    Ok(())
+}
+
+/// Adds the lines of all entries, page by page.
+fn push_all_lines(
+    out: &mut Vec<u8>,
+    t: &Topology,
+    history: &Pages<Posted>,
+) -> Result<(), OutOfMemory>
+    ensures { OnOk result (out.new.items ≡ out.old.items ++ entry_lines t.now 1 (entries history.now)) }
+{
+    let mut done = 0;
+    'pages: while done < history.len() {
+        let run = history.run_from(done);
+        push_entry_lines(out, t, done, run)?;
+        done += run.len() as u64;
     }
     Ok(())
 }
@@ -95,11 +119,11 @@ fn push_entry_lines(out: &mut Vec<u8>, t: &Topology, history: &[Posted]) -> Resu
 pub fn push_history(
     out: &mut Vec<u8>,
     t: &Topology,
-    history: &List<Posted>,
+    history: &Pages<Posted>,
 ) -> Result<(), OutOfMemory>
     ensures { OnOk result (out.new.items ≡ out.old.items ++ history_lines t.now (entries history.now)) }
 {
-    push_labelled(out, b"history ", history.len() as u64)?;
+    push_labelled(out, b"history ", history.len())?;
     push_bytes(out, b"\n")?;
-    push_entry_lines(out, t, history.as_slice())
+    push_all_lines(out, t, history)
 }

@@ -9,8 +9,9 @@ use crate::feeds::push_feeds;
 use crate::history::push_history;
 use crate::jobs::push_jobs;
 use dn_formats::{FeedTold, JobTold, push_bytes};
-use dn_model::{List, OutOfMemory, Posted, Topology};
+use dn_model::{OutOfMemory, Posted, Topology};
 use std::alloc::Global;
+use version_pages::Pages;
 
 /// The whole report: the feeds in order, the history, and the jobs in order. A router or link that the topology hasn't
 /// has an empty name.
@@ -22,7 +23,7 @@ pub fn report_text(
     alloc: Global,
     topology: &Topology,
     feeds: &[FeedTold],
-    history: &List<Posted>,
+    history: &Pages<Posted>,
     jobs: &[JobTold],
 ) -> Result<Vec<u8>, OutOfMemory>
     ensures { IfOk result (λ text. text.items ≡ report topology.now feeds.now (entries history.now) jobs.now) }

@@ -12,6 +12,7 @@ use dn_model::{
     Prefix, Query, RouterId, Run, Target, TopoEnd, TopoLink, Topology, Unknown,
 };
 use std::alloc::Global;
+use version_pages::Pages;
 
 const FIRST: RouterId = RouterId(0);
 
@@ -116,17 +117,18 @@ fn set_ten(target: Target) -> Op {
 }
 
 /// A history of updates of r1's feed.
-fn history(alloc: Global, ops: &[Op]) -> Result<List<Posted>, OutOfMemory> {
-    let mut history = List::new(alloc);
+fn history(alloc: Global, ops: &[Op]) -> Result<Pages<Posted>, OutOfMemory> {
+    let mut history = Pages::new();
     for op in ops {
-        history.push(Posted {
+        let posted = Posted {
             seat: 0,
             entry: Entry {
                 router: FIRST,
                 feed_no: 1,
                 op: *op,
             },
-        })?;
+        };
+        history.push(alloc, posted)?;
     }
     Ok(history)
 }
@@ -197,7 +199,7 @@ fn feed(feed_no: u32, refused: List<RefusedFrame>, end: Option<FeedEnd>) -> Feed
 /// The report of a run without updates and queries.
 fn feeds_alone(alloc: Global, feeds: &[FeedTold]) -> Result<Vec<u8>, OutOfMemory> {
     let topology = triangle(alloc)?;
-    report_text(alloc, &topology, feeds, &List::new(alloc), &[])
+    report_text(alloc, &topology, feeds, &Pages::new(), &[])
 }
 
 #[test]
@@ -297,7 +299,7 @@ fn clear_ten(metric: Option<u32>) -> Op {
 }
 
 /// A history with each target and both kinds of Clear.
-fn all_ops(alloc: Global) -> Result<List<Posted>, OutOfMemory> {
+fn all_ops(alloc: Global) -> Result<Pages<Posted>, OutOfMemory> {
     history(
         alloc,
         &[

@@ -80,7 +80,18 @@ impl Store {
         self.history.len()
     }
 
-    /// The entries of the history, in order, each with the seat that posted it. It fails for want of memory alone.
+    /// The entries of the history, in order, each with the seat that posted it: a list that shares the store's pages, so
+    /// that none of them is copied. It fails for want of memory alone.
+    pub fn posted(&self) -> Result<Pages<Posted>, OutOfMemory>
+        ensures entries { IfOk result (λ history. history ≡ self.now.history) }
+        ensures few { length self.now.history ≤ self.now.basis.limit }
+        ensures own { AreOf self.now.basis.topology self.now.history }
+    {
+        let _ = &self.standing;
+        self.history.copy()
+    }
+
+    /// The same as a list of their own. It fails for want of memory alone.
     pub fn history(&self, alloc: Global) -> Result<List<Posted>, OutOfMemory>
         ensures entries { IfOk result (λ history. history ≡ self.now.history) }
         ensures few { length self.now.history ≤ self.now.basis.limit }

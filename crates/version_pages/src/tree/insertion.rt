@@ -25,8 +25,10 @@ fn insert_on<T: Copy>(page: &mut Vec<T>, at: usize, items: &[T]) -> Result<usize
     ensures same { OnErr result (page.new.items ≡ page.old.items) }
 {
     let count = items.len().min(FULL - page.len());
+    let end = page.len();
     page.extend_from_slice(&items[..count])?;
-    page[at..].rotate_right(count);
+    page.copy_within(at..end, at + count);
+    page[at..at + count].copy_from_slice(&items[..count]);
     Ok(count)
 }
 

@@ -1,5 +1,5 @@
 -- A router does something else with the atoms of a span, which stand side by side.
-use Rattle.std.proofs.Common.{◌≡◌, ℕ, ◌+◌, ◌<◌, ◌≤◌, ◌^◌, ◌∙◌, ◌⊎◌, ⊎_elim, inl, inr, zero, suc, true, false, List, [], ◌∷◌, length, get_or, drop, refl, ap, sym, subst, arith, eqb}
+use Rattle.std.proofs.Common.{◌≡◌, ℕ, ◌+◌, ◌<◌, ◌≤◌, ◌^◌, ◌∙◌, ◌⊎◌, ⊎_elim, inl, inr, zero, suc, true, false, List, [], ◌∷◌, length, get_or, drop, refl, ap, sym, subst, arith}
 use Rattle.std.proofs.lemmas.Bool.{both_ways, cases_Bool, cases_lt, eqb-true, ne_eqb}
 use Rattle.dn_model.specs.Atoms.{AreAtoms, atom_low, atom_past, is_boundary}
 use Rattle.dn_model.specs.Forwarding.{forwarding_at, row_low, row_past}

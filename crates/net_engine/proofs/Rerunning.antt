@@ -1,8 +1,8 @@
 -- An update over one router's segments, one after another.
-use Rattle.std.proofs.Common.{◌≡◌, ◌≢◌, ℕ, ◌+◌, ◌<◌, ◌≤◌, ◌^◌, ◌∙◌, ◌⊎◌, ◌&&◌, ◌||◌, ⊎_elim, Bool, true, false, Option, None, List, [], ◌∷◌, length, get_or, refl, ap, sym, subst, arith, eqb, inl, inr}
+use Rattle.std.proofs.Common.{◌≡◌, ◌≢◌, ℕ, ◌+◌, ◌<◌, ◌≤◌, ◌^◌, ◌∙◌, ◌⊎◌, ◌&&◌, ◌||◌, ⊎_elim, Bool, true, false, Option, None, List, [], ◌∷◌, length, get_or, set, refl, ap, sym, subst, arith, eqb, inl, inr}
 use Rattle.std.specs.List.Sorted.{IsPermutation}
 use Rattle.std.proofs.lemmas.Bool.{and_left, and_right, both_ways, cases_Bool, cases_eq, cases_lt, eq-eqb, eqb-true, ne_eqb, or_cases, or_left, or_right}
-use Rattle.std.proofs.lemmas.List.{get_or-set_other, length-set}
+use Rattle.std.proofs.lemmas.List.{get_or-set_other, get_or-set_same, length-set}
 use Rattle.dn_model.specs.Atoms.{is_boundary}
 use Rattle.dn_model.specs.Delta.{TellsChange, change_at}
 use Rattle.dn_model.specs.Rows.{is_within}
@@ -176,6 +176,24 @@ module _ (rows : List AtomRow) (x : Labels) (os ps : List Segment) (r : RouterId
       record {
         inside = omega arith;
         low = λ d. ap (λ (zs : List Segment). low_at zs (place + 1) d) u.list ∙ ap (λ (s : Segment). s.low) (get_or-set_other os place (place + 1) u.value d (λ e. omega arith)) ∙ n.low d;
+      }
+
+  -- where segments begin they still do
+  pub step-keeps : (k b : ℕ) → BeginsAt os k b → BeginsAt ps k b
+  step-keeps k b n =
+      let long : length ps ≡ length os = ap (λ (zs : List Segment). length zs) u.list ∙ length-set os place u.value in
+      let inside : k < length os = n.inside in
+      record {
+        inside = omega arith;
+        low = λ d. ap (λ (zs : List Segment). low_at zs k d) u.list ∙ ⊎_elim
+            (λ (e : k ≡ place).
+            ap (λ i. low_at (set os place u.value) i d) e
+            ∙ ap (λ (s : Segment). s.low) (get_or-set_same os place u.value d begin.inside)
+            ∙ (u.made d).low
+            ∙ sym (ap (λ i. low_at os i d) e)
+            ∙ n.low d)
+            (λ (e : k ≡ place → ⊥). ap (λ (s : Segment). s.low) (get_or-set_other os place k u.value d e) ∙ n.low d)
+            (cases_eq k place);
       }
 
   -- atoms begin at both ends

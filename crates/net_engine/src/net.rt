@@ -120,10 +120,10 @@ impl Net {
             steps.old + 1 + first_looks known.segment + atoms_between (net_in self.old).atoms span.lo span.past }
     {
         let own = &mut self.owners[usize::from(r.0)];
-        let place = cut_both(alloc, own, span, known.segment, steps)?;
+        let ends = cut_both(alloc, own, span, known.segment, steps)?;
         let reach = Reach {
             router: r,
-            place,
+            ends,
             span,
             near: known.atom,
         };

@@ -241,21 +241,23 @@ impl RouterOwners {
         Ok(spot.place)
     }
 
-    /// Cuts at an address too, which it looks for first behind the place of a segment that was cut before. It fails for want
-    /// of memory alone.
+    /// Cuts at an address too, which it looks for first behind the place of a segment that was cut before. It answers the
+    /// place of the segment that begins there then. It fails for want of memory alone.
     pub fn cut_behind<L: Ledger>(
         &mut self,
         alloc: Global,
         near: u64,
         at: u32,
         steps: &mut Steps<L>,
-    ) -> Result<(), OutOfMemory>
+    ) -> Result<u64, OutOfMemory>
         ensures cut { OnOk result (IsCutAt self.old self.new at) }
+        ensures begins { IfOk result (λ place. BeginsAt self.new place at) }
         ensures keeps { OnOk result (KeepsBelow self.old self.new at) }
         ensures cost { steps.new ≤ steps.old + 1 }
     {
         let spot = self.spot_from(near, at);
-        return self.part(alloc, spot, at, steps);
+        self.part(alloc, spot, at, steps)?;
+        Ok(spot.place)
     }
 
     /// Cuts there, where a search for the address ends, and tells the guide.

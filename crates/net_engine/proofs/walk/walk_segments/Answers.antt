@@ -14,7 +14,8 @@ segments-init g c =
     record {
       from = omega arith;
       to = omega arith;
-      begins = λ l. subst (λ n. BeginsAt c.args.owners.now c.args.reach.place n) (sym same) c.requires.first;
+      begins = λ l. subst (λ n. BeginsAt c.args.owners.now c.args.reach.ends.first n) (sym same) c.requires.first;
+      ends = c.requires.ends;
       cost = omega arith;
       made = subst (λ n. IsReruledOver c.args.atoms.now c.args.labels.now c.args.labels.now c.args.owners.now c.args.owners.now [] c.new-delta.result c.args.reach.router c.args.op.now c.args.reach.span.lo n) (sym same)
           (reruled-none c.args.atoms.now c.args.labels.now c.args.owners.now c.new-delta.result c.args.reach.router c.args.op.now c.args.reach.span.lo c.requires.labelled c.requires.along c.new-delta.ensures);
@@ -32,6 +33,7 @@ segments-preserved g c =
       from = omega arith;
       to = to;
       begins = c.in_ok-walk.ensures.begins;
+      ends = c.in_ok-walk.ensures.ends;
       made = reruled-more c.args.atoms.now c.args.labels.now c.segments.labels c.step.new.labels c.args.owners.now c.segments.owners c.step.new.owners [] c.segments.delta c.step.new.delta c.args.reach.router c.args.op.now c.args.reach.span.lo c.segments.walk.at c.in_ok-walk.walk.at from (omega arith) (omega arith) c.segments.invariant.made c.in_ok-walk.ensures.made;
       cost = omega (arith, c.segments.invariant.cost, c.in_ok-walk.ensures.cost, begun-more c.args.atoms.now c.args.reach.span.lo c.segments.walk.at c.in_ok-walk.walk.at from moves here);
     }

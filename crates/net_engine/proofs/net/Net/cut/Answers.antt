@@ -1,4 +1,4 @@
-use Rattle.std.proofs.Common.{◌+◌, ◌<◌, ◌≤◌, ◌^◌, None, Some, length, refl, sym, ◌∙◌, arith}
+use Rattle.std.proofs.Common.{◌+◌, ◌<◌, ◌≤◌, ◌^◌, None, Some, length, refl, arith}
 use Rattle.dn_model.specs.Atoms.{atom_low, atom_past}
 use Rattle.dn_model.proofs.Covers.{few-rows}
 use Rattle.atom_map.proofs.Answered.{from-spot, to-spot}

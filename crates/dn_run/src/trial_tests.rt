@@ -18,6 +18,7 @@ use std::str;
 use std::sync::Wait;
 use std::thread::Threads;
 use topology::read_topology;
+use version_pages::Pages;
 
 /// What a trial's run writes.
 fn written<R: Abort + Threads + Wait + Sync>(rt: &R, alloc: Global, seed: u32) -> Vec<u8> {
@@ -174,15 +175,16 @@ impl Trial {
     }
 
     /// The history that the run chose.
-    fn history(&self, rt: &impl Abort, alloc: Global) -> Result<List<Posted>, OutOfMemory> {
+    fn history(&self, rt: &impl Abort, alloc: Global) -> Result<Pages<Posted>, OutOfMemory> {
         let order = self.chosen.order.as_slice();
         let past = entries(rt, alloc, &self.topology, self.seed, order)?;
-        let mut history = List::new(alloc);
+        let mut history = Pages::new();
         for entry in past.as_slice() {
-            history.push(Posted {
+            let posted = Posted {
                 seat: 0,
                 entry: *entry,
-            })?;
+            };
+            history.push(alloc, posted)?;
         }
         Ok(history)
     }

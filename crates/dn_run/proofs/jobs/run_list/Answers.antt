@@ -21,8 +21,8 @@ returns-then-wanted_memory-clause-tags g c =
     c.deref.ensures (rw c.in-Ok.ensures.basis refl) c.in-Ok-run_history.ensures.ran
     c.gather-backs.result.backs.items c.gather-backs.ensures.backs
 
-pub returns-in-Ok-history-clause-tags : goal.returns-in-Ok-history-clause-tags
-returns-in-Ok-history-clause-tags g c =
+pub returns-in-Ok-posted-clause-tags : goal.returns-in-Ok-posted-clause-tags
+returns-in-Ok-posted-clause-tags g c =
     came-tags (arc_value c.args.topology.now) g.S.Source.left g.S.Source.faults g.S.Source.place c.deref.result.now c.in-Ok.store.basis.limit c.in-Ok-run_history.ran.0.history c.args.list c.in-Ok-run_history.ran.1.items
     c.deref.ensures (rw c.in-Ok.ensures.basis refl) c.in-Ok-run_history.ensures.ran
     c.gather-backs.result.backs.items c.gather-backs.ensures.backs
@@ -33,9 +33,9 @@ returns-clause-tags g c =
     c.deref.ensures (rw c.in-Ok.ensures.basis refl) c.in-Ok-run_history.ensures.ran
     c.gather-backs.result.backs.items c.gather-backs.ensures.backs
 
-pub returns-in-Ok-history-clause-ran : goal.returns-in-Ok-history-clause-ran
-returns-in-Ok-history-clause-ran g c =
+pub returns-in-Ok-posted-clause-ran : goal.returns-in-Ok-posted-clause-ran
+returns-in-Ok-posted-clause-ran g c =
     came-ran (arc_value c.args.topology.now) g.S.Source.left g.S.Source.faults g.S.Source.place c.deref.result.now c.in-Ok.store.basis.limit c.in-Ok-run_history.ran.0.history c.args.list c.in-Ok-run_history.ran.1.items
     c.deref.ensures (rw c.in-Ok.ensures.basis refl) c.in-Ok-run_history.ensures.ran
-    c.gather-backs.result.wanted_memory c.gather-backs.result.backs.items c.gather-backs.result.jobs.items c.in-Ok-history.history
-    c.gather-backs.ensures.wanted c.if-wanted_memory.false c.gather-backs.ensures.backs c.gather-backs.ensures.jobs c.in-Ok-history.ensures.entries
+    c.gather-backs.result.wanted_memory c.gather-backs.result.backs.items c.gather-backs.result.jobs.items c.in-Ok-posted.history
+    c.gather-backs.ensures.wanted c.if-wanted_memory.false c.gather-backs.ensures.backs c.gather-backs.ensures.jobs c.in-Ok-posted.ensures.entries

@@ -2,24 +2,27 @@
 """Time of each query over N distinct prefixes in all, dealt out to routers in a ring, by the row.
 
 A row is an interval between two ends of prefixes. Each query is asked at the end of a run so often that it goes over some
-millions of rows, and its time is what the run takes more than one that asks nothing, by the query and the row: so what the
-updates take, which is never twice the same, weighs little. The answers are worked out here and compared.
+ten millions of rows, and its time is what the run takes more than one that asks nothing, by the query and the row: so what the
+updates take, which is never twice the same, weighs little. Runs over the different N come turn about, so that whatever else
+the machine does meets all of them. The answers are worked out here and compared.
 
-Usage: bench/queries.py [--product BIN] [--instructions] [RUNS] [N]..
+Usage: bench/queries.py [--product BIN] [--instructions] [--routers W] [RUNS] [N]..
        runs of each script (1), of which the cheapest counts, and the N (10000 100000), multiples of 64, at most 16777216
        BIN: the program, where it isn't to be built
+       --routers: over W routers alone, 8 or 64
        --instructions: counts instructions, by valgrind, in place of the time of the processor. Where their ratio is 1 and that of
        time isn't, a row isn't more work: more of it is missing in the processor's caches
 """
 
 import sys
 import tempfile
+from contextlib import ExitStack
 
 from prefixes import MAIN, frame, prefix
-from program import flag, gauge, prepare
+from program import flag, gauge, option, prepare
 from ring import words, write_feeds, write_network
 
-ROWS = 4_000_000  # over how many rows a query goes in a run whose time is measured
+ROWS = 40_000_000  # over how many rows a query goes in a run whose time is measured
 SLOW = {"without l0 loops": 10}  # a query that looks at every router in each row goes over so many times fewer
 WIDTHS = (8, 64)
 LAST = 2**32 - 1
@@ -96,33 +99,52 @@ def cost_of(folder, count, routers, query, answer, measured, times):
     return measured(folder, ["run", *words(folder, routers)], *expected(count, routers, query, answer, times))
 
 
-def measure(folder, count, routers, measured, unit, is_counted):
-    """What each query takes by the row."""
-    write_feeds(folder, count, lambda j: frame(j, MAIN), routers)
-    none = cost_of(folder, count, routers, "", "", measured, 0)
-    rows = rows_of(count)
-    costs = {}
-    for query, answer in answers(count, routers).items():
+def cheapest_of(runs, costs):
+    """Of several costs, each worked out so many times, and all of them in turn, the least of each."""
+    return [min(each) for each in zip(*([cost() for cost in costs] for _ in range(runs)))]
+
+
+def measure(folders, routers, runs, measured, is_counted):
+    """What each query takes by the row, for each count, whose feeds stand in a folder."""
+    def added(folder, count, query, answer, none):
         times = times_of(count, query, is_counted)
-        costs[query] = (cost_of(folder, count, routers, query, answer, measured, times) - none) / times / rows
-        print(f"{routers} routers, {count} prefixes, {rows} rows: {query}: {costs[query]:.4f} {unit} a row", flush=True)
-    return costs
+        return (cost_of(folder, count, routers, query, answer, measured, times) - none) / times / rows_of(count)
+
+    bare = [lambda f=folder, n=count: cost_of(f, n, routers, "", "", measured, 0) for count, folder in folders.items()]
+    nones = dict(zip(folders, cheapest_of(runs, bare)))
+    told = {count: answers(count, routers) for count in folders}
+    costs = {}
+    for query in next(iter(told.values())):
+        asked = [lambda f=folder, n=count, q=query: added(f, n, q, told[n][q], nones[n]) for count, folder in folders.items()]
+        costs[query] = dict(zip(folders, cheapest_of(runs, asked)))
+        yield query, costs[query]
+
+
+def measure_ring(routers, counts, runs, measured, unit, is_counted):
+    """Prints what each query takes over so many routers, and how much more a row costs where there are most."""
+    with ExitStack() as stack:
+        folders = {count: stack.enter_context(tempfile.TemporaryDirectory()) for count in counts}
+        for count, folder in folders.items():
+            write_feeds(folder, count, lambda j: frame(j, MAIN), routers)
+        for query, costs in measure(folders, routers, runs, measured, is_counted):
+            for count, cost in costs.items():
+                print(f"{routers} routers, {count} prefixes, {rows_of(count)} rows: {query}: {cost:.4f} {unit} a row")
+            if query not in ("loops", "path m0 0.0.0.1"):  # neither looks at all rows
+                ratio = costs[counts[-1]] / costs[counts[0]]
+                print(f"{routers} routers, {query}: a row at {counts[-1]} over one at {counts[0]}: {ratio:.2f}", flush=True)
 
 
 def main():
     is_counted, given = flag(prepare(sys.argv[1:]), "--instructions")
-    measured, unit = gauge(int(given[0]) if given else 1, is_counted)
+    width, given = option(given, "--routers")
+    measured, unit = gauge(1, is_counted)
+    runs = int(given[0]) if given else 1
     counts = [int(word) for word in given[1:]] or [10000, 100000]
     if any(n % max(WIDTHS) or not 0 < n <= 2**24 for n in counts):
         # 10,000 and 100,000 are rounded down to whole shares.
         counts = [n - n % max(WIDTHS) for n in counts]
-    for routers in WIDTHS:
-        with tempfile.TemporaryDirectory() as folder:
-            costs = [measure(folder, n, routers, measured, unit, is_counted) for n in counts]
-        for query in costs[0]:
-            if query in ("loops", "path m0 0.0.0.1"):
-                continue  # neither looks at all rows
-            print(f"{routers} routers, {query}: a row at {counts[-1]} over one at {counts[0]}: {costs[-1][query] / costs[0][query]:.2f}")
+    for routers in [int(width)] if width else WIDTHS:
+        measure_ring(routers, counts, runs, measured, unit, is_counted)
 
 
 if __name__ == "__main__":

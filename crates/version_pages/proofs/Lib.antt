@@ -5,6 +5,7 @@ pub mod Ending
 pub mod Ends
 pub mod FirstKeys
 pub mod Grows
+pub mod Hung
 pub mod Inserted
 pub mod Joined
 pub mod Parted

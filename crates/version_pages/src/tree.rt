@@ -10,6 +10,7 @@ mod change;
 mod end;
 mod graft;
 mod grow;
+mod hang;
 mod insertion;
 mod own;
 mod parts;

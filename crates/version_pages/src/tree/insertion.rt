@@ -5,6 +5,7 @@ ghost use Rattle.std.specs.Prelude.{◌≡◌, ◌+◌, ◌<◌, ◌≤◌, ◌^
 ghost use Rattle.version_pages.specs.Shape.{IsDeep};
 
 use super::grow::{lengthen, ready};
+use super::hang::{hang, hangs_at};
 use super::own::unshare;
 use super::{FULL, Kid, LONG, Node, Tree, key_after};
 use crate::keyed::Keyed;
@@ -51,7 +52,10 @@ impl<T: Keyed + Copy> Tree<T> {
     {
         match &mut self.node {
             Node::Page(page) => insert_on(page, i as usize, items),
-            Node::Fork { kids, ends, .. } => {
+            Node::Fork { kids, height, ends } => {
+                if let Some(k) = hangs_at(kids, ends, *height, i, items.len()) {
+                    return hang(alloc, kids, ends, k, i, items);
+                }
                 let (k, j) = ready(alloc, kids, ends, i)?;
                 let kid = &mut kids[k];
                 let count = kid.insert_some(alloc, j, items)?;

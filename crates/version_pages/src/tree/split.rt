@@ -173,8 +173,8 @@ fn put_upper<T: Keyed + Drop>(kids: &mut Vec<Kid<T>>, k: usize, upper: Kid<T>)
     };
 }
 
-/// Notes where a child ends that was parted, where there is memory for one more.
-fn put_end(ends: &mut Vec<u64>, k: usize, end: u64)
+/// Notes where a child ends, before the end of another, where there is memory for one more.
+pub fn put_end(ends: &mut Vec<u64>, k: usize, end: u64)
     requires child { k ≤ length ends.old.items }
     requires memory { vec_len ends.old < vec_capacity ends.old }
     ensures { ends.new.items ≡ insert ends.old.items k end }

@@ -10,8 +10,8 @@ use Rattle.version_pages.proofs.Inserted.{length-put, place-in, put-in}
 use Rattle.version_pages.proofs.Joined.{same-in}
 use Rattle.version_pages.proofs.tree.+insert.Goals as goal
 
-pub Tree::insert_some-invariant_of-self : goal.Tree::insert_some-invariant_of-self
-Tree::insert_some-invariant_of-self g t c =
+pub Tree::insert_some-invariant_of-self-in_err-k-in-Fork : goal.Tree::insert_some-invariant_of-self-in_err-k-in-Fork
+Tree::insert_some-invariant_of-self-in_err-k-in-Fork g t c =
     let kept : AreKids c.in-Fork.height c.in-Fork.kids.items = (subst IsKept c.in-Fork.is c.self.invariant).0 in
     let room : 0 < WIDE - length c.in-Fork.kids.items = subst (λ (s : Shape _). 0 < s.room) (sym (ap shape_of (sym c.in-Fork.is) ∙ c.self.view_is)) c.requires.room in
     (kids-ready _ _ _ kept room c.ready.ensures.least c.ready.ensures.most c.ready.ensures.under, c.ready.ensures.ends)

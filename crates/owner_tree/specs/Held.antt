@@ -1,10 +1,16 @@
 -- The rules of a set, however it holds them.
-use Rattle.std.specs.Prelude.{List, [], ◌∷◌}
+use Rattle.std.specs.Prelude.{List, [], ◌∷◌, Option, None, Some}
 use Rattle.dn_model.specs.declared.rule.Rule.{Rule}
 use Rattle.owner_tree.specs.declared.held.Held.{Held}
-use Rattle.owner_tree.specs.declared.held.Held.TheVariants.{Nothing, One, More}
+use Rattle.owner_tree.specs.declared.held.Held.TheVariants.{Nothing, One, Two, More}
 
 abbrev pub rules_of : Held → List Rule
 rules_of Nothing = []
 rules_of (One rule) = rule ∷ []
-rules_of (More rules) = rules.items
+rules_of (Two pair) = pair.value
+rules_of (More rules) = rules.value.items
+
+-- the rules that are held instead of those before, if they are others
+abbrev pub rules_or : List Rule → Option Held → List Rule
+rules_or before None = before
+rules_or before (Some held) = rules_of held

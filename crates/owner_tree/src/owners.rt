@@ -1,8 +1,9 @@
 //! Sets of rules.
 
-ghost use Rattle.std.specs.Prelude.{◌≡◌, ◌==◌, [], OnOk, OnErr, IfOk, IsPermutation};
+ghost use Rattle.std.specs.Prelude.{◌≡◌, ◌==◌, [], None, OnOk, OnErr, IfOk, IsPermutation, fold};
 ghost use Rattle.std.specs.List.{list_any};
 ghost use Rattle.dn_model.specs.Rules.{has_rule_key, cleared_rules, without_length, without_rule, with_rule, HasRulesOnce, IsTop};
+ghost use Rattle.owner_tree.specs.First.{first_of};
 
 use crate::held::Held;
 use crate::rules::{first_rule, has_key, has_length};
@@ -12,7 +13,7 @@ use std::marker::Model;
 
 /// A set of rules with length and metric as their key. A contract sees it as the list of its rules, whose order means
 /// nothing: each key is there once. Few rules of one router stand at one address, most often none or one: those take no
-/// memory, two and more are a list in one block, and each call looks at all of them.
+/// memory, two are a block, three and more a list in one, and each call looks at all of them.
 #[derive(Drop)]
 pub struct Owners {
     held: Held,
@@ -80,6 +81,7 @@ impl Owners {
     pub fn top(&self) -> Option<Rule>
         ensures top { IsTop self.now result }
         ensures once { HasRulesOnce self.now }
+        ensures first { result ≡ fold first_of None self.now }
     {
         first_rule(self.held.rules())
     }
@@ -95,7 +97,7 @@ impl Owners {
     pub fn copy(&self) -> Result<Owners, OutOfMemory>
         ensures { IfOk result (λ owners. owners ≡ self.now) }
     {
-        let held = self.held.copy()?;
+        let held = self.held.copy(self.alloc)?;
         Ok(Owners {
             held,
             alloc: self.alloc,

@@ -74,3 +74,29 @@ fn a_rule_alone_gives_way_and_comes_back(rt: HostRuntime) -> Result<(), Fail> {
     assert_eq!(rt; none.top(), None);
     Ok(())
 }
+
+#[test]
+fn a_third_rule_comes_and_goes(rt: HostRuntime) -> Result<(), Fail> {
+    let mut owners = Owners::new(rt.alloc());
+    owners.insert(rule(8, 1))?;
+    owners.insert(rule(16, 2))?;
+    owners.insert(Rule {
+        len: 8,
+        metric: 1,
+        target: Target::Local,
+    })?;
+    let two = owners.copy()?;
+    owners.insert(rule(24, 3))?;
+    owners.insert(rule(24, 4))?;
+    let four = owners.copy()?;
+    owners.clear(24, None);
+    assert_eq!(rt; owners.top(), Some(rule(16, 2)));
+    assert!(rt; owners.remove(16, 2));
+    assert_eq!(rt; owners.top().map(|top| top.target), Some(Target::Local));
+    owners.insert(rule(8, 5))?;
+    owners.clear(8, None);
+    assert_eq!(rt; owners.top(), None);
+    assert_eq!(rt; two.top(), Some(rule(16, 2)));
+    assert_eq!(rt; four.top(), Some(rule(24, 3)));
+    Ok(())
+}

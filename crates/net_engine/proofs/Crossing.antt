@@ -9,12 +9,26 @@ use Rattle.version_pages.proofs.tree.Kid.TheLaws.TheKnot as knot
 use Rattle.net_engine.specs.contracts.router_owners.RouterOwners as RouterOwners
 use Rattle.net_engine.specs.contracts.segment.Segment as Segment
 use Rattle.net_engine.specs.contracts.version.Version as Version
+use Rattle.owner_tree.specs.contracts.held.Held as Held
+use Rattle.owner_tree.specs.contracts.owners.Owners as Owners
+
+Held-send : IsSend Held.the_row
+Held-send = search (sendable, crosses) depth 40
+
+Held-sync : IsSync Held.the_row
+Held-sync = search (sendable, crosses) depth 40
+
+Owners-send : IsSend Owners.the_row
+Owners-send = search (Held-send, Held-sync, sendable, crosses) depth 60 fits 100000
+
+Owners-sync : IsSync Owners.the_row
+Owners-sync = search (Held-send, Held-sync, sendable, crosses) depth 60 fits 100000
 
 Segment-send : IsSend Segment.the_row
-Segment-send = search (sendable, crosses, maps.crosses) depth 40
+Segment-send = search (Owners-send, Owners-sync, sendable, crosses) depth 40
 
 Segment-sync : IsSync Segment.the_row
-Segment-sync = search (sendable, crosses, maps.crosses) depth 40
+Segment-sync = search (Owners-send, Owners-sync, sendable, crosses) depth 40
 
 RouterOwners-send : IsSend RouterOwners.the_row
 RouterOwners-send = search (Segment-send, Segment-sync, sendable, crosses, knot.crosses) depth 40

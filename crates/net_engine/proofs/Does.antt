@@ -16,7 +16,7 @@ use Rattle.dn_model.proofs.Covers.{holder-first, holder-rest}
 use Rattle.edge_labels.specs.Labels.{Labels}
 use Rattle.net_engine.specs.Paired.{ArePaired, atoms_with, does_at, does_in, owned, owners_at, rows_with}
 use Rattle.net_engine.specs.Segments.{begins_in, held_at, nothing_held}
-use Rattle.net_engine.specs.declared.segment.Segment.{Segment}
+use Rattle.net_engine.specs.Segment.{SegmentIs as Segment}
 use Rattle.net_engine.proofs.Along.{none-begins_inside}
 use Rattle.net_engine.proofs.Held.{Held, Holds, held, holds}
 use Rattle.net_engine.proofs.Segments.{held-between}

@@ -18,7 +18,7 @@ use Rattle.net_engine.specs.Paired.{AreLabelled, GoAlong, does_at}
 use Rattle.net_engine.specs.Reruled.{AreCutAt, IsRelabelled, IsReruledOver}
 use Rattle.net_engine.specs.Segments.{AreSegments, BeginsAt, Held, IsCutAt, IsPast, IsReruled, IsRerulesAt, begins_in, held_at, held_of}
 use Rattle.net_engine.specs.Walked.{IsTold, is_part}
-use Rattle.net_engine.specs.declared.segment.Segment.{Segment}
+use Rattle.net_engine.specs.Segment.{SegmentIs as Segment}
 use Rattle.net_engine.specs.declared.segment.Targets.{Targets}
 use Rattle.net_engine.proofs.Held.{within-high, within-low}
 use Rattle.net_engine.proofs.Segments.{IsMadeAt, begins, begun, low_at, lows-below, lows-rise, made-at, past-within}

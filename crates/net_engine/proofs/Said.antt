@@ -21,7 +21,7 @@ use Rattle.dn_model.proofs.SamePermutation.{permutation-same}
 use Rattle.net_engine.specs.RoutesOf.{begins_prefix, route_from, routes_in, routes_of}
 use Rattle.net_engine.specs.Segments.{AreSegments, BeginsAt, Held, IsSpot, begins_in, has_length, has_rule_at, held_at, held_of, nothing_held}
 use Rattle.net_engine.specs.Walked.{HasRouteOf}
-use Rattle.net_engine.specs.declared.segment.Segment.{Segment}
+use Rattle.net_engine.specs.Segment.{SegmentIs as Segment}
 use Rattle.net_engine.proofs.Looking.{ends-apart}
 use Rattle.net_engine.proofs.Segments.{Begins, begins, begins-at, form-now, held-here, low_at, lows-below, lows-from, lows-rise, place-begins}
 

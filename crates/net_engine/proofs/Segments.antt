@@ -3,12 +3,11 @@ use Rattle.std.proofs.Common.{◌≡◌, ℕ, ◌+◌, ◌-◌, ◌<◌, ◌≤�
 use Rattle.std.specs.List.{insert}
 use Rattle.std.proofs.lemmas.Bool.{cases_Bool, cases_lt, le-leb, lt-leb, eq-eqb, eqb-true, or_cases, or_left, or_right, both_ways}
 use Rattle.std.proofs.lemmas.List.{get_or-drop, get_or-set_other, get_or-set_same, get_or-take, length-drop, length-set, length-take, set-get_or}
-use Rattle.net_engine.specs.declared.segment.Segment.{Segment}
+use Rattle.net_engine.specs.Segment.{SegmentIs as Segment, segment_of, target_in}
 use Rattle.net_engine.specs.declared.segment.Targets.{Targets}
 use Rattle.dn_model.specs.declared.entry.Op.{Op}
 use Rattle.dn_model.specs.declared.rule.Rule.{Rule}
 use Rattle.dn_model.specs.declared.target.Target.{Target}
-use Rattle.dn_model.specs.declared.target.Target.TheVariants.{NoRoute}
 use Rattle.net_engine.specs.Segments.{AreSegments, BeginsAt, Held, IsBefore, IsCutAt, IsInForce, IsPast, IsPlace, IsReruled, IsRerulesAt, IsSegment, IsSpot, KeepsBelow, begins_in, held_at, held_before, held_from, held_of, nothing_held}
 
 abbrev pub low_at : List Segment → ℕ → Segment → ℕ
@@ -491,18 +490,26 @@ begins-read segments now place at s view l is = (
       eq-eqb s.low at (ap (λ (z : Segment). z.low) (is s) ∙ w.low s),
 )
 
-pub before-none : (now : List Segment) (place : ℕ) (rules : List Rule) → place ≡ 0 → rules ≡ [] → IsBefore now place rules NoRoute
+pub before-none : (now : List Segment) (place : ℕ) (rules : List Rule) → place ≡ 0 → rules ≡ [] → IsBefore now place rules (target_in rules)
 before-none now place rules e is =
     let none : held_before nothing_held now place ≡ nothing_held = ap (held_before nothing_held now) e ∙ before-first now nothing_held in
-    record { rules_are = is ∙ sym (ap (λ (h : Held). h.rules) none); target_is = sym (ap (λ (h : Held). h.target) none) }
+    record {
+      rules_are = is ∙ sym (ap (λ (h : Held). h.rules) none);
+      target_is = ap target_in is ∙ sym (ap (λ (h : Held). h.target) none);
+    }
 
-pub before-read : (segments now : List Segment) (place : ℕ) (s : Segment) (rules : List Rule) → segments ≡ now → (place ≡ 0 → ⊥) → place ≤ length now → ((d : Segment) → s ≡ get_or segments (place - 1) d) → rules ≡ s.rules → IsBefore now place rules s.target
-before-read segments now place s rules view some l is copied =
+-- a segment's rules say what is done there
+does-first : (low : ℕ) (rules : List Rule) (s : Segment) → segment_of low rules ≡ s → s.target ≡ target_in s.rules
+does-first low rules s view = subst (λ (z : Segment). z.target ≡ target_in z.rules) view refl
+
+pub before-read : (segments now : List Segment) (place low : ℕ) (own rules : List Rule) (s : Segment) → segments ≡ now → (place ≡ 0 → ⊥) → place ≤ length now → ((d : Segment) → s ≡ get_or segments (place - 1) d) → segment_of low own ≡ s → rules ≡ own → IsBefore now place rules (target_in rules)
+before-read segments now place low own rules s view some l is seen copied =
     let e : held_before nothing_held now place ≡ held_of (get_or now (place - 1) s) = before-at now nothing_held place s (omega arith) l in
     let k : s ≡ get_or now (place - 1) s = is s ∙ ap (λ zs. get_or zs (place - 1) s) view in
+    let same : rules ≡ s.rules = copied ∙ ap (λ (z : Segment). z.rules) seen in
     record {
-      rules_are = copied ∙ ap (λ (z : Segment). z.rules) k ∙ sym (ap (λ (h : Held). h.rules) e);
-      target_is = ap (λ (z : Segment). z.target) k ∙ sym (ap (λ (h : Held). h.target) e);
+      rules_are = same ∙ ap (λ (z : Segment). z.rules) k ∙ sym (ap (λ (h : Held). h.rules) e);
+      target_is = ap target_in same ∙ sym (does-first low own s seen) ∙ ap (λ (z : Segment). z.target) k ∙ sym (ap (λ (h : Held). h.target) e);
     }
 
 pub form-now : (segments now : List Segment) → segments ≡ now → AreSegments 0 segments → AreSegments 0 now

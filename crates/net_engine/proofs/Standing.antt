@@ -21,7 +21,7 @@ use Rattle.net_engine.specs.Paired.{ArePaired, GoAlong, atoms_with, does_at, doe
 use Rattle.net_engine.specs.Seen.{IsPaired, net_in}
 use Rattle.net_engine.specs.Segments.{held_at}
 use Rattle.net_engine.specs.declared.net.Net.{Net as NetFields}
-use Rattle.net_engine.specs.declared.segment.Segment.{Segment}
+use Rattle.net_engine.specs.Segment.{SegmentIs as Segment}
 
 -- each router's segments
 abbrev pub AllRules : Type 0

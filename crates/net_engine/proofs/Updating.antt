@@ -23,7 +23,7 @@ use Rattle.net_engine.specs.Paired.{ArePaired, GoAlong, atoms_with, does_in, net
 use Rattle.net_engine.specs.Reruled.{AreCutAt, AreUpdatedAt, IsReruledOver}
 use Rattle.net_engine.specs.Segments.{Held, IsInForce, begins_in, held_at, nothing_held}
 use Rattle.net_engine.specs.Walked.{Follows, IsWalked, is_part}
-use Rattle.net_engine.specs.declared.segment.Segment.{Segment}
+use Rattle.net_engine.specs.Segment.{SegmentIs as Segment}
 use Rattle.net_engine.proofs.Does.{atom-paired, begins-paired, rules-paired, rules-other, target-paired}
 use Rattle.net_engine.proofs.Looking.{begun-meet, meets-paired}
 use Rattle.net_engine.proofs.Rerunning.{cut-along, first-cut, low-begins, not-within}

@@ -1,5 +1,6 @@
 pub mod Net
 pub mod Looks
+pub mod Segment
 pub mod Segments
 pub mod RoutesOf
 pub mod Paired

@@ -12,7 +12,7 @@ use Rattle.dn_model.specs.declared.target.Target.TheVariants.{NoRoute}
 use Rattle.edge_labels.specs.Labels.{Labels, targets_of}
 use Rattle.net_engine.specs.Net.{Net}
 use Rattle.net_engine.specs.Segments.{AreSegments, begins_in, held_at}
-use Rattle.net_engine.specs.declared.segment.Segment.{Segment}
+use Rattle.net_engine.specs.Segment.{SegmentIs as Segment}
 
 -- each router's rules at an address
 abbrev pub owners_at : List (List Segment) → ℕ → List (List Rule)

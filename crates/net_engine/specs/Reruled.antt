@@ -12,7 +12,7 @@ use Rattle.edge_labels.specs.Labels.{Labels}
 use Rattle.net_engine.specs.Paired.{AreLabelled, GoAlong, does_at}
 use Rattle.net_engine.specs.Segments.{AreSegments, begins_in, held_at}
 use Rattle.net_engine.specs.Walked.{is_part}
-use Rattle.net_engine.specs.declared.segment.Segment.{Segment}
+use Rattle.net_engine.specs.Segment.{SegmentIs as Segment}
 
 -- segments begin at both ends of a span, the end of all addresses aside, and all is held where it was
 pub record AreCutAt (old new : List Segment) (lo past : ℕ) : Type 0 where

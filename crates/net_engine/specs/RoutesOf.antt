@@ -2,7 +2,7 @@
 use Rattle.std.specs.Prelude.{ℕ, Bool, List, [], ◌∷◌, ◌++◌, filter, map, nat_le, ◌-◌, ◌%◌, ◌^◌, ◌==◌, ◌&&◌}
 use Rattle.dn_model.specs.declared.entry.Route.{Route}
 use Rattle.dn_model.specs.declared.rule.Rule.{Rule}
-use Rattle.net_engine.specs.declared.segment.Segment.{Segment}
+use Rattle.net_engine.specs.Segment.{SegmentIs as Segment}
 
 -- whether a prefix of this length begins at an address
 unfoldable pub begins_prefix : ℕ → Rule → Bool

@@ -8,7 +8,7 @@ use Rattle.net_engine.specs.Paired.{ArePaired, net_of}
 use Rattle.net_engine.specs.RoutesOf.{routes_of}
 use Rattle.net_engine.specs.Whole.{IsWhole}
 use Rattle.net_engine.specs.declared.net.Net.{Net as NetFields}
-use Rattle.net_engine.specs.declared.segment.Segment.{Segment}
+use Rattle.net_engine.specs.Segment.{SegmentIs as Segment}
 use Rattle.net_engine.specs.declared.state.State.{State}
 
 -- the number of routers and the atoms in order

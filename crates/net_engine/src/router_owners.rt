@@ -6,11 +6,11 @@ ghost use Rattle.std.specs.Option.{is_some};
 ghost use Rattle.version_pages.specs.Search.{EndsBelow};
 ghost use Rattle.net_engine.specs.Looks.{first_looks};
 ghost use Rattle.net_engine.specs.Segments.{AreSegments, BeginsAt, IsBefore, IsRerulesAt, IsCutAt, IsPast, IsSpot, KeepsBelow, has_length, has_rule_at, segment_low};
-ghost use Rattle.net_engine.specs.declared.segment.Segment.{Segment as SegmentIs};
+ghost use Rattle.net_engine.specs.Segment.{SegmentIs, target_in};
 
 use crate::segment::{Segment, Targets, rerule};
 use atom_map::Guide;
-use dn_model::{Op, OutOfMemory, Target};
+use dn_model::{Op, OutOfMemory};
 use owner_tree::Owners;
 use std::alloc::Global;
 use std::marker::Model;
@@ -44,7 +44,7 @@ struct Spot {
 
 impl Model for RouterOwners {
     ghost use Rattle.std.specs.Prelude.{List};
-    ghost use Rattle.net_engine.specs.declared.segment.Segment.{Segment as SegmentIs};
+    ghost use Rattle.net_engine.specs.Segment.{SegmentIs};
     ghost use Rattle.net_engine.specs.Segments.{AreSegments};
 
     ghost Value = { List SegmentIs };
@@ -88,7 +88,7 @@ impl RouterOwners {
         if below == 0 && near != 0 {
             return None;
         }
-        let begins = run[below].low == at;
+        let begins = run[below].low() == at;
         let place = near + below as u64;
         Some(Spot { place, begins })
     }
@@ -136,7 +136,7 @@ impl RouterOwners {
             return END;
         }
         match self.segments.get(place + 1) {
-            Some(next) => next.low as u64,
+            Some(next) => next.low() as u64,
             None => END,
         }
     }
@@ -146,7 +146,7 @@ impl RouterOwners {
         ensures { IsTrue result ↔ BeginsAt self.now place at }
     {
         match self.segments.get(place) {
-            Some(segment) => segment.low == at,
+            Some(segment) => segment.low() == at,
             None => false,
         }
     }
@@ -157,17 +157,17 @@ impl RouterOwners {
         alloc: Global,
         place: u64,
         steps: &mut Steps<L>,
-    ) -> Result<(Owners, Target), OutOfMemory>
+    ) -> Result<Owners, OutOfMemory>
         requires { place ≤ length self.now }
-        ensures before { IfOk result (λ held. IsBefore self.now place held.0 held.1) }
+        ensures before { IfOk result (λ rules. IsBefore self.now place rules (target_in rules)) }
         ensures cost { steps.new ≤ steps.old + 1 }
     {
         if place == 0 {
-            return Ok((Owners::new(alloc), Target::NoRoute));
+            return Ok(Owners::new(alloc));
         }
         steps.tick();
         match self.segments.get(place - 1) {
-            Some(segment) => Ok((segment.rules.copy()?, segment.target)),
+            Some(segment) => Ok(segment.rules.copy()?),
             None => unreachable!(),
         }
     }
@@ -310,12 +310,8 @@ impl RouterOwners {
         if spot.begins {
             return Ok(());
         }
-        let (rules, target) = self.rules_before(alloc, spot.place, steps)?;
-        let segment = Segment {
-            low: at,
-            rules,
-            target,
-        };
+        let rules = self.rules_before(alloc, spot.place, steps)?;
+        let segment = Segment { low: at, rules };
         self.segments.insert_at(alloc, spot.place, segment)
     }
 
@@ -375,7 +371,7 @@ fn count_below(run: &[Segment], at: u32, about: usize) -> usize
     let near = about.min(high);
     'halving: while low < high {
         let middle = next_look(low, high, near);
-        if run[middle].low < at {
+        if run[middle].low() < at {
             low = middle + 1;
         } else {
             high = middle;

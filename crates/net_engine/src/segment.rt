@@ -2,20 +2,38 @@
 
 ghost use Rattle.std.specs.Prelude.{◌≡◌, IfOk, OnOk, OnErr, IsPermutation};
 ghost use Rattle.dn_model.specs.Rules.{after_rule_op};
+ghost use Rattle.net_engine.specs.Segment.{target_in};
 ghost use Rattle.net_engine.specs.Segments.{IsInForce, IsReruled};
 
 use dn_model::{Op, OutOfMemory, Rule, Target};
 use owner_tree::Owners;
-use std::alloc::{AllocError, Global};
+use std::alloc::AllocError;
+use std::marker::Model;
 use version_pages::Keyed;
 
-/// The addresses of a router from `low` on, up to where its next segment begins: its rules there, and what the first of
-/// them says is done.
+/// The addresses of a router from `low` on, up to where its next segment begins, and its rules there. What the first of
+/// them says is done: a contract sees that too, and it is not kept, since there are very many segments.
 #[derive(Drop)]
 pub struct Segment {
     pub low: u32,
     pub rules: Owners,
-    pub target: Target,
+}
+
+impl Model for Segment {
+    ghost use Rattle.net_engine.specs.Segment.{SegmentIs, segment_of};
+
+    ghost Value = { SegmentIs };
+
+    ghost view = { λ s. segment_of s.low s.rules };
+}
+
+impl Segment {
+    /// Where it begins.
+    pub fn low(&self) -> u32
+        ensures { result ≡ self.now.low }
+    {
+        self.low
+    }
 }
 
 impl Clone for Segment {
@@ -26,7 +44,6 @@ impl Clone for Segment {
             Ok(rules) => Ok(Segment {
                 low: self.low,
                 rules,
-                target: self.target,
             }),
             Err(OutOfMemory) => Err(AllocError),
         }
@@ -55,10 +72,9 @@ pub fn rerule(segment: &mut Segment, op: &Op) -> Result<Targets, OutOfMemory>
     ensures err { OnErr result (segment.new ≡ segment.old) }
     ensures ok { IfOk result (λ targets. IsReruled segment.old segment.new op.now targets) }
 {
-    let before = segment.target;
+    let before = target_of_top(&segment.rules);
     change(&mut segment.rules, op)?;
     let after = target_of_top(&segment.rules);
-    segment.target = after;
     Ok(Targets { before, after })
 }
 
@@ -86,7 +102,8 @@ fn change(owners: &mut Owners, op: &Op) -> Result<(), OutOfMemory>
 
 /// What the first of some rules says is done.
 fn target_of_top(owners: &Owners) -> Target
-    ensures { IsInForce owners.now result }
+    ensures force { IsInForce owners.now result }
+    ensures first { result ≡ target_in owners.now }
 {
     match owners.top() {
         Some(rule) => rule.target,

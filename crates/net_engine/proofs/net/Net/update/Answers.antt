@@ -1,7 +1,7 @@
 use Rattle.std.proofs.Common.{◌<◌, IfSome, List, arith, refl, set, subst, sym}
 use Rattle.net_engine.specs.Seen.{net_in}
 use Rattle.net_engine.specs.Segments.{BeginsAt}
-use Rattle.net_engine.specs.declared.segment.Segment.{Segment}
+use Rattle.net_engine.specs.Segment.{SegmentIs as Segment}
 use Rattle.net_engine.proofs.Updating.{boundary-now, looks-now, makes-now, paired-now, own-along, own-found, own-now, router-now, walked-now}
 use Rattle.net_engine.proofs.net.Net.update.Goals as goal
 

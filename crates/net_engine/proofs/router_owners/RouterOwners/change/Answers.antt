@@ -1,5 +1,5 @@
 use Rattle.std.proofs.Common.{◌≡◌, IfOk, OnErr, get_or, rules}
-use Rattle.net_engine.specs.declared.segment.Segment.{Segment}
+use Rattle.net_engine.specs.Segment.{SegmentIs as Segment}
 use Rattle.net_engine.specs.Segments.{IsReruled}
 use Rattle.net_engine.proofs.Segments.{rerules-at, rerules-form}
 use Rattle.net_engine.proofs.router_owners.RouterOwners.change.Goals as goal

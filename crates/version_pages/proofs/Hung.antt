@@ -1,6 +1,6 @@
 -- A page hung in before a child.
-use Rattle.std.proofs.Common.{◌≡◌, ℕ, zero, suc, ◌+◌, ◌-◌, ◌<◌, ◌≤◌, ⊎_elim, List, [], ◌∷◌, ◌++◌, length, get_or, take, drop, refl, ap, sym, ◌∙◌, arith, append_assoc, length-append, add-one}
-use Rattle.std.specs.List.{All, insert}
+use Rattle.std.proofs.Common.{◌≡◌, ℕ, zero, suc, ◌+◌, ◌<◌, ◌≤◌, ⊎_elim, List, [], ◌∷◌, ◌++◌, length, get_or, take, drop, refl, ap, sym, ◌∙◌, arith, append_assoc, length-append, add-one}
+use Rattle.std.specs.List.{insert}
 use Rattle.std.proofs.lemmas.Bool.{cases_lt}
 use Rattle.std.proofs.lemmas.List.{drop_at, take_at, take-append-drop}
 use Rattle.std.proofs.lemmas.List.Edits.{length-insert, get_or-insert_below, get_or-insert_at, get_or-insert_above}
@@ -96,9 +96,9 @@ noted-few ends kids k end most n d at l e m b =
     let long : k ≤ length ends = omega (arith, at.count, l) in
     let all : (p : ℕ) → p < length ends → get_or ends p d ≤ most = λ p q. omega (arith, ends-few ends kids p d at q, m) in
     ⊎_elim
-      (λ (y : k < n). noted-above ends k end most n d long all y (omega (arith, b, length-insert ends k end long)))
-      (λ (y : n ≤ k). ⊎_elim
-      (λ (z : n < k). omega (arith, get_or-insert_below ends k end d n z long, all n (omega (arith, long))))
-      (λ (z : k ≤ n). let is : n ≡ k = omega arith in omega (arith, ap (λ p. get_or (insert ends k end) p d) is, get_or-insert_at ends k end d long, e))
-      (cases_lt n k))
-      (cases_lt k n)
+    (λ (y : k < n). noted-above ends k end most n d long all y (omega (arith, b, length-insert ends k end long)))
+    (λ (y : n ≤ k). ⊎_elim
+    (λ (z : n < k). omega (arith, get_or-insert_below ends k end d n z long, all n (omega (arith, long))))
+    (λ (z : k ≤ n). let is : n ≡ k = omega arith in omega (arith, ap (λ p. get_or (insert ends k end) p d) is, get_or-insert_at ends k end d long, e))
+    (cases_lt n k))
+    (cases_lt k n)

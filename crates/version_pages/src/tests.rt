@@ -465,18 +465,53 @@ fn rows_all_over(rt: HostRuntime) -> Result<(), Fail> {
     Ok(())
 }
 
-/// A row longer than a page, between two numbers: a search finds each at its place.
+/// Puts the numbers from one on below another before the one at a place of both, or at the end.
+fn put_row(
+    rt: &impl Abort,
+    alloc: Global,
+    pages: &mut Pages<u64>,
+    plain: &mut Vec<u64>,
+    at: u64,
+    first: u64,
+    past: u64,
+) {
+    let row = numbers(alloc, first, past).expect(rt, "memory");
+    insert_both(alloc, pages, plain, at, &row).expect(rt, "memory");
+}
+
+/// A full page begins at a place.
+fn is_full(rt: &impl Abort, pages: &Pages<u64>, at: u64) {
+    assert_eq!(rt; pages.run_from(at).len(), 64);
+}
+
+/// Rows of full pages go in where a page begins: between two, in front of all, and, while a copy holds all pages, more of
+/// them than a fork has room for. They stay full. Then come a row that fills no page, and one within a page. A search
+/// finds each number at its place, and the copy has what it had.
 #[test]
-fn a_search_after_a_row(rt: HostRuntime) -> Result<(), Fail> {
+fn a_search_after_rows(rt: HostRuntime) {
     let alloc = rt.alloc();
-    let (mut pages, mut plain) = rising(alloc, 100)?;
-    let row = numbers(alloc, 200, 5_000)?;
-    insert_both(alloc, &mut pages, &mut plain, 100, &row)?;
-    let row = numbers(alloc, 100, 200)?;
-    insert_both(alloc, &mut pages, &mut plain, 100, &row)?;
-    are_found(&rt, &pages, 5_000);
-    compare_rising(&rt, &pages, 5_000);
-    Ok(())
+    let mut pages: Pages<u64> = Pages::new();
+    let mut plain = Vec::new(alloc);
+    put_row(&rt, alloc, &mut pages, &mut plain, 0, 10_000, 10_640);
+    put_row(&rt, alloc, &mut pages, &mut plain, 640, 20_000, 20_640);
+    put_row(&rt, alloc, &mut pages, &mut plain, 640, 15_000, 15_128);
+    put_row(&rt, alloc, &mut pages, &mut plain, 0, 1_000, 1_128);
+    are_found(&rt, &pages, 1_536);
+    let held = pages.copy().expect(&rt, "memory");
+    let old = plain.clone().expect(&rt, "memory");
+    put_row(&rt, alloc, &mut pages, &mut plain, 896, 16_000, 19_200);
+    put_row(&rt, alloc, &mut pages, &mut plain, 0, 0, 64);
+    is_full(&rt, &pages, 0);
+    is_full(&rt, &pages, 128);
+    is_full(&rt, &pages, 896);
+    is_full(&rt, &pages, 960);
+    is_full(&rt, &pages, 4_096);
+    is_full(&rt, &pages, 4_160);
+    put_row(&rt, alloc, &mut pages, &mut plain, 960, 15_500, 15_600);
+    put_row(&rt, alloc, &mut pages, &mut plain, 1_060, 15_700, 15_900);
+    are_found(&rt, &pages, 5_100);
+    compare(&rt, &pages, &plain);
+    compare(&rt, &held, &old);
 }
 
 /// Makes the first of some numbers one more each, so many at most. It answers how many.

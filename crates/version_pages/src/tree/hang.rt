@@ -38,9 +38,9 @@ pub fn hangs_at<T: Keyed>(
     Some(k)
 }
 
-/// Puts one more child before one, where there is memory for it.
+/// Puts one more child in at a place, where there is memory for it.
 fn put_kid<T: Keyed + Drop>(kids: &mut Vec<Kid<T>>, k: usize, kid: Kid<T>)
-    requires child { k < length kids.old.items }
+    requires child { k ≤ length kids.old.items }
     requires memory { vec_len kids.old < vec_capacity kids.old }
     ensures { kids.new.items ≡ insert kids.old.items k kid }
 {

@@ -1,4 +1,4 @@
-use Rattle.std.proofs.Common.{◌≡◌, ap, sym, subst, ◌∙◌, ◌+◌, ◌-◌, ◌<◌, ◌++◌, length, arith, get_or, set, take, drop}
+use Rattle.std.proofs.Common.{◌≡◌, ap, sym, subst, ◌∙◌, length, arith}
 use Rattle.std.proofs.lemmas.Grind.{common_steps}
 use Rattle.version_pages.specs.Keys.{first_key}
 use Rattle.version_pages.specs.Nodes.{shape_of, IsKept}

@@ -5,7 +5,7 @@ ghost use Rattle.std.specs.Prelude.{◌<◌};
 use dn_model::Prefix;
 
 /// Which prefixes are drawn: so many of those that nest, from one of them on (the last is followed by the first), and
-/// `hosts` times in 16 one of a single address anywhere.
+/// `hosts` times in 16 one of a single address, which is one of a thousand.
 #[derive(Clone, Copy, Debug)]
 pub struct Spot {
     pub first: u32,
@@ -13,8 +13,8 @@ pub struct Spot {
     pub hosts: u32,
 }
 
-/// Numbers that look drawn: a linear congruential generator on 64 bits, with the constants of Knuth's MMIX. The same seed
-/// gives the same numbers.
+/// Numbers that look drawn: a linear congruential generator on 64 bits, with the constants of Knuth's MMIX. The same
+/// seed gives the same numbers.
 #[derive(Drop)]
 pub struct Draw {
     state: u64,
@@ -71,6 +71,12 @@ fn host(address: u32) -> Prefix {
     Prefix::new(address, 32)
 }
 
+/// The prefix of one of a thousand addresses alone: few enough that the same one is drawn again for its route to be
+/// replaced or cleared, and for a query to ask of it.
+fn drawn_host(draw: &mut Draw) -> Prefix {
+    host(draw.below(1000) * 4_294_967)
+}
+
 /// The nested prefix at a place, counted round.
 fn nested_at(place: u32) -> Prefix {
     let prefixes = nested();
@@ -80,7 +86,7 @@ fn nested_at(place: u32) -> Prefix {
 /// One of a spot's prefixes.
 pub fn drawn_prefix(spot: &Spot, draw: &mut Draw) -> Prefix {
     if draw.below(16) < spot.hosts {
-        return host(draw.below(u32::MAX));
+        return drawn_host(draw);
     }
     let place = draw.below(spot.count.max(1));
     nested_at(spot.first.wrapping_add(place))

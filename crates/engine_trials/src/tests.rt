@@ -42,7 +42,7 @@ const HOSTS: Spot = Spot {
     hosts: 15,
 };
 
-/// A trial of four stages, at whose end each kind of query is asked with none, one and two links down.
+/// A trial of four stages, whose updates are all told, and at whose ends each kind of query is asked.
 fn trial(routers: u16, updates: u32, spot: Spot, seed: u64) -> Trial {
     Trial {
         routers,
@@ -50,9 +50,20 @@ fn trial(routers: u16, updates: u32, spot: Spot, seed: u64) -> Trial {
         updates,
         told: 1,
         kinds: 6,
-        rounds: 3,
+        rounds: 1,
+        is_split: true,
+        beside: 8,
         spot,
         seed,
+    }
+}
+
+/// The same trial with two stages, of whose updates one in ten is told.
+fn wider(trial: Trial) -> Trial {
+    Trial {
+        stages: 2,
+        told: 10,
+        ..trial
     }
 }
 
@@ -67,13 +78,23 @@ fn met(rt: &impl Abort, alloc: Global, trials: &[Trial]) -> Result<Found, Fail> 
     Ok(all)
 }
 
-/// Each kind of what is tried came about.
+/// What the trials are to meet came about: the seeds are such that it does.
 fn assert_met(rt: &impl Abort, found: &Found) {
     assert!(rt; found.cycles > 0, "{found:?}");
     assert!(rt; found.links_down > 0, "{found:?}");
+    assert!(rt; found.drops > 0, "{found:?}");
+    assert!(rt; found.path_down > 0, "{found:?}");
+    assert!(rt; found.uses_down > 0, "{found:?}");
+    assert!(rt; found.reach_down > 0, "{found:?}");
+    assert!(rt; found.waypoint_down > 0, "{found:?}");
+    assert!(rt; found.holes_down > 0, "{found:?}");
+    assert!(rt; found.loops_down > 0, "{found:?}");
     assert!(rt; found.clears > 0, "{found:?}");
+    assert!(rt; found.replaced > 0, "{found:?}");
     assert!(rt; found.equal_lengths > 0, "{found:?}");
+    assert!(rt; found.metrics > 0, "{found:?}");
     assert!(rt; found.both_ends > 0, "{found:?}");
+    assert!(rt; found.beside_held > 0, "{found:?}");
 }
 
 #[test]
@@ -90,6 +111,7 @@ fn networks_of_one_to_three_routers(rt: HostRuntime) -> Result<(), Fail> {
     ];
     let found = met(&rt, rt.alloc(), &trials)?;
     assert_met(&rt, &found);
+    assert!(rt; found.two_down > 0, "{found:?}");
     Ok(())
 }
 
@@ -105,43 +127,89 @@ fn networks_of_four_to_six_routers(rt: HostRuntime) -> Result<(), Fail> {
     ];
     let found = met(&rt, rt.alloc(), &trials)?;
     assert_met(&rt, &found);
+    assert!(rt; found.two_down > 0, "{found:?}");
     Ok(())
 }
 
-/// Pages hold 64 elements, and chunks 512 atoms.
+/// The targets of an atom's routers stand in chunks of eight.
+#[test]
+fn networks_of_seven_to_thirty_three_routers(rt: HostRuntime) -> Result<(), Fail> {
+    let trials = [
+        wider(trial(7, 30, ALL, 20)),
+        wider(trial(8, 40, ENDS, 20)),
+        wider(trial(9, 40, ALL, 21)),
+        wider(trial(17, 60, ENDS, 22)),
+        wider(trial(33, 90, MIDDLE, 23)),
+    ];
+    let found = met(&rt, rt.alloc(), &trials)?;
+    assert_met(&rt, &found);
+    Ok(())
+}
+
+/// Pages hold 64 elements, and chunks 512 atoms. Paths are asked of a version of more than 600 atoms, and one question
+/// about the uses of a link, and one of what reaches a router, of one of more than 512: both answers have several runs.
 #[test]
 fn atoms_of_many_pages_and_chunks(rt: HostRuntime) -> Result<(), Fail> {
-    let trials = [Trial {
+    let paths = Trial {
         routers: 3,
-        stages: 4,
-        updates: 125,
-        told: 25,
+        stages: 2,
+        updates: 330,
+        told: 33,
         kinds: 1,
-        rounds: 24,
+        rounds: 12,
+        is_split: true,
+        beside: 4,
         spot: HOSTS,
         seed: 15,
-    }];
-    let found = met(&rt, rt.alloc(), &trials)?;
+    };
+    let sets = Trial {
+        routers: 12,
+        stages: 1,
+        updates: 480,
+        kinds: 3,
+        rounds: 1,
+        is_split: false,
+        beside: 1,
+        seed: 118,
+        ..paths
+    };
+    let found = met(&rt, rt.alloc(), &[paths])?;
     assert!(rt; found.atoms > 600, "{found:?}");
     assert!(rt; found.links_down > 0, "{found:?}");
     assert!(rt; found.clears > 0, "{found:?}");
+    assert!(rt; found.replaced > 0, "{found:?}");
+    assert!(rt; found.alone > 0, "{found:?}");
+    assert!(rt; found.beside_held > 0, "{found:?}");
+    let found = met(&rt, rt.alloc(), &[sets])?;
+    assert!(rt; found.atoms > 512, "{found:?}");
+    assert!(rt; found.uses_runs > 4, "{found:?}");
+    assert!(rt; found.reach_runs > 4, "{found:?}");
     Ok(())
 }
 
 #[test]
 fn a_network_of_sixty_four_routers(rt: HostRuntime) -> Result<(), Fail> {
-    let trials = [Trial {
+    let all_kinds = Trial {
         routers: 64,
         stages: 2,
-        updates: 250,
+        updates: 125,
         told: 25,
         kinds: 6,
-        rounds: 3,
-        spot: LOW,
+        rounds: 1,
+        is_split: true,
+        beside: 1,
+        spot: ALL,
+        seed: 245,
+    };
+    let paths = Trial {
+        kinds: 1,
+        rounds: 60,
+        beside: 4,
         seed: 16,
-    }];
-    let found = met(&rt, rt.alloc(), &trials)?;
-    assert!(rt; found.cycles > 0, "{found:?}");
-    assert!(rt; found.clears > 0, "{found:?}");
+        ..all_kinds
+    };
+    let found = met(&rt, rt.alloc(), &[all_kinds, paths])?;
+    assert_met(&rt, &found);
+    assert!(rt; found.atoms > 20, "{found:?}");
     Ok(())
 }

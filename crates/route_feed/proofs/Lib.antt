@@ -1,4 +1,5 @@
 pub mod AnswerLemmas
 pub mod GatheredLemmas
 pub mod HandsLemmas
+pub mod HintLemmas
 pub mod ReaderLemmas

@@ -10,6 +10,7 @@ ghost use Rattle.route_feed.specs.FeedReader.{Reader, IsAt, IsOutcome, FaultsAt,
 use crate::feed_step::FeedStep;
 use crate::frame_step::hand_out;
 use crate::intake::Intake;
+use crate::port_hints::PortHints;
 use dn_formats::{FeedEnd, FeedTold};
 use dn_io::Source;
 use dn_model::{List, OutOfMemory, RouterId, Topology};
@@ -21,6 +22,8 @@ use std::marker::Model;
 pub struct FeedReader<S: Source> {
     intake: Intake<S>,
     told: FeedTold,
+    /// No clause speaks of it.
+    hints: PortHints,
 }
 
 impl<S: Source> Model for FeedReader<S> {
@@ -86,6 +89,7 @@ impl<S: Source> FeedReader<S> {
                 refused: List::new(alloc),
                 end: None,
             },
+            hints: PortHints::new(),
         }
     }
 
@@ -118,7 +122,13 @@ impl<S: Source> FeedReader<S> {
         }
         match self.intake.fill()? {
             Some(end) => Ok(end_with(&mut self.told, end)),
-            None => hand_out(alloc, &mut self.intake, &mut self.told, topology),
+            None => hand_out(
+                alloc,
+                &mut self.intake,
+                &mut self.told,
+                topology,
+                &mut self.hints,
+            ),
         }
     }
 
@@ -144,7 +154,7 @@ impl<S: Source> FeedReader<S> {
         ensures source { result.0 ≡ self.source }
         ensures told { result.1 ≡ self.told }
     {
-        let FeedReader { intake, told } = self;
+        let FeedReader { intake, told, .. } = self;
         (intake.into_source(), told)
     }
 }

@@ -10,6 +10,7 @@ ghost use Rattle.route_feed.specs.FrameStep.{ComesTo, frame_step, IsOfFrame, Han
 
 use crate::feed_step::FeedStep;
 use crate::intake::Intake;
+use crate::port_hints::PortHints;
 use crate::route_op::op_of;
 use dn_formats::frame_cause::{FRAME_TYPE, UNKNOWN_INTERFACE};
 use dn_formats::{FeedTold, Item, ItemKind, Payload, Refused, RefusedFrame};
@@ -36,6 +37,7 @@ impl Gathered {
         topology: &Topology,
         router: RouterId,
         item: &Item,
+        hints: &mut PortHints,
     ) -> Result<Option<Refused>, OutOfMemory>
         requires fits { self.old.skipped + 1 < 2 ^ 32 }
         ensures refusal { IfOk result (λ refused. refused ≡ item_refusal topology.now router item.now) }
@@ -45,7 +47,7 @@ impl Gathered {
         ensures within { All (IsOpOf topology.now) self.old.ops → All (IsOpOf topology.now) self.new.ops }
     {
         match item.what {
-            ItemKind::Route(raw) => match op_of(topology, router, &raw) {
+            ItemKind::Route(raw) => match op_of(topology, router, &raw, hints) {
                 Some(op) => self.ops.push(op)?,
                 None => {
                     return Ok(Some(Refused {
@@ -79,6 +81,7 @@ fn step_said(
     router: RouterId,
     offset: u64,
     said: &Payload,
+    hints: &mut PortHints,
 ) -> Result<FeedStep, OutOfMemory>
     requires few { length said.now.items ≤ 65531 }
     ensures step { IfOk result (λ step. frame_step step ≡ Some (step_of topology.now router offset said.now)) }
@@ -90,7 +93,7 @@ fn step_said(
         skipped: 0,
     };
     for item in said.items.as_slice() {
-        if let Some(refused) = gathered.take_in(topology, router, item)? {
+        if let Some(refused) = gathered.take_in(topology, router, item, hints)? {
             return Ok(refusal(offset, refused));
         }
     }
@@ -108,6 +111,7 @@ fn step_of(
     offset: u64,
     kind: u8,
     payload: &[u8],
+    hints: &mut PortHints,
 ) -> Result<FeedStep, OutOfMemory>
     requires fits { length payload.now ≤ 65531 }
     ensures comes { IfOk result (ComesTo topology.now router offset (record { kind = kind; payload = payload.now })) }
@@ -122,7 +126,7 @@ fn step_of(
         });
     }
     let said = read_payload(alloc, payload)?;
-    step_said(alloc, topology, router, offset, &said)
+    step_said(alloc, topology, router, offset, &said, hints)
 }
 
 /// Counts what a frame came to. Want of memory changes nothing.
@@ -154,6 +158,7 @@ pub fn hand_out<S: Source>(
     intake: &mut Intake<S>,
     told: &mut FeedTold,
     topology: &Topology,
+    hints: &mut PortHints,
 ) -> Result<FeedStep, OutOfMemory>
     requires whole { BeginsFrame intake.old.held }
     requires updates { told.old.updates < 2 ^ 32 }
@@ -166,7 +171,7 @@ pub fn hand_out<S: Source>(
             offset,
             kind,
             payload,
-        } => step_of(alloc, topology, told.router, offset, kind, payload)?,
+        } => step_of(alloc, topology, told.router, offset, kind, payload, hints)?,
         _ => unreachable!(),
     };
     tell(told, &step)?;

@@ -12,6 +12,7 @@ mod feed_reader;
 mod feed_step;
 mod frame_step;
 mod intake;
+mod port_hints;
 mod route_op;
 #[cfg(test)]
 mod test_network;

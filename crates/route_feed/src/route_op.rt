@@ -5,8 +5,9 @@ ghost use Rattle.dn_model.specs.Entry.{IsOpOf, IsTargetOf};
 ghost use Rattle.dn_model.specs.Lookup.{IsPortWithin};
 ghost use Rattle.dn_formats.specs.Message.{target_at, set_op_of, set_op_by, op_of};
 
+use crate::port_hints::{PortHints, port_hinted};
 use dn_formats::{RawRoute, RouteKind};
-use dn_model::{DropKind, Op, Port, RouterId, Target, Topology, port};
+use dn_model::{DropKind, Op, Port, RouterId, Target, Topology};
 
 /// What a unicast route does at a port, which is the router's interface of this number.
 fn target_at(port: Port, via: bool, index: u32) -> Target
@@ -46,22 +47,32 @@ fn set(raw: &RawRoute, target: Target) -> Op
 }
 
 /// The update that a message to set a unicast route is, where its interface is the router's.
-fn set_unicast(topology: &Topology, router: RouterId, raw: &RawRoute) -> Option<Op>
+fn set_unicast(
+    topology: &Topology,
+    router: RouterId,
+    raw: &RawRoute,
+    hints: &mut PortHints,
+) -> Option<Op>
     ensures value { result ≡ set_op_of topology.now router raw.now.prefix raw.now.metric raw.now.via raw.now.oif }
     ensures within { IfSome result (IsOpOf topology.now) }
 {
     let index = raw.oif?;
-    let at = port(topology, router, index)?;
+    let at = port_hinted(topology, router, index, hints)?;
     Some(set(raw, target_at(at, raw.via, index)))
 }
 
 /// The update that a message to set a route is, by its type.
-fn set_by_kind(topology: &Topology, router: RouterId, raw: &RawRoute) -> Option<Op>
+fn set_by_kind(
+    topology: &Topology,
+    router: RouterId,
+    raw: &RawRoute,
+    hints: &mut PortHints,
+) -> Option<Op>
     ensures value { result ≡ set_op_by topology.now router raw.now.kind raw.now.prefix raw.now.metric raw.now.via raw.now.oif }
     ensures within { IfSome result (IsOpOf topology.now) }
 {
     match raw.kind {
-        RouteKind::Unicast => set_unicast(topology, router, raw),
+        RouteKind::Unicast => set_unicast(topology, router, raw, hints),
         RouteKind::Local => Some(set(raw, Target::Local)),
         RouteKind::Blackhole => Some(set(raw, Target::Dropped(DropKind::Blackhole))),
         RouteKind::Unreachable => Some(set(raw, Target::Dropped(DropKind::Unreachable))),
@@ -71,7 +82,12 @@ fn set_by_kind(topology: &Topology, router: RouterId, raw: &RawRoute) -> Option<
 
 /// The update that a route's message is to this router, and None exactly where it is a unicast route to be set whose
 /// interface isn't the router's.
-pub fn op_of(topology: &Topology, router: RouterId, raw: &RawRoute) -> Option<Op>
+pub fn op_of(
+    topology: &Topology,
+    router: RouterId,
+    raw: &RawRoute,
+    hints: &mut PortHints,
+) -> Option<Op>
     ensures value { result ≡ op_of topology.now router raw.now }
     ensures within { IfSome result (IsOpOf topology.now) }
 {
@@ -81,6 +97,6 @@ pub fn op_of(topology: &Topology, router: RouterId, raw: &RawRoute) -> Option<Op
             metric: raw.metric,
         })
     } else {
-        set_by_kind(topology, router, raw)
+        set_by_kind(topology, router, raw, hints)
     }
 }

@@ -13,6 +13,8 @@ mod feed_step;
 mod frame_step;
 mod intake;
 mod port_hints;
+#[cfg(test)]
+mod port_tests;
 mod route_op;
 #[cfg(test)]
 mod test_network;

@@ -89,3 +89,37 @@ pub fn triangle(alloc: Global) -> Result<Topology, OutOfMemory>
         edges,
     })
 }
+
+/// One link between `r3` and `r1`.
+fn turned_links(alloc: Global) -> Result<List<TopoLink>, OutOfMemory>
+    ensures { IfOk result (λ links. links
+        ≡ record { name = codes "d"; first = record { router = record { 0 = 2 }; index = 1 }; second = record { router = record { 0 = 0 }; index = 2 }; unnumbered = false } ∷ []) }
+{
+    let mut links = List::new(alloc);
+    links.push(link(alloc, b"d", end(THIRD, 1), end(FIRST, 2))?)?;
+    Ok(links)
+}
+
+/// An edge at `r1`.
+fn turned_edges(alloc: Global) -> Result<List<TopoEnd>, OutOfMemory>
+    ensures { IfOk result (λ edges. edges ≡ record { router = record { 0 = 0 }; index = 3 } ∷ []) }
+{
+    let mut edges = List::new(alloc);
+    edges.push(end(FIRST, 3))?;
+    Ok(edges)
+}
+
+/// The routers of the triangle with other interfaces: `r1`'s interface 2 leads to `r3` over link `d`, its interface 3
+/// is an edge, and it has no interface 1.
+pub fn turned(alloc: Global) -> Result<Topology, OutOfMemory>
+    ensures { IfOk result (λ t. length t.routers ≡ 3) }
+{
+    let routers = routers(alloc)?;
+    let links = turned_links(alloc)?;
+    let edges = turned_edges(alloc)?;
+    Ok(Topology {
+        routers,
+        links,
+        edges,
+    })
+}

@@ -13,9 +13,9 @@ use Rattle.dn_model.specs.contracts.topology.Topology as Topology
 use Rattle.feed_threads.specs.contracts.readers.Read as Read
 use Rattle.feed_threads.specs.contracts.readers.Readers as Readers
 use Rattle.feed_threads.proofs.Crossing.{read-sends, readers-send}
-use Rattle.std.proofs.Common.{rules, ◌≡◌, ◌≤◌, [], length, vec_capacity, ℕ, ◌+◌, ◌∙◌, List, ◌∷◌, ap, arith}
+use Rattle.std.proofs.Common.{rules, ◌≡◌, ◌≤◌, [], length, vec_capacity, ℕ, ◌+◌, ◌∙◌, List, ◌∷◌, ap, sym, arith}
 use Rattle.std.proofs.lemmas.List.{length-append, nil_from_length}
-use Rattle.std.proofs.lemmas.Bool.Decides.{nat_tests}
+use Rattle.std.proofs.lemmas.Bool.{eqb-true}
 use Rattle.fast_pins.specs.Known.{Known}
 use Rattle.feed_threads.specs.Jobs.{Task}
 use Rattle.feed_threads.specs.Reads.{ReadsAlone}
@@ -39,7 +39,7 @@ read_with-requires-clause-topology g t c κs within =
 
 pub returns-then-is_empty-clause-read : goal.returns-then-is_empty-clause-read
 returns-then-is_empty-clause-read g t c =
-    let empty : c.pop.new.self.items ≡ [] = nil_from_length c.pop.new.self.items (let e = c.if-is_empty.ensures in grind (arith, nat_tests, e)) in
+    let empty : c.pop.new.self.items ≡ [] = nil_from_length c.pop.new.self.items (sym c.pop.new.self.ok.0 ∙ eqb-true c.pop.new.self.len 0 (sym c.if-is_empty.ensures)) in
     let jobs : length c.args.batch.jobs.items ≡ length c.pop.new.self.items + 1 = ap length c.in-Some.ensures.items ∙ length-append c.pop.new.self.items (c.in-Some.job ∷ []) in
     let readers : length c.args.batch.readers.items ≡ length c.pop-2.new.self.items + 1 = ap length c.in-Some-pop.ensures.items ∙ length-append c.pop-2.new.self.items (c.in-Some-pop.reader ∷ []) in
     let none : length c.pop.new.self.items ≡ 0 = ap length empty in let count = c.requires.count in

@@ -1,4 +1,4 @@
-use Rattle.std.proofs.Common.{◌≡◌, ◌∷◌, ◌++◌, [], List, ap, sym, ◌∙◌}
+use Rattle.std.proofs.Common.{◌≡◌, ◌∷◌, ◌++◌, [], List, length, ap, sym, ◌∙◌, arith}
 use Rattle.std.proofs.lemmas.Result.{IfErr-weaker, IfOk-weaker}
 use Rattle.route_feed.specs.FeedReader.{Reader}
 use Rattle.dn_run.proofs.DealSteps.{first-out, ok-both, one-more, own-back, own-given, own-moves, own-step}
@@ -32,3 +32,9 @@ returns-clause-back g c =
 
 pub returns-clause-more : goal.returns-clause-more
 returns-clause-more g c = IfOk-weaker c.add_job.result _ _ (λ d js. one-more c.args.dealt.jobs.items d.jobs.items _ js) c.add_job.ensures.jobs
+
+pub returns-clause-fewer : goal.returns-clause-fewer
+returns-clause-fewer g c =
+    let out = first-out c.args.dealt.left.items c.remove.new.self.items c.remove.result c.requires.some c.remove.ensures.value c.remove.ensures.by_index.2 in
+    let before = ap length out in
+    IfOk-weaker c.add_job.result _ _ (λ d left. let after = ap length left in omega (arith, before, after)) c.add_job.ensures.left

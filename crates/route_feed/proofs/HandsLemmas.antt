@@ -1,8 +1,8 @@
 -- Handing out the frame at the front.
-use Rattle.std.proofs.Common.{◌≡◌, ◌≢◌, ℕ, ◌+◌, ◌≤◌, List, ◌++◌, length, None, Some, Result, Ok, Err, IfOk, refl, ap, sym, ◌∙◌, subst, arith, inl, inr}
+use Rattle.std.proofs.Common.{◌≡◌, ◌≢◌, ℕ, ◌+◌, ◌≤◌, List, ◌++◌, length, Some, Result, Ok, Err, IfOk, refl, ap, sym, ◌∙◌, subst, arith, inl, inr}
 use Rattle.dn_formats.proofs.RoomLemmas.{accepted-room}
-use Rattle.dn_formats.specs.Frames.{Frame, frame_text, IsFrame}
-use Rattle.dn_formats.specs.Feed.{IsStep, IsNetlinkStep, IsOtherStep, step_of}
+use Rattle.dn_formats.specs.Frames.{Frame, frame_text}
+use Rattle.dn_formats.specs.Feed.{IsStep, step_of}
 use Rattle.dn_formats.specs.Payload.{IsPayload}
 use Rattle.dn_formats.specs.Steps.{FrameStep, Accepted, Refused}
 use Rattle.dn_model.specs.declared.ids.RouterId.{RouterId}

@@ -1,10 +1,8 @@
 -- Where an interface stands among the ends of links and the edges, there it is found: no other has it.
-use Rattle.std.proofs.Common.{◌≡◌, ℕ, ◌+◌, ◌<◌, ◌≤◌, Bool, true, false, ◌&&◌, ◌||◌, not, IfSome, List, [], ◌∷◌, ◌++◌, length, get_or, map, Option, Some, None, cond, refl, ap, ap₂, sym, subst, ◌∙◌, zero, suc, arith, inl, inr, ◌==◌, eqb-true, eqb}
-use Rattle.std.specs.List.{list_any, list_all}
+use Rattle.std.proofs.Common.{◌≡◌, ℕ, ◌+◌, ◌<◌, Bool, true, false, ◌||◌, not, IfSome, List, [], ◌∷◌, ◌++◌, length, get_or, Option, Some, None, refl, ap, ap₂, sym, subst, ◌∙◌, zero, suc, arith, inl, inr, ◌==◌, eqb-true}
+use Rattle.std.specs.List.{list_any}
 use Rattle.std.specs.Map.{lookup}
-use Rattle.std.specs.Option.{option_or}
-use Rattle.std.proofs.lemmas.Bool.{and_parts, or_parts, cases_Bool, not-true, true≢false}
-use Rattle.std.proofs.lemmas.List.Folds.{list_any-append}
+use Rattle.std.proofs.lemmas.Bool.{and_parts, cases_Bool, not-true, true≢false}
 use Rattle.dn_model.specs.declared.ids.RouterId.{RouterId}
 use Rattle.dn_model.specs.declared.topology.TopoEnd.{TopoEnd}
 use Rattle.dn_model.specs.declared.topology.TopoLink.{TopoLink}
@@ -12,8 +10,8 @@ use Rattle.dn_model.specs.declared.topology.Topology.{Topology}
 use Rattle.dn_model.specs.declared.ports.Port.{Port}
 use Rattle.dn_model.specs.declared.ports.Port.TheVariants.{Link, Edge}
 use Rattle.dn_model.specs.Topology.{same_end, all_differ, all_ends}
-use Rattle.dn_model.specs.Lookup.{ports_of_link, ports_of_links, port_of, IsPortWithin}
-use Rattle.dn_model.proofs.Lookups.{lookup-append, lookup-edges, port_of-parts, port_within}
+use Rattle.dn_model.specs.Lookup.{ports_of_links, port_of, IsPortWithin}
+use Rattle.dn_model.proofs.Lookups.{lookup-edges, port_of-parts, port_within}
 
 same-is : (a b : TopoEnd) → same_end a b ≡ true → a ≡ b
 same-is a b h =

@@ -1,11 +1,11 @@
 -- Each key stands once.
-use Rattle.std.proofs.Common.{◌≡◌, ℕ, ◌∙◌, ◌&&◌, not, Bool, true, false, List, [], ◌∷◌, ◌++◌, filter, Result, Ok, Err, OnOk, OnErr, refl, ap, sym, subst, arith, eqb}
+use Rattle.std.proofs.Common.{◌≡◌, ℕ, ◌∙◌, ◌&&◌, not, Bool, true, false, Option, None, Some, List, [], ◌∷◌, ◌++◌, filter, Result, Ok, Err, OnOk, OnErr, refl, ap, sym, subst, arith, eqb}
 use Rattle.std.specs.List.{list_any}
 use Rattle.std.proofs.lemmas.Bool.{and_from, and_parts, cond_both, not-true, not_from_false, or_from, or_parts}
 use Rattle.std.proofs.lemmas.Bool.Decides.{nat_tests}
 use Rattle.std.proofs.lemmas.List.Folds.{list_any-append}
 use Rattle.dn_model.specs.Topology.{all_differ}
-use Rattle.dn_model.specs.Rules.{has_rule_key, with_rule, without_length, without_rule, HasRulesOnce}
+use Rattle.dn_model.specs.Rules.{cleared_rules, has_rule_key, with_rule, without_length, without_rule, HasRulesOnce}
 use Rattle.dn_model.specs.declared.rule.Rule.{Rule}
 
 abbrev same_key : Rule → Rule → Bool
@@ -62,6 +62,10 @@ once-without old new l m h e = subst (λ (rs : List Rule). HasRulesOnce rs) (sym
 
 pub once-length : (old new : List Rule) (l : ℕ) → HasRulesOnce old → new ≡ without_length old l → HasRulesOnce new
 once-length old new l h e = subst (λ (rs : List Rule). HasRulesOnce rs) (sym e) (differ-filter (λ r. not (eqb r.len l)) old h)
+
+pub once-cleared : (old new : List Rule) (l : ℕ) (m : Option ℕ) → HasRulesOnce old → new ≡ cleared_rules old l m → HasRulesOnce new
+once-cleared old new l None h e = once-length old new l h e
+once-cleared old new l (Some m) h e = once-without old new l m h e
 
 pub once-with : (old new : List Rule) (y : Rule) → HasRulesOnce old → new ≡ with_rule old y → HasRulesOnce new
 once-with old new y h e = subst (λ (rs : List Rule). HasRulesOnce rs) (sym e) (differ-push (without_rule old y.len y.metric) y (differ-filter (λ r. not (has_rule_key y.len y.metric r)) old h) (key-gone y old))

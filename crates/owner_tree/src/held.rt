@@ -1,22 +1,35 @@
 //! How the rules of a set are held.
 
-ghost use Rattle.std.specs.Prelude.{◌≡◌, [], ◌∷◌, IfOk, IfSome, OnOk, OnErr};
-ghost use Rattle.dn_model.specs.Rules.{with_rule, without_length, without_rule};
+ghost use Rattle.std.specs.Prelude.{◌≡◌, ◌≤◌, [], ◌∷◌, None, IfOk, IfSome, OnOk, OnErr, length, take};
+ghost use Rattle.dn_model.specs.Rules.{cleared_rules, with_rule};
 ghost use Rattle.owner_tree.specs.Held.{rules_of, rules_or};
 
-use crate::rules::{drop_key, drop_length, has_this_key, put};
-use dn_model::{OutOfMemory, Rule};
+use crate::rules::{clear, has_this_key, is_cleared, put};
+use dn_model::{OutOfMemory, Rule, Target};
 use std::alloc::Global;
 use std::slice;
 
+/// How many rules a block has room for.
+const ROOM: usize = 8;
+
+/// What stands in a block behind the last rule, and means nothing.
+const BLANK: Rule = Rule {
+    len: 0,
+    metric: 0,
+    target: Target::NoRoute,
+};
+
 /// The rules of a set. Where there is none, or one alone, they stand here and take no memory: almost all sets are such,
 /// and there are very many of them. So the others stand behind a pointer each, which takes less room here than a list
-/// does by itself.
+/// does by itself. Up to eight stand in a block, so that a look at them waits for memory once.
 #[derive(Drop)]
 pub enum Held {
     Nothing,
     One(Rule),
     Two(Box<[Rule; 2]>),
+    /// So many of the first rules of the block.
+    Few { count: u8, block: Box<[Rule; 8]> },
+    /// More than eight, or as many as are left of such.
     More(Box<Vec<Rule>>),
 }
 
@@ -29,6 +42,7 @@ impl Held {
             Held::Nothing => &[],
             Held::One(rule) => slice::from_ref(rule),
             Held::Two(pair) => &pair[..],
+            Held::Few { count, block } => first_of_block(block, *count),
             Held::More(rules) => rules.as_slice(),
         }
     }
@@ -53,55 +67,45 @@ impl Held {
                 *self = held;
                 return Ok(());
             }
+            Held::Few { count, block } => {
+                if let Some(more) = put_in_block(block, *count, rule) {
+                    *count = more;
+                    return Ok(());
+                }
+                let held = put_beside_block(alloc, block, *count, rule)?;
+                *self = held;
+                return Ok(());
+            }
             Held::More(rules) => {
                 return put(rules, rule);
             }
         }
     }
 
-    /// Drops the rule of this length and this metric.
-    pub fn drop_key(&mut self, len: u8, metric: u32)
-        ensures { rules_of self.new ≡ without_rule (rules_of self.old) len metric }
+    /// Drops the rule of this length and this metric; without a metric those of the length. It takes no memory.
+    pub fn clear(&mut self, len: u8, metric: Option<u32>)
+        ensures { rules_of self.new ≡ cleared_rules (rules_of self.old) len metric }
     {
         match self {
             Held::Nothing => {}
             Held::One(rule) => {
-                if has_this_key(len, metric, rule) {
+                if is_cleared(len, metric, rule) {
                     *self = Held::Nothing;
                 }
             }
             Held::Two(pair) => {
-                if let Some(held) = two_without_key(**pair, len, metric) {
+                if let Some(held) = left_of_two(**pair, len, metric) {
+                    *self = held;
+                }
+            }
+            Held::Few { count, block } => {
+                *count = clear_in_block(block, *count, len, metric);
+                if let Some(held) = in_place(first_of_block(block, *count)) {
                     *self = held;
                 }
             }
             Held::More(rules) => {
-                drop_key(rules, len, metric);
-                if let Some(held) = in_place(rules) {
-                    *self = held;
-                }
-            }
-        }
-    }
-
-    /// Drops the rules of this length.
-    pub fn drop_length(&mut self, len: u8)
-        ensures { rules_of self.new ≡ without_length (rules_of self.old) len }
-    {
-        match self {
-            Held::Nothing => {}
-            Held::One(rule) => {
-                if rule.len == len {
-                    *self = Held::Nothing;
-                }
-            }
-            Held::Two(pair) => {
-                if let Some(held) = two_without_length(**pair, len) {
-                    *self = held;
-                }
-            }
-            Held::More(rules) => {
-                drop_length(rules, len);
+                clear(rules, len, metric);
                 if let Some(held) = in_place(rules) {
                     *self = held;
                 }
@@ -119,6 +123,13 @@ impl Held {
             Held::Two(pair) => {
                 let pair = Box::new(alloc, **pair)?;
                 Ok(Held::Two(pair))
+            }
+            Held::Few { count, block } => {
+                let block = Box::new(alloc, **block)?;
+                Ok(Held::Few {
+                    count: *count,
+                    block,
+                })
             }
             Held::More(rules) => {
                 let rules = rules.as_ref().clone()?;
@@ -152,35 +163,86 @@ fn put_beside_two(alloc: Global, pair: [Rule; 2], rule: Rule) -> Result<Held, Ou
         let pair = Box::new(alloc, [first, rule])?;
         return Ok(Held::Two(pair));
     }
-    let mut rules = Vec::with_capacity(alloc, 3)?;
-    rules.push(first)?;
-    rules.push(second)?;
-    rules.push(rule)?;
+    let block = [first, second, rule, BLANK, BLANK, BLANK, BLANK, BLANK];
+    let block = Box::new(alloc, block)?;
+    Ok(Held::Few { count: 3, block })
+}
+
+/// The first rules of a block, so many or all.
+fn first_of_block(block: &[Rule; 8], count: u8) -> &[Rule]
+    ensures { result.now ≡ take count block.now }
+{
+    &block[..(count as usize).min(ROOM)]
+}
+
+/// Those of some rules that are left where that of this length and this metric goes, or without a metric those of the
+/// length: the first of a block, and how many they are.
+fn left_of(rules: &[Rule], len: u8, metric: Option<u32>) -> (usize, [Rule; 8])
+    requires { length rules.now ≤ ROOM }
+    ensures few { result.0 ≤ length rules.now }
+    ensures left { take result.0 result.1 ≡ cleared_rules rules.now len metric }
+{
+    let mut count = 0;
+    let mut left = [BLANK; 8];
+    for rule in rules {
+        if !is_cleared(len, metric, rule) {
+            left[count] = *rule;
+            count += 1;
+        }
+    }
+    (count, left)
+}
+
+/// Drops of the first rules of a block that of this length and this metric, or without a metric those of the length. It
+/// answers how many are left.
+fn clear_in_block(block: &mut [Rule; 8], count: u8, len: u8, metric: Option<u32>) -> u8
+    ensures { take result block.new ≡ cleared_rules (take count block.old) len metric }
+{
+    let (kept, left) = left_of(first_of_block(block, count), len, metric);
+    *block = left;
+    kept as u8
+}
+
+/// Puts a rule behind the first ones of a block, in the place of the one with the same length and metric. It answers how
+/// many they are then, and nothing where there is no room: the block is as before then.
+fn put_in_block(block: &mut [Rule; 8], count: u8, rule: Rule) -> Option<u8>
+    ensures put { IfSome result (λ more. take more block.new ≡ with_rule (take count block.old) rule) }
+    ensures full { result ≡ None → block.new ≡ block.old }
+{
+    let (kept, mut left) = left_of(first_of_block(block, count), rule.len, Some(rule.metric));
+    if kept == ROOM {
+        return None;
+    }
+    left[kept] = rule;
+    *block = left;
+    Some(kept as u8 + 1)
+}
+
+/// A rule behind those of a full block, or in the place of the one with the same length and metric.
+fn put_beside_block(
+    alloc: Global,
+    block: &[Rule; 8],
+    count: u8,
+    rule: Rule,
+) -> Result<Held, OutOfMemory>
+    ensures { IfOk result (λ held. rules_of held ≡ with_rule (take count block.now) rule) }
+{
+    let mut rules = Vec::with_capacity(alloc, ROOM + 1)?;
+    rules.extend_from_slice(first_of_block(block, count))?;
+    put(&mut rules, rule)?;
     let rules = Box::new(alloc, rules)?;
     Ok(Held::More(rules))
 }
 
-/// What is left of two rules where the one of this length and this metric goes; nothing is answered where none goes.
-fn two_without_key(pair: [Rule; 2], len: u8, metric: u32) -> Option<Held>
-    ensures { rules_or pair result ≡ without_rule pair len metric }
+/// What is left of two rules where that of this length and this metric goes, or without a metric those of the length;
+/// nothing is answered where none goes.
+fn left_of_two(pair: [Rule; 2], len: u8, metric: Option<u32>) -> Option<Held>
+    ensures { rules_or pair result ≡ cleared_rules pair len metric }
 {
     let [first, second] = pair;
-    let first_goes = has_this_key(len, metric, &first);
-    let second_goes = has_this_key(len, metric, &second);
+    let first_goes = is_cleared(len, metric, &first);
+    let second_goes = is_cleared(len, metric, &second);
     match (first_goes, second_goes) {
-        (true, true) => Some(Held::Nothing),
-        (true, false) => Some(Held::One(second)),
-        (false, true) => Some(Held::One(first)),
-        (false, false) => None,
-    }
-}
-
-/// What is left of two rules where those of this length go; nothing is answered where none goes.
-fn two_without_length(pair: [Rule; 2], len: u8) -> Option<Held>
-    ensures { rules_or pair result ≡ without_length pair len }
-{
-    let [first, second] = pair;
-    match (first.len == len, second.len == len) {
         (true, true) => Some(Held::Nothing),
         (true, false) => Some(Held::One(second)),
         (false, true) => Some(Held::One(first)),

@@ -6,14 +6,14 @@ ghost use Rattle.dn_model.specs.Rules.{has_rule_key, cleared_rules, without_leng
 ghost use Rattle.owner_tree.specs.First.{first_of};
 
 use crate::held::Held;
-use crate::rules::{first_rule, has_key, has_length};
+use crate::rules::{first_rule, has_rule};
 use dn_model::{OutOfMemory, Rule};
 use std::alloc::Global;
 use std::marker::Model;
 
 /// A set of rules with length and metric as their key. A contract sees it as the list of its rules, whose order means
 /// nothing: each key is there once. Few rules of one router stand at one address, most often none or one: those take no
-/// memory, two are a block, three and more a list in one, and each call looks at all of them.
+/// memory, up to eight are a block, more a list in one, and each call looks at all of them.
 #[derive(Drop)]
 pub struct Owners {
     held: Held,
@@ -60,8 +60,8 @@ impl Owners {
         ensures found { result ≡ list_any (has_rule_key len metric) self.old }
         ensures left { IsPermutation self.new (without_rule self.old len metric) }
     {
-        let found = has_key(self.held.rules(), len, metric);
-        self.held.drop_key(len, metric);
+        let found = has_rule(self.held.rules(), len, Some(metric));
+        self.held.clear(len, Some(metric));
         found
     }
 
@@ -70,10 +70,7 @@ impl Owners {
     pub fn clear(&mut self, len: u8, metric: Option<u32>)
         ensures { IsPermutation self.new (cleared_rules self.old len metric) }
     {
-        match metric {
-            Some(metric) => self.held.drop_key(len, metric),
-            None => self.held.drop_length(len),
-        }
+        self.held.clear(len, metric);
     }
 
     /// The rule in force: of those with the longest prefix the one with the least metric. It is none exactly where
@@ -90,7 +87,7 @@ impl Owners {
     pub fn has_length(&self, len: u8) -> bool
         ensures { result ≡ list_any (λ r. r.len == len) self.now }
     {
-        has_length(self.held.rules(), len)
+        has_rule(self.held.rules(), len, None)
     }
 
     /// A set with the same rules.

@@ -1,9 +1,10 @@
 //! Lists of rules.
 
-ghost use Rattle.std.specs.Prelude.{◌≡◌, ◌≤◌, ◌==◌, None, OnErr, OnOk, fold, vec_capacity, vec_len};
+ghost use Rattle.std.specs.Prelude.{◌≡◌, ◌≤◌, None, OnErr, OnOk, fold, vec_capacity, vec_len};
 ghost use Rattle.std.specs.List.{list_any};
-ghost use Rattle.dn_model.specs.Rules.{has_rule_key, rule_before, with_rule, without_length, without_rule};
+ghost use Rattle.dn_model.specs.Rules.{cleared_rules, has_rule_key, rule_before, with_rule};
 ghost use Rattle.owner_tree.specs.First.{first_of};
+ghost use Rattle.owner_tree.specs.Held.{is_cleared};
 
 use dn_model::{OutOfMemory, Rule};
 
@@ -14,34 +15,30 @@ pub fn has_this_key(len: u8, metric: u32, rule: &Rule) -> bool
     rule.len == len && rule.metric == metric
 }
 
-/// Whether one of the rules has this length and this metric.
-pub fn has_key(rules: &[Rule], len: u8, metric: u32) -> bool
-    ensures { result ≡ list_any (has_rule_key len metric) rules.now }
+/// Whether a rule has this length and, where there is one, this metric.
+pub fn is_cleared(len: u8, metric: Option<u32>, rule: &Rule) -> bool
+    ensures { result ≡ is_cleared len metric rule.now }
 {
-    rules.iter().any(|rule| has_this_key(len, metric, rule))
+    match metric {
+        Some(metric) => has_this_key(len, metric, rule),
+        None => rule.len == len,
+    }
 }
 
-/// Whether one of the rules has this length.
-pub fn has_length(rules: &[Rule], len: u8) -> bool
-    ensures { result ≡ list_any (λ r. r.len == len) rules.now }
+/// Whether one of the rules has this length and, where there is one, this metric.
+pub fn has_rule(rules: &[Rule], len: u8, metric: Option<u32>) -> bool
+    ensures { result ≡ list_any (is_cleared len metric) rules.now }
 {
-    rules.iter().any(|rule| rule.len == len)
+    rules.iter().any(|rule| is_cleared(len, metric, rule))
 }
 
-/// Drops the rule of this length and this metric.
-pub fn drop_key(rules: &mut Vec<Rule>, len: u8, metric: u32)
-    ensures left { rules.new.items ≡ without_rule rules.old.items len metric }
+/// Drops the rule of this length and this metric; without a metric those of the length.
+pub fn clear(rules: &mut Vec<Rule>, len: u8, metric: Option<u32>)
+    ensures left { rules.new.items ≡ cleared_rules rules.old.items len metric }
     ensures bound { vec_len rules.new ≤ vec_len rules.old }
     ensures capacity { vec_capacity rules.new ≡ vec_capacity rules.old }
 {
-    rules.retain(|rule| !has_this_key(len, metric, rule));
-}
-
-/// Drops the rules of this length.
-pub fn drop_length(rules: &mut Vec<Rule>, len: u8)
-    ensures { rules.new.items ≡ without_length rules.old.items len }
-{
-    rules.retain(|rule| rule.len != len);
+    rules.retain(|rule| !is_cleared(len, metric, rule));
 }
 
 /// Puts a rule in the place of the one with its length and metric. Memory is taken before anything changes.
@@ -50,7 +47,7 @@ pub fn put(rules: &mut Vec<Rule>, rule: Rule) -> Result<(), OutOfMemory>
     ensures err { OnErr result (rules.new.items ≡ rules.old.items) }
 {
     rules.reserve_exact(1)?;
-    drop_key(rules, rule.len, rule.metric);
+    clear(rules, rule.len, Some(rule.metric));
     rules.push(rule)?;
     Ok(())
 }

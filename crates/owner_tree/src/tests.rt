@@ -100,3 +100,31 @@ fn a_third_rule_comes_and_goes(rt: HostRuntime) -> Result<(), Fail> {
     assert_eq!(rt; four.top(), Some(rule(24, 3)));
     Ok(())
 }
+
+#[test]
+fn a_ninth_rule_comes_and_all_go(rt: HostRuntime) -> Result<(), Fail> {
+    let mut owners = Owners::new(rt.alloc());
+    for len in 1..9 {
+        owners.insert(rule(len, 7))?;
+    }
+    owners.insert(Rule {
+        len: 8,
+        metric: 7,
+        target: Target::Local,
+    })?;
+    let eight = owners.copy()?;
+    owners.insert(rule(9, 7))?;
+    let nine = owners.copy()?;
+    assert_eq!(rt; owners.top(), Some(rule(9, 7)));
+    owners.clear(9, Some(7));
+    assert_eq!(rt; owners.top().map(|top| top.target), Some(Target::Local));
+    for len in 1..9 {
+        assert!(rt; owners.has_length(len));
+        owners.clear(len, None);
+        assert!(rt; !owners.has_length(len));
+    }
+    assert_eq!(rt; owners.top(), None);
+    assert_eq!(rt; eight.top().map(|top| top.target), Some(Target::Local));
+    assert_eq!(rt; nine.top(), Some(rule(9, 7)));
+    Ok(())
+}

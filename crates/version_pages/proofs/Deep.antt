@@ -35,7 +35,7 @@ deep-kids g h kids room spare e kept =
 -- the top node says how deep its pages stand
 pub deep-node : {T : Type 0} (n : Node T) → IsKept n → IsDeep (shape_of n)
 deep-node (Page items) h = record { many = omega (arith, h.0); few = omega (arith, h.1) }
-deep-node {T} (Fork kids height ends) h =
+deep-node {T} (Fork kids height ends density) h =
     let none : Shape T = record { items = []; height = 0; room = 0; spare = 0 } in
     let first : IsUnder height (get_or kids.items 0 none) = h.0.under 0 none (omega (arith, h.0.two)) in
     deep-kids (get_or kids.items 0 none).height height kids.items (WIDE - length kids.items) (length kids.items - 2) (sym first.level) h.0

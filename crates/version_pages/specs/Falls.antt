@@ -21,4 +21,4 @@ most-under height (k ∷ ks) h =
 -- no child is as deep as the node is high
 pub deep_le-height : {T : Type 0} (keyed : Ghosts T) (n : Node T) → IsKept n → max (deep-Node T keyed n) 0 ≤ 2 * (shape_of n).height
 deep_le-height keyed (Page items) h = omega arith
-deep_le-height keyed (Fork kids height ends) h = let m = most-under height kids.items h.0.under in omega (arith, m)
+deep_le-height keyed (Fork kids height ends density) h = let m = most-under height kids.items h.0.under in omega (arith, m)

@@ -53,6 +53,9 @@ enum Node<T: Keyed> {
         height: u64,
         /// How many elements each child and those before it have together.
         ends: Vec<u64>,
+        /// About how many children there are to 2^32 elements: by it the child of a place is guessed, without a division. No
+        /// clause and no invariant speaks of it.
+        density: u64,
     },
 }
 
@@ -139,12 +142,19 @@ fn start(ends: &Vec<u64>, k: usize) -> u64
     ends[k - 1]
 }
 
+/// About how many children there are to 2^32 elements.
+fn density_of(ends: &Vec<u64>) -> u64 {
+    match ends.as_slice() {
+        [.., all] => ((ends.len() as u64) << 32) / (*all).max(1),
+        [] => 0,
+    }
+}
+
 /// A child that may have the element at a place, guessed as if all had equally many. A wrong guess costs time alone.
-fn guess(ends: &Vec<u64>, last: usize, i: u64) -> usize
-    requires { last < length ends.now.items }
+fn guess(density: u64, last: usize, i: u64) -> usize
     ensures { result ≤ last }
 {
-    let k = i.wrapping_mul(ends.len() as u64) / ends[last].max(1);
+    let k = i.wrapping_mul(density) >> 32;
     k.min(last as u64) as usize
 }
 
@@ -182,26 +192,31 @@ fn on(ends: &Vec<u64>, last: usize, from: usize, i: u64) -> usize
 
 /// The child that has the element at a place, or the last where there is none, with the element's place in it. It looks
 /// first where it would be if all children had equally many elements.
-fn find<T: Keyed>(kids: &Vec<Kid<T>>, ends: &Vec<u64>, i: u64) -> (usize, u64)
+fn find<T: Keyed>(kids: &Vec<Kid<T>>, ends: &Vec<u64>, density: u64, i: u64) -> (usize, u64)
     requires some { 0 < length kids.now.items }
     requires ends { AreEnds ends.now.items kids.now.items }
     ensures { IsAt kids.now.items i result.0 result.1 }
 {
     let last = kids.len() - 1;
-    let near = back(ends, guess(ends, last, i), i);
+    let near = back(ends, guess(density, last, i), i);
     let k = on(ends, last, near, i);
     (k, i - start(ends, k))
 }
 
 /// The child that has the element at a place, with the element's place in it.
-fn child_at<'a, T: Keyed>(kids: &'a Vec<Kid<T>>, ends: &Vec<u64>, i: u64) -> (&'a Tree<T>, u64)
+fn child_at<'a, T: Keyed>(
+    kids: &'a Vec<Kid<T>>,
+    ends: &Vec<u64>,
+    density: u64,
+    i: u64,
+) -> (&'a Tree<T>, u64)
     requires inside { i < length (joined kids.now.items) }
     requires ends { AreEnds ends.now.items kids.now.items }
     ensures inside { result.1 < length result.0.now.items }
     ensures within { IsWithin (joined kids.now.items) result.0.now.items i result.1 }
     ensures kid { Contains kids.now.items result.0.now }
 {
-    let (k, j) = find(kids, ends, i);
+    let (k, j) = find(kids, ends, density, i);
     (kids[k].tree(), j)
 }
 
@@ -234,8 +249,13 @@ impl<T: Keyed> Tree<T> {
     {
         match &self.node {
             Node::Page(items) => &items[i as usize],
-            Node::Fork { kids, ends, .. } => {
-                let (child, j) = child_at(kids, ends, i);
+            Node::Fork {
+                kids,
+                ends,
+                density,
+                ..
+            } => {
+                let (child, j) = child_at(kids, ends, *density, i);
                 child.get(j)
             }
         }
@@ -249,8 +269,13 @@ impl<T: Keyed> Tree<T> {
     {
         match &self.node {
             Node::Page(items) => &items[i as usize..],
-            Node::Fork { kids, ends, .. } => {
-                let (child, j) = child_at(kids, ends, i);
+            Node::Fork {
+                kids,
+                ends,
+                density,
+                ..
+            } => {
+                let (child, j) = child_at(kids, ends, *density, i);
                 child.run_from(j)
             }
         }

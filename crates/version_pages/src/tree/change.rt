@@ -45,8 +45,13 @@ impl<T: Keyed + Clone> Tree<T> {
     {
         match &mut self.node {
             Node::Page(items) => Ok(call_at(change, &mut items[i as usize])),
-            Node::Fork { kids, ends, .. } => {
-                let (k, j) = find(kids, ends, i);
+            Node::Fork {
+                kids,
+                ends,
+                density,
+                ..
+            } => {
+                let (k, j) = find(kids, ends, *density, i);
                 let kid = &mut kids[k];
                 unshare(alloc, &mut kid.tree)?;
                 let Some(child) = Arc::get_mut(&mut kid.tree) else {
@@ -76,8 +81,13 @@ impl<T: Keyed + Clone> Tree<T> {
     {
         match &mut self.node {
             Node::Page(items) => Ok(call_on(change, &mut items[i as usize..])),
-            Node::Fork { kids, ends, .. } => {
-                let (k, j) = find(kids, ends, i);
+            Node::Fork {
+                kids,
+                ends,
+                density,
+                ..
+            } => {
+                let (k, j) = find(kids, ends, *density, i);
                 let kid = &mut kids[k];
                 unshare(alloc, &mut kid.tree)?;
                 let Some(child) = Arc::get_mut(&mut kid.tree) else {

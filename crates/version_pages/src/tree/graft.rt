@@ -7,7 +7,7 @@ ghost use Rattle.version_pages.specs.Shape.{Shape, AreEnds, AreKids, IsDeep, IsU
 use super::own::unshare;
 use super::parts::{fork_kid, page_kid};
 use super::split::part;
-use super::{FULL, Kid, LONG, Node, Tree, WIDE, key_after, start};
+use super::{FULL, Kid, LONG, Node, Tree, WIDE, density_of, key_after, start};
 use crate::keyed::Keyed;
 use crate::page::{page_of_copies, page_of_one};
 use dn_model::OutOfMemory;
@@ -96,9 +96,16 @@ impl<T: Keyed + Clone> Tree<T> {
     {
         match &mut self.node {
             Node::Page(_) => Err(OutOfMemory),
-            Node::Fork { kids, height, ends } => {
+            Node::Fork {
+                kids,
+                height,
+                ends,
+                density,
+            } => {
                 if *height == 1 {
-                    return add_kid(kids, ends, page);
+                    add_kid(kids, ends, page)?;
+                    *density = density_of(ends);
+                    return Ok(());
                 }
                 ready_end(alloc, kids, ends)?;
                 let last = kids.len() - 1;
@@ -106,6 +113,7 @@ impl<T: Keyed + Clone> Tree<T> {
                 let kid = &mut kids[last];
                 kid.graft(alloc, page)?;
                 ends[last] += count;
+                *density = density_of(ends);
                 return Ok(());
             }
         }
@@ -269,15 +277,23 @@ impl<T: Keyed + Copy> Tree<T> {
     {
         match &mut self.node {
             Node::Page(_) => Err(OutOfMemory),
-            Node::Fork { kids, height, ends } => {
+            Node::Fork {
+                kids,
+                height,
+                ends,
+                density,
+            } => {
                 if *height == 1 {
-                    return fill_fork(alloc, kids, ends, items);
+                    let filled = fill_fork(alloc, kids, ends, items);
+                    *density = density_of(ends);
+                    return filled;
                 }
                 ready_end(alloc, kids, ends)?;
                 let last = kids.len() - 1;
                 let kid = &mut kids[last];
                 let count = kid.add_pages(alloc, items)?;
                 ends[last] += count as u64;
+                *density = density_of(ends);
                 return Ok(count);
             }
         }

@@ -7,7 +7,7 @@ ghost use Rattle.version_pages.specs.Growth.{grown, CanGrow};
 
 use super::own::unshare;
 use super::split::part;
-use super::{Kid, LONG, Node, Tree, find, key_after};
+use super::{Kid, LONG, Node, Tree, density_of, find, key_after};
 use crate::growth::{Growth, grow_page};
 use crate::keyed::Keyed;
 use dn_model::OutOfMemory;
@@ -33,6 +33,7 @@ pub fn ready<T: Keyed + Clone>(
     alloc: Global,
     kids: &mut Vec<Kid<T>>,
     ends: &mut Vec<u64>,
+    density: u64,
     i: u64,
 ) -> Result<(usize, u64), OutOfMemory>
     requires some { 0 < length kids.old.items }
@@ -47,7 +48,7 @@ pub fn ready<T: Keyed + Clone>(
     ensures child { IfOk result (λ p. IsAt kids.new.items i p.0 p.1) }
     ensures room { IfOk result (λ p. (d : Shape T) → 0 < (slice_index_or kids.new.items p.0 d).room) }
 {
-    let (k, j) = find(kids, ends, i);
+    let (k, j) = find(kids, ends, density, i);
     let kid = &kids[k];
     if kid.tree.has_room() {
         return Ok((k, j));
@@ -119,11 +120,17 @@ impl<T: Keyed + Clone> Tree<T> {
     {
         match &mut self.node {
             Node::Page(items) => grow_page(items, i as usize, growth),
-            Node::Fork { kids, ends, .. } => {
-                let (k, j) = ready(alloc, kids, ends, i)?;
+            Node::Fork {
+                kids,
+                ends,
+                density,
+                ..
+            } => {
+                let (k, j) = ready(alloc, kids, ends, *density, i)?;
                 let kid = &mut kids[k];
                 kid.grow(alloc, j, growth)?;
                 lengthen(ends, k, 1);
+                *density = density_of(ends);
                 return Ok(());
             }
         }

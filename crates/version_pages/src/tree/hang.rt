@@ -6,7 +6,7 @@ ghost use Rattle.version_pages.specs.Shape.{AreEnds, AreKids, IsAt, joined};
 
 use super::grow::lengthen;
 use super::parts::page_kid;
-use super::split::put_end;
+use super::split::{put_end, put_kid};
 use super::{FULL, Kid, WIDE, find};
 use crate::keyed::Keyed;
 use crate::page::page_of_copies;
@@ -18,6 +18,7 @@ use std::alloc::Global;
 pub fn hangs_at<T: Keyed>(
     kids: &Vec<Kid<T>>,
     ends: &Vec<u64>,
+    density: u64,
     height: u64,
     i: u64,
     count: usize,
@@ -31,22 +32,11 @@ pub fn hangs_at<T: Keyed>(
     if height != 1 || count < FULL {
         return None;
     }
-    let (k, j) = find(kids, ends, i);
+    let (k, j) = find(kids, ends, density, i);
     if j > 0 {
         return None;
     }
     Some(k)
-}
-
-/// Puts one more child in at a place, where there is memory for it.
-fn put_kid<T: Keyed + Drop>(kids: &mut Vec<Kid<T>>, k: usize, kid: Kid<T>)
-    requires child { k ≤ length kids.old.items }
-    requires memory { vec_len kids.old < vec_capacity kids.old }
-    ensures { kids.new.items ≡ insert kids.old.items k kid }
-{
-    let Ok(()) = kids.insert(k, kid) else {
-        unreachable!();
-    };
 }
 
 /// Hangs a page of the first of some elements in before the child that begins at a place. It answers how many they are.

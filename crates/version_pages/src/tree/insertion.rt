@@ -7,7 +7,7 @@ ghost use Rattle.version_pages.specs.Shape.{IsDeep};
 use super::grow::{lengthen, ready};
 use super::hang::{hang, hangs_at};
 use super::own::unshare;
-use super::{FULL, Kid, LONG, Node, Tree, key_after};
+use super::{FULL, Kid, LONG, Node, Tree, density_of, key_after};
 use crate::keyed::Keyed;
 use dn_model::OutOfMemory;
 use std::alloc::Global;
@@ -52,14 +52,22 @@ impl<T: Keyed + Copy> Tree<T> {
     {
         match &mut self.node {
             Node::Page(page) => insert_on(page, i as usize, items),
-            Node::Fork { kids, height, ends } => {
-                if let Some(k) = hangs_at(kids, ends, *height, i, items.len()) {
-                    return hang(alloc, kids, ends, k, i, items);
+            Node::Fork {
+                kids,
+                height,
+                ends,
+                density,
+            } => {
+                if let Some(k) = hangs_at(kids, ends, *density, *height, i, items.len()) {
+                    let hung = hang(alloc, kids, ends, k, i, items);
+                    *density = density_of(ends);
+                    return hung;
                 }
-                let (k, j) = ready(alloc, kids, ends, i)?;
+                let (k, j) = ready(alloc, kids, ends, *density, i)?;
                 let kid = &mut kids[k];
                 let count = kid.insert_some(alloc, j, items)?;
                 lengthen(ends, k, count as u64);
+                *density = density_of(ends);
                 return Ok(count);
             }
         }

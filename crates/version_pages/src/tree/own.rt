@@ -36,7 +36,12 @@ impl<T: Keyed + Clone> Tree<T> {
                     node: Node::Page(items),
                 })
             }
-            Node::Fork { kids, height, ends } => {
+            Node::Fork {
+                kids,
+                height,
+                ends,
+                density,
+            } => {
                 let room = (2 * kids.len()).min(WIDE);
                 let kids = page_of(alloc, room, kids)?;
                 let ends = page_of(alloc, room, ends)?;
@@ -45,6 +50,7 @@ impl<T: Keyed + Clone> Tree<T> {
                         kids,
                         height: *height,
                         ends,
+                        density: *density,
                     },
                 })
             }

@@ -3,7 +3,7 @@
 ghost use Rattle.std.specs.Prelude.{◌≡◌, ◌<◌, ◌≤◌, ◌^◌, ◌++◌, ◌↔◌, IfOk, OnOk, IsTrue, length};
 ghost use Rattle.version_pages.specs.Shape.{AreHalves, IsDeep, IsUnder, AreKids, AreEnds, joined, page_shape, fork_shape};
 
-use super::{FULL, Kid, LONG, Node, Tree, WIDE};
+use super::{FULL, Kid, LONG, Node, Tree, WIDE, density_of};
 use crate::keyed::Keyed;
 use crate::page::{page_of, page_of_one};
 use dn_model::OutOfMemory;
@@ -66,8 +66,14 @@ pub fn fork_kid<T: Keyed + Drop>(
 {
     let len = len_of(&kids);
     let ends = ends_of(alloc, &kids)?;
+    let density = density_of(&ends);
     let tree = Tree {
-        node: Node::Fork { kids, height, ends },
+        node: Node::Fork {
+            kids,
+            height,
+            ends,
+            density,
+        },
     };
     let _height = tree.height();
     let key = tree.key();

@@ -132,7 +132,12 @@ impl<T: Keyed + Clone> Tree<T> {
                 let at = if at_end { FULL - 1 } else { FULL / 2 };
                 return split_page(alloc, items, at);
             }
-            Node::Fork { kids, height, ends } => {
+            Node::Fork {
+                kids,
+                height,
+                ends,
+                ..
+            } => {
                 let at = if at_end { WIDE - 2 } else { WIDE / 2 };
                 return split_fork(alloc, kids, ends, *height, at);
             }
@@ -162,13 +167,13 @@ impl<T: Keyed + Clone> Kid<T> {
     }
 }
 
-/// Puts the upper part of a child behind it, where there is memory for one more.
-fn put_upper<T: Keyed + Drop>(kids: &mut Vec<Kid<T>>, k: usize, upper: Kid<T>)
-    requires child { k < length kids.old.items }
+/// Puts one more child in at a place, where there is memory for it.
+pub fn put_kid<T: Keyed + Drop>(kids: &mut Vec<Kid<T>>, k: usize, kid: Kid<T>)
+    requires child { k ≤ length kids.old.items }
     requires memory { vec_len kids.old < vec_capacity kids.old }
-    ensures { kids.new.items ≡ insert kids.old.items (k + 1) upper }
+    ensures { kids.new.items ≡ insert kids.old.items k kid }
 {
-    let Ok(()) = kids.insert(k + 1, upper) else {
+    let Ok(()) = kids.insert(k, kid) else {
         unreachable!();
     };
 }
@@ -209,7 +214,7 @@ pub fn part<T: Keyed + Clone>(
     let kid = &mut kids[k];
     let upper = kid.split_off(alloc, at_end)?;
     let len = kid.len;
-    put_upper(kids, k, upper);
+    put_kid(kids, k + 1, upper);
     put_end(ends, k, start + len);
     Ok(len)
 }

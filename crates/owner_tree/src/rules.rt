@@ -59,23 +59,19 @@ fn is_before(x: &Rule, y: &Rule) -> bool
     y.len < x.len || (x.len == y.len && x.metric < y.metric)
 }
 
-/// The one of two rules that goes first; the earlier one, where neither does.
-fn first_of_two(x: Option<Rule>, y: Rule) -> Option<Rule>
-    ensures { result ≡ first_of x y }
-{
-    match x {
-        None => Some(y),
-        Some(x) => { if is_before(&y, &x) { Some(y) } else { Some(x) } }
-    }
-}
-
-/// The rule that goes before all others.
+/// The rule that goes before all others. It goes by places and copies no rule on its way, since each update of a segment
+/// asks this twice, and a copy of what was just written waits for that.
 pub fn first_rule(rules: &[Rule]) -> Option<Rule>
     ensures { result ≡ fold first_of None rules.now }
 {
-    let mut first = None;
-    for rule in rules {
-        first = first_of_two(first, *rule);
+    if rules.is_empty() {
+        return None;
     }
-    first
+    let mut first = 0;
+    for at in 1..rules.len() {
+        if is_before(&rules[at], &rules[first]) {
+            first = at;
+        }
+    }
+    Some(rules[first])
 }

@@ -12,7 +12,7 @@ use Rattle.version_pages.specs.Changes.{Changes}
 use Rattle.dn_model.specs.declared.target.Target.{Target}
 use Rattle.edge_labels.specs.declared.code_chunk.CodeChunk.{CodeChunk}
 use Rattle.edge_labels.specs.declared.codes.Edge.{Edge}
-use Rattle.edge_labels.specs.ChunkRows.{AreChunkRows, AreLaid, code_in, codes_in, IsWritten, labels_in, lane_at, no_codes, stride_of}
+use Rattle.edge_labels.specs.ChunkRows.{AreChunkRows, AreLaid, code_in, codes_in, IsWritten, labels_in, lane_at, no_codes, repeated, stride_of}
 use Rattle.edge_labels.specs.Codes.{edge_at}
 use Rattle.edge_labels.specs.Labels.{Labels, first_labels, parted, target_at}
 use Rattle.edge_labels.specs.Rows.{AreFirst, AreRows, codes_of, IsCodeOf, labels_of, targets_by}
@@ -113,12 +113,12 @@ came-inside a b atoms la lb = ⊎_elim
 abbrev pub twice : ℕ → ℕ → List CodeChunk → List CodeChunk
 twice n a chunks = take ((a + 1) * stride_of n) chunks ++ (take (stride_of n) (drop (a * stride_of n) chunks) ++ drop ((a + 1) * stride_of n) chunks)
 
--- as the calls say it
-pub made-twice : (n a width from next : ℕ) (old row new : List CodeChunk) → width ≡ stride_of n → from ≡ a * stride_of n → next ≡ (a + 1) * stride_of n → row ≡ take width (drop from old) → new ≡ take next old ++ row ++ drop next old → new ≡ twice n a old
-made-twice n a width from next old row new wide begin end is made =
+-- as the call says it
+pub made-twice : (n a width from next : ℕ) (old new : List CodeChunk) → width ≡ stride_of n → from ≡ a * stride_of n → next ≡ (a + 1) * stride_of n → new ≡ repeated old from width next → new ≡ twice n a old
+made-twice n a width from next old new wide begin end made =
     made
-    ∙ append_assoc (take next old) row (drop next old)
-    ∙ ap (λ (xs : List CodeChunk). take next old ++ (xs ++ drop next old)) (is ∙ ap (λ k. take k (drop from old)) wide ∙ ap (λ k. take (stride_of n) (drop k old)) begin)
+    ∙ append_assoc (take next old) (take width (drop from old)) (drop next old)
+    ∙ ap (λ (xs : List CodeChunk). take next old ++ (xs ++ drop next old)) (ap (λ k. take k (drop from old)) wide ∙ ap (λ k. take (stride_of n) (drop k old)) begin)
     ∙ ap (λ k. take k old ++ (take (stride_of n) (drop (a * stride_of n) old) ++ drop k old)) end
 
 module _ (n atoms a : ℕ) (old new : List CodeChunk) (long : length old ≡ atoms * stride_of n) (la : a < atoms) (is : new ≡ twice n a old) where

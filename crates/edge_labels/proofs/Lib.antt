@@ -13,3 +13,4 @@ pub mod Swapped
 pub mod Patched
 pub mod MovedRun
 pub mod RunLemmas
+pub mod SplitLemmas

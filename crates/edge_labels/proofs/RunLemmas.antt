@@ -12,7 +12,7 @@ use Rattle.version_pages.specs.Changes.{ChangesRun}
 use Rattle.dn_model.specs.declared.target.Target.{Target}
 use Rattle.edge_labels.specs.declared.code_chunk.CodeChunk.{CodeChunk}
 use Rattle.edge_labels.specs.declared.codes.Edge.{Edge}
-use Rattle.edge_labels.specs.ChunkRows.{AreChunkRows, AreWritten, codes_in, IsColumnWritten, IsFrontWritten, labels_in, lane_at, no_codes, stride_of}
+use Rattle.edge_labels.specs.ChunkRows.{AreChunkRows, AreWritten, codes_in, IsColumnWritten, labels_in, lane_at, no_codes, stride_of}
 use Rattle.edge_labels.specs.Codes.{edge_at, IsCoded}
 use Rattle.edge_labels.specs.Labels.{Labels, moved_run, targets_of}
 use Rattle.edge_labels.specs.Rows.{AreRows, code_at, codes_of, IsCodeOf, labels_of, targets_by}
@@ -266,13 +266,11 @@ module _ (n atoms r first past code : ℕ) (codes now : List ℕ) (edges new : L
 
 -- ---- what the call leaves
 
-pub run-chunks : (n atoms r first count code : ℕ) (old now : List CodeChunk) (edges new : List Edge) (t : Target) → AreChunkRows n atoms old edges → IsCoded edges new (record { router = r; target = t }) code → IsFrontWritten n r first old now count code → r < n → first + count ≤ atoms → AreChunkRows n atoms now new
-run-chunks n atoms r first count code old now edges new t kept coded front lr fits =
-    let inside : first + front.done ≤ atoms = omega (arith, front.few) in
-    record {
-      long = front.written.long ∙ kept.long;
-      rows = run-rows n atoms r first (first + front.done) code (codes_in n atoms old) (codes_in n atoms now) edges new t kept.rows coded (column-moved n atoms r first front.done code old now front.written lr inside) lr;
-    }
+pub run-chunks : (n atoms r first count code : ℕ) (old now : List CodeChunk) (edges new : List Edge) (t : Target) → AreChunkRows n atoms old edges → IsCoded edges new (record { router = r; target = t }) code → IsColumnWritten n r first old now count code → r < n → first + count ≤ atoms → AreChunkRows n atoms now new
+run-chunks n atoms r first count code old now edges new t kept coded is lr fits = record {
+  long = is.long ∙ kept.long;
+  rows = run-rows n atoms r first (first + count) code (codes_in n atoms old) (codes_in n atoms now) edges new t kept.rows coded (column-moved n atoms r first count code old now is lr fits) lr;
+}
 
 pub run-chunks-seen : (n atoms r first past count code : ℕ) (old now : List CodeChunk) (edges new : List Edge) (t : Target) (g : Labels) → labels_in n atoms old edges ≡ g → AreChunkRows n atoms old edges → IsCoded edges new (record { router = r; target = t }) code → IsColumnWritten n r first old now count code → r < n → past ≤ atoms → first + count ≡ past → labels_in n atoms now new ≡ moved_run g r first past t
 run-chunks-seen n atoms r first past count code old now edges new t g seen kept coded is lr inside e =

@@ -1,6 +1,6 @@
 -- How rows of codes stand in chunks of eight, in order: each atom's row has so many whole chunks that each router has a place.
 -- What stands behind the last router's code means nothing.
-use Rattle.std.specs.Prelude.{ℕ, List, length, map, replicate, slice_index, slice_index_or, ◌≡◌, ◌+◌, ◌*◌, ◌/◌, ◌%◌, ◌<◌, ◌≤◌}
+use Rattle.std.specs.Prelude.{ℕ, List, length, map, replicate, slice_index, slice_index_or, take, drop, ◌++◌, ◌≡◌, ◌+◌, ◌*◌, ◌/◌, ◌%◌, ◌<◌, ◌≤◌}
 use Rattle.std.specs.List.{range_with_len}
 use Rattle.edge_labels.specs.declared.code_chunk.CodeChunk.{CodeChunk}
 use Rattle.edge_labels.specs.declared.codes.Edge.{Edge}
@@ -55,11 +55,9 @@ abbrev pub IsColumnWritten : ℕ → ℕ → ℕ → List CodeChunk → List Cod
 IsColumnWritten routers r first old new count code =
     AreWritten old new (first * stride_of routers + r / 8) (stride_of routers) (r % 8) count code
 
--- it has it at the first of them
-pub record IsFrontWritten (routers r first : ℕ) (old new : List CodeChunk) (count code : ℕ) : Type 0 where
-  pub done : ℕ
-  pub few : done ≤ count
-  pub written : IsColumnWritten routers r first old new done code
+-- so many chunks from a place on, once more before the one that stands at another place
+abbrev pub repeated : List CodeChunk → ℕ → ℕ → ℕ → List CodeChunk
+repeated chunks from count next = take next chunks ++ take count (drop from chunks) ++ drop next chunks
 
 -- the first of some codes stand in a row of chunks
 pub record AreLaid (codes : List ℕ) (chunks : List CodeChunk) (count so_far : ℕ) : Type 0 where

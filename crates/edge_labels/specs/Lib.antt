@@ -4,3 +4,4 @@ pub mod ChunkRows
 pub mod Codes
 pub mod Labels
 pub mod Rows
+pub mod SplitCodes

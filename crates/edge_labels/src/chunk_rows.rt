@@ -1,11 +1,11 @@
-//! Codes of what routers do with atoms, in rows of chunks of eight: for each atom, in order, stands a row of so many whole
-//! chunks that each router has a code in it. What stands behind the last router's code means nothing.
+//! Halves of codes of what routers do with atoms, in rows of chunks of eight: for each atom, in order, stands a row of so
+//! many whole chunks that each router has a place in it. What stands behind the last router's means nothing. What is said
+//! of codes here holds of lower halves as of upper ones.
 
-ghost use Rattle.std.specs.Prelude.{◌≡◌, ◌+◌, ◌*◌, ◌/◌, ◌%◌, ◌<◌, ◌^◌, ◌≤◌, ◌++◌, length, take, drop, IfOk, OnOk, OnErr};
-ghost use Rattle.edge_labels.specs.ChunkRows.{AreLaid, AreWritten, IsColumnWritten, IsFrontWritten, IsWritten, lane_at, stride_of};
+ghost use Rattle.std.specs.Prelude.{◌≡◌, ◌+◌, ◌*◌, ◌/◌, ◌%◌, ◌<◌, ◌^◌, ◌≤◌, ◌++◌, length, replicate, take, drop, IfOk, OnOk, OnErr};
+ghost use Rattle.edge_labels.specs.ChunkRows.{AreWritten, IsColumnWritten, IsWritten, lane_at, no_codes, repeated, stride_of};
 
 use crate::code_chunk::CodeChunk;
-use crate::code_rows::read;
 use dn_model::{OutOfMemory, RouterId};
 use std::alloc::Global;
 use version_pages::Pages;
@@ -56,7 +56,7 @@ pub fn place_in(routers: u32, r: RouterId, atom: u64) -> Place
 }
 
 /// The code at a place.
-pub fn code_at(chunks: &Pages<CodeChunk>, place: Place) -> u32
+pub fn code_at(chunks: &Pages<CodeChunk>, place: Place) -> u16
     requires chunk { place.chunk < length chunks.now }
     requires lane { place.lane < 8 }
     ensures { result ≡ lane_at chunks.now place.chunk place.lane }
@@ -72,7 +72,7 @@ pub fn write(
     alloc: Global,
     chunks: &mut Pages<CodeChunk>,
     place: Place,
-    code: u32,
+    code: u16,
 ) -> Result<(), OutOfMemory>
     requires chunk { place.chunk < length chunks.old }
     requires lane { place.lane < 8 }
@@ -87,8 +87,8 @@ pub fn write(
 }
 
 /// So many chunks whose codes are all 0.
-fn empty_chunks(alloc: Global, count: u64) -> Result<Pages<CodeChunk>, OutOfMemory>
-    ensures { IfOk result (λ chunks. length chunks ≡ count) }
+pub fn empty_chunks(alloc: Global, count: u64) -> Result<Pages<CodeChunk>, OutOfMemory>
+    ensures { IfOk result (λ chunks. chunks ≡ replicate count no_codes) }
 {
     let mut chunks = Pages::new();
     for _chunk in 0..count {
@@ -97,28 +97,8 @@ fn empty_chunks(alloc: Global, count: u64) -> Result<Pages<CodeChunk>, OutOfMemo
     Ok(chunks)
 }
 
-/// The row of chunks that has these codes, of which there are so many.
-pub fn chunks_of(
-    alloc: Global,
-    codes: &Pages<u32>,
-    count: u32,
-) -> Result<Pages<CodeChunk>, OutOfMemory>
-    requires { length codes.now ≡ count }
-    ensures { IfOk result (λ chunks. AreLaid codes.now chunks count count) }
-{
-    let mut chunks = empty_chunks(alloc, stride(count))?;
-    for r in 0..count {
-        let place = Place {
-            chunk: r as u64 / 8,
-            lane: r % 8,
-        };
-        write(alloc, &mut chunks, place, read(codes, r as u64))?;
-    }
-    Ok(chunks)
-}
-
 /// So many chunks from a place on. It goes down to each page of them once.
-pub fn chunks_from(
+fn chunks_from(
     alloc: Global,
     chunks: &Pages<CodeChunk>,
     from: u64,
@@ -138,9 +118,27 @@ pub fn chunks_from(
     Ok(row)
 }
 
+/// So many chunks from a place on come to stand once more, before the one that stands at another place, or at the end.
+/// After `OutOfMemory` the first of them may be there.
+pub fn repeat(
+    alloc: Global,
+    chunks: &mut Pages<CodeChunk>,
+    from: u64,
+    count: u64,
+    next: u64,
+) -> Result<(), OutOfMemory>
+    requires inside { from + count ≤ length chunks.old }
+    requires fits { from + count < 2 ^ 64 }
+    requires place { next ≤ length chunks.old }
+    ensures { OnOk result (chunks.new ≡ repeated chunks.old from count next) }
+{
+    let row = chunks_from(alloc, chunks, from, count)?;
+    chunks.insert_all(alloc, next, &row)
+}
+
 /// Puts a code into a chunk of a run, and into each one that stands so much further on than the one before, from the
 /// first chunk on and in at most so many. It answers in how many.
-fn put_each(run: &mut [CodeChunk], stride: u64, lane: u32, code: u32, most: u64) -> u64
+fn put_each(run: &mut [CodeChunk], stride: u64, lane: u32, code: u16, most: u64) -> u64
     requires some { 0 < stride }
     requires few { stride < 2 ^ 32 }
     requires lane { lane < 8 }
@@ -166,7 +164,7 @@ fn write_some(
     chunks: &mut Pages<CodeChunk>,
     place: Place,
     stride: u64,
-    code: u32,
+    code: u16,
     most: u64,
 ) -> Result<u64, OutOfMemory>
     requires chunk { place.chunk < length chunks.old }
@@ -186,19 +184,19 @@ fn write_some(
 }
 
 /// Puts a code at each place of a column, page by page. Where it fails, for which want of memory is the one cause, it
-/// stands at the first of them.
+/// may stand at the first of them.
 pub fn write_column(
     alloc: Global,
     chunks: &mut Pages<CodeChunk>,
     column: Column,
-    code: u32,
+    code: u16,
 ) -> Result<(), OutOfMemory>
     requires router { column.r.0 < column.routers }
     requires atoms { column.first + column.count ≤ 2 ^ 32 }
     requires inside { (column.first + column.count) * stride_of column.routers ≤ length chunks.old }
     ensures all { OnOk result
         (IsColumnWritten column.routers column.r.0 column.first chunks.old chunks.new column.count code) }
-    ensures front { IsFrontWritten column.routers column.r.0 column.first chunks.old chunks.new column.count code }
+    ensures long { length chunks.new ≡ length chunks.old }
 {
     let Column {
         routers,

@@ -12,6 +12,7 @@ mod code_rows;
 mod codes;
 mod label_graph;
 mod sets;
+mod split_codes;
 mod target_rows;
 #[cfg(test)]
 mod tests;

@@ -3,30 +3,27 @@
 ghost use Rattle.std.specs.Prelude.{◌≡◌, ◌<◌, ◌≤◌, ◌^◌, length, IfOk, OnOk};
 ghost use Rattle.edge_labels.specs.Labels.{first_labels, moved_run, parted, target_at};
 
-use crate::chunk_rows::{
-    Column, chunks_from, chunks_of, code_at, place_in, start_of, stride, write_column,
-};
+use crate::chunk_rows::{Column, place_in, start_of, stride};
 use crate::code_book::CodeBook;
-use crate::code_chunk::CodeChunk;
 use crate::code_rows::{FirstRow, first_row};
 use crate::codes::Edge;
+use crate::split_codes::SplitCodes;
 use dn_model::{OutOfMemory, RouterId, Target};
 use std::alloc::Global;
 use std::marker::Model;
-use version_pages::Pages;
 
 /// What each router does with each atom, as a row of codes by the atom's place in the list of all atoms. A contract sees
 /// the number of routers and, for each atom in order, the targets by router. Rows stand in the order of addresses, so
 /// that a walk over the atoms of a prefix, or over all, reads and writes memory in order. Each router with a target has a
 /// code. No set of atoms is kept, so that a move writes one code for each atom, and a cut one row. A row has whole chunks
-/// of eight codes: a page has 64 chunks, so few forks stand above each code. A copy is a few counts. The code that was
-/// written last is a guess of the next one, since an update writes the same at many atoms; no clause and no invariant
-/// speaks of it.
+/// of eight codes: a page has 64 chunks, so few forks stand above each code. A code takes two bytes, and four once one of
+/// 65,536 or more was written. A copy is a few counts. The code that was written last is a guess of the next one, since an
+/// update writes the same at many atoms; no clause and no invariant speaks of it.
 #[derive(Drop)]
 pub struct TargetRows {
     routers: u32,
     atoms: u64,
-    chunks: Pages<CodeChunk>,
+    chunks: SplitCodes,
     book: CodeBook,
     last: u32,
 }
@@ -48,7 +45,7 @@ impl TargetRows {
         ensures { IfOk result (λ rows. rows ≡ first_labels routers) }
     {
         let FirstRow { codes, book } = first_row(alloc, routers)?;
-        let chunks = chunks_of(alloc, &codes, routers)?;
+        let chunks = SplitCodes::of(alloc, &codes, routers)?;
         Ok(TargetRows {
             routers,
             atoms: 1,
@@ -64,7 +61,7 @@ impl TargetRows {
         requires place { place < length self.now.rows }
         ensures { result ≡ target_at self.now r.0 place }
     {
-        let code = code_at(&self.chunks, place_in(self.routers, r, place));
+        let code = self.chunks.code_at(place_in(self.routers, r, place));
         self.book.edge(code).target
     }
 
@@ -95,8 +92,14 @@ impl TargetRows {
             first,
             count: past - first,
         };
-        write_column(alloc, &mut self.chunks, column, code)?;
-        Ok(())
+        match self.chunks.write_column(alloc, column, code) {
+            Ok(()) => Ok(()),
+            Err(OutOfMemory) => {
+                self.atoms = 0;
+                self.chunks = SplitCodes::new();
+                Err(OutOfMemory)
+            }
+        }
     }
 
     /// The row at a place comes to stand twice, side by side, as its atom is cut in two. It fails for want of memory
@@ -108,15 +111,13 @@ impl TargetRows {
     {
         let from = start_of(self.routers, place);
         let next = start_of(self.routers, place + 1);
-        let row = chunks_from(alloc, &self.chunks, from, stride(self.routers))?;
-        match self.chunks.insert_all(alloc, next, &row) {
+        match self.chunks.repeat(alloc, from, stride(self.routers), next) {
             Ok(()) => {
                 self.atoms += 1;
                 Ok(())
             }
             Err(OutOfMemory) => {
                 self.atoms = 0;
-                self.chunks = Pages::new();
                 Err(OutOfMemory)
             }
         }

@@ -1,8 +1,9 @@
 use Rattle.std.proofs.Common.{◌<◌, ◌≤◌, ◌^◌, ◌+◌, ◌-◌, arith}
 use Rattle.std.proofs.lemmas.Nat.{mul-le}
 use Rattle.edge_labels.specs.ChunkRows.{stride_of}
-use Rattle.edge_labels.proofs.ChunkLemmas.{atoms-in, routers-in}
+use Rattle.edge_labels.proofs.ChunkLemmas.{atoms-in, no-chunks, routers-in}
 use Rattle.edge_labels.proofs.RunLemmas.{run-chunks, run-chunks-seen}
+use Rattle.edge_labels.proofs.TargetLemmas.{coded-within}
 use Rattle.edge_labels.proofs.target_rows.TargetRows.move_run.Goals as goal
 
 pub write_column-requires-clause-router : goal.write_column-requires-clause-router
@@ -20,23 +21,22 @@ write_column-requires-clause-inside c =
     let inside : c.args.first + (c.args.past - c.args.first) ≤ c.self.inside.atoms = omega (arith, atoms-in s.routers s.atoms s.chunks s.book c.args.self.now c.self.view_is) in
     omega (arith, mul-le (c.args.first + (c.args.past - c.args.first)) (stride_of s.routers) s.atoms (stride_of s.routers) inside (omega arith), c.self.invariant.long)
 
-pub invariant_of-self-in_err-write_column : goal.invariant_of-self-in_err-write_column
-invariant_of-self-in_err-write_column c =
+pub invariant_of-self-in-Ok : goal.invariant_of-self-in-Ok
+invariant_of-self-in-Ok c =
     let s = c.self.inside in
     let inside : c.args.first + (c.args.past - c.args.first) ≤ c.self.inside.atoms = omega (arith, atoms-in s.routers s.atoms s.chunks s.book c.args.self.now c.self.view_is) in
     let lr : c.args.r.0 < c.self.inside.routers = omega (arith, routers-in s.routers s.atoms s.chunks s.book c.args.self.now c.self.view_is) in
-    run-chunks s.routers s.atoms c.args.r.0 c.args.first (c.args.past - c.args.first) c.in_ok-code.code s.chunks c.write_column.new.chunks s.book c.code_near.new.self c.args.after c.self.invariant c.in_ok-code.ensures.ok c.in_err-write_column.ensures.front lr inside
+    run-chunks s.routers s.atoms c.args.r.0 c.args.first (c.args.past - c.args.first) c.in_ok-code.code s.chunks c.write_column.new.self s.book c.code_near.new.self c.args.after c.self.invariant c.in_ok-code.ensures.ok c.in-Ok.ensures lr inside
 
-pub invariant_of-self-2 : goal.invariant_of-self-2
-invariant_of-self-2 c =
-    let s = c.self.inside in
-    let inside : c.args.first + (c.args.past - c.args.first) ≤ c.self.inside.atoms = omega (arith, atoms-in s.routers s.atoms s.chunks s.book c.args.self.now c.self.view_is) in
-    let lr : c.args.r.0 < c.self.inside.routers = omega (arith, routers-in s.routers s.atoms s.chunks s.book c.args.self.now c.self.view_is) in
-    run-chunks s.routers s.atoms c.args.r.0 c.args.first (c.args.past - c.args.first) c.in_ok-code.code s.chunks c.write_column.new.chunks s.book c.code_near.new.self c.args.after c.self.invariant c.in_ok-code.ensures.ok c.in_ok-write_column.ensures.front lr inside
-
-pub returns : goal.returns
-returns c =
+pub returns-in-Ok : goal.returns-in-Ok
+returns-in-Ok c =
     let s = c.self.inside in
     let inside : c.args.past ≤ c.self.inside.atoms = omega (arith, atoms-in s.routers s.atoms s.chunks s.book c.args.self.now c.self.view_is) in
     let lr : c.args.r.0 < c.self.inside.routers = omega (arith, routers-in s.routers s.atoms s.chunks s.book c.args.self.now c.self.view_is) in
-    run-chunks-seen s.routers s.atoms c.args.r.0 c.args.first c.args.past (c.args.past - c.args.first) c.in_ok-code.code s.chunks c.write_column.new.chunks s.book c.code_near.new.self c.args.after c.args.self.now c.self.view_is c.self.invariant c.in_ok-code.ensures.ok c.in_ok-write_column.ensures.all lr inside (omega arith)
+    run-chunks-seen s.routers s.atoms c.args.r.0 c.args.first c.args.past (c.args.past - c.args.first) c.in_ok-code.code s.chunks c.write_column.new.self s.book c.code_near.new.self c.args.after c.args.self.now c.self.view_is c.self.invariant c.in_ok-code.ensures.ok c.in-Ok.ensures lr inside (omega arith)
+
+pub invariant_of-self-in-Err : goal.invariant_of-self-in-Err
+invariant_of-self-in-Err c =
+    let s = c.self.inside in
+    let lr : c.args.r.0 < c.self.inside.routers = omega (arith, routers-in s.routers s.atoms s.chunks s.book c.args.self.now c.self.view_is) in
+    no-chunks s.routers _ c.code_near.new.self c.new.ensures (λ k l. coded-within s.routers c.args.r.0 c.in_ok-code.code s.book c.code_near.new.self c.args.after c.self.invariant.rows.within c.in_ok-code.ensures.ok lr k l)

@@ -4,10 +4,13 @@ ghost use Rattle.std.specs.Prelude.{◌≡◌, ◌+◌, ◌<◌, ◌≤◌, ◌^
 ghost use Rattle.dn_model.specs.declared.target.Target.TheVariants.{Exit, Local};
 ghost use Rattle.edge_labels.specs.Labels.{Labels};
 
+use super::chunk_rows::{Column, Place};
+use super::split_codes::SplitCodes;
 use super::{AtomSet, LabelGraph, TargetRows};
 use dn_model::{AtomId, OutOfMemory, RouterId, Target};
 use std::alloc::Global;
 use std::process::Abort;
+use version_pages::Pages;
 
 fn set_of(rt: &impl Abort, alloc: Global, atoms: &[AtomId]) -> AtomSet {
     AtomSet::of(alloc, atoms).expect(rt, "memory")
@@ -283,4 +286,77 @@ fn a_run_of_atoms_over_many_pages(rt: HostRuntime) {
     turn(&rt, rt.alloc(), &mut rows, 16, 101, 102, Target::Local);
     compare_rows(&rt, &rows, 16, 101, 102);
     compare_rows(&rt, &copy, 17, 0, 0);
+}
+
+/// A row of seventeen codes, which count up from the first.
+fn codes_from(rt: &impl Abort, alloc: Global, first: u32) -> SplitCodes
+    requires { first ≤ 65528 }
+    ensures { length result ≡ 3 }
+{
+    let mut codes = Pages::new();
+    for r in 0..17 {
+        codes.push(alloc, first + r).expect(rt, "memory");
+    }
+    SplitCodes::of(alloc, &codes, 17).expect(rt, "memory")
+}
+
+/// The first row of codes comes to stand twice.
+fn repeat_codes(rt: &impl Abort, alloc: Global, codes: &mut SplitCodes)
+    requires { length codes.old ≡ 3 }
+    ensures { length codes.new ≡ 6 }
+{
+    codes.repeat(alloc, 0, 3, 3).expect(rt, "memory");
+}
+
+/// The last code of one of two rows becomes another.
+fn turn_last(rt: &impl Abort, alloc: Global, codes: &mut SplitCodes, row: u64, code: u32)
+    requires row { row < 2 }
+    requires codes { length codes.old ≡ 6 }
+    ensures { length codes.new ≡ 6 }
+{
+    let column = Column {
+        routers: 17,
+        r: RouterId(16),
+        first: row,
+        count: 1,
+    };
+    codes.write_column(alloc, column, code).expect(rt, "memory");
+}
+
+/// A row has codes that count up from the first, but for the last one, which is this one.
+fn compare_codes(rt: &impl Abort, codes: &SplitCodes, row: u64, first: u32, last: u32)
+    requires row { row < 2 }
+    requires codes { length codes.now ≡ 6 }
+    requires first { first ≤ 65528 }
+{
+    for r in 0..17 {
+        let place = Place {
+            chunk: 3 * row + r as u64 / 8,
+            lane: r % 8,
+        };
+        let want = if r == 16 { last } else { first + r };
+        assert_eq!(rt; codes.code_at(place), want);
+    }
+}
+
+#[test]
+fn some_codes_of_a_row_have_upper_halves(rt: HostRuntime) {
+    let mut codes = codes_from(&rt, rt.alloc(), 65_528);
+    repeat_codes(&rt, rt.alloc(), &mut codes);
+    turn_last(&rt, rt.alloc(), &mut codes, 1, 5);
+    compare_codes(&rt, &codes, 0, 65_528, 65_544);
+    compare_codes(&rt, &codes, 1, 65_528, 5);
+}
+
+#[test]
+fn the_first_code_with_an_upper_half_leaves_the_others(rt: HostRuntime) {
+    let mut codes = codes_from(&rt, rt.alloc(), 0);
+    repeat_codes(&rt, rt.alloc(), &mut codes);
+    let copy = codes.copy().expect(&rt, "memory");
+    turn_last(&rt, rt.alloc(), &mut codes, 0, 70_000);
+    turn_last(&rt, rt.alloc(), &mut codes, 1, 4_294_967_295);
+    compare_codes(&rt, &codes, 0, 0, 70_000);
+    compare_codes(&rt, &codes, 1, 0, 4_294_967_295);
+    compare_codes(&rt, &copy, 0, 0, 16);
+    compare_codes(&rt, &copy, 1, 0, 16);
 }

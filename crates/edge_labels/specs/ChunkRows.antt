@@ -1,6 +1,6 @@
 -- How rows of codes stand in chunks of eight, in order: each atom's row has so many whole chunks that each router has a place.
 -- What stands behind the last router's code means nothing.
-use Rattle.std.specs.Prelude.{ℕ, List, length, map, replicate, slice_index, slice_index_or, take, drop, ◌++◌, ◌≡◌, ◌+◌, ◌*◌, ◌/◌, ◌%◌, ◌<◌, ◌≤◌}
+use Rattle.std.specs.Prelude.{ℕ, List, length, map, replicate, slice_index, slice_index_or, take, drop, ◌++◌, ◌≡◌, ◌+◌, ◌*◌, ◌/◌, ◌%◌, ◌<◌}
 use Rattle.std.specs.List.{range_with_len}
 use Rattle.edge_labels.specs.declared.code_chunk.CodeChunk.{CodeChunk}
 use Rattle.edge_labels.specs.declared.codes.Edge.{Edge}

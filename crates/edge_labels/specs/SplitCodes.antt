@@ -1,5 +1,5 @@
 -- Codes in two halves of 16 bits, in two lists of chunks: the lower halves, and the upper halves, or nothing where these are 0.
-use Rattle.std.specs.Prelude.{ℕ, List, [], ◌∷◌, length, map, slice_index, ◌≡◌, ◌+◌, ◌*◌, ◌<◌}
+use Rattle.std.specs.Prelude.{List, [], ◌∷◌, length, map, slice_index, ◌≡◌, ◌+◌, ◌*◌, ◌<◌}
 use Rattle.std.specs.List.{range_with_len}
 use Rattle.edge_labels.specs.declared.code_chunk.CodeChunk.{CodeChunk}
 use Rattle.edge_labels.specs.ChunkRows.{no_codes}

@@ -1,4 +1,4 @@
-use Rattle.std.proofs.Common.{◌≡◌, ◌+◌, ◌*◌, ◌<◌, length, ap, sym, ◌∙◌, arith}
+use Rattle.std.proofs.Common.{◌+◌, ◌*◌, ◌<◌, length, ap, sym, ◌∙◌, arith}
 use Rattle.edge_labels.specs.ChunkRows.{lane_at}
 use Rattle.edge_labels.proofs.SplitLemmas.{sides-lane, sides-lane-low, sides-long}
 use Rattle.edge_labels.proofs.split_codes.SplitCodes.code_at.Goals as goal

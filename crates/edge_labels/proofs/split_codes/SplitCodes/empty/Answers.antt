@@ -1,4 +1,4 @@
-use Rattle.std.proofs.Common.{◌≡◌, length, ap, ◌∙◌}
+use Rattle.std.proofs.Common.{length, ap, ◌∙◌}
 use Rattle.std.proofs.lemmas.List.{length-replicate}
 use Rattle.edge_labels.specs.ChunkRows.{no_codes}
 use Rattle.edge_labels.proofs.SplitLemmas.{sides-long}

@@ -1,4 +1,4 @@
-use Rattle.std.proofs.Common.{◌≡◌, length, ap, ◌∙◌, arith}
+use Rattle.std.proofs.Common.{length, ap, arith}
 use Rattle.edge_labels.proofs.SplitLemmas.{sides-long}
 use Rattle.edge_labels.proofs.split_codes.SplitCodes.repeat.Goals as goal
 

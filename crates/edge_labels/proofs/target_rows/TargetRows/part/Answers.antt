@@ -1,4 +1,4 @@
-use Rattle.std.proofs.Common.{◌≡◌, ◌<◌, length, ◌∙◌, arith}
+use Rattle.std.proofs.Common.{◌≡◌, ◌<◌, length, arith}
 use Rattle.edge_labels.specs.ChunkRows.{stride_of}
 use Rattle.edge_labels.proofs.RowLemmas.{row-fits}
 use Rattle.edge_labels.proofs.ChunkLemmas.{atoms-in, made-twice, no-chunks, parted-chunks, parted-chunks-seen}

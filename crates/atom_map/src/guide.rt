@@ -14,10 +14,6 @@ const ROW: usize = WIDTH + 1;
 /// How many bits of an address say where in a step it is.
 const BITS: u32 = 22;
 
-/// How many places before the one that is guessed a guide answers, so that what is looked for is seldom before that. It
-/// mostly stands about so many places behind the answer, and there a search looks first.
-pub const BEFORE: usize = 12;
-
 /// Of things that stand in order of their first addresses, how many begin below each of 1,024 equal steps of the addresses:
 /// from it the place of one is guessed, so that a search need not go through a tree of pages from its root. It is a hint,
 /// of which nothing is promised: who looks there sees whether it is the one. Where memory was wanting there is none.
@@ -81,7 +77,7 @@ fn count_from(begun: &mut [u32], row: usize, place: usize)
     }
 }
 
-/// A place somewhat before the one that stands so far in a step as the address.
+/// The place that stands so far in a step as the address.
 fn guess(begun: &[u32], step: usize, within: u64) -> u64
     requires { step ≤ 1023 }
 {
@@ -93,6 +89,5 @@ fn guess(begun: &[u32], step: usize, within: u64) -> u64
     let first = u64::from(begun[block].wrapping_add(begun[here]));
     let count = u64::from(begun[here + 1].wrapping_sub(begun[here]));
     let ahead = count.wrapping_mul(within) >> BITS;
-    let place = first.wrapping_add(ahead).saturating_sub(BEFORE as u64);
-    place.max(first.saturating_sub(1))
+    first.wrapping_add(ahead)
 }

@@ -8,6 +8,6 @@ mod search;
 #[cfg(test)]
 mod tests;
 
-pub use guide::{BEFORE, Guide};
+pub use guide::Guide;
 pub use map::AtomMap;
 pub use search::AtomSpot;

@@ -5,7 +5,7 @@ ghost use Rattle.dn_model.specs.Atoms.{AreAtoms, IsCut, atom_of, atoms_in, bound
 ghost use Rattle.dn_model.specs.declared.atom_row.AtomRow.{AtomRow};
 ghost use Rattle.atom_map.specs.Index.{one_atom, IsAtomAt, IsAtomPlace};
 
-use crate::guide::{BEFORE, Guide};
+use crate::guide::Guide;
 use crate::search::{
     AtomSpot, atoms_below, part, place_from, place_of, places_near, read, spot_from, spot_near,
 };
@@ -161,7 +161,7 @@ impl AtomMap {
     {
         match near {
             Some(place) => places_near(&self.rows, place, AHEAD, lo, hi),
-            None => places_near(&self.rows, self.guide.place(lo), BEFORE, lo, hi),
+            None => places_near(&self.rows, self.guide.place(lo), 0, lo, hi),
         }
     }
 

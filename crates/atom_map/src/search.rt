@@ -1,11 +1,10 @@
 //! Atoms in order: the one of an address, the first ones, and two in the place of one.
 
-ghost use Rattle.std.specs.Prelude.{◌≡◌, ◌<◌, ◌≤◌, ◌^◌, IfOk, IfSome, OnOk, OnErr, length, map, drop, slice_index_or};
+ghost use Rattle.std.specs.Prelude.{◌≡◌, ◌<◌, ◌≤◌, ◌^◌, IfOk, IfSome, OnOk, OnErr, length, map, drop, slice_index_or, take};
 ghost use Rattle.dn_model.specs.Atoms.{AreAtoms, atom_of};
 ghost use Rattle.dn_model.specs.declared.atom_row.AtomRow.{AtomRow};
 ghost use Rattle.atom_map.specs.Index.{first_below, AgreeBelow, IsAtomAt, IsAtomPlace, IsNoted, IsPartedAt};
 
-use crate::guide::BEFORE;
 use dn_model::{AtomId, AtomRow, OutOfMemory};
 use std::alloc::Global;
 use version_pages::{Keyed, Pages};
@@ -111,23 +110,33 @@ fn place_in(run: &[AtomRow], expected: usize, a: u32) -> Option<usize>
     Some(below)
 }
 
-/// The atom of an address, where it stands in one page with the atom at a place and not before it. It looks first so many
-/// places behind that place as the atom is expected to be.
+/// The page of the atom at a place, or the last page where there are fewer, with the place of its first atom, and how many
+/// of its atoms go before that place.
+fn page_near(rows: &Pages<AtomRow>, near: u64) -> (&[AtomRow], u64, usize)
+    ensures { take (length result.0.now) (drop result.1 rows.now) ≡ result.0.now }
+{
+    let place = near.min(rows.len().saturating_sub(1));
+    let (page, first) = rows.page_at(place);
+    (page, first, (place - first) as usize)
+}
+
+/// The atom of an address, where it stands in one page with the atom at a place. It looks first so many places behind that
+/// place as the atom is expected to be.
 pub fn spot_near(rows: &Pages<AtomRow>, near: u64, expected: usize, a: u32) -> Option<AtomSpot>
     requires { AreAtoms rows.now }
     ensures { IfSome result (λ spot. IsAtomAt rows.now spot.place a spot.row) }
 {
-    let run = rows.run_from(near);
-    let below = place_in(run, expected, a)?;
-    let place = near + below as u64;
+    let (page, first, at) = page_near(rows, near);
+    let below = place_in(page, at.saturating_add(expected), a)?;
+    let place = first + below as u64;
     Some(AtomSpot {
         place,
-        row: run[below],
+        row: page[below],
     })
 }
 
-/// The places of the atoms that have two addresses, where both stand in one page with the atom at a place and not before
-/// it. It looks first for the atom of the first address where that is expected, and for the other from there.
+/// The places of the atoms that have two addresses, where both stand in one page with the atom at a place. It looks first
+/// for the atom of the first address where that is expected, and for the other from there.
 pub fn places_near(
     rows: &Pages<AtomRow>,
     near: u64,
@@ -139,31 +148,10 @@ pub fn places_near(
     ensures first { IfSome result (λ places. IsAtomPlace rows.now places.0 lo) }
     ensures last { IfSome result (λ places. IsAtomPlace rows.now places.1 hi) }
 {
-    let run = rows.run_from(near);
-    let first = place_in(run, expected, lo)?;
-    let last = place_in(run, first, hi)?;
-    Some((near + first as u64, near + last as u64))
-}
-
-/// The atom of an address, where it stands in the page that follows that of a place.
-fn spot_behind(rows: &Pages<AtomRow>, near: u64, a: u32) -> Option<AtomSpot>
-    requires { AreAtoms rows.now }
-    ensures { IfSome result (λ spot. IsAtomAt rows.now spot.place a spot.row) }
-{
-    let rest = rows.run_from(near).len();
-    let next = near.wrapping_add(rest as u64);
-    spot_near(rows, next, BEFORE.saturating_sub(rest), a)
-}
-
-/// The atom of an address, where it stands in the page of a place that a guide gave, from there on, or in the next page.
-fn spot_guided(rows: &Pages<AtomRow>, near: u64, a: u32) -> Option<AtomSpot>
-    requires { AreAtoms rows.now }
-    ensures { IfSome result (λ spot. IsAtomAt rows.now spot.place a spot.row) }
-{
-    match spot_near(rows, near, BEFORE, a) {
-        Some(spot) => Some(spot),
-        None => spot_behind(rows, near, a),
-    }
+    let (page, from, at) = page_near(rows, near);
+    let first = place_in(page, at.saturating_add(expected), lo)?;
+    let last = place_in(page, first, hi)?;
+    Some((from + first as u64, from + last as u64))
 }
 
 /// The place of the atom that has an address. It looks first where a guide says.
@@ -173,7 +161,7 @@ pub fn place_from(rows: &Pages<AtomRow>, near: u64, a: u32) -> u64
     ensures from { (d : AtomRow) → (slice_index_or rows.now result d).low ≤ a }
     ensures to { (d : AtomRow) → a < (slice_index_or rows.now result d).past }
 {
-    match spot_guided(rows, near, a) {
+    match spot_near(rows, near, 0, a) {
         Some(spot) => spot.place,
         None => place_of(rows, a),
     }
@@ -184,7 +172,7 @@ pub fn spot_from(rows: &Pages<AtomRow>, near: u64, a: u32) -> AtomSpot
     requires { AreAtoms rows.now }
     ensures { IsAtomAt rows.now result.place a result.row }
 {
-    match spot_guided(rows, near, a) {
+    match spot_near(rows, near, 0, a) {
         Some(spot) => spot,
         None => spot_of(rows, a),
     }

@@ -38,3 +38,12 @@ within-page all xs i e l = subst (λ t. IsWithin t (take (length xs - i) (drop i
 
 pub within-fork : {T : Type 0} (all kids part inner : List T) (i j k : ℕ) → kids ≡ all → IsWithin kids part i j → IsWithin part inner j k → IsWithin all inner i k
 within-fork all kids part inner i j k e w v = subst (λ t. IsWithin t inner i k) e (within-part kids part inner i j k w v)
+
+-- a page that is the whole list
+pub within-itself : {T : Type 0} (all xs : List T) (i : ℕ) → xs ≡ all → IsWithin all xs i i
+within-itself all xs i e = record {
+  before = [];
+  after = [];
+  whole = sym e ∙ sym (append-nil xs);
+  place = omega arith;
+}

@@ -77,6 +77,23 @@ impl<T: Keyed> Pages<T> {
         None
     }
 
+    /// The page that has the element at a place, and the place of the page's first element; no elements where there is none
+    /// at the place. So a search that is about right at first looks at one page.
+    pub fn page_at(&self, i: u64) -> (&[T], u64)
+        ensures from { result.1 ≤ i }
+        ensures some { i < length self.now → i < result.1 + length result.0.now }
+        ensures page { take (length result.0.now) (drop result.1 self.now) ≡ result.0.now }
+    {
+        let Some(root) = &self.root else {
+            return (&[], i);
+        };
+        if i < root.len() {
+            let (page, j) = root.tree().page_at(i);
+            return (page, i - j);
+        }
+        (&[], i)
+    }
+
     /// The elements from a place to the end of its page, at least one where there is one at the place. So a loop over
     /// many elements goes down the tree once for each page.
     pub fn run_from(&self, i: u64) -> &[T]

@@ -261,6 +261,26 @@ impl<T: Keyed> Tree<T> {
         }
     }
 
+    /// The page that has the element at a place, and the element's place in it.
+    pub fn page_at(&self, i: u64) -> (&[T], u64)
+        requires { i < length self.now.items }
+        ensures inside { result.1 < length result.0.now }
+        ensures within { IsWithin self.now.items result.0.now i result.1 }
+    {
+        match &self.node {
+            Node::Page(items) => (items.as_slice(), i),
+            Node::Fork {
+                kids,
+                ends,
+                density,
+                ..
+            } => {
+                let (child, j) = child_at(kids, ends, *density, i);
+                child.page_at(j)
+            }
+        }
+    }
+
     /// The elements from a place to the end of its page.
     pub fn run_from(&self, i: u64) -> &[T]
         requires { i < length self.now.items }

@@ -13,10 +13,10 @@ use Rattle.owner_tree.specs.contracts.held.Held as Held
 use Rattle.owner_tree.specs.contracts.owners.Owners as Owners
 
 Held-send : IsSend Held.the_row
-Held-send = search (sendable, crosses) depth 40
+Held-send = search (sendable, crosses) depth 60 fits 100000
 
 Held-sync : IsSync Held.the_row
-Held-sync = search (sendable, crosses) depth 40
+Held-sync = search (sendable, crosses) depth 60 fits 100000
 
 Owners-send : IsSend Owners.the_row
 Owners-send = search (Held-send, Held-sync, sendable, crosses) depth 60 fits 100000

@@ -1,6 +1,6 @@
 //! One router's rules at all addresses.
 
-ghost use Rattle.std.specs.Prelude.{◌≡◌, ◌+◌, ℕ, ◌<◌, ◌≤◌, ◌^◌, [], ◌↔◌, IfOk, IfSome, OnOk, IsTrue, length, slice_index_or};
+ghost use Rattle.std.specs.Prelude.{◌≡◌, ◌+◌, ℕ, ◌<◌, ◌≤◌, ◌^◌, [], ◌↔◌, IfOk, IfSome, OnOk, IsTrue, drop, length, slice_index_or, take};
 ghost use Rattle.std.specs.List.{list_any};
 ghost use Rattle.std.specs.Option.{is_some};
 ghost use Rattle.version_pages.specs.Search.{EndsBelow};
@@ -20,9 +20,6 @@ use version_pages::Pages;
 
 /// The address after the last.
 const END: u64 = 0x1_0000_0000;
-
-/// So many segments after the place that the guide says is where a search is expected to end.
-const AHEAD: usize = 12;
 
 /// One router's rules at all addresses: segments in order of address, each up to where the next one begins. Before the
 /// first there is no rule. A contract sees the list of the segments.
@@ -75,21 +72,32 @@ impl RouterOwners {
         Spot { place, begins }
     }
 
-    /// Where a search for an address ends, where that is in one page with a place and after it, or at the very beginning.
-    /// It looks first so many segments after the place.
+    /// The page of the segment at a place, or the last page where there are fewer, with the place of its first segment, and
+    /// how many of its segments go before that place.
+    fn page_near(&self, near: u64) -> (&[Segment], u64, usize)
+        ensures { take (length result.0.now) (drop result.1 self.now) ≡ result.0.now }
+    {
+        let place = near.min(self.segments.len().saturating_sub(1));
+        let (page, first) = self.segments.page_at(place);
+        (page, first, (place - first) as usize)
+    }
+
+    /// Where a search for an address ends, where that is in one page with a place, and behind its first segment or at the
+    /// very beginning. It looks first so many segments after the place.
     fn spot_near(&self, near: u64, ahead: usize, at: u32) -> Option<Spot>
         ensures { IfSome result (λ spot. IsSpot self.now at spot.place spot.begins) }
     {
-        let run = self.segments.run_from(near);
-        let below = count_below(run, at, ahead);
-        if below == run.len() {
+        let _ = &self.segments;
+        let (page, first, here) = self.page_near(near);
+        let below = count_below(page, at, here.saturating_add(ahead));
+        if below == page.len() {
             return None;
         }
-        if below == 0 && near != 0 {
+        if below == 0 && first != 0 {
             return None;
         }
-        let begins = run[below].low() == at;
-        let place = near + below as u64;
+        let begins = page[below].low() == at;
+        let place = first + below as u64;
         Some(Spot { place, begins })
     }
 
@@ -97,26 +105,13 @@ impl RouterOwners {
     fn spot_of(&self, at: u32) -> Spot
         ensures { IsSpot self.now at result.place result.begins }
     {
-        let place = self.guide.place(at);
-        match self.spot_near(place, AHEAD, at) {
-            Some(spot) => spot,
-            None => self.spot_behind(place, at),
-        }
-    }
-
-    /// Where a search for an address ends. It looks first in the page that follows that of a place.
-    fn spot_behind(&self, place: u64, at: u32) -> Spot
-        ensures { IsSpot self.now at result.place result.begins }
-    {
-        let rest = self.segments.run_from(place).len();
-        let near = place.wrapping_add(rest as u64);
-        match self.spot_near(near, AHEAD.saturating_sub(rest), at) {
+        match self.spot_near(self.guide.place(at), 0, at) {
             Some(spot) => spot,
             None => self.search(at),
         }
     }
 
-    /// Where a search for an address ends. It looks first in the page of a place, at what follows the place.
+    /// Where a search for an address ends. It looks first in the page of a place, behind that.
     fn spot_from(&self, near: u64, at: u32) -> Spot
         ensures { IsSpot self.now at result.place result.begins }
     {

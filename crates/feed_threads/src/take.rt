@@ -12,7 +12,7 @@ ghost use Rattle.feed_threads.specs.Takes.{GivesFirst, HasTaken, TakesSome, Took
 use crate::desk::{Desk, Shown};
 use crate::feed::{Feed, next_step};
 use dn_io::{Gate, Source};
-use dn_model::{Entry, Op, OutOfMemory, RouterId};
+use dn_model::{Entry, List, Op, OutOfMemory, RouterId};
 use route_feed::FeedStep;
 use std::sync::Wait;
 use version_lock::Seat;
@@ -82,6 +82,31 @@ fn take_ops<S: Source, G: Gate, R: Wait>(
     Ok(false)
 }
 
+/// The same; the reader gets the list back then, for its memory.
+fn take_list<S: Source, G: Gate, R: Wait>(
+    rt: &R,
+    desk: &Desk<'_, G>,
+    seat: &mut Seat,
+    feed: &mut Feed<S>,
+    ops: List<Op>,
+) -> Result<bool, OutOfMemory>
+    requires lock { IsSeatOf desk.now seat.old }
+    requires router { feed.old.reader.told.router.0 < length desk.now.setup.basis.topology.routers }
+    requires ops { All (IsOpOf desk.now.setup.basis.topology) ops }
+    requires counted { length ops ≤ feed.old.reader.told.updates }
+    requires going { feed.old.kept ≡ None }
+    ensures saw { SawMore seat.old seat.new }
+    ensures reader { feed.new.reader ≡ feed.old.reader }
+    ensures took { IfOk result (λ more. HasTaken desk.now.setup.basis.limit seat.old.number more feed.new.kept
+        feed.old.reader.told seat.old.seen seat.new.seen ops) }
+    ensures first { OnErr result (TookFirst seat.old.number feed.old.reader.told.feed_no feed.old.reader.told.router
+        seat.old.seen seat.new.seen ops) }
+{
+    let taken = take_ops(rt, desk, seat, feed, ops.as_slice());
+    feed.reader.take_back(ops);
+    taken
+}
+
 /// Takes the next frame of a feed: its updates are applied. Answers whether the feed goes on, and not whether the frame was
 /// accepted. A frame whose updates met a full history is the feed's last.
 fn take_frame<S: Source, G: Gate, R: Wait>(
@@ -107,7 +132,7 @@ fn take_frame<S: Source, G: Gate, R: Wait>(
         return Ok(false);
     }
     match next_step(desk.alloc(), desk.topology(), &mut feed.reader)? {
-        FeedStep::Ops(ops, _) => take_ops(rt, desk, seat, feed, ops.as_slice()),
+        FeedStep::Ops(ops, _) => take_list(rt, desk, seat, feed, ops),
         FeedStep::Refused { .. } => Ok(true),
         FeedStep::End => Ok(false),
         FeedStep::CutShort { .. } => Ok(false),

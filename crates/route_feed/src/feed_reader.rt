@@ -10,10 +10,10 @@ ghost use Rattle.route_feed.specs.FeedReader.{Reader, IsAt, IsOutcome, FaultsAt,
 use crate::feed_step::FeedStep;
 use crate::frame_step::hand_out;
 use crate::intake::Intake;
-use crate::port_hints::PortHints;
+use crate::workspace::Workspace;
 use dn_formats::{FeedEnd, FeedTold};
 use dn_io::Source;
-use dn_model::{List, OutOfMemory, RouterId, Topology};
+use dn_model::{List, Op, OutOfMemory, RouterId, Topology};
 use std::alloc::Global;
 use std::marker::Model;
 
@@ -23,7 +23,7 @@ pub struct FeedReader<S: Source> {
     intake: Intake<S>,
     told: FeedTold,
     /// No clause speaks of it.
-    hints: PortHints,
+    workspace: Workspace,
 }
 
 impl<S: Source> Model for FeedReader<S> {
@@ -89,7 +89,7 @@ impl<S: Source> FeedReader<S> {
                 refused: List::new(alloc),
                 end: None,
             },
-            hints: PortHints::new(),
+            workspace: Workspace::new(alloc),
         }
     }
 
@@ -127,9 +127,17 @@ impl<S: Source> FeedReader<S> {
                 &mut self.intake,
                 &mut self.told,
                 topology,
-                &mut self.hints,
+                &mut self.workspace,
             ),
         }
+    }
+
+    /// Takes back the updates of a frame that were handed out, for their memory: the next frame's may stand there.
+    pub fn take_back(&mut self, ops: List<Op>)
+        ensures { self.new ≡ self.old }
+    {
+        let _ = &self.intake;
+        self.workspace.keep_ops(ops);
     }
 
     /// Whether the next answer wants more bytes of the source, for which `next_frame` may wait. After an end none does,

@@ -1,6 +1,6 @@
 //! What one frame of a feed comes to.
 
-ghost use Rattle.std.specs.Prelude.{◌≡◌, ◌+◌, ◌<◌, ◌≤◌, ◌^◌, ◌++◌, All, Some, IfOk, OnOk, OnErr, length, if◌then◌else◌};
+ghost use Rattle.std.specs.Prelude.{◌≡◌, ◌+◌, ◌<◌, ◌≤◌, ◌^◌, ◌++◌, [], All, Some, IfOk, OnOk, OnErr, length, if◌then◌else◌};
 ghost use Rattle.std.specs.Option.{option_to_list};
 ghost use Rattle.dn_model.specs.Entry.{IsOpOf};
 ghost use Rattle.dn_formats.specs.Feed.{item_op, item_refusal, item_is_skipped, step_of};
@@ -12,12 +12,13 @@ use crate::feed_step::FeedStep;
 use crate::intake::Intake;
 use crate::port_hints::PortHints;
 use crate::route_op::op_of;
+use crate::workspace::Workspace;
 use dn_formats::frame_cause::{FRAME_TYPE, UNKNOWN_INTERFACE};
 use dn_formats::{FeedTold, Item, ItemKind, Payload, Refused, RefusedFrame};
 use dn_io::Source;
 use dn_model::{List, Op, OutOfMemory, RouterId, Topology};
 use fpm_frame::Next;
-use rt_netlink::read_payload;
+use rt_netlink::read_payload_in;
 use std::alloc::Global;
 
 /// The kind of a frame whose payload is netlink messages (FPM_MSG_TYPE_NETLINK of FRR's fpm.h).
@@ -74,22 +75,23 @@ fn refusal(offset: u64, refused: Refused) -> FeedStep
 }
 
 /// What a netlink frame at this offset comes to, whose payload says this: refused by the first refusal of its
-/// messages, else accepted with all its updates.
+/// messages, else accepted with all its updates, which stand in a list that had none.
 fn step_said(
-    alloc: Global,
+    room: List<Op>,
     topology: &Topology,
     router: RouterId,
     offset: u64,
     said: &Payload,
     hints: &mut PortHints,
 ) -> Result<FeedStep, OutOfMemory>
+    requires empty { room ≡ [] }
     requires few { length said.now.items ≤ 65531 }
     ensures step { IfOk result (λ step. frame_step step ≡ Some (step_of topology.now router offset said.now)) }
     ensures few { IfOk result (IsOfFrame (length said.now.items)) }
     ensures within { IfOk result (AreOpsOf topology.now) }
 {
     let mut gathered = Gathered {
-        ops: List::new(alloc),
+        ops: room,
         skipped: 0,
     };
     for item in said.items.as_slice() {
@@ -111,7 +113,7 @@ fn step_of(
     offset: u64,
     kind: u8,
     payload: &[u8],
-    hints: &mut PortHints,
+    workspace: &mut Workspace,
 ) -> Result<FeedStep, OutOfMemory>
     requires fits { length payload.now ≤ 65531 }
     ensures comes { IfOk result (ComesTo topology.now router offset (record { kind = kind; payload = payload.now })) }
@@ -125,8 +127,11 @@ fn step_of(
             cause: FRAME_TYPE,
         });
     }
-    let said = read_payload(alloc, payload)?;
-    step_said(alloc, topology, router, offset, &said, hints)
+    let said = read_payload_in(workspace.items(alloc), payload)?;
+    let room = workspace.ops(alloc);
+    let step = step_said(room, topology, router, offset, &said, &mut workspace.hints)?;
+    workspace.keep_items(said.items);
+    Ok(step)
 }
 
 /// Counts what a frame came to. Want of memory changes nothing.
@@ -158,7 +163,7 @@ pub fn hand_out<S: Source>(
     intake: &mut Intake<S>,
     told: &mut FeedTold,
     topology: &Topology,
-    hints: &mut PortHints,
+    workspace: &mut Workspace,
 ) -> Result<FeedStep, OutOfMemory>
     requires whole { BeginsFrame intake.old.held }
     requires updates { told.old.updates < 2 ^ 32 }
@@ -171,7 +176,15 @@ pub fn hand_out<S: Source>(
             offset,
             kind,
             payload,
-        } => step_of(alloc, topology, told.router, offset, kind, payload, hints)?,
+        } => step_of(
+            alloc,
+            topology,
+            told.router,
+            offset,
+            kind,
+            payload,
+            workspace,
+        )?,
         _ => unreachable!(),
     };
     tell(told, &step)?;

@@ -20,6 +20,7 @@ mod route_op;
 mod test_network;
 #[cfg(test)]
 mod tests;
+mod workspace;
 
 pub use feed_reader::FeedReader;
 pub use feed_step::FeedStep;

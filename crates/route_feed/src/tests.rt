@@ -135,6 +135,25 @@ fn first_ops(alloc: Global, bytes: &[u8]) -> Result<Vec<Op>, OutOfMemory> {
     }
 }
 
+/// How many updates the next frame of a feed has, which the reader gets back.
+fn count_and_give_back<S: Source>(
+    alloc: Global,
+    reader: &mut FeedReader<S>,
+    topology: &Topology,
+) -> Result<usize, OutOfMemory>
+    requires { reader.old.told.router.0 < length topology.now.routers }
+    ensures { reader.new.told.router ≡ reader.old.told.router }
+{
+    match reader.next_frame(alloc, topology)? {
+        FeedStep::Ops(ops, _) => {
+            let count = ops.len();
+            reader.take_back(ops);
+            Ok(count)
+        }
+        _ => Ok(0),
+    }
+}
+
 /// The update that sets 10.0.0.0/8 with metric 20 to a target.
 fn set_ten(target: Target) -> Op {
     Op::Set {
@@ -142,6 +161,20 @@ fn set_ten(target: Target) -> Op {
         metric: 20,
         target,
     }
+}
+
+#[test]
+fn a_frame_may_stand_where_the_one_before_stood(rt: HostRuntime) -> Result<(), Fail> {
+    let alloc = rt.alloc();
+    let topology = triangle(alloc)?;
+    let bytes = joined(alloc, &[&CHANGE_TEN, &SET_TEN, &SET_MULTIPATH, &CHANGE_TEN])?;
+    let source = MemSource::new(bytes, 4096, Vec::new(alloc));
+    let mut reader = FeedReader::new(alloc, source, FIRST, 1, 1000);
+    assert_eq!(rt; count_and_give_back(alloc, &mut reader, &topology)?, 2);
+    assert_eq!(rt; count_and_give_back(alloc, &mut reader, &topology)?, 1);
+    assert_eq!(rt; count_and_give_back(alloc, &mut reader, &topology)?, 0);
+    assert_eq!(rt; count_and_give_back(alloc, &mut reader, &topology)?, 2);
+    Ok(())
 }
 
 #[test]

@@ -1,6 +1,6 @@
 //! The payload of a frame, message by message.
 
-ghost use Rattle.std.specs.Prelude.{◌≡◌, ◌≤◌, length, drop, IfOk, OnOk, All};
+ghost use Rattle.std.specs.Prelude.{◌≡◌, ◌≤◌, [], length, drop, IfOk, OnOk, All};
 ghost use Rattle.dn_formats.specs.Attributes.{padded};
 ghost use Rattle.dn_formats.specs.Payload.{IsPayload, IsSayable, message_length};
 ghost use Rattle.rt_netlink.specs.Read.{Says};
@@ -49,7 +49,21 @@ pub fn read_payload(alloc: Global, bytes: &[u8]) -> Result<Payload, OutOfMemory>
     ensures payload { IfOk result (IsPayload bytes.now) }
     ensures sayable { IfOk result (λ payload. All (λ item. IsSayable item.what) payload.items) }
 {
-    let mut items = List::new(alloc);
+    read_payload_in(List::new(alloc), bytes)
+}
+
+/// The same, with the items in a list that has none yet: where it has memory for them already, none is taken.
+///
+/// # Errors
+///
+/// `OutOfMemory` where there is no memory for the items; the list is dropped then.
+pub fn read_payload_in(room: List<Item>, bytes: &[u8]) -> Result<Payload, OutOfMemory>
+    requires empty { room ≡ [] }
+    requires short { length bytes.now ≤ 65531 }
+    ensures payload { IfOk result (IsPayload bytes.now) }
+    ensures sayable { IfOk result (λ payload. All (λ item. IsSayable item.what) payload.items) }
+{
+    let mut items = room;
     let mut rest = bytes;
     while rest.len() >= 4 {
         let at = (bytes.len() - rest.len()) as u32;

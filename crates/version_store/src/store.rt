@@ -49,6 +49,59 @@ impl Model for Store {
     ghost invariant = { λ s. IsKeptOf (arc_value s.topology) s.limit s.history s.standing (arc_value s.changes) };
 }
 
+/// Adds a seat's entry to a history, and puts the changes that it makes in the place of those before. After `OutOfMemory`,
+/// for which alone it fails, both are as before.
+fn put_with(
+    alloc: Global,
+    entries: &mut Pages<Posted>,
+    changes: &mut Delta,
+    seat: u32,
+    entry: &Entry,
+    delta: Delta,
+) -> Result<(), OutOfMemory>
+    ensures entries { OnOk result (entries.new ≡ entries.old ++ record { seat = seat; entry = entry.now } ∷ []) }
+    ensures changes { OnOk result (changes.new ≡ delta) }
+    ensures same { OnErr result (entries.new ≡ entries.old) }
+    ensures kept { OnErr result (changes.new ≡ changes.old) }
+{
+    let posted = Posted {
+        seat,
+        entry: *entry,
+    };
+    entries.push(alloc, posted)?;
+    *changes = delta;
+    Ok(())
+}
+
+/// The same where others may hold the changes before, for whom they stay: the new ones then stand beside them.
+fn post_with(
+    alloc: Global,
+    history: &mut Pages<Posted>,
+    changes: &mut Arc<Delta, Global>,
+    seat: u32,
+    entry: &Entry,
+    delta: Delta,
+) -> Result<(), OutOfMemory>
+    ensures entries { OnOk result (history.new ≡ history.old ++ record { seat = seat; entry = entry.now } ∷ []) }
+    ensures changes { OnOk result (arc_value changes.new ≡ delta) }
+    ensures same { OnErr result (history.new ≡ history.old) }
+    ensures kept { OnErr result (arc_value changes.new ≡ arc_value changes.old) }
+{
+    if let Some(own) = Arc::get_mut(changes) {
+        return put_with(alloc, history, own, seat, entry, delta);
+    }
+    let made = Arc::new(alloc, delta)?;
+    history.push(
+        alloc,
+        Posted {
+            seat,
+            entry: *entry,
+        },
+    )?;
+    *changes = made;
+    Ok(())
+}
+
 impl Store {
     /// The store of a network before any update, which takes at most `limit` entries. It fails for want of memory
     /// alone.
@@ -150,13 +203,15 @@ impl Store {
             taken,
             entry,
         )?;
-        let posted = Posted {
+        post_with(
+            self.alloc,
+            &mut self.history,
+            &mut self.changes,
             seat,
-            entry: *entry,
-        };
-        self.history.push(self.alloc, posted)?;
+            entry,
+            changes,
+        )?;
         self.standing = Some(standing);
-        self.changes = changes;
         Ok(self.history.len() as u32)
     }
 }

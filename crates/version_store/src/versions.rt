@@ -58,16 +58,15 @@ pub(crate) fn next_standing(
     history: &Pages<Posted>,
     standing: Option<Standing>,
     entry: &Entry,
-) -> Result<(Standing, Arc<Delta, Global>), OutOfMemory>
+) -> Result<(Standing, Delta), OutOfMemory>
     requires own { AreOf (arc_value topology.now) history.now }
     requires standing { IfSome standing (IsStandingOf (arc_value topology.now) (entries history.now)) }
     requires entry { IsEntryOf (arc_value topology.now) entry.now }
     ensures standing { IfOk result (λ made. IsStandingOf (arc_value topology.now) (entries_with history.now entry.now) made.0) }
-    ensures changes { IfOk result (λ made. IsDeltaOf (arc_value topology.now) (entries_with history.now entry.now) (arc_value made.1)) }
+    ensures changes { IfOk result (λ made. IsDeltaOf (arc_value topology.now) (entries_with history.now entry.now) made.1) }
 {
     let standing = some_standing(alloc, topology, history, standing)?;
-    let (next, delta) = standing.advance(alloc, entry)?;
-    let changes = Arc::new(alloc, delta)?;
+    let (next, changes) = standing.advance(alloc, entry)?;
     Ok((next, changes))
 }
 

@@ -12,15 +12,15 @@ returns-then-is_some-clause-taken g c =
 
 pub returns-in-Ops-clause-taken : goal.returns-in-Ops-clause-taken
 returns-in-Ops-clause-taken g c =
-    took-accepted c.args.desk.now.setup.basis.topology g.S.Source.left g.S.Source.faults g.S.Source.place c.args.desk.now.setup.basis.limit c.args.seat.now.number c.args.feed.now c.feed.inside.reader c.feed.inside.kept c.next_step.new.reader c.take_ops.new.feed c.args.seat.now.seen c.take_ops.new.seat.seen
-    c.in_ok-ops.field-0 _ _ c.take_ops.result c.feed.view_is (none-of c.args.desk.now.setup.basis.topology g.S.Source.left g.S.Source.faults g.S.Source.place c.args.desk.now.setup.basis.limit c.feed.inside.kept (sym c.is_some.ensures ∙ c.if-is_some.false)) c.in-Ops.is c.take_ops.ensures.saw.seen
-    (rw c.topology.ensures at c.in_ok-ops.ensures.handed) c.in_ok-ops.ensures.again c.in_ok-ops.ensures.end c.in_ok-ops.ensures.counted c.in_ok-ops.ensures.feed_no c.in_ok-ops.ensures.router c.take_ops.ensures.reader
+    took-accepted c.args.desk.now.setup.basis.topology g.S.Source.left g.S.Source.faults g.S.Source.place c.args.desk.now.setup.basis.limit c.args.seat.now.number c.args.feed.now c.feed.inside.reader c.feed.inside.kept c.next_step.new.reader c.take_list.new.feed c.args.seat.now.seen c.take_list.new.seat.seen
+    c.in_ok-ops.field-0 _ _ c.take_list.result c.feed.view_is (none-of c.args.desk.now.setup.basis.topology g.S.Source.left g.S.Source.faults g.S.Source.place c.args.desk.now.setup.basis.limit c.feed.inside.kept (sym c.is_some.ensures ∙ c.if-is_some.false)) c.in-Ops.is c.take_list.ensures.saw.seen
+    (rw c.topology.ensures at c.in_ok-ops.ensures.handed) c.in_ok-ops.ensures.again c.in_ok-ops.ensures.end c.in_ok-ops.ensures.counted c.in_ok-ops.ensures.feed_no c.in_ok-ops.ensures.router c.take_list.ensures.reader
     (passes-step c.in_ok-ops.field-0 _ _ c.in_ok-ops.ensures.advances c.in_ok-ops.ensures.limit)
-    (rw c.as_slice.ensures.value at c.take_ops.ensures.took)
+    c.take_list.ensures.took
 
 pub returns-in-Ops-clause-reads : goal.returns-in-Ops-clause-reads
 returns-in-Ops-clause-reads g c =
-    reads-arm c.args.desk.now.setup.basis.topology g.S.Source.left g.S.Source.faults g.S.Source.place c.args.desk.now.setup.basis.limit c.args.feed.now c.feed.inside.reader c.feed.inside.kept c.next_step.new.reader _ c.in_ok-ops.field-0 c.feed.view_is c.take_ops.ensures.reader (rw c.topology.ensures at c.in_ok-ops.ensures.handed) c.in_ok-ops.ensures.router
+    reads-arm c.args.desk.now.setup.basis.topology g.S.Source.left g.S.Source.faults g.S.Source.place c.args.desk.now.setup.basis.limit c.args.feed.now c.feed.inside.reader c.feed.inside.kept c.next_step.new.reader _ c.in_ok-ops.field-0 c.feed.view_is c.take_list.ensures.reader (rw c.topology.ensures at c.in_ok-ops.ensures.handed) c.in_ok-ops.ensures.router
 
 pub returns-in-Refused-clause-reads : goal.returns-in-Refused-clause-reads
 returns-in-Refused-clause-reads g c =
@@ -76,7 +76,7 @@ returns-in_err-ops-clause-first g c =
 
 pub returns-in-Ops-clause-first : goal.returns-in-Ops-clause-first
 returns-in-Ops-clause-first g c =
-    first-ops c.args.desk.now.setup.basis.topology g.S.Source.left g.S.Source.faults g.S.Source.place c.args.desk.now.setup.basis.limit c.args.seat.now.number c.args.feed.now c.feed.inside.reader c.feed.inside.kept c.next_step.new.reader c.take_ops.new.feed c.args.seat.now.seen c.take_ops.new.seat.seen
-    c.in_ok-ops.field-0 _ _ c.take_ops.result c.feed.view_is (none-of c.args.desk.now.setup.basis.topology g.S.Source.left g.S.Source.faults g.S.Source.place c.args.desk.now.setup.basis.limit c.feed.inside.kept (sym c.is_some.ensures ∙ c.if-is_some.false)) c.in-Ops.is
-    (rw c.topology.ensures at c.in_ok-ops.ensures.handed) c.in_ok-ops.ensures.feed_no c.in_ok-ops.ensures.router c.take_ops.ensures.reader
-    (rw c.as_slice.ensures.value at c.take_ops.ensures.first)
+    first-ops c.args.desk.now.setup.basis.topology g.S.Source.left g.S.Source.faults g.S.Source.place c.args.desk.now.setup.basis.limit c.args.seat.now.number c.args.feed.now c.feed.inside.reader c.feed.inside.kept c.next_step.new.reader c.take_list.new.feed c.args.seat.now.seen c.take_list.new.seat.seen
+    c.in_ok-ops.field-0 _ _ c.take_list.result c.feed.view_is (none-of c.args.desk.now.setup.basis.topology g.S.Source.left g.S.Source.faults g.S.Source.place c.args.desk.now.setup.basis.limit c.feed.inside.kept (sym c.is_some.ensures ∙ c.if-is_some.false)) c.in-Ops.is
+    (rw c.topology.ensures at c.in_ok-ops.ensures.handed) c.in_ok-ops.ensures.feed_no c.in_ok-ops.ensures.router c.take_list.ensures.reader
+    c.take_list.ensures.first

@@ -7,7 +7,7 @@ use Rattle.route_feed.proofs.frame_step.step_said.Goals as goal
 
 pub loop-item-init : goal.loop-item-init
 loop-item-init c =
-    subst (λ (ops : List Op). HasGathered c.args.topology.now c.args.router c.as_slice-item-items.result.now 0 ops 0) (sym c.new.ensures)
+    subst (λ (ops : List Op). HasGathered c.args.topology.now c.args.router c.as_slice-item-items.result.now 0 ops 0) (sym c.requires.empty)
     (gathered-none c.args.topology.now c.args.router c.as_slice-item-items.result.now)
 
 pub loop-item-preserved : goal.loop-item-preserved

@@ -1,8 +1,5 @@
-use Rattle.std.proofs.Common.{◌≡◌, ◌++◌, ◌∷◌, [], List, sym, subst, rules}
 use Rattle.std.specs.Arc.{arc_value}
-use Rattle.dn_model.specs.Delta.{IsDeltaOf}
 use Rattle.dn_model.specs.Entry.{entries}
-use Rattle.dn_model.specs.declared.change.Change.{Change}
 use Rattle.version_store.proofs.GoingOn.{entry-of}
 use Rattle.version_store.proofs.versions.next_standing.Goals as goal
 
@@ -10,10 +7,7 @@ pub advance-requires : goal.advance-requires
 advance-requires c = entry-of (arc_value c.args.topology.now) (entries c.args.history.now) c.in_ok-standing.standing.version c.args.entry.now c.in_ok-standing.ensures.version c.requires.entry
 
 pub returns-clause-changes : goal.returns-clause-changes
-returns-clause-changes c =
-    let same : arc_value c.in_ok-changes.changes ≡ c.in_ok-next.delta = search rules in
-    subst (λ (cs : List Change). IsDeltaOf (arc_value c.args.topology.now) (entries c.args.history.now ++ c.args.entry.now ∷ []) cs) (sym same)
-    (c.in_ok-next.ensures.delta (arc_value c.args.topology.now) (entries c.args.history.now) c.in_ok-standing.ensures)
+returns-clause-changes c = c.in_ok-next.ensures.delta (arc_value c.args.topology.now) (entries c.args.history.now) c.in_ok-standing.ensures
 
 pub returns-clause-standing : goal.returns-clause-standing
 returns-clause-standing c = c.in_ok-next.ensures.stands (arc_value c.args.topology.now) (entries c.args.history.now) c.in_ok-standing.ensures

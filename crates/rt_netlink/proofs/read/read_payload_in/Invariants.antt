@@ -1,7 +1,7 @@
 use Rattle.std.proofs.Common.{All, ◌≡◌, ◌≤◌, length}
 use Rattle.dn_formats.specs.Payload.{payload_of, IsSayable}
 use Rattle.rt_netlink.specs.Read.{with_items, said_from}
-use Rattle.rt_netlink.proofs.read.read_payload.Given as goal
+use Rattle.rt_netlink.proofs.read.read_payload_in.Given as goal
 
 -- the items so far, and then what is said from here on, are what the payload says
 abbrev pub invariant-loop-rest : goal.invariant-loop-rest

@@ -3,7 +3,7 @@ use Rattle.std.proofs.lemmas.List.{length-drop}
 use Rattle.std.proofs.lemmas.List.Elements.{All-push}
 use Rattle.dn_formats.specs.Payload.{IsSayable}
 use Rattle.rt_netlink.proofs.SaidLemmas.{item_told, refusal_told, end_told}
-use Rattle.rt_netlink.proofs.read.read_payload.Goals as goal
+use Rattle.rt_netlink.proofs.read.read_payload_in.Goals as goal
 
 pub returns-in-Err : goal.returns-in-Err
 returns-in-Err c =

@@ -4,12 +4,26 @@ use Rattle.std.proofs.Crossing.{crosses}
 use Rattle.version_pages.proofs.tree.Kid.TheLaws.TheKnot as knot
 use Rattle.route_table.specs.contracts.slots.PrefixRoutes as PrefixRoutes
 use Rattle.route_table.specs.contracts.table.RouteTable as RouteTable
+use Rattle.route_table.specs.contracts.targets.Held as Held
+use Rattle.route_table.specs.contracts.targets.TargetsByMetric as TargetsByMetric
+
+Held-send : IsSend Held.the_row
+Held-send = search (sendable, crosses) depth 60 fits 100000
+
+Held-sync : IsSync Held.the_row
+Held-sync = search (sendable, crosses) depth 60 fits 100000
+
+TargetsByMetric-send : IsSend TargetsByMetric.the_row
+TargetsByMetric-send = search (Held-send, Held-sync, sendable, crosses) depth 60 fits 100000
+
+TargetsByMetric-sync : IsSync TargetsByMetric.the_row
+TargetsByMetric-sync = search (Held-send, Held-sync, sendable, crosses) depth 60 fits 100000
 
 PrefixRoutes-send : IsSend PrefixRoutes.the_row
-PrefixRoutes-send = search (sendable, crosses) depth 40
+PrefixRoutes-send = search (TargetsByMetric-send, TargetsByMetric-sync, sendable, crosses) depth 40
 
 PrefixRoutes-sync : IsSync PrefixRoutes.the_row
-PrefixRoutes-sync = search (sendable, crosses) depth 40
+PrefixRoutes-sync = search (TargetsByMetric-send, TargetsByMetric-sync, sendable, crosses) depth 40
 
 pub RouteTable-send : IsSend RouteTable.the_row
 RouteTable-send = search (PrefixRoutes-send, PrefixRoutes-sync, sendable, crosses, knot.crosses) depth 40

@@ -91,6 +91,18 @@ place-inside key [] k i h = omega arith
 place-inside key (x ∷ xs) k zero h = omega arith
 place-inside key (x ∷ xs) k (suc i) h = let l : i ≤ length xs = place-inside key xs k i h.1 in omega arith
 
+-- what is put in the place of what was found is found there
+pub found-set : {T : Type 0} (key : T → ℕ) (xs : List T) (k i : ℕ) (v : T) → IsFound key xs k i → key v ≡ k → IsFound key (set xs i v) k i
+found-set key [] k i v h e = absurd h
+found-set key (x ∷ xs) k zero v h e = e
+found-set key (x ∷ xs) k (suc i) v h e = (h.0, found-set key xs k i v h.1 e)
+
+pub found-insert : {T : Type 0} (key : T → ℕ) (xs : List T) (k i : ℕ) (v : T) → IsGap key xs k i → key v ≡ k → IsFound key (insert xs i v) k i
+found-insert key [] k zero v h e = e
+found-insert key [] k (suc i) v h e = absurd (omega arith)
+found-insert key (x ∷ xs) k zero v h e = e
+found-insert key (x ∷ xs) k (suc i) v h e = (h.0, found-insert key xs k i v h.1 e)
+
 -- ---- what keeps the order
 
 pub ascends-set : {T : Type 0} (key : T → ℕ) (start : ℕ) (xs : List T) (k i : ℕ) (v : T) → AscendsFrom key start xs → IsFound key xs k i → key v ≡ k → AscendsFrom key start (set xs i v)

@@ -27,7 +27,7 @@ of-prefix p r h =
     let C : ℕ → ℕ → Cidr = λ b l. record { base = b; len = l } in
     ap (λ b. C b r.prefix.len) (eqb-true r.prefix.base p.base parts.0) ∙ ap (λ l. C p.base l) (eqb-true r.prefix.len p.len parts.1)
 
-own-prefix : (p : Cidr) (x : MetricTarget) → is_of_prefix p (route_at p x) ≡ true
+pub own-prefix : (p : Cidr) (x : MetricTarget) → is_of_prefix p (route_at p x) ≡ true
 own-prefix p x = and_from (eqb p.base p.base) (eqb p.len p.len) (eq-eqb p.base p.base refl) (eq-eqb p.len p.len refl)
 
 -- the key tells prefixes apart
@@ -93,6 +93,18 @@ found-cleared q p start (x ∷ xs) (suc i) v keeps h f made =
     let l : slot_key x < key_of p = f.0 in
     ap (λ rs. routes_at x ++ rs) (found-cleared q p (slot_key x + 1) xs i v keeps h.1 f.1 made)
     ∙ sym (more-kept q p x xs keeps (λ e. absurd (omega arith)))
+
+-- the same where they stand in another order
+pub found-left : (q : Route → Bool) (p : Cidr) (start : ℕ) (xs : List PrefixRoutes) (i : ℕ) (v : PrefixRoutes) → Keeps q p → AscendsFrom slot_key start xs → IsFound slot_key xs (key_of p) i → ((d : PrefixRoutes) → IsPermutation (routes_at v) (filter q (routes_at (get_or xs i d)))) → IsPermutation (routes_of (set xs i v)) (filter q (routes_of xs))
+found-left q p start [] i v keeps h f made = absurd f
+found-left q p start (x ∷ xs) zero v keeps h f made =
+    let is : filter q (routes_at x) ++ routes_of xs ≡ filter q (routes_of (x ∷ xs)) = ap (λ rs. filter q (routes_at x) ++ rs) (sym (rest-kept q p (slot_key x + 1) xs keeps h.1 (omega arith))) ∙ sym (filter-append q (routes_at x) (routes_of xs)) in
+    subst (λ rs. IsPermutation (routes_at v ++ routes_of xs) rs) is
+    (IsPermutation-append_left (routes_of xs) (routes_at v) (filter q (routes_at x)) (made x))
+found-left q p start (x ∷ xs) (suc i) v keeps h f made =
+    let l : slot_key x < key_of p = f.0 in
+    subst (λ rs. IsPermutation (routes_at x ++ routes_of (set xs i v)) rs) (sym (more-kept q p x xs keeps (λ e. absurd (omega arith))))
+    (IsPermutation-append_right (routes_at x) (routes_of (set xs i v)) (filter q (routes_of xs)) (found-left q p (slot_key x + 1) xs i v keeps h.1 f.1 made))
 
 -- one more route among the first
 push-first : (v f b : List Route) (r : Route) → IsPermutation v (f ++ r ∷ []) → IsPermutation (v ++ b) ((f ++ b) ++ r ∷ [])

@@ -5,11 +5,11 @@ use Rattle.std.specs.List.Sorted.{IsPermutation}
 use Rattle.dn_model.proofs.Best.{contains-here}
 use Rattle.dn_model.specs.declared.target.Target.{Target}
 use Rattle.route_table.specs.declared.targets.MetricTarget.{MetricTarget}
-use Rattle.route_table.specs.Targets.{metric_of, with_target}
+use Rattle.route_table.specs.Targets.{metric_of, with_target, without_metric}
 use Rattle.route_table.specs.Ascending.{AscendsFrom, IsFound, IsGap}
-use Rattle.route_table.proofs.Places.{ascends-insert, ascends-set, first-least, others-insert, others-set}
+use Rattle.route_table.proofs.Places.{ascends-filter, ascends-insert, ascends-set, first-least, others-insert, others-set}
 
-abbrev entry : ℕ → Target → MetricTarget
+abbrev pub entry : ℕ → Target → MetricTarget
 entry m t = record { metric = m; target = t }
 
 pub set-ascends : (xs seen : List MetricTarget) (m i : ℕ) (t : Target) → AscendsFrom metric_of 0 xs → seen ≡ xs → IsFound metric_of seen m i → AscendsFrom metric_of 0 (set xs i (entry m t))
@@ -30,6 +30,10 @@ insert-is xs seen now new m i t view h e g is =
     subst (λ zs. IsPermutation zs (with_target now m t)) (sym is)
     (subst (λ ys. IsPermutation (insert xs i (entry m t)) (with_target ys m t)) view
     (others-insert metric_of 0 xs m i (entry m t) h (subst (λ ys. IsGap metric_of ys m i) e g)))
+
+pub drop-ascends : (xs old new : List MetricTarget) (m : ℕ) → AscendsFrom metric_of 0 xs → old ≡ xs → new ≡ without_metric old m → AscendsFrom metric_of 0 new
+drop-ascends xs old new m h e is =
+    subst (λ ys. AscendsFrom metric_of 0 ys) (sym (is ∙ ap (λ ys. without_metric ys m) e)) (ascends-filter metric_of _ 0 xs h)
 
 -- the first has the least metric
 first-of : (xs : List MetricTarget) → AscendsFrom metric_of 0 xs → IfSome (slice_get xs 0) (λ x. Contains xs x × ((y : MetricTarget) → Contains xs y → x.metric ≤ y.metric))

@@ -4,7 +4,7 @@ use Rattle.std.specs.List.{AllByRecursion, Contains, insert, list_any}
 use Rattle.std.specs.List.Sorted.{IsPermutation}
 use Rattle.std.proofs.lemmas.Bool.{and_from, and_left, cases_Bool, eqb-true, false_from_ne_true, not_from_false, or_from}
 use Rattle.std.proofs.lemmas.List.{get_or_default, set-get_or}
-use Rattle.std.proofs.lemmas.List.Elements.{Contains-append_cases, Contains-append_left, Contains-append_right, Contains-push_cases}
+use Rattle.std.proofs.lemmas.List.Elements.{Contains-get_or, Contains-append_cases, Contains-append_left, Contains-append_right, Contains-push_cases}
 use Rattle.std.proofs.lemmas.List.Sorted.{IsPermutation-map, IsPermutation-refl}
 use Rattle.dn_model.specs.Cidr.{Cidr, IsCidr}
 use Rattle.dn_model.specs.Routes.{IsTable}
@@ -17,11 +17,14 @@ use Rattle.dn_model.proofs.Best.{contains-filter, contains-here, contains-none, 
 use Rattle.dn_model.proofs.Keyed.{contains-map, map-contains}
 use Rattle.dn_model.proofs.Keys.{key-once, keys-after}
 use Rattle.dn_model.proofs.SamePermutation.{permutation-same}
+use Rattle.route_table.specs.Above.{HasLength}
 use Rattle.route_table.specs.Ascending.{AscendsFrom, IsFound, IsGap}
 use Rattle.route_table.specs.Slots.{AreSlots, IsAddedAt, IsClearedAt, IsSetAt, IsSlot, key_of, routes_at, routes_of, slot_key}
 use Rattle.route_table.specs.Targets.{cleared, metric_of, route_at}
+use Rattle.route_table.specs.Whole.{IsWhole}
 use Rattle.route_table.specs.declared.slots.PrefixRoutes.{PrefixRoutes}
 use Rattle.route_table.specs.declared.targets.MetricTarget.{MetricTarget}
+use Rattle.route_table.proofs.Kept.{kept-insert, kept-set}
 use Rattle.route_table.proofs.Places.{all-from, ascends-insert, ascends-set, found-inside, found-key}
 use Rattle.route_table.proofs.Prefixes.{Keeps, found-cleared, found-set, gap-add, gap-kept, gap-none, in-slot, key-exact, none-at, only-slot, others-at, own-key, rest-none, set-at}
 
@@ -81,26 +84,36 @@ table-of slots now h view = subst (λ rs. IsTable rs) view (record { keys = keys
 
 -- ---- the slot of a prefix
 
-found-prefix : (slots : List PrefixRoutes) (p : Cidr) (i : ℕ) (d : PrefixRoutes) → AreSlots slots → IsCidr p → IsFound slot_key slots (key_of p) i → (get_or slots i d).prefix ≡ p
+pub found-prefix : (slots : List PrefixRoutes) (p : Cidr) (i : ℕ) (d : PrefixRoutes) → AreSlots slots → IsCidr p → IsFound slot_key slots (key_of p) i → (get_or slots i d).prefix ≡ p
 found-prefix slots p i d h sound f = key-exact (get_or slots i d).prefix p (all-at slots i d h.each (found-inside slot_key slots (key_of p) i f)).sound sound (found-key slot_key slots (key_of p) i d f)
 
-keeps-key : (p : Cidr) (m : ℕ) → Keeps (λ r. not (has_key p m r)) p
+-- another slot of the prefix in the place of its slot
+pub put-whole : (slots : List PrefixRoutes) (lengths : List Bool) (p : Cidr) (i : ℕ) (v : PrefixRoutes) → IsWhole slots lengths → IsCidr p → IsFound slot_key slots (key_of p) i → v.prefix ≡ p → AscendsFrom metric_of 0 v.targets → IsWhole (set slots i v) lengths
+put-whole slots lengths p i v h sound f is metrics =
+    let inside : i < length slots = found-inside slot_key slots (key_of p) i f in
+    let same : (get_or slots i v).prefix ≡ v.prefix = found-prefix slots p i v h.form sound f ∙ sym is in
+    record {
+      form = record {
+        keys = ascends-set slot_key 0 slots (key_of p) i v h.form.keys f (ap key_of is);
+        each = all-set slots i v h.form.each (record { sound = subst (λ q. IsCidr q) (sym is) sound; metrics = metrics });
+      };
+      kept = kept-set slots i v lengths h.kept (subst (λ (q : Cidr). get_or lengths q.len true ≡ true) same (h.kept (get_or slots i v) (Contains-get_or slots i v inside)));
+    }
+
+pub keeps-key : (p : Cidr) (m : ℕ) → Keeps (λ r. not (has_key p m r)) p
 keeps-key p m r e = not_from_false (has_key p m r) (and_left (is_of_prefix p r) (eqb r.metric m) e)
 
-keeps-prefix : (p : Cidr) → Keeps (λ r. not (is_of_prefix p r)) p
+pub keeps-prefix : (p : Cidr) → Keeps (λ r. not (is_of_prefix p r)) p
 keeps-prefix p r e = not_from_false (is_of_prefix p r) e
 
 -- ---- settings
 
-set-form : (slots new : List PrefixRoutes) (p : Cidr) (i m : ℕ) (t : Target) → AreSlots slots → IsCidr p → IsFound slot_key slots (key_of p) i → IsSetAt slots new i m t → AreSlots new
-set-form slots new p i m t h sound f s =
-    let is : s.slot.prefix ≡ p = (s.made s.slot).same ∙ found-prefix slots p i s.slot h sound f in
-    subst (λ xs. AreSlots xs) (sym s.list) (record {
-      keys = ascends-set slot_key 0 slots (key_of p) i s.slot h.keys f (ap key_of is);
-      each = all-set slots i s.slot h.each (record { sound = subst (λ q. IsCidr q) (sym is) sound; metrics = (s.made s.slot).metrics });
-    })
+set-whole : (slots new : List PrefixRoutes) (lengths : List Bool) (p : Cidr) (i m : ℕ) (t : Target) → IsWhole slots lengths → IsCidr p → IsFound slot_key slots (key_of p) i → IsSetAt slots new i m t → IsWhole new lengths
+set-whole slots new lengths p i m t h sound f s =
+    subst (λ xs. IsWhole xs lengths) (sym s.list)
+    (put-whole slots lengths p i s.slot h sound f ((s.made s.slot).same ∙ found-prefix slots p i s.slot h.form sound f) (s.made s.slot).metrics)
 
-set-ok : (slots new : List PrefixRoutes) (p : Cidr) (i m : ℕ) (t : Target) → AreSlots slots → IsCidr p → IsFound slot_key slots (key_of p) i → IsSetAt slots new i m t → IsPermutation (routes_of new) (after_op (routes_of slots) (Set p m t))
+pub set-ok : (slots new : List PrefixRoutes) (p : Cidr) (i m : ℕ) (t : Target) → AreSlots slots → IsCidr p → IsFound slot_key slots (key_of p) i → IsSetAt slots new i m t → IsPermutation (routes_of new) (after_op (routes_of slots) (Set p m t))
 set-ok slots new p i m t h sound f s =
     let q : Route → Bool = λ r. not (has_key p m r) in
     let route : Route = record { prefix = p; metric = m; target = t } in
@@ -112,9 +125,9 @@ set-ok slots new p i m t h sound f s =
     subst (λ xs. IsPermutation (routes_of xs) (after_op (routes_of slots) (Set p m t))) (sym s.list)
     (found-set q p 0 slots i s.slot route (keeps-key p m) h.keys f made)
 
-pub form-after_set : {E : Type 0} (r : Result (Unit {0}) E) (slots new : List PrefixRoutes) (p : Cidr) (i m : ℕ) (t : Target) → AreSlots slots → IsCidr p → IsFound slot_key slots (key_of p) i → OnOk r (IsSetAt slots new i m t) → OnErr r (new ≡ slots) → AreSlots new
-form-after_set (Ok u) slots new p i m t h sound f ok err = set-form slots new p i m t h sound f ok
-form-after_set (Err e) slots new p i m t h sound f ok err = subst (λ xs. AreSlots xs) (sym err) h
+pub whole-after_set : {E : Type 0} (r : Result (Unit {0}) E) (slots new : List PrefixRoutes) (lengths : List Bool) (p : Cidr) (i m : ℕ) (t : Target) → IsWhole slots lengths → IsCidr p → IsFound slot_key slots (key_of p) i → OnOk r (IsSetAt slots new i m t) → OnErr r (new ≡ slots) → IsWhole new lengths
+whole-after_set (Ok u) slots new lengths p i m t h sound f ok err = set-whole slots new lengths p i m t h sound f ok
+whole-after_set (Err e) slots new lengths p i m t h sound f ok err = subst (λ xs. IsWhole xs lengths) (sym err) h
 
 pub ok-after_set : {E : Type 0} (r : Result (Unit {0}) E) (slots new : List PrefixRoutes) (now : List Route) (p : Cidr) (i m : ℕ) (t : Target) → routes_of slots ≡ now → AreSlots slots → IsCidr p → IsFound slot_key slots (key_of p) i → OnOk r (IsSetAt slots new i m t) → OnOk r (IsPermutation (routes_of new) (after_op now (Set p m t)))
 ok-after_set (Ok u) slots new now p i m t view h sound f ok = subst (λ rs. IsPermutation (routes_of new) (after_op rs (Set p m t))) view (set-ok slots new p i m t h sound f ok)
@@ -138,7 +151,7 @@ same-set now p m t table c =
           (Contains-push_cases left route r i);
     })
 
-slot-route : (slots : List PrefixRoutes) (p : Cidr) (i : ℕ) (s : PrefixRoutes) (x : MetricTarget) → AreSlots slots → IsCidr p → IsFound slot_key slots (key_of p) i → s ≡ get_or slots i s → Contains s.targets x → Contains (routes_of slots) (route_at p x)
+pub slot-route : (slots : List PrefixRoutes) (p : Cidr) (i : ℕ) (s : PrefixRoutes) (x : MetricTarget) → AreSlots slots → IsCidr p → IsFound slot_key slots (key_of p) i → s ≡ get_or slots i s → Contains s.targets x → Contains (routes_of slots) (route_at p x)
 slot-route slots p i s x h sound f is c =
     let same : s.prefix ≡ p = ap (λ (y : PrefixRoutes). y.prefix) is ∙ found-prefix slots p i s h sound f in
     let there : Contains (routes_at s) (route_at p x) = subst (λ a. Contains (routes_at s) (route_at a x)) same (map-contains (route_at s.prefix) s.targets x c) in
@@ -150,14 +163,17 @@ set-there slots now p i m t s view h sound f is c = same-set now p m t (table-of
 
 -- ---- a first setting
 
-add-form : (slots new : List PrefixRoutes) (p : Cidr) (i m : ℕ) (t : Target) → AreSlots slots → IsGap slot_key slots (key_of p) i → IsAddedAt slots new i p m t → AreSlots new
-add-form slots new p i m t h g a =
-    subst (λ xs. AreSlots xs) (sym a.list) (record {
-      keys = ascends-insert slot_key 0 slots (key_of p) i a.slot h.keys g (omega arith) (ap key_of a.prefix);
-      each = all-insert slots i a.slot h.each (record { sound = subst (λ q. IsCidr q) (sym a.prefix) a.sound; metrics = a.metrics });
+pub add-whole : (slots new : List PrefixRoutes) (lengths marked : List Bool) (p : Cidr) (i m : ℕ) (t : Target) → IsWhole slots lengths → IsGap slot_key slots (key_of p) i → IsAddedAt slots new i p m t → marked ≡ set lengths p.len true → IsWhole new marked
+add-whole slots new lengths marked p i m t h g a is =
+    subst (λ xs. IsWhole xs marked) (sym a.list) (record {
+      form = record {
+        keys = ascends-insert slot_key 0 slots (key_of p) i a.slot h.form.keys g (omega arith) (ap key_of a.prefix);
+        each = all-insert slots i a.slot h.form.each (record { sound = subst (λ q. IsCidr q) (sym a.prefix) a.sound; metrics = a.metrics });
+      };
+      kept = subst (λ ls. HasLength (insert slots i a.slot) ls) (ap (λ (q : Cidr). set lengths q.len true) a.prefix ∙ sym is) (kept-insert slots i a.slot lengths h.kept);
     })
 
-add-ok : (slots new : List PrefixRoutes) (p : Cidr) (i m : ℕ) (t : Target) → AreSlots slots → IsGap slot_key slots (key_of p) i → IsAddedAt slots new i p m t → IsPermutation (routes_of new) (after_op (routes_of slots) (Set p m t))
+pub add-ok : (slots new : List PrefixRoutes) (p : Cidr) (i m : ℕ) (t : Target) → AreSlots slots → IsGap slot_key slots (key_of p) i → IsAddedAt slots new i p m t → IsPermutation (routes_of new) (after_op (routes_of slots) (Set p m t))
 add-ok slots new p i m t h g a =
     let route : Route = record { prefix = p; metric = m; target = t } in
     let made : IsPermutation (routes_at a.slot) (route ∷ []) =
@@ -165,23 +181,16 @@ add-ok slots new p i m t h g a =
     subst (λ xs. IsPermutation (routes_of xs) (after_op (routes_of slots) (Set p m t))) (sym a.list)
     (gap-add (λ r. not (has_key p m r)) p 0 slots i a.slot route (keeps-key p m) h.keys g made)
 
-pub form-after_add : {E : Type 0} (r : Result (Unit {0}) E) (slots new : List PrefixRoutes) (p : Cidr) (i m : ℕ) (t : Target) → AreSlots slots → IsGap slot_key slots (key_of p) i → OnOk r (IsAddedAt slots new i p m t) → OnErr r (new ≡ slots) → AreSlots new
-form-after_add (Ok u) slots new p i m t h g ok err = add-form slots new p i m t h g ok
-form-after_add (Err e) slots new p i m t h g ok err = subst (λ xs. AreSlots xs) (sym err) h
-
 pub ok-after_add : {E : Type 0} (r : Result (Unit {0}) E) (slots new : List PrefixRoutes) (now : List Route) (p : Cidr) (i m : ℕ) (t : Target) → routes_of slots ≡ now → AreSlots slots → IsGap slot_key slots (key_of p) i → OnOk r (IsAddedAt slots new i p m t) → OnOk r (IsPermutation (routes_of new) (after_op now (Set p m t)))
 ok-after_add (Ok u) slots new now p i m t view h g ok = subst (λ rs. IsPermutation (routes_of new) (after_op rs (Set p m t))) view (add-ok slots new p i m t h g ok)
 ok-after_add (Err e) slots new now p i m t view h g ok = tt
 
 -- ---- clearings
 
-clear-form : (slots new : List PrefixRoutes) (p : Cidr) (i : ℕ) (metric : Option ℕ) → AreSlots slots → IsCidr p → IsFound slot_key slots (key_of p) i → IsClearedAt slots new i metric → AreSlots new
-clear-form slots new p i metric h sound f s =
-    let is : s.slot.prefix ≡ p = (s.made s.slot).same ∙ found-prefix slots p i s.slot h sound f in
-    subst (λ xs. AreSlots xs) (sym s.list) (record {
-      keys = ascends-set slot_key 0 slots (key_of p) i s.slot h.keys f (ap key_of is);
-      each = all-set slots i s.slot h.each (record { sound = subst (λ q. IsCidr q) (sym is) sound; metrics = (s.made s.slot).metrics });
-    })
+clear-whole : (slots new : List PrefixRoutes) (lengths : List Bool) (p : Cidr) (i : ℕ) (metric : Option ℕ) → IsWhole slots lengths → IsCidr p → IsFound slot_key slots (key_of p) i → IsClearedAt slots new i metric → IsWhole new lengths
+clear-whole slots new lengths p i metric h sound f s =
+    subst (λ xs. IsWhole xs lengths) (sym s.list)
+    (put-whole slots lengths p i s.slot h sound f ((s.made s.slot).same ∙ found-prefix slots p i s.slot h.form sound f) (s.made s.slot).metrics)
 
 slot-cleared : (q : Route → Bool) (p : Cidr) (v old : PrefixRoutes) → v.prefix ≡ p → old.prefix ≡ p → map (route_at p) v.targets ≡ filter q (map (route_at p) old.targets) → routes_at v ≡ filter q (routes_at old)
 slot-cleared q p v old vp op h = ap (λ a. map (route_at a) v.targets) vp ∙ h ∙ ap (λ a. filter q (map (route_at a) old.targets)) (sym op)
@@ -201,9 +210,9 @@ clear-is slots new p i (Some m) h sound f s =
 moved : (xs ys : List Route) → xs ≡ ys → IsPermutation xs ys
 moved xs ys e = subst (λ zs. IsPermutation xs zs) e (IsPermutation-refl xs)
 
-pub form-after_clear : {E : Type 0} (r : Result (Unit {0}) E) (slots new : List PrefixRoutes) (p : Cidr) (i : ℕ) (metric : Option ℕ) → AreSlots slots → IsCidr p → IsFound slot_key slots (key_of p) i → OnOk r (IsClearedAt slots new i metric) → OnErr r (new ≡ slots) → AreSlots new
-form-after_clear (Ok u) slots new p i metric h sound f ok err = clear-form slots new p i metric h sound f ok
-form-after_clear (Err e) slots new p i metric h sound f ok err = subst (λ xs. AreSlots xs) (sym err) h
+pub whole-after_clear : {E : Type 0} (r : Result (Unit {0}) E) (slots new : List PrefixRoutes) (lengths : List Bool) (p : Cidr) (i : ℕ) (metric : Option ℕ) → IsWhole slots lengths → IsCidr p → IsFound slot_key slots (key_of p) i → OnOk r (IsClearedAt slots new i metric) → OnErr r (new ≡ slots) → IsWhole new lengths
+whole-after_clear (Ok u) slots new lengths p i metric h sound f ok err = clear-whole slots new lengths p i metric h sound f ok
+whole-after_clear (Err e) slots new lengths p i metric h sound f ok err = subst (λ xs. IsWhole xs lengths) (sym err) h
 
 pub ok-after_clear : {E : Type 0} (r : Result (Unit {0}) E) (slots new : List PrefixRoutes) (now : List Route) (p : Cidr) (i : ℕ) (metric : Option ℕ) → routes_of slots ≡ now → AreSlots slots → IsCidr p → IsFound slot_key slots (key_of p) i → OnOk r (IsClearedAt slots new i metric) → OnOk r (IsPermutation (routes_of new) (after_op now (Clear p metric)))
 ok-after_clear (Ok u) slots new now p i metric view h sound f ok = moved (routes_of new) (after_op now (Clear p metric)) (clear-is slots new p i metric h sound f ok ∙ ap (λ rs. after_op rs (Clear p metric)) view)

@@ -1,3 +1,9 @@
 pub mod Ascending
-pub mod Slots
 pub mod Targets
+pub mod Slots
+pub mod Searches
+pub mod Above
+pub mod Along
+pub mod Own
+pub mod Whole
+pub mod Made

@@ -1,12 +1,15 @@
 -- The slots of a routing table: each has the routes of one prefix, in order of their metrics. The slots are in order of
 -- their prefixes.
-use Rattle.std.specs.Prelude.{ℕ, List, [], ◌∷◌, Option, ◌≡◌, ◌+◌, ◌*◌, map, flat_map, set, insert, slice_index_or, IsPermutation}
+use Rattle.std.specs.Prelude.{ℕ, List, [], ◌∷◌, Option, ◌≡◌, ◌+◌, ◌*◌, ◌<◌, length, map, flat_map, set, insert, slice_index_or, Contains, IsPermutation}
 use Rattle.std.specs.List.{AllByRecursion}
 use Rattle.dn_model.specs.Cidr.{Cidr, IsCidr}
+use Rattle.dn_model.specs.declared.entry.Op.{Op}
+use Rattle.dn_model.specs.declared.entry.Op.TheVariants.{Set, Clear}
 use Rattle.dn_model.specs.declared.entry.Route.{Route}
+use Rattle.route_table.specs.declared.targets.MetricTarget.{MetricTarget}
 use Rattle.dn_model.specs.declared.target.Target.{Target}
 use Rattle.route_table.specs.Ascending.{AscendsFrom}
-use Rattle.route_table.specs.Targets.{cleared, metric_of, route_at, with_target}
+use Rattle.route_table.specs.Targets.{cleared, metric_of, route_at, with_target, IsFirst}
 use Rattle.route_table.specs.declared.slots.PrefixRoutes.{PrefixRoutes}
 
 -- what tells prefixes apart: lengths are below 64
@@ -63,3 +66,31 @@ pub record IsAddedAt (old new : List PrefixRoutes) (place : ℕ) (p : Cidr) (m :
   pub targets : IsPermutation slot.targets (record { metric = m; target = t } ∷ [])
   pub metrics : AscendsFrom metric_of 0 slot.targets
   pub list : new ≡ insert old place slot
+
+-- what an update makes of what the routes of its prefix do
+abbrev pub updated_targets : List MetricTarget → Op → List MetricTarget
+updated_targets targets (Set p m t) = with_target targets m t
+updated_targets targets (Clear p metric) = cleared targets metric
+
+-- an update of its prefix leaves the routes of a slot as they are
+abbrev pub IsUnchangedBy : List MetricTarget → Op → Type 0
+IsUnchangedBy targets (Set p m t) = Contains targets (record { metric = m; target = t })
+IsUnchangedBy targets (Clear p metric) = cleared targets metric ≡ targets
+
+-- an update sets a route, or there are some
+abbrev pub SetsOrHasSome : List MetricTarget → Op → Type 0
+SetsOrHasSome targets (Set p m t) = Unit {0}
+SetsOrHasSome targets (Clear p metric) = 0 < length targets
+
+-- an update was made among the routes of a slot, and the first of them then does this
+pub record IsUpdatedIn (old new : PrefixRoutes) (op : Op) (first : Option Target) : Type 0 where
+  pub same : new.prefix ≡ old.prefix
+  pub targets : IsPermutation new.targets (updated_targets old.targets op)
+  pub metrics : AscendsFrom metric_of 0 new.targets
+  pub first_is : IsFirst new.targets first
+
+-- so it was in the slot at a place
+pub record IsUpdatedAt (old new : List PrefixRoutes) (place : ℕ) (op : Op) (first : Option Target) : Type 0 where
+  pub slot : PrefixRoutes
+  pub made : (d : PrefixRoutes) → IsUpdatedIn (slice_index_or old place d) slot op first
+  pub list : new ≡ set old place slot

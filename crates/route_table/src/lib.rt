@@ -2,10 +2,15 @@
 //! prefix, then least metric: RFC 1812).
 #![tactic(auto)]
 
+mod above;
+mod lengths;
+mod own;
+mod search;
 mod slots;
 mod table;
 mod targets;
 #[cfg(test)]
 mod tests;
+mod update;
 
 pub use table::RouteTable;

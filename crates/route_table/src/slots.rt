@@ -1,13 +1,14 @@
 //! The routes of the prefixes of one table.
 
-ghost use Rattle.std.specs.Prelude.{◌≡◌, ◌<◌, ◌≤◌, OnOk, OnErr, IfSome, IfNone, length, slice_index_or};
+ghost use Rattle.std.specs.Prelude.{◌≡◌, ◌<◌, ◌≤◌, None, OnOk, OnErr, IfOk, IfSome, IfNone, IsFalse, IsTrue, length, slice_index_or};
 ghost use Rattle.dn_model.specs.Cidr.{IsCidr};
 ghost use Rattle.route_table.specs.Ascending.{IsFound, IsGap, IsPlace};
-ghost use Rattle.route_table.specs.Slots.{key_of, slot_key, AreSlots, IsAddedAt, IsClearedAt, IsClearedIn, IsSetAt, IsSetIn};
+ghost use Rattle.route_table.specs.Slots.{key_of, slot_key, AreSlots, IsAddedAt, IsClearedAt, IsClearedIn, IsSetAt, IsSetIn, IsUnchangedBy, IsUpdatedAt, IsUpdatedIn, SetsOrHasSome};
+ghost use Rattle.route_table.specs.Targets.{IsFirst};
 ghost use Rattle.route_table.specs.declared.slots.PrefixRoutes.{PrefixRoutes as Slot};
 
 use crate::targets::TargetsByMetric;
-use dn_model::{OutOfMemory, Prefix, Target};
+use dn_model::{Op, OutOfMemory, Prefix, Target};
 use std::alloc::{AllocError, Global};
 use version_pages::{Keyed, Pages};
 
@@ -42,7 +43,7 @@ impl Keyed for PrefixRoutes {
 }
 
 /// What tells a prefix from others: they are in order of their first addresses, and then of their lengths.
-fn prefix_key(prefix: Prefix) -> u64
+pub fn prefix_key(prefix: Prefix) -> u64
     ensures value { result ≡ key_of prefix }
     ensures sound { IsCidr prefix }
 {
@@ -138,7 +139,53 @@ pub fn add_at(
     ensures ok { OnOk result (IsAddedAt slots.old slots.new place prefix metric target) }
     ensures err { OnErr result (slots.new ≡ slots.old) }
 {
-    let mut targets = TargetsByMetric::new(alloc);
-    targets.set(metric, target)?;
+    let targets = TargetsByMetric::one(alloc, metric, target);
     return slots.insert_at(alloc, place, PrefixRoutes { prefix, targets });
+}
+
+/// What the route of a slot with the least metric does. It is none where the slot has no route.
+pub fn first_of(slot: &PrefixRoutes) -> Option<Target>
+    ensures { IsFirst slot.now.targets result }
+{
+    let first = slot.targets.first()?;
+    Some(first.target)
+}
+
+/// Whether an update of its prefix changes anything in a slot.
+pub fn changes(slot: &PrefixRoutes, op: &Op) -> bool
+    ensures same { IsFalse result → IsUnchangedBy slot.now.targets op.now }
+    ensures some { IsTrue result → SetsOrHasSome slot.now.targets op.now }
+{
+    match op {
+        Op::Set { metric, target, .. } => !slot.targets.does(*metric, *target),
+        Op::Clear { metric, .. } => slot.targets.has(*metric),
+    }
+}
+
+/// Makes an update of its prefix in a slot, and answers what its route with the least metric does then. After
+/// `OutOfMemory`, for which alone it fails, the slot is as before.
+fn update_in(slot: &mut PrefixRoutes, op: &Op) -> Result<Option<Target>, OutOfMemory>
+    ensures ok { IfOk result (λ first. IsUpdatedIn slot.old slot.new op.now first) }
+    ensures err { OnErr result (slot.new ≡ slot.old) }
+{
+    match op {
+        Op::Set { metric, target, .. } => set_in(slot, *metric, *target)?,
+        Op::Clear { metric, .. } => clear_in(slot, *metric),
+    }
+    Ok(first_of(slot))
+}
+
+/// Makes an update in the slot at a place, and answers what its route with the least metric does then. After
+/// `OutOfMemory`, for which alone it fails, all is as before.
+pub fn update_at(
+    alloc: Global,
+    slots: &mut Pages<PrefixRoutes>,
+    place: u64,
+    op: &Op,
+) -> Result<Option<Target>, OutOfMemory>
+    requires { place < length slots.old }
+    ensures ok { IfOk result (λ first. IsUpdatedAt slots.old slots.new place op.now first) }
+    ensures err { OnErr result (slots.new ≡ slots.old) }
+{
+    slots.change(alloc, place, |slot: &mut PrefixRoutes| update_in(slot, op))?
 }

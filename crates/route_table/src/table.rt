@@ -3,15 +3,22 @@
 ghost use Rattle.std.specs.Prelude.{◌≡◌, ◌<◌, ◌≤◌, ℕ, [], ◌∷◌, ◌++◌, length, filter, not, OnOk, OnErr, IfOk, Contains, IsFalse, IsTrue, IfSome, IfNone, IsPermutation, Some, None};
 ghost use Rattle.dn_model.specs.Cidr.{IsCidr, covers};
 ghost use Rattle.dn_model.specs.Routes.{IsTable};
-ghost use Rattle.dn_model.specs.Table.{is_of_prefix, after_op, best};
+ghost use Rattle.dn_model.specs.Entry.{prefix_of_op};
+ghost use Rattle.dn_model.specs.Table.{is_of_prefix, after_op, best, target_in};
 ghost use Rattle.dn_model.specs.declared.entry.Op.TheVariants.{Set, Clear};
 ghost use Rattle.dn_model.specs.declared.entry.Route.{Route as RouteIs};
-ghost use Rattle.route_table.specs.Slots.{routes_at, routes_of, AreSlots, IsSlot};
+ghost use Rattle.route_table.specs.Own.{AreOwnRuns, IsLooked, IsTurned, SetsOrHas};
+ghost use Rattle.route_table.specs.Slots.{routes_at, routes_of, IsSlot};
 
-use crate::slots::{PrefixRoutes, add_at, clear_at, place_of, set_at, slot_at};
-use dn_model::{List, OutOfMemory, Prefix, Route, Target};
+use crate::lengths::Lengths;
+use crate::own::push_own_runs;
+use crate::slots::{PrefixRoutes, clear_at, place_of, set_at, slot_at};
+use crate::update::{begin, done_above, make};
+use dn_model::{List, Op, OutOfMemory, Prefix, Route, Run, Target};
 use std::alloc::Global;
 use std::marker::Model;
+use std::sync::ledger::Ledger;
+use step_count::Steps;
 use version_pages::Pages;
 
 /// The routes of one router. A contract sees it as the list of its routes, whose order means nothing: each prefix
@@ -23,18 +30,21 @@ use version_pages::Pages;
 #[derive(Drop)]
 pub struct RouteTable {
     slots: Pages<PrefixRoutes>,
+    /// The lengths of these prefixes.
+    lengths: Lengths,
 }
 
 impl Model for RouteTable {
     ghost use Rattle.std.specs.Prelude.{List};
     ghost use Rattle.dn_model.specs.declared.entry.Route.{Route};
-    ghost use Rattle.route_table.specs.Slots.{routes_of, AreSlots};
+    ghost use Rattle.route_table.specs.Slots.{routes_of};
+    ghost use Rattle.route_table.specs.Whole.{IsWhole};
 
     ghost Value = { List Route };
 
     ghost view = { λ t. routes_of t.slots };
 
-    ghost invariant = { λ t. AreSlots t.slots };
+    ghost invariant = { λ t. IsWhole t.slots t.lengths };
 }
 
 impl RouteTable {
@@ -44,6 +54,7 @@ impl RouteTable {
     {
         RouteTable {
             slots: Pages::new(),
+            lengths: Lengths::new(),
         }
     }
 
@@ -78,7 +89,15 @@ impl RouteTable {
     {
         let place = place_of(&self.slots, prefix);
         let Some(slot) = slot_at(&self.slots, place, prefix) else {
-            return add_at(alloc, &mut self.slots, place, prefix, metric, target);
+            return begin(
+                alloc,
+                &mut self.slots,
+                &mut self.lengths,
+                place,
+                prefix,
+                metric,
+                target,
+            );
         };
         if slot.targets.does(metric, target) {
             return Ok(());
@@ -105,6 +124,53 @@ impl RouteTable {
             return Ok(());
         }
         return clear_at(alloc, &mut self.slots, place, metric);
+    }
+
+    /// How many prefixes ever had a route.
+    pub fn prefixes(&self) -> u64 {
+        self.slots.len()
+    }
+
+    /// Makes an update, and tells the runs of the own addresses of its prefix, at which no longer prefix has a route: it
+    /// answers what is done there after it. Where it answers nothing, the same is done everywhere. The slot of the prefix is
+    /// looked for first near a place: any will do. It fails for want of memory alone, and then the table may be changed.
+    ///
+    /// A step is a look at the routes of one prefix that has some, or at what is done above one that has none. It takes two
+    /// at most, and one for each of some different addresses of the prefix at which routes' prefixes begin: those of the
+    /// longer prefixes with routes within it, of which none lies in another. Slots without routes are passed over without a
+    /// step. A clearing of a prefix without routes answers nothing.
+    pub fn update<L: Ledger>(
+        &mut self,
+        alloc: Global,
+        op: &Op,
+        near: u64,
+        runs: &mut Vec<Run>,
+        steps: &mut Steps<L>,
+    ) -> Result<Option<Target>, OutOfMemory>
+        ensures table { OnOk result (IsPermutation self.new (after_op self.old op.now)) }
+        ensures form { IsTable self.new }
+        ensures same { IfOk result (λ after. IfNone after ((a : ℕ) → target_in self.new a ≡ target_in self.old a)) }
+        ensures turned { IfOk result (λ after. IfSome after (IsTurned self.old self.new (prefix_of_op op.now))) }
+        ensures runs { IfOk result (λ after. IfSome after (λ _.
+            AreOwnRuns self.new (prefix_of_op op.now) runs.new.items)) }
+        ensures had { IfOk result (λ after. IfSome after (λ _. SetsOrHas self.old op.now)) }
+        ensures cost { IsLooked self.old (prefix_of_op op.now) steps.old steps.new }
+    {
+        let prefix = op.prefix();
+        runs.clear();
+        steps.tick();
+        let Some(made) = make(alloc, &mut self.slots, &mut self.lengths, op, near)? else {
+            return Ok(None);
+        };
+        if made.first.is_some() && made.first == made.before {
+            return Ok(None);
+        }
+        let after = match made.first {
+            Some(target) => target,
+            None => done_above(&self.slots, &self.lengths, prefix, made, steps),
+        };
+        push_own_runs(&self.slots, made.place, prefix, runs, steps)?;
+        Ok(Some(after))
     }
 
     /// Of the routes whose prefixes have this length and cover an address the one with the least metric.
@@ -150,7 +216,10 @@ impl RouteTable {
         ensures { IfOk result (λ table. table ≡ self.now) }
     {
         let slots = self.slots.copy()?;
-        Ok(RouteTable { slots })
+        Ok(RouteTable {
+            slots,
+            lengths: self.lengths.copy(),
+        })
     }
 }
 

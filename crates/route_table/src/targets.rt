@@ -1,13 +1,14 @@
 //! What the routes of one prefix do.
 
-ghost use Rattle.std.specs.Prelude.{◌≡◌, ◌<◌, ◌≤◌, [], IfOk, IfSome, IfNone, OnOk, OnErr, IsFalse, IsTrue, Contains, IsPermutation, length};
+ghost use Rattle.std.specs.Prelude.{◌≡◌, ◌<◌, ◌≤◌, ◌∷◌, ◌↔◌, [], IfOk, IfSome, IfNone, OnOk, OnErr, IsFalse, IsTrue, Contains, IsPermutation, length};
 ghost use Rattle.route_table.specs.Ascending.{AscendsFrom, IsFound, IsGap, IsPlace};
-ghost use Rattle.route_table.specs.Targets.{cleared, metric_of, route_at, with_target, without_metric};
+ghost use Rattle.route_table.specs.Targets.{cleared, metric_of, route_at, targets_of, with_target, without_metric};
 ghost use Rattle.route_table.specs.declared.targets.MetricTarget.{MetricTarget as Entry};
 
 use dn_model::{OutOfMemory, Prefix, Route, Target};
 use std::alloc::Global;
 use std::marker::Model;
+use std::slice;
 
 /// A metric with what the route of that metric does.
 #[derive(Clone, Copy, Debug, PartialEq, Eq)]
@@ -29,48 +30,65 @@ impl MetricTarget {
     }
 }
 
-/// What the routes of one prefix do, by ascending metric, each metric once. A contract sees the list. Few routes have
-/// one prefix, most often one: they are a list in one block, and each call looks at all of them.
+/// What the routes of one prefix do, by ascending metric, each metric once. A contract sees the list. Almost all prefixes have
+/// one route: that stands here and takes no memory; more are a list behind a pointer, and each call looks at all of them.
 #[derive(Drop)]
 pub struct TargetsByMetric {
-    targets: Vec<MetricTarget>,
+    held: Held,
+    /// Where a second route takes memory from; it has no size.
+    alloc: Global,
+}
+
+/// How they are held.
+#[derive(Drop)]
+pub enum Held {
+    Nothing,
+    One(MetricTarget),
+    /// Two or more, or as many as are left of such.
+    More(Box<Vec<MetricTarget>>),
 }
 
 impl Model for TargetsByMetric {
     ghost use Rattle.std.specs.Prelude.{List};
     ghost use Rattle.route_table.specs.Ascending.{AscendsFrom};
-    ghost use Rattle.route_table.specs.Targets.{metric_of};
+    ghost use Rattle.route_table.specs.Targets.{metric_of, targets_of};
     ghost use Rattle.route_table.specs.declared.targets.MetricTarget.{MetricTarget};
 
     ghost Value = { List MetricTarget };
 
-    ghost view = { λ t. t.targets.items };
+    ghost view = { λ t. targets_of t.held };
 
-    ghost invariant = { λ t. AscendsFrom metric_of 0 t.targets.items };
+    ghost invariant = { λ t. AscendsFrom metric_of 0 (targets_of t.held) };
 }
 
 impl TargetsByMetric {
-    /// No route, which takes no memory.
-    pub fn new(alloc: Global) -> Self
-        ensures { result ≡ [] }
+    /// One route, which takes no memory.
+    pub fn one(alloc: Global, metric: u32, target: Target) -> Self
+        ensures { result ≡ record { metric = metric; target = target } ∷ [] }
     {
         TargetsByMetric {
-            targets: Vec::new(alloc),
+            held: Held::One(MetricTarget { metric, target }),
+            alloc,
         }
     }
 
     /// All, by ascending metric.
     pub fn as_slice(&self) -> &[MetricTarget]
-        ensures { result.now ≡ self.now }
+        ensures value { result.now ≡ self.now }
+        ensures metrics { AscendsFrom metric_of 0 self.now }
     {
-        &self.targets
+        match &self.held {
+            Held::Nothing => &[],
+            Held::One(entry) => slice::from_ref(entry),
+            Held::More(targets) => targets.as_slice(),
+        }
     }
 
     /// Whether there is a route of this metric that does this.
     pub fn does(&self, metric: u32, target: Target) -> bool
         ensures { IsTrue result → Contains self.now (record { metric = metric; target = target }) }
     {
-        for entry in &self.targets {
+        for entry in self.as_slice() {
             if entry.metric == metric {
                 return entry.target == target;
             }
@@ -83,16 +101,24 @@ impl TargetsByMetric {
         ensures none { IfNone result (self.now ≡ []) }
         ensures some { IfSome result (λ x. Contains self.now x × ((y : Entry) → Contains self.now y → x.metric ≤ y.metric)) }
     {
-        self.targets.first().copied()
+        self.as_slice().first().copied()
+    }
+
+    /// Whether there is none.
+    pub fn is_empty(&self) -> bool
+        ensures { IsTrue result ↔ self.now ≡ [] }
+    {
+        self.as_slice().is_empty()
     }
 
     /// Whether a clearing of this metric, or without a metric of all, would change anything.
     pub fn has(&self, metric: Option<u32>) -> bool
-        ensures { IsFalse result → cleared self.now metric ≡ self.now }
+        ensures same { IsFalse result → cleared self.now metric ≡ self.now }
+        ensures some { IsTrue result → 0 < length self.now }
     {
         match metric {
-            Some(metric) => has_metric(&self.targets, metric),
-            None => !self.targets.is_empty(),
+            Some(metric) => has_metric(self.as_slice(), metric),
+            None => !self.as_slice().is_empty(),
         }
     }
 
@@ -103,14 +129,20 @@ impl TargetsByMetric {
         ensures metrics { AscendsFrom metric_of 0 self.new }
     {
         let entry = MetricTarget { metric, target };
-        let place = count_below(&self.targets, metric);
-        if has_at(&self.targets, place, metric) {
-            self.targets[place] = entry;
-            return Ok(());
+        match &mut self.held {
+            Held::Nothing => {
+                self.held = Held::One(entry);
+                return Ok(());
+            }
+            Held::One(other) => {
+                let held = put_beside(self.alloc, *other, entry)?;
+                self.held = held;
+                return Ok(());
+            }
+            Held::More(targets) => {
+                return put(targets, entry);
+            }
         }
-        self.targets.reserve_exact(1)?;
-        self.targets.insert(place, entry)?;
-        Ok(())
     }
 
     /// Clears the route of a metric, without a metric all. It takes no memory.
@@ -118,9 +150,18 @@ impl TargetsByMetric {
         ensures value { self.new ≡ cleared self.old metric }
         ensures metrics { AscendsFrom metric_of 0 self.new }
     {
-        match metric {
-            Some(metric) => drop_metric(&mut self.targets, metric),
-            None => self.targets.clear(),
+        let Some(metric) = metric else {
+            self.held = Held::Nothing;
+            return;
+        };
+        match &mut self.held {
+            Held::Nothing => {}
+            Held::One(entry) => {
+                if entry.metric == metric {
+                    self.held = Held::Nothing;
+                }
+            }
+            Held::More(targets) => drop_metric(targets, metric),
         }
     }
 
@@ -128,9 +169,55 @@ impl TargetsByMetric {
     pub fn copy(&self) -> Result<TargetsByMetric, OutOfMemory>
         ensures { IfOk result (λ copy. copy ≡ self.now) }
     {
-        let targets = self.targets.clone()?;
-        Ok(TargetsByMetric { targets })
+        let held = match &self.held {
+            Held::Nothing => Held::Nothing,
+            Held::One(entry) => Held::One(*entry),
+            Held::More(targets) => {
+                let targets = targets.as_ref().clone()?;
+                let targets = Box::new(self.alloc, targets)?;
+                Held::More(targets)
+            }
+        };
+        Ok(TargetsByMetric {
+            held,
+            alloc: self.alloc,
+        })
     }
+}
+
+/// A route beside another, or in its place where it has the same metric.
+fn put_beside(alloc: Global, other: MetricTarget, entry: MetricTarget) -> Result<Held, OutOfMemory>
+    ensures put { IfOk result (λ held.
+        IsPermutation (targets_of held) (with_target (other ∷ []) entry.metric entry.target)) }
+    ensures metrics { IfOk result (λ held. AscendsFrom metric_of 0 (targets_of held)) }
+{
+    if other.metric == entry.metric {
+        return Ok(Held::One(entry));
+    }
+    let mut targets = Vec::with_capacity(alloc, 2)?;
+    targets.push(other)?;
+    put(&mut targets, entry)?;
+    let targets = Box::new(alloc, targets)?;
+    Ok(Held::More(targets))
+}
+
+/// Puts a route among others, in the place of the one with the same metric. After `OutOfMemory`, for which alone it fails,
+/// they are as before.
+fn put(targets: &mut Vec<MetricTarget>, entry: MetricTarget) -> Result<(), OutOfMemory>
+    requires { AscendsFrom metric_of 0 targets.old.items }
+    ensures ok { OnOk result (
+        IsPermutation targets.new.items (with_target targets.old.items entry.metric entry.target)) }
+    ensures err { OnErr result (targets.new.items ≡ targets.old.items) }
+    ensures metrics { AscendsFrom metric_of 0 targets.new.items }
+{
+    let place = count_below(targets, entry.metric);
+    if has_at(targets, place, entry.metric) {
+        targets[place] = entry;
+        return Ok(());
+    }
+    targets.reserve_exact(1)?;
+    targets.insert(place, entry)?;
+    Ok(())
 }
 
 /// How many of the metrics are below this one.
@@ -165,7 +252,8 @@ fn has_at(targets: &[MetricTarget], place: usize, metric: u32) -> bool
 /// Whether one of the metrics is this one.
 fn has_metric(targets: &[MetricTarget], metric: u32) -> bool
     requires { AscendsFrom metric_of 0 targets.now }
-    ensures { IsFalse result → without_metric targets.now metric ≡ targets.now }
+    ensures same { IsFalse result → without_metric targets.now metric ≡ targets.now }
+    ensures some { IsTrue result → 0 < length targets.now }
 {
     let place = count_below(targets, metric);
     has_at(targets, place, metric)

@@ -1,10 +1,15 @@
 //! Tables whose answers were worked out by hand, or are compared with a plain list.
 
+ghost use Rattle.std.specs.Prelude.{◌≡◌, ◌<◌};
+
 use super::RouteTable;
 use crate::table::prefix_around;
-use dn_model::{DropKind, Prefix, Route, Target};
+use dn_model::{DropKind, Op, Prefix, Route, Run, Target};
 use std::alloc::Global;
+use std::marker::Brand;
 use std::process::Abort;
+use std::sync::ledger::{Blank, Ledger};
+use step_count::Steps;
 
 /// A table crosses to another thread.
 fn crosses<T: Send + Sync>(_value: &T) {}
@@ -172,26 +177,58 @@ fn clear_plainly(plain: &mut Vec<Route>, prefix: Prefix, metric: Option<u32>) {
     }
 }
 
-/// A route is set in both, or one is cleared, or all of a prefix.
-fn update_both(
-    rt: &impl Abort,
-    alloc: Global,
-    table: &mut RouteTable,
-    plain: &mut Vec<Route>,
-    draw: u64,
-) {
+/// A route is set, or one is cleared, or all of a prefix.
+fn some_op(draw: u64) -> Op {
     let prefix = some_prefix(((draw >> 33) % 300) as u32);
     let metric = ((draw >> 20) % 4) as u32;
     let kind = (draw >> 12) % 8;
     if kind < 5 {
         let exit = ((draw >> 15) % 3) as u32;
-        set(rt, alloc, table, route(prefix, metric, Target::Exit(exit)));
-        set_plainly(rt, plain, route(prefix, metric, Target::Exit(exit)));
-        return;
+        return Op::Set {
+            prefix,
+            metric,
+            target: Target::Exit(exit),
+        };
     }
-    let cleared = if kind < 7 { Some(metric) } else { None };
-    clear(rt, alloc, table, prefix, cleared);
-    clear_plainly(plain, prefix, cleared);
+    let metric = if kind < 7 { Some(metric) } else { None };
+    Op::Clear { prefix, metric }
+}
+
+/// An update of a plain list.
+fn update_plainly(rt: &impl Abort, plain: &mut Vec<Route>, op: &Op) {
+    match *op {
+        Op::Set {
+            prefix,
+            metric,
+            target,
+        } => set_plainly(rt, plain, route(prefix, metric, target)),
+        Op::Clear { prefix, metric } => clear_plainly(plain, prefix, metric),
+    }
+}
+
+/// An update of both.
+fn update_both(
+    rt: &impl Abort,
+    alloc: Global,
+    table: &mut RouteTable,
+    plain: &mut Vec<Route>,
+    op: &Op,
+) {
+    update_plainly(rt, plain, op);
+    match *op {
+        Op::Set {
+            prefix,
+            metric,
+            target,
+        } => set(rt, alloc, table, route(prefix, metric, target)),
+        Op::Clear { prefix, metric } => clear(rt, alloc, table, prefix, metric),
+    }
+}
+
+/// The draw after this one.
+fn next_draw(draw: u64) -> u64 {
+    draw.wrapping_mul(6364136223846793005)
+        .wrapping_add(1442695040888963407)
 }
 
 /// Many updates of both.
@@ -204,10 +241,8 @@ fn update_often(
 ) {
     let mut draw = seed;
     for _ in 0..2000u32 {
-        draw = draw
-            .wrapping_mul(6364136223846793005)
-            .wrapping_add(1442695040888963407);
-        update_both(rt, alloc, table, plain, draw);
+        draw = next_draw(draw);
+        update_both(rt, alloc, table, plain, &some_op(draw));
     }
 }
 
@@ -238,4 +273,174 @@ fn a_copy_is_held_across_many_updates(rt: HostRuntime) {
     update_often(&rt, rt.alloc(), &mut table, &mut plain, 2);
     compare_plainly(&rt, rt.alloc(), &table, &plain);
     compare_plainly(&rt, rt.alloc(), &held, &old);
+}
+
+/// An update of a table, which is looked for first at its first slot, answers this and tells these runs.
+fn compare_update<L: Ledger>(
+    rt: &impl Abort,
+    alloc: Global,
+    table: &mut RouteTable,
+    op: Op,
+    want: Target,
+    want_runs: &[Run],
+    steps: &mut Steps<L>,
+) {
+    let mut runs = Vec::new(alloc);
+    let after = table
+        .update(alloc, &op, 0, &mut runs, steps)
+        .expect(rt, "memory");
+    assert_eq!(rt; after, Some(want));
+    assert_eq!(rt; runs.as_slice(), want_runs);
+}
+
+/// An update changes nothing.
+fn compare_unchanged<L: Ledger>(
+    rt: &impl Abort,
+    alloc: Global,
+    table: &mut RouteTable,
+    op: Op,
+    steps: &mut Steps<L>,
+) {
+    let mut runs = Vec::new(alloc);
+    let after = table
+        .update(alloc, &op, 0, &mut runs, steps)
+        .expect(rt, "memory");
+    assert_eq!(rt; after, None);
+}
+
+/// A route is set.
+fn setting(prefix: Prefix, metric: u32, target: Target) -> Op {
+    Op::Set {
+        prefix,
+        metric,
+        target,
+    }
+}
+
+/// All routes of a prefix are cleared.
+fn clearing(prefix: Prefix) -> Op {
+    Op::Clear {
+        prefix,
+        metric: None,
+    }
+}
+
+fn updates_of_one_in_another<L: Ledger>(rt: &impl Abort, alloc: Global, blank: Blank)
+    requires name { blank.name ≡ L.name }
+    requires parts { blank.parts ≡ L.parts }
+    requires some { 0 < blank.parts }
+{
+    let steps = &mut Steps::<L>::new(blank);
+    let table = &mut RouteTable::new();
+    let ten_all = [Run {
+        lo: 0x0A00_0000,
+        hi: 0x0AFF_FFFF,
+    }];
+    let one_all = [Run {
+        lo: 0x0A01_0000,
+        hi: 0x0A01_FFFF,
+    }];
+    let around_one = [
+        Run {
+            lo: 0x0A00_0000,
+            hi: 0x0A00_FFFF,
+        },
+        Run {
+            lo: 0x0A02_0000,
+            hi: 0x0AFF_FFFF,
+        },
+    ];
+    let inner = Target::Exit(1);
+    let outer = Target::Exit(2);
+    let set_ten = setting(ten(), 20, Target::Local);
+    compare_update(rt, alloc, table, set_ten, Target::Local, &ten_all, steps);
+    let set_again = setting(ten(), 20, Target::Local);
+    compare_unchanged(rt, alloc, table, set_again, steps);
+    let set_one = setting(ten_one(), 5, inner);
+    compare_update(rt, alloc, table, set_one, inner, &one_all, steps);
+    let set_less = setting(ten(), 10, outer);
+    compare_update(rt, alloc, table, set_less, outer, &around_one, steps);
+    compare_unchanged(rt, alloc, table, clearing(ten_zero()), steps);
+    compare_update(
+        rt,
+        alloc,
+        table,
+        clearing(ten_one()),
+        outer,
+        &one_all,
+        steps,
+    );
+    compare_update(
+        rt,
+        alloc,
+        table,
+        clearing(ten()),
+        Target::NoRoute,
+        &ten_all,
+        steps,
+    );
+}
+
+#[test]
+fn an_update_tells_the_own_addresses_of_its_prefix(rt: HostRuntime) {
+    updates_of_one_in_another::<Brand>(&rt, rt.alloc(), Blank::new(1));
+}
+
+/// What a table does with an address.
+fn target_of(table: &RouteTable, a: u32) -> Target {
+    match table.best(a) {
+        Some(route) => route.target,
+        None => Target::NoRoute,
+    }
+}
+
+/// At addresses in these runs a table does what was answered, at all others what it did before.
+fn compare_turned(
+    rt: &impl Abort,
+    before: &RouteTable,
+    table: &RouteTable,
+    runs: &[Run],
+    after: Option<Target>,
+) {
+    for k in 0..60u32 {
+        let a = some_prefix(k * 5).base();
+        let mut want = target_of(before, a);
+        if let Some(target) = after {
+            if runs.iter().any(|run| run.lo <= a && a <= run.hi) {
+                want = target;
+            }
+        }
+        assert_eq!(rt; target_of(table, a), want);
+    }
+}
+
+fn updates_near_any_place<L: Ledger>(rt: &impl Abort, alloc: Global, blank: Blank)
+    requires name { blank.name ≡ L.name }
+    requires parts { blank.parts ≡ L.parts }
+    requires some { 0 < blank.parts }
+{
+    let steps = &mut Steps::<L>::new(blank);
+    let mut table = RouteTable::new();
+    let mut plain = Vec::new(alloc);
+    let mut runs = Vec::new(alloc);
+    let mut draw = 3;
+    update_often(rt, alloc, &mut table, &mut plain, draw);
+    for _ in 0..300u32 {
+        draw = next_draw(draw);
+        let op = some_op(draw);
+        let before = copied(rt, &table);
+        let near = (draw >> 50) % 400;
+        let after = table
+            .update(alloc, &op, near, &mut runs, steps)
+            .expect(rt, "memory");
+        compare_turned(rt, &before, &table, &runs, after);
+        update_plainly(rt, &mut plain, &op);
+    }
+    compare_plainly(rt, alloc, &table, &plain);
+}
+
+/// Some hundred prefixes stand in several pages, many within others.
+#[test]
+fn an_update_is_looked_for_near_any_place(rt: HostRuntime) {
+    updates_near_any_place::<Brand>(&rt, rt.alloc(), Blank::new(1));
 }

@@ -19,7 +19,7 @@ use Rattle.net_engine.specs.Net.{Net, between, cut_atoms}
 use Rattle.net_engine.specs.Paired.{ArePaired, atoms_with, does_at, net_of, owned, owners_at, rows_with}
 use Rattle.net_engine.proofs.Atoms.{cut-begins, cut-target}
 use Rattle.net_engine.proofs.Does.{begins-paired, owners-in_row, target-paired}
-use Rattle.net_engine.proofs.Standing.{AllRules, is-net, row_with, same-parts}
+use Rattle.net_engine.proofs.Standing.{AllRoutes, is-net, row_with, same-parts}
 
 -- ---- what a cut makes of atoms, the first of which is given
 
@@ -81,13 +81,13 @@ uncut-begun start (x ∷ xs) at h b =
     ∙ ap (λ ys. x ∷ ys) (uncut-begun (past_of x) xs at h.2 c))
     (cases_Bool (eqb (first_of x) at))
 
-pub uncut-paired : (labels : Labels) (owners : AllRules) (rows : List AtomRow) (at : ℕ) → CoverFrom first_of past_of 0 (atoms_with rows labels owners) → is_boundary rows at ≡ true → cut_atoms (atoms_with rows labels owners) at ≡ atoms_with rows labels owners
+pub uncut-paired : (labels : Labels) (owners : AllRoutes) (rows : List AtomRow) (at : ℕ) → CoverFrom first_of past_of 0 (atoms_with rows labels owners) → is_boundary rows at ≡ true → cut_atoms (atoms_with rows labels owners) at ≡ atoms_with rows labels owners
 uncut-paired labels owners rows at h b = uncut-begun 0 (atoms_with rows labels owners) at h (begins-paired labels owners rows at ∙ b)
 
 -- ---- the targets of an atom come to stand twice
 
 -- the atom at a place is cut: both parts have what the whole has
-cut-owned : (os : AllRules) (start : ℕ) (rows : List AtomRow) (tss : List (List Target)) (place : ℕ) (d : AtomRow) (at : ℕ) (to : AtomId) → CoverFrom atom_low atom_past start rows → length tss ≡ length rows → place < length rows → atom_low (get_or rows place d) ≤ at → at < atom_past (get_or rows place d) → is_boundary rows at ≡ false → ((row : ForwardingRow) → forwarding_at (rows_with rows tss) at ≡ Some row → owners_at os at ≡ owners_at os row.low) → map (owned os) (rows_with (cut_rows rows at to) (insert tss (suc place) (get_or tss place []))) ≡ cut_atoms (map (owned os) (rows_with rows tss)) at
+cut-owned : (os : AllRoutes) (start : ℕ) (rows : List AtomRow) (tss : List (List Target)) (place : ℕ) (d : AtomRow) (at : ℕ) (to : AtomId) → CoverFrom atom_low atom_past start rows → length tss ≡ length rows → place < length rows → atom_low (get_or rows place d) ≤ at → at < atom_past (get_or rows place d) → is_boundary rows at ≡ false → ((row : ForwardingRow) → forwarding_at (rows_with rows tss) at ≡ Some row → owners_at os at ≡ owners_at os row.low) → map (owned os) (rows_with (cut_rows rows at to) (insert tss (suc place) (get_or tss place []))) ≡ cut_atoms (map (owned os) (rows_with rows tss)) at
 cut-owned os start [] tss place d at to h long l from past n f = absurd (omega arith)
 cut-owned os start (r ∷ rs) [] place d at to h long l from past n f = absurd (omega arith)
 cut-owned os start (r ∷ rs) (ts ∷ more) zero d at to h long l from past n f =
@@ -129,7 +129,7 @@ next-place x place =
     let next : place + 1 ≡ suc place = omega arith in
     ap (λ n. insert x.rows n (targets_of x place)) next
 
-pub atoms-after-cut : (routers : ℕ) (rows new : List AtomRow) (x y : Labels) (os : AllRules) (at place : ℕ) (from to : AtomId) → ArePaired routers rows x os → Cuts rows new x y at place from to → atoms_with new y os ≡ cut_atoms (atoms_with rows x os) at
+pub atoms-after-cut : (routers : ℕ) (rows new : List AtomRow) (x y : Labels) (os : AllRoutes) (at place : ℕ) (from to : AtomId) → ArePaired routers rows x os → Cuts rows new x y at place from to → atoms_with new y os ≡ cut_atoms (atoms_with rows x os) at
 atoms-after-cut routers rows new x y os at place from to h c =
     ap (λ (z : Labels). map (owned os) (rows_with new z.rows)) c.labels
     ∙ ap (λ (tss : List (List Target)). map (owned os) (rows_with new tss)) (next-place x place)
@@ -138,7 +138,7 @@ atoms-after-cut routers rows new x y os at place from to h c =
     (λ row p. owners-in_row routers rows x os at row h p)
 
 -- routers do what they did, and atoms begin where they began
-does-after-cut : (routers : ℕ) (rows new : List AtomRow) (x y : Labels) (os : AllRules) (at place : ℕ) (from to : AtomId) → ArePaired routers rows x os → Cuts rows new x y at place from to → (r a : ℕ) → does_at new y r a ≡ does_at rows x r a
+does-after-cut : (routers : ℕ) (rows new : List AtomRow) (x y : Labels) (os : AllRoutes) (at place : ℕ) (from to : AtomId) → ArePaired routers rows x os → Cuts rows new x y at place from to → (r a : ℕ) → does_at new y r a ≡ does_at rows x r a
 does-after-cut routers rows new x y os at place from to h c r a =
     let q : RouterId = record { 0 = r } in
     sym (target-paired y os new q a)
@@ -146,7 +146,7 @@ does-after-cut routers rows new x y os at place from to h c r a =
     ∙ cut-target (atoms_with rows x os) at q a
     ∙ target-paired x os rows q a
 
-boundary-after-cut : (routers : ℕ) (rows new : List AtomRow) (x y : Labels) (os : AllRules) (at place : ℕ) (from to : AtomId) → ArePaired routers rows x os → Cuts rows new x y at place from to → (b : ℕ) → is_boundary rows b ≡ true → is_boundary new b ≡ true
+boundary-after-cut : (routers : ℕ) (rows new : List AtomRow) (x y : Labels) (os : AllRoutes) (at place : ℕ) (from to : AtomId) → ArePaired routers rows x os → Cuts rows new x y at place from to → (b : ℕ) → is_boundary rows b ≡ true → is_boundary new b ≡ true
 boundary-after-cut routers rows new x y os at place from to h c b e =
     sym (begins-paired y os new b)
     ∙ ap (λ (zs : List Atom). begins_at zs b) (atoms-after-cut routers rows new x y os at place from to h c)
@@ -173,19 +173,19 @@ wide-parted x place k l wide m =
     (cases_lt (place + 1) k))
     (cases_lt k (place + 1))
 
-pub length-cut : (routers : ℕ) (rows new : List AtomRow) (x : Labels) (os : AllRules) (at : ℕ) (from to : AtomId) → ArePaired routers rows x os → at < 2 ^ 32 → IsCut rows new at (Some (from, to)) → length new ≡ length rows + 1
+pub length-cut : (routers : ℕ) (rows new : List AtomRow) (x : Labels) (os : AllRoutes) (at : ℕ) (from to : AtomId) → ArePaired routers rows x os → at < 2 ^ 32 → IsCut rows new at (Some (from, to)) → length new ≡ length rows + 1
 length-cut routers rows new x os at from to h b c =
     let long : length new ≡ suc (length rows) = ap (λ (zs : List AtomRow). length zs) c.2 ∙ length-after-cut 0 rows at to h.labelled.atoms.cover (omega arith) b in
     omega arith
 
-pub room-to-cut : (routers : ℕ) (rows new : List AtomRow) (x : Labels) (os : AllRules) (at : ℕ) (from to : AtomId) → ArePaired routers rows x os → at < 2 ^ 32 → AreAtoms new → IsCut rows new at (Some (from, to)) → length x.rows < 2 ^ 32
+pub room-to-cut : (routers : ℕ) (rows new : List AtomRow) (x : Labels) (os : AllRoutes) (at : ℕ) (from to : AtomId) → ArePaired routers rows x os → at < 2 ^ 32 → AreAtoms new → IsCut rows new at (Some (from, to)) → length x.rows < 2 ^ 32
 room-to-cut routers rows new x os at from to h b form c =
     let long : length new ≡ length rows + 1 = length-cut routers rows new x os at from to h b c in
     let few : 0 + length new ≤ 2 ^ 32 = few-rows atom_low atom_past 0 new form.cover in
     let there : length x.rows ≡ length rows = h.labelled.there in
     omega arith
 
-pub paired-after-cut : (routers : ℕ) (rows new : List AtomRow) (x y : Labels) (os : AllRules) (at place : ℕ) (from to : AtomId) → ArePaired routers rows x os → Cuts rows new x y at place from to → ArePaired routers new y os
+pub paired-after-cut : (routers : ℕ) (rows new : List AtomRow) (x y : Labels) (os : AllRoutes) (at place : ℕ) (from to : AtomId) → ArePaired routers rows x os → Cuts rows new x y at place from to → ArePaired routers new y os
 paired-after-cut routers rows new x y os at place from to h c =
     let long : length new ≡ length rows + 1 = length-cut routers rows new x os at from to h c.within c.cut in
     let there : length x.rows ≡ length rows = h.labelled.there in
@@ -204,8 +204,8 @@ paired-after-cut routers rows new x y os at place from to h c =
       same_routers = same ∙ h.same_routers;
       each = h.each;
       along = λ r l. record {
-        form = (h.along r l).form;
-        ends = λ b e. boundary-after-cut routers rows new x y os at place from to h c b ((h.along r l).ends b e);
+        table = (h.along r l).table;
+        ends = λ b m e. boundary-after-cut routers rows new x y os at place from to h c b ((h.along r l).ends b m e);
         does = λ a b. does-after-cut routers rows new x y os at place from to h c r a ∙ (h.along r l).does a b;
       };
     }
@@ -214,11 +214,11 @@ paired-after-cut routers rows new x y os at place from to h c =
 pub is-cut-at : (rows new : List AtomRow) (at : ℕ) (o p : Option (AtomId × AtomId)) → o ≡ p → IsCut rows new at o → IsCut rows new at p
 is-cut-at rows new at o p e h = subst (λ (q : Option (AtomId × AtomId)). IsCut rows new at q) e h
 
-pub cut-atoms-now : (net : Net) (routers : ℕ) (rows new : List AtomRow) (x y : Labels) (os : AllRules) (at place : ℕ) (from to : AtomId) → net_of routers rows x os ≡ net → ArePaired routers rows x os → Cuts rows new x y at place from to → atoms_with new y os ≡ cut_atoms net.atoms at
+pub cut-atoms-now : (net : Net) (routers : ℕ) (rows new : List AtomRow) (x y : Labels) (os : AllRoutes) (at place : ℕ) (from to : AtomId) → net_of routers rows x os ≡ net → ArePaired routers rows x os → Cuts rows new x y at place from to → atoms_with new y os ≡ cut_atoms net.atoms at
 cut-atoms-now net routers rows new x y os at place from to e h c =
     atoms-after-cut routers rows new x y os at place from to h c ∙ ap (λ (n : Net). cut_atoms n.atoms at) e
 
-pub uncut-atoms-now : (net : Net) (routers : ℕ) (rows new : List AtomRow) (labels : Labels) (owners : AllRules) (at : ℕ) → net_of routers rows labels owners ≡ net → ArePaired routers rows labels owners → IsCut rows new at None → atoms_with new labels owners ≡ cut_atoms net.atoms at
+pub uncut-atoms-now : (net : Net) (routers : ℕ) (rows new : List AtomRow) (labels : Labels) (owners : AllRoutes) (at : ℕ) → net_of routers rows labels owners ≡ net → ArePaired routers rows labels owners → IsCut rows new at None → atoms_with new labels owners ≡ cut_atoms net.atoms at
 uncut-atoms-now net routers rows new labels owners at e h c =
     ap (λ (zs : List AtomRow). atoms_with zs labels owners) c.1
     ∙ sym (uncut-paired labels owners rows at (is-net routers rows labels owners h).cover c.0)

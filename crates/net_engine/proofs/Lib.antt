@@ -1,4 +1,3 @@
-pub mod Agreed
 pub mod Along
 pub mod Atoms
 pub mod Begun
@@ -13,10 +12,8 @@ pub mod Owned
 pub mod Parting
 pub mod PrefixEnds
 pub mod Relabelling
-pub mod Rerunning
-pub mod Said
-pub mod Segments
 pub mod Standing
 pub mod StandingFor
 pub mod Updated
-pub mod Updating
+pub mod Moving
+pub mod Rerouting

@@ -1,6 +1,7 @@
--- How many atoms a span meets, how many a cut adds, and how many begin along a walk.
+-- How many atoms a span meets, how many a cut adds, and how many begin within it.
 use Rattle.std.proofs.Common.{◌≡◌, ℕ, ◌+◌, ◌-◌, ◌<◌, ◌≤◌, ◌^◌, ◌∙◌, ◌⊎◌, ◌||◌, ⊎_elim, Bool, true, false, cond, leb, ltb, eqb, List, [], ◌∷◌, length, get_or, drop, map, refl, ap, sym, arith}
 use Rattle.std.specs.Prelude.{count_by}
+use Rattle.std.specs.List.{list_any}
 use Rattle.std.proofs.lemmas.Bool.{and_from, and_left, and_right, cases_Bool, cases_eq, cases_lt, eq-eqb, eqb-true, le-leb, le-ltb, lt-leb, lt-ltb, ne_eqb, or_cases, or_from, or_left, or_right}
 use Rattle.std.proofs.lemmas.List.Sums.{sum_by-cons}
 use Rattle.std.proofs.lemmas.Nat.{pow_pos}
@@ -9,16 +10,18 @@ use Rattle.dn_model.specs.Cidr.{Cidr, size}
 use Rattle.dn_model.specs.Rows.{is_within, CoverFrom}
 use Rattle.dn_model.specs.Version.{Atom, begins_at, first_of, past_of}
 use Rattle.dn_model.specs.declared.atom_row.AtomRow.{AtomRow}
+use Rattle.dn_model.specs.declared.entry.Route.{Route}
 use Rattle.dn_model.specs.declared.target.Target.{Target}
 use Rattle.dn_model.proofs.Covers.{within-above, within-below, within-yes}
 use Rattle.edge_labels.specs.Labels.{Labels}
+use Rattle.route_table.specs.Own.{BeginWithin}
 use Rattle.net_engine.specs.Looks.{atoms_begun, atoms_between, has_some, more_at}
 use Rattle.net_engine.specs.Net.{between, cut_atoms}
 use Rattle.net_engine.specs.Paired.{atoms_with, owned, rows_with}
 use Rattle.net_engine.proofs.Along.{none-begins_before}
 use Rattle.net_engine.proofs.Atoms.{cut-begins, cut-inside, cut-on, cut-outside}
 use Rattle.net_engine.proofs.Held.{within-high, within-low}
-use Rattle.net_engine.proofs.Standing.{AllRules, row_with}
+use Rattle.net_engine.proofs.Standing.{AllRoutes, row_with}
 
 -- what one counts for
 abbrev as_one : Bool → ℕ
@@ -148,20 +151,20 @@ cut-meets (x ∷ xs) at lo past o end =
 abbrev row_has_some : ℕ → ℕ → AtomRow → Bool
 row_has_some lo past r = has_some lo past (record { row = record { low = r.low; past = r.past; targets = [] }; owners = [] })
 
-meets-owned : (owners : AllRules) (rows : List AtomRow) (tss : List (List Target)) (lo past : ℕ) → atoms_between (map (owned owners) (rows_with rows tss)) lo past ≡ count_by (row_has_some lo past) rows
+meets-owned : (owners : AllRoutes) (rows : List AtomRow) (tss : List (List Target)) (lo past : ℕ) → atoms_between (map (owned owners) (rows_with rows tss)) lo past ≡ count_by (row_has_some lo past) rows
 meets-owned owners [] tss lo past = refl
 meets-owned owners (r ∷ rs) tss lo past =
     count-cons (has_some lo past) (owned owners (row_with r (get_or tss 0 []))) (map (owned owners) (rows_with rs (drop 1 tss)))
     ∙ ap (λ n. as_one (row_has_some lo past r) + n) (meets-owned owners rs (drop 1 tss) lo past)
     ∙ sym (count-cons (row_has_some lo past) r rs)
 
-pub meets-paired : (labels : Labels) (owners : AllRules) (rows : List AtomRow) (lo past : ℕ) → atoms_between (atoms_with rows labels owners) lo past ≡ count_by (row_has_some lo past) rows
+pub meets-paired : (labels : Labels) (owners : AllRoutes) (rows : List AtomRow) (lo past : ℕ) → atoms_between (atoms_with rows labels owners) lo past ≡ count_by (row_has_some lo past) rows
 meets-paired labels owners rows lo past = meets-owned owners rows labels.rows lo past
 
 begun-cons : (r : AtomRow) (rs : List AtomRow) (lo past : ℕ) → atoms_begun (r ∷ rs) lo past ≡ as_one (is_within lo past r.low) + atoms_begun rs lo past
 begun-cons r rs lo past = count-cons (λ (row : AtomRow). is_within lo past row.low) r rs
 
-begun-owned : (owners : AllRules) (start : ℕ) (rows : List AtomRow) (tss : List (List Target)) (lo past : ℕ) → CoverFrom atom_low atom_past start rows → atoms_begun rows lo past ≤ atoms_between (map (owned owners) (rows_with rows tss)) lo past
+begun-owned : (owners : AllRoutes) (start : ℕ) (rows : List AtomRow) (tss : List (List Target)) (lo past : ℕ) → CoverFrom atom_low atom_past start rows → atoms_begun rows lo past ≤ atoms_between (map (owned owners) (rows_with rows tss)) lo past
 begun-owned owners start [] tss lo past h = omega arith
 begun-owned owners start (r ∷ rs) tss lo past h =
     let atom : Atom = owned owners (row_with r (get_or tss 0 [])) in
@@ -185,54 +188,62 @@ begun-owned owners start (r ∷ rs) tss lo past h =
     (cases_Bool (is_within lo past r.low))
 
 -- those that begin in a span have addresses of it
-pub begun-meet : (labels : Labels) (owners : AllRules) (start : ℕ) (rows : List AtomRow) (lo past : ℕ) → CoverFrom atom_low atom_past start rows → atoms_begun rows lo past ≤ atoms_between (atoms_with rows labels owners) lo past
+pub begun-meet : (labels : Labels) (owners : AllRoutes) (start : ℕ) (rows : List AtomRow) (lo past : ℕ) → CoverFrom atom_low atom_past start rows → atoms_begun rows lo past ≤ atoms_between (atoms_with rows labels owners) lo past
 begun-meet labels owners start rows lo past h = begun-owned owners start rows labels.rows lo past h
 
--- ---- along a walk
+-- ---- at some addresses of a span, in order
 
 within-one : (lo past a : ℕ) → lo ≤ a → a < past → as_one (is_within lo past a) ≡ 1
 within-one lo past a l m = ap as_one (within-yes lo past a l m)
 
--- one that begins in a front of a span begins in the span
-within-front : (lo at past a : ℕ) → at ≤ past → as_one (is_within lo at a) ≤ as_one (is_within lo past a)
-within-front lo at past a o = ⊎_elim
-    (λ (t : is_within lo at a ≡ true).
-    let to : a < at = within-high lo at a t in
-    let here : as_one (is_within lo at a) ≡ 1 = ap as_one t in
-    let there : as_one (is_within lo past a) ≡ 1 = within-one lo past a (within-low lo at a t) (omega arith) in
+-- one that begins in the rest of a span begins in the span
+within-rest : (lo at past a : ℕ) → lo ≤ at → as_one (is_within at past a) ≤ as_one (is_within lo past a)
+within-rest lo at past a o = ⊎_elim
+    (λ (t : is_within at past a ≡ true).
+    let from : at ≤ a = within-low at past a t in
+    let here : as_one (is_within at past a) ≡ 1 = ap as_one t in
+    let there : as_one (is_within lo past a) ≡ 1 = within-one lo past a (omega arith) (within-high at past a t) in
     omega arith)
-    (λ (f : is_within lo at a ≡ false).
-    let here : as_one (is_within lo at a) ≡ 0 = ap as_one f in
+    (λ (f : is_within at past a ≡ false).
+    let here : as_one (is_within at past a) ≡ 0 = ap as_one f in
     omega arith)
-    (cases_Bool (is_within lo at a))
+    (cases_Bool (is_within at past a))
 
-pub begun-front : (rows : List AtomRow) (lo at past : ℕ) → at ≤ past → atoms_begun rows lo at ≤ atoms_begun rows lo past
-begun-front [] lo at past o = omega arith
-begun-front (r ∷ rs) lo at past o =
-    let rest : atoms_begun rs lo at ≤ atoms_begun rs lo past = begun-front rs lo at past o in
-    let one : as_one (is_within lo at r.low) ≤ as_one (is_within lo past r.low) = within-front lo at past r.low o in
-    let x : atoms_begun (r ∷ rs) lo at ≡ as_one (is_within lo at r.low) + atoms_begun rs lo at = begun-cons r rs lo at in
+begun-rest : (rows : List AtomRow) (lo at past : ℕ) → lo ≤ at → atoms_begun rows at past ≤ atoms_begun rows lo past
+begun-rest [] lo at past o = omega arith
+begun-rest (r ∷ rs) lo at past o =
+    let rest : atoms_begun rs at past ≤ atoms_begun rs lo past = begun-rest rs lo at past o in
+    let one : as_one (is_within at past r.low) ≤ as_one (is_within lo past r.low) = within-rest lo at past r.low o in
+    let x : atoms_begun (r ∷ rs) at past ≡ as_one (is_within at past r.low) + atoms_begun rs at past = begun-cons r rs at past in
     let y : atoms_begun (r ∷ rs) lo past ≡ as_one (is_within lo past r.low) + atoms_begun rs lo past = begun-cons r rs lo past in
     omega arith
 
--- where an atom begins there is one more from there on
-pub begun-more : (rows : List AtomRow) (lo at past : ℕ) → lo ≤ at → at < past → is_boundary rows at ≡ true → atoms_begun rows lo at + 1 ≤ atoms_begun rows lo past
-begun-more [] lo at past l m b = absurd (none b)
+-- where an atom begins there is one more than behind it
+begun-behind : (rows : List AtomRow) (lo at past : ℕ) → lo ≤ at → at < past → is_boundary rows at ≡ true → atoms_begun rows (at + 1) past + 1 ≤ atoms_begun rows lo past
+begun-behind [] lo at past l m b = absurd (none b)
   where
     none : false ≡ true → ⊥
     none e = cc
-begun-more (r ∷ rs) lo at past l m b =
-    let x : atoms_begun (r ∷ rs) lo at ≡ as_one (is_within lo at r.low) + atoms_begun rs lo at = begun-cons r rs lo at in
+begun-behind (r ∷ rs) lo at past l m b =
+    let x : atoms_begun (r ∷ rs) (at + 1) past ≡ as_one (is_within (at + 1) past r.low) + atoms_begun rs (at + 1) past = begun-cons r rs (at + 1) past in
     let y : atoms_begun (r ∷ rs) lo past ≡ as_one (is_within lo past r.low) + atoms_begun rs lo past = begun-cons r rs lo past in
     ⊎_elim
     (λ (e : eqb r.low at ≡ true).
     let same : r.low ≡ at = eqb-true r.low at e in
-    let here : as_one (is_within lo at r.low) ≡ 0 = ap as_one (within-above lo at r.low (omega arith)) in
+    let here : as_one (is_within (at + 1) past r.low) ≡ 0 = ap as_one (within-below (at + 1) past r.low (omega arith)) in
     let there : as_one (is_within lo past r.low) ≡ 1 = within-one lo past r.low (omega arith) (omega arith) in
-    let rest : atoms_begun rs lo at ≤ atoms_begun rs lo past = begun-front rs lo at past (omega arith) in
+    let rest : atoms_begun rs (at + 1) past ≤ atoms_begun rs lo past = begun-rest rs lo (at + 1) past (omega arith) in
     omega arith)
     (λ (e : is_boundary rs at ≡ true).
-    let rest : atoms_begun rs lo at + 1 ≤ atoms_begun rs lo past = begun-more rs lo at past l m e in
-    let one : as_one (is_within lo at r.low) ≤ as_one (is_within lo past r.low) = within-front lo at past r.low (omega arith) in
+    let rest : atoms_begun rs (at + 1) past + 1 ≤ atoms_begun rs lo past = begun-behind rs lo at past l m e in
+    let one : as_one (is_within (at + 1) past r.low) ≤ as_one (is_within lo past r.low) = within-rest lo (at + 1) past r.low (omega arith) in
     omega arith)
     (or_cases (eqb r.low at) (is_boundary rs at) b)
+
+-- so many addresses of a span at which atoms begin are no more than these
+pub begun-many : (rows : List AtomRow) (routes : List Route) (lo past : ℕ) (begun : List ℕ) → BeginWithin routes lo past begun → ((c : ℕ) → c < past → list_any (λ (x : Route). eqb x.prefix.base c) routes ≡ true → is_boundary rows c ≡ true) → length begun ≤ atoms_begun rows lo past
+begun-many rows routes lo past [] h bound = omega arith
+begun-many rows routes lo past (a ∷ more) h bound =
+    let rest : length more ≤ atoms_begun rows (a + 1) past = begun-many rows routes (a + 1) past more h.3 bound in
+    let one : atoms_begun rows (a + 1) past + 1 ≤ atoms_begun rows lo past = begun-behind rows lo a past h.0 h.1 (bound a h.1 h.2) in
+    omega arith

@@ -12,7 +12,7 @@ use Rattle.dn_model.proofs.Cuts.{boundary-at}
 use Rattle.edge_labels.specs.Labels.{Labels, moved_run, target_at, targets_of}
 use Rattle.edge_labels.proofs.MovedRun.{moved_run-away, moved_run-here, moved_run-long, moved_run-others, moved_run-wide}
 use Rattle.net_engine.specs.Paired.{AreLabelled, does_at, does_in, rows_with}
-use Rattle.net_engine.specs.Reruled.{AtomBegins, AtomsEnd, IsRelabelled}
+use Rattle.net_engine.specs.Rerouted.{AtomBegins, AtomsEnd, IsRelabelled}
 use Rattle.net_engine.proofs.Held.{within-high, within-low}
 use Rattle.net_engine.proofs.Standing.{row_with}
 
@@ -133,6 +133,27 @@ atoms-end rows k last past h l from to s b f =
       all = λ m. sym one ∙ last-of_all rows k past none h l (e none) m;
     }
 
+-- one atom has an address
+place-once : (rows : List AtomRow) (i j a : ℕ) (d : AtomRow) → AreAtoms rows → i < length rows → j < length rows → has_at rows i d a → has_at rows j d a → i ≡ j
+place-once rows i j a d h l m u v =
+    let from_i : atom_low (get_or rows i d) ≤ a = within-low (atom_low (get_or rows i d)) (atom_past (get_or rows i d)) a u in
+    let to_i : a < atom_past (get_or rows i d) = within-high (atom_low (get_or rows i d)) (atom_past (get_or rows i d)) a u in
+    let from_j : atom_low (get_or rows j d) ≤ a = within-low (atom_low (get_or rows j d)) (atom_past (get_or rows j d)) a v in
+    let to_j : a < atom_past (get_or rows j d) = within-high (atom_low (get_or rows j d)) (atom_past (get_or rows j d)) a v in
+    ⊎_elim
+    (λ (o : i < j). let x : atom_past (get_or rows i d) ≤ atom_low (get_or rows j d) = past-low 0 rows i j d h.cover o m in absurd (omega arith))
+    (λ (o : j ≤ i). ⊎_elim
+    (λ (n : j < i). let x : atom_past (get_or rows j d) ≤ atom_low (get_or rows i d) = past-low 0 rows j i d h.cover n l in absurd (omega arith))
+    (λ (n : i ≤ j). omega arith)
+    (cases_lt j i))
+    (cases_lt i j)
+
+-- what stands at the place of an address is done there
+pub does-at-place : (rows : List AtomRow) (labels : Labels) (q a place : ℕ) → AreAtoms rows → place < length rows → a < 2 ^ 32 → ((d : AtomRow) → (get_or rows place d).low ≤ a) → ((d : AtomRow) → a < (get_or rows place d).past) → does_at rows labels q a ≡ target_at labels q place
+does-at-place rows labels q a place h l b low past =
+    does-what_stands 0 rows labels.rows q a (target_at labels q place) h.cover (omega arith) b
+    (λ k d m w. ap (λ n. get_or (get_or labels.rows n []) q NoRoute) (place-once rows k place a d h m l w (within-yes (atom_low (get_or rows place d)) (atom_past (get_or rows place d)) a (low d) (past d))))
+
 -- the atom of an address stands where the first of a span does or behind it, or before it
 from-first : (rows : List AtomRow) (first lo k a : ℕ) (d : AtomRow) → AreAtoms rows → AtomBegins rows first lo → k < length rows → lo ≤ a → a < atom_past (get_or rows k d) → first ≤ k
 from-first rows first lo k a d h b l from to = ⊎_elim
@@ -177,16 +198,6 @@ in-order rows first last lo past h b e o =
     omega arith
 
 -- ---- the rows of a span
-
--- where nothing changes
-pub relabelled-same : (rows : List AtomRow) (x : Labels) (r lo past : ℕ) (before after : Target) → AreLabelled rows x → before ≡ after → ((a : ℕ) → lo ≤ a → a < past → does_at rows x r a ≡ before) → IsRelabelled rows x x r lo past after
-relabelled-same rows x r lo past before after h e was = record {
-  labelled = h;
-  routers = refl;
-  here = λ a l m. was a l m ∙ e;
-  away = λ a n. refl;
-  others = λ q a n. refl;
-}
 
 -- a router does something else with the atoms from one place on up to another
 pub record IsRunMoved (x y : Labels) (r first last : ℕ) (after : Target) : Type 0 where

@@ -1,10 +1,8 @@
 pub mod Net
 pub mod Looks
-pub mod Segment
-pub mod Segments
-pub mod RoutesOf
+pub mod Routed
 pub mod Paired
-pub mod Reruled
 pub mod Walked
+pub mod Rerouted
 pub mod Whole
 pub mod Seen

@@ -1,5 +1,5 @@
 -- How many atoms an update meets, and how many it adds.
-use Rattle.std.specs.Prelude.{ℕ, List, Option, None, Some, Bool, ◌+◌, ◌^◌, ◌&&◌, ◌||◌, nat_le, nat_lt, count_by, if◌then◌else◌}
+use Rattle.std.specs.Prelude.{ℕ, List, Bool, ◌+◌, ◌^◌, ◌&&◌, ◌||◌, nat_le, nat_lt, count_by, if◌then◌else◌}
 use Rattle.dn_model.specs.Cidr.{Cidr, size}
 use Rattle.dn_model.specs.Rows.{is_within}
 use Rattle.dn_model.specs.Version.{Atom, begins_at, first_of, past_of}
@@ -31,12 +31,6 @@ more_at_ends atoms p = more_at atoms p.base + more_at atoms (p.base + size p)
 abbrev pub atoms_added : List Atom → Op → ℕ
 atoms_added atoms (Set p m t) = more_at_ends atoms p
 atoms_added atoms (Clear p m) = 0
-
--- how many sets of rules are looked at where a router's segments are cut at an address: none where the place of one that
--- begins there is known
-abbrev pub first_looks : Option ℕ → ℕ
-first_looks None = 1
-first_looks (Some place) = 0
 
 -- how many atoms begin at one of the addresses from `lo` up to, and without, `past`
 abbrev pub atoms_begun : List AtomRow → ℕ → ℕ → ℕ

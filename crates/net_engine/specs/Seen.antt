@@ -1,31 +1,24 @@
 -- What a network and a version are seen as, by their fields, and what always holds of them between updates.
-use Rattle.std.specs.Prelude.{[], List, length, map, slice_index_or, ◌≡◌}
+use Rattle.std.specs.Prelude.{length, ◌≡◌}
 use Rattle.std.specs.Arc.{arc_value}
 use Rattle.dn_model.specs.Version.{Kept}
-use Rattle.dn_model.specs.declared.ids.RouterId.{RouterId}
 use Rattle.net_engine.specs.Net.{Net}
 use Rattle.net_engine.specs.Paired.{ArePaired, net_of}
-use Rattle.net_engine.specs.RoutesOf.{routes_of}
 use Rattle.net_engine.specs.Whole.{IsWhole}
 use Rattle.net_engine.specs.declared.net.Net.{Net as NetFields}
-use Rattle.net_engine.specs.Segment.{SegmentIs as Segment}
 use Rattle.net_engine.specs.declared.state.State.{State}
 
 -- the number of routers and the atoms in order
 abbrev pub net_in : NetFields → Net
-net_in n = net_of n.routers n.atoms n.labels n.owners.items
+net_in n = net_of n.routers n.atoms n.labels n.tables.items
 
 -- its atoms stand beside what routers do
 abbrev pub IsPaired : NetFields → Type 0
-IsPaired n = ArePaired n.routers n.atoms n.labels n.owners.items
+IsPaired n = ArePaired n.routers n.atoms n.labels n.tables.items
 
--- one router's segments
-abbrev pub segments_in : NetFields → RouterId → List Segment
-segments_in n r = slice_index_or n.owners.items r.0 []
-
--- the topology, the atoms in order, and the routes, which are what each router's segments say
+-- the topology, the atoms in order, and the routes
 abbrev pub kept_in : State → Kept
-kept_in s = record { topology = arc_value s.topology; atoms = (net_in s.net).atoms; routes = map routes_of s.net.owners.items }
+kept_in s = record { topology = arc_value s.topology; atoms = (net_in s.net).atoms; routes = s.net.tables.items }
 
 -- its atoms and its routes say the same, and the atoms stand beside what routers do
 pub record IsSound (s : State) : Type 0 where

@@ -1,10 +1,9 @@
 -- What the steps of an update make of atoms and of a version, said address by address.
-use Rattle.std.specs.Prelude.{ℕ, Bool, true, false, List, [], length, Option, slice_index_or, slice_set, Contains, IsPermutation, ◌≡◌, ◌+◌, ◌<◌, ◌≤◌, ◌^◌, ◌&&◌, ◌||◌, ◌==◌}
+use Rattle.std.specs.Prelude.{ℕ, Bool, true, false, List, [], length, slice_index_or, slice_set, IsPermutation, ◌≡◌, ◌+◌, ◌<◌, ◌≤◌, ◌^◌, ◌&&◌, ◌||◌, ◌==◌}
 use Rattle.dn_model.specs.Cidr.{Cidr, size}
 use Rattle.dn_model.specs.Delta.{AreChanges, TellsChange, change_at}
 use Rattle.dn_model.specs.Entry.{is_end_of, op_sets_end, prefix_of_op}
 use Rattle.dn_model.specs.Rows.{is_within}
-use Rattle.dn_model.specs.Rules.{IsTop, after_rule_op, target_of as target_of_rule}
 use Rattle.dn_model.specs.Table.{after_op}
 use Rattle.dn_model.specs.Version.{Atom, Kept, begins_at, rules_at, target_at}
 use Rattle.dn_model.specs.declared.change.Change.{Change}
@@ -12,7 +11,6 @@ use Rattle.dn_model.specs.declared.entry.Op.{Op}
 use Rattle.dn_model.specs.declared.entry.Op.TheVariants.{Set, Clear}
 use Rattle.dn_model.specs.declared.entry.Route.{Route}
 use Rattle.dn_model.specs.declared.ids.RouterId.{RouterId}
-use Rattle.dn_model.specs.declared.rule.Rule.{Rule}
 use Rattle.dn_model.specs.declared.target.Target.{Target}
 use Rattle.net_engine.specs.Looks.{atoms_added, atoms_between, atoms_met, more_at_ends}
 use Rattle.net_engine.specs.Whole.{IsWhole}
@@ -30,39 +28,20 @@ pub record IsParted (old new : List Atom) (p : Cidr) : Type 0 where
 abbrev pub is_part : RouterId → ℕ → ℕ → RouterId → ℕ → Bool
 is_part r lo hi q a = (q.0 == r.0) && is_within lo hi a
 
--- a target is what the first of some rules says
-pub record Follows (rules : List Rule) (target : Target) : Type 0 where
-  pub top : Option Rule
-  pub is_top : IsTop rules top
-  pub target_is : target ≡ target_of_rule top
-
--- One atom's addresses, from `lo` up to, and without, `past`, were looked at: where a router does something else than
--- before there, that is told of them, and what was told elsewhere still is.
+-- The addresses from `lo` up to, and without, `past` came to something else: where that is something else than before, it is
+-- told of them, and what was told elsewhere still is.
 pub record IsTold (was now : List Change) (r : RouterId) (lo past : ℕ) (before after : Target) : Type 0 where
   pub form : AreChanges now
   pub here : (a : ℕ) → lo ≤ a → a < past → TellsChange before after (change_at now r a)
   pub other : (q : RouterId) (a : ℕ) → is_part r lo past q a ≡ false → change_at now q a ≡ change_at was q a
 
--- An update was made to one router's rules at the addresses from `lo` up to, and without, `hi`: there they are what it
--- makes of those that were there, in some order, the router does what the first of them says, and it is told where that
--- is something else than before. Everywhere else all is as it was, and atoms begin where they began.
-pub record IsWalked (old new : List Atom) (was now : List Change) (r : RouterId) (op : Op) (lo hi : ℕ) : Type 0 where
-  pub form : AreChanges now
+-- What routers do was changed: it is told where one does something else than before. Atoms begin where they began.
+pub record IsRetold (old new : List Atom) (changes : List Change) : Type 0 where
   pub begins : (a : ℕ) → begins_at new a ≡ begins_at old a
-  pub rules : (a : ℕ) → lo ≤ a → a < hi → IsPermutation (rules_at new r a) (after_rule_op (rules_at old r a) op)
-  pub follows : (a : ℕ) → lo ≤ a → a < hi → Follows (rules_at new r a) (target_at new r a)
-  pub tells : (a : ℕ) → lo ≤ a → a < hi → TellsChange (target_at old r a) (target_at new r a) (change_at now r a)
-  pub other_rules : (q : RouterId) (a : ℕ) → is_part r lo hi q a ≡ false → rules_at new q a ≡ rules_at old q a
-  pub other_targets : (q : RouterId) (a : ℕ) → is_part r lo hi q a ≡ false → target_at new q a ≡ target_at old q a
-  pub other_changes : (q : RouterId) (a : ℕ) → is_part r lo hi q a ≡ false → change_at now q a ≡ change_at was q a
+  pub form : AreChanges changes
+  pub tells : (q : RouterId) (a : ℕ) → a < 2 ^ 32 → TellsChange (target_at old q a) (target_at new q a) (change_at changes q a)
   pub long : length new ≡ length old
   pub met : (low high : ℕ) → atoms_between new low high ≡ atoms_between old low high
-
--- a route of a prefix
-pub record HasRouteOf (routes : List Route) (p : Cidr) : Type 0 where
-  pub route : Route
-  pub among : Contains routes route
-  pub prefix : route.prefix ≡ p
 
 -- the list at this place is what the update makes of it, in some order, and the others are as before
 pub record UpdatesAt (at : ℕ) (op : Op) (old new : List (List Route)) : Type 0 where

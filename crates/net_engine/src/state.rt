@@ -1,19 +1,17 @@
 //! What a version keeps.
 
-ghost use Rattle.std.specs.Prelude.{◌≡◌, ◌+◌, ◌<◌, ◌≤◌, ◌++◌, ◌∷◌, [], List, ℕ, IfOk, IfSome, OnOk, length};
+ghost use Rattle.std.specs.Prelude.{◌≡◌, ◌+◌, ◌<◌, ◌≤◌, ◌++◌, ◌∷◌, [], List, IfOk, OnOk, length};
 ghost use Rattle.std.specs.Arc.{arc_value};
 ghost use Rattle.dn_model.specs.Delta.{IsDeltaOf};
 ghost use Rattle.dn_model.specs.Entry.{IsEntryOf, IsOpOf, prefix_of_op};
 ghost use Rattle.dn_model.specs.Version.{KeptStandsFor};
 ghost use Rattle.dn_model.specs.declared.entry.Entry.{Entry as EntryIs};
-ghost use Rattle.net_engine.specs.Looks.{atoms_added, atoms_met, first_looks};
-ghost use Rattle.net_engine.specs.Seen.{IsSound, kept_in, segments_in};
-ghost use Rattle.net_engine.specs.Segments.{BeginsAt};
-ghost use Rattle.net_engine.specs.Walked.{BeginsAtEnds, IsClear, IsCutAt, IsSet, IsRemade, IsUpdated};
+ghost use Rattle.net_engine.specs.Looks.{atoms_added, atoms_met};
+ghost use Rattle.net_engine.specs.Seen.{IsSound, kept_in};
+ghost use Rattle.net_engine.specs.Walked.{BeginsAtEnds, IsClear, IsCutAt, IsRemade, IsSet, IsUpdated};
 
-use crate::ends::{cut_ends, past_of};
+use crate::ends::cut_ends;
 use crate::net::Net;
-use crate::span::{Known, Span};
 use delta_graph::Delta;
 use dn_model::{Entry, Op, OutOfMemory, Prefix, RouterId, Topology};
 use std::alloc::Global;
@@ -21,9 +19,8 @@ use std::sync::Arc;
 use std::sync::ledger::Ledger;
 use step_count::Steps;
 
-/// What a version keeps: the topology, and the atoms, with what each router does there and its rules there, which say
-/// what routes each router has. A contract sees the fields, so that an update that finds no memory half way may leave
-/// them as they are then.
+/// What a version keeps: the topology, the atoms, with what each router does there, and each router's routes. A contract sees
+/// the fields, so that an update that finds no memory half way may leave them as they are then.
 #[derive(Drop)]
 pub struct State {
     topology: Arc<Topology, Global>,
@@ -52,37 +49,29 @@ impl State {
         Ok(first)
     }
 
-    /// Makes an update of one of the routers, at whose prefix's ends atoms begin. It may be known where the prefix's first
-    /// address stands.
+    /// Makes an update of one of the routers. Where it sets a route, atoms begin at the ends of its prefix. There may be a
+    /// place at which to look first for the atom that begins where the prefix does, from there on.
     fn update<L: Ledger>(
         &mut self,
         alloc: Global,
         r: RouterId,
         op: &Op,
-        known: Known,
+        near: Option<u64>,
         steps: &mut Steps<L>,
     ) -> Result<Delta, OutOfMemory>
         requires sound { IsSound self.old }
         requires router { r.0 < length (kept_in self.old).topology.routers }
         requires op { IsOpOf (kept_in self.old).topology op.now }
-        requires ends { BeginsAtEnds (kept_in self.old).atoms (prefix_of_op op.now) }
-        requires known { IfSome known.segment (λ place.
-            BeginsAt (segments_in self.old.net r) place (prefix_of_op op.now).base) }
+        requires ends { IsSet op.now → BeginsAtEnds (kept_in self.old).atoms (prefix_of_op op.now) }
         ensures made { IfOk result (λ delta. IsRemade (kept_in self.old) (kept_in self.new) r op.now delta) }
         ensures sound { OnOk result (IsSound self.new) }
-        ensures cost { steps.new ≤
-            steps.old + 1 + first_looks known.segment + atoms_met (kept_in self.old).atoms (prefix_of_op op.now) }
+        ensures cost { steps.new ≤ steps.old + 2 + atoms_met (kept_in self.old).atoms (prefix_of_op op.now) }
     {
-        let prefix = op.prefix();
-        let span = Span {
-            lo: prefix.base(),
-            past: past_of(prefix),
-        };
-        let delta = self.net.update(alloc, r, op, span, known, steps)?;
+        let delta = self.net.update(alloc, r, op, near, steps)?;
         Ok(delta)
     }
 
-    /// Makes a clearing, which changes nothing where the router has no route of the prefix.
+    /// Makes a clearing, which cuts no atom.
     fn clear<L: Ledger>(
         &mut self,
         alloc: Global,
@@ -98,14 +87,7 @@ impl State {
         ensures sound { OnOk result (IsSound self.new) }
         ensures cost { steps.new ≤ steps.old + 2 + atoms_met (kept_in self.old).atoms (prefix_of_op op.now) }
     {
-        let Some(place) = self.net.place_with(r, op.prefix(), steps) else {
-            return Ok(Delta::new(alloc));
-        };
-        let known = Known {
-            segment: Some(place),
-            atom: None,
-        };
-        self.update(alloc, r, op, known, steps)
+        self.update(alloc, r, op, None, steps)
     }
 
     /// Makes a setting, which cuts atoms at the ends of the prefix.
@@ -125,11 +107,7 @@ impl State {
         ensures cost { steps.new ≤ steps.old + 2 + atoms_met (kept_in self.old).atoms (prefix_of_op op.now) }
     {
         let first = self.cut(alloc, op.prefix())?;
-        let known = Known {
-            segment: None,
-            atom: Some(first),
-        };
-        self.update(alloc, r, op, known, steps)
+        self.update(alloc, r, op, Some(first), steps)
     }
 
     /// Makes an update of one of the routers.

@@ -19,8 +19,8 @@ use std::sync::ledger::Ledger;
 use step_count::Steps;
 
 /// What all routers do with all addresses after a history of updates: atoms, which are the intervals of addresses
-/// between the ends of the prefixes that were set, with what each router does there and its rules there, and each
-/// router's routes (Delta-net, NSDI 2017). A contract sees the topology, the atoms in order, and the routes.
+/// between the ends of the prefixes that were set, with what each router does there, and each router's routes, which say
+/// what rules it has there (Delta-net, NSDI 2017). A contract sees the topology, the atoms in order, and the routes.
 ///
 /// It is one pointer, so that whoever keeps a version hands it on cheaply.
 #[derive(Drop)]
@@ -53,9 +53,11 @@ impl Version {
     /// The version after an update of one of its routers, and where that changes what the router does. It takes the
     /// version and changes it in place; at `OutOfMemory`, for which alone it fails, it is dropped.
     ///
-    /// A step is a look at one set of rules: those of the router in one of its segments. It takes at most two more than
-    /// there are atoms that have an address of the prefix, of which there are as many after the update as before it. A
-    /// setting adds an atom for each end of the prefix at which none begins yet, and a clearing adds none.
+    /// A step is a look at one set of rules: the routes that the router has of one prefix, or what it does above a prefix that
+    /// has none any more. It takes at most two more than there are atoms that have an address of the prefix, of which there
+    /// are as many after the update as before it. Searches, prefixes that are passed over since they have no route any more
+    /// or lie within one that was looked at, and what is read and written at the atoms take no step. A setting adds an atom
+    /// for each end of the prefix at which none begins yet, and a clearing adds none.
     pub fn advance<L: Ledger>(
         self,
         alloc: Global,

@@ -1,4 +1,4 @@
-use Rattle.std.proofs.Common.{◌+◌, ◌<◌, ◌≤◌, ◌^◌, length, arith}
+use Rattle.std.proofs.Common.{◌+◌, ◌<◌, ◌≤◌, ◌^◌, length, arith, refl}
 use Rattle.dn_model.specs.Atoms.{atom_low, atom_past}
 use Rattle.dn_model.proofs.Covers.{few-rows}
 use Rattle.net_engine.proofs.Relabelling.{atom-begins, atoms-end}
@@ -11,7 +11,7 @@ overflow_add-result c =
     omega arith
 
 pub returns-clause-first : goal.returns-clause-first
-returns-clause-first c = atom-begins c.args.atoms.now c.places_from-first.result.0 c.args.span.lo c.requires.form c.places_from-first.ensures.first.inside c.places_from-first.ensures.first.from c.places_from-first.ensures.first.to c.requires.first
+returns-clause-first c = atom-begins c.args.atoms.now c.places_from-first.result.0 c.args.run.lo c.requires.form c.places_from-first.ensures.first.inside c.places_from-first.ensures.first.from c.places_from-first.ensures.first.to c.requires.first
 
 pub returns-clause-past : goal.returns-clause-past
-returns-clause-past c = atoms-end c.args.atoms.now c.places_from-first.result.1 _ c.args.span.past c.requires.form c.places_from-first.ensures.last.inside c.places_from-first.ensures.last.from c.places_from-first.ensures.last.to (omega arith) c.requires.end c.requires.last
+returns-clause-past c = atoms-end c.args.atoms.now c.places_from-first.result.1 c.args.run.hi (c.args.run.hi + 1) c.requires.form c.places_from-first.ensures.last.inside c.places_from-first.ensures.last.from c.places_from-first.ensures.last.to refl (omega arith) c.requires.last

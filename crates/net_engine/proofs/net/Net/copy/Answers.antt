@@ -4,5 +4,5 @@ use Rattle.net_engine.proofs.net.Net.copy.Goals as goal
 
 pub returns-clause-paired : goal.returns-clause-paired
 returns-clause-paired c = λ h.
-    paired-again c.args.self.now.routers c.args.self.now.atoms c.in_ok-atoms.atoms c.args.self.now.labels c.in_ok-labels.labels c.args.self.now.owners.items c.in_ok-owners.owners.items
-    h c.in_ok-atoms.ensures c.in_ok-labels.ensures (c.in_ok-owners.ensures ∙ c.deref.ensures.value)
+    paired-again c.args.self.now.routers c.args.self.now.atoms c.in_ok-atoms.atoms c.args.self.now.labels c.in_ok-labels.labels c.args.self.now.tables.items c.in_ok-tables.tables.items
+    h c.in_ok-atoms.ensures c.in_ok-labels.ensures (c.in_ok-tables.ensures ∙ c.deref.ensures.value)

@@ -1,37 +1,53 @@
-use Rattle.std.proofs.Common.{◌<◌, IfSome, List, arith, refl, set, subst, sym}
-use Rattle.net_engine.specs.Seen.{net_in}
-use Rattle.net_engine.specs.Segments.{BeginsAt}
-use Rattle.net_engine.specs.Segment.{SegmentIs as Segment}
-use Rattle.net_engine.proofs.Updating.{boundary-now, looks-now, makes-now, paired-now, own-along, own-found, own-now, router-now, walked-now}
+use Rattle.std.proofs.Common.{sym, subst}
+use Rattle.dn_model.specs.Entry.{prefix_of_op}
+use Rattle.net_engine.specs.Rerouted.{RunsOfAtoms}
+use Rattle.net_engine.proofs.Rerouting.{at-none, at-some, found-own, looks-paired, makes-same, makes-turned, paired-now, retold-now, runs-of-atoms, same-before}
 use Rattle.net_engine.proofs.net.Net.update.Goals as goal
 
-pub cut_both-requires-clause-known : goal.cut_both-requires-clause-known
-cut_both-requires-clause-known g c =
-    let inside : c.args.r.0 < c.args.self.now.routers = router-now (net_in c.args.self.now) c.args.self.now.routers c.args.self.now.atoms c.args.self.now.labels c.args.self.now.owners.items c.args.r.0 refl c.requires.router in
-    subst (λ (ss : List Segment). IfSome c.args.known.segment (λ place. BeginsAt ss place c.args.span.lo))
-    (sym (own-found c.args.self.now.owners.items c.from.result c.args.r.0 c.index_mut-own.result.now c.from.ensures (subst (λ n. c.args.r.0 < n) (sym c.requires.paired.each) inside) c.index_mut-own.ensures.value))
-    c.requires.known
+pub returns-in_err-after-clause-cost : goal.returns-in_err-after-clause-cost
+returns-in_err-after-clause-cost g c = looks-paired _ _ _ _ _ _ _ _ _ c.requires.paired (found-own _ _ _ _ c.index_mut-table.result.now c.args.r c.from.result c.requires.paired c.requires.router c.from.ensures c.index_mut-table.ensures.value).along c.update.ensures.cost
 
-pub walk_segments-requires-clause-along : goal.walk_segments-requires-clause-along
-walk_segments-requires-clause-along g c =
-    let inside : c.args.r.0 < c.args.self.now.routers = router-now (net_in c.args.self.now) c.args.self.now.routers c.args.self.now.atoms c.args.self.now.labels c.args.self.now.owners.items c.args.r.0 refl c.requires.router in
-    own-along c.args.self.now.routers c.args.self.now.atoms c.args.self.now.labels c.args.self.now.owners.items c.args.r.0 c.args.span.lo c.args.span.past c.index_mut-own.result.now c.cut_both.new.owners c.requires.paired inside
-    (own-found c.args.self.now.owners.items c.from.result c.args.r.0 c.index_mut-own.result.now c.from.ensures (subst (λ n. c.args.r.0 < n) (sym c.requires.paired.each) inside) c.index_mut-own.ensures.value)
-    c.in_ok-ends.ensures.cut
-    (boundary-now (net_in c.args.self.now) c.args.self.now.routers c.args.self.now.atoms c.args.self.now.labels c.args.self.now.owners.items c.args.span.lo refl c.requires.first)
-    (λ l. boundary-now (net_in c.args.self.now) c.args.self.now.routers c.args.self.now.atoms c.args.self.now.labels c.args.self.now.owners.items c.args.span.past refl (c.requires.last l))
-
-pub returns-clause-paired : goal.returns-clause-paired
-returns-clause-paired g c = paired-now c.args.self.now.routers c.args.self.now.atoms c.args.self.now.labels c.walk_segments.new.labels c.args.self.now.owners.items (set c.args.self.now.owners.items c.from.result c.walk_segments.new.owners) c.index_mut-own.result.now c.cut_both.new.owners c.walk_segments.new.owners c.in_ok-delta.delta c.args.r c.args.op.now c.args.span.lo c.args.span.past c.from.result c.requires.paired (makes-now (net_in c.args.self.now) c.args.self.now.routers c.args.self.now.atoms c.args.self.now.labels c.walk_segments.new.labels c.args.self.now.owners.items c.index_mut-own.result.now c.cut_both.new.owners c.walk_segments.new.owners c.in_ok-delta.delta c.args.r c.args.op.now c.args.span.lo c.args.span.past c.from.result refl c.requires.paired c.requires.router c.requires.end c.from.ensures c.index_mut-own.ensures.value c.in_ok-ends.ensures.cut c.in_ok-delta.ensures.made) c.from.ensures refl
-
-pub returns-clause-walked : goal.returns-clause-walked
-returns-clause-walked g c = walked-now (net_in c.args.self.now) c.args.self.now.routers c.args.self.now.atoms c.args.self.now.labels c.walk_segments.new.labels c.args.self.now.owners.items (set c.args.self.now.owners.items c.from.result c.walk_segments.new.owners) c.index_mut-own.result.now c.cut_both.new.owners c.walk_segments.new.owners c.in_ok-delta.delta c.args.r c.args.op.now c.args.span.lo c.args.span.past c.from.result refl c.requires.paired (makes-now (net_in c.args.self.now) c.args.self.now.routers c.args.self.now.atoms c.args.self.now.labels c.walk_segments.new.labels c.args.self.now.owners.items c.index_mut-own.result.now c.cut_both.new.owners c.walk_segments.new.owners c.in_ok-delta.delta c.args.r c.args.op.now c.args.span.lo c.args.span.past c.from.result refl c.requires.paired c.requires.router c.requires.end c.from.ensures c.index_mut-own.ensures.value c.in_ok-ends.ensures.cut c.in_ok-delta.ensures.made) c.from.ensures refl
-
-pub returns-clause-own : goal.returns-clause-own
-returns-clause-own g c = own-now c.args.self.now.routers c.args.self.now.atoms c.args.self.now.labels c.walk_segments.new.labels c.args.self.now.owners.items (set c.args.self.now.owners.items c.from.result c.walk_segments.new.owners) c.index_mut-own.result.now c.cut_both.new.owners c.walk_segments.new.owners c.in_ok-delta.delta c.args.r c.args.op.now c.args.span.lo c.args.span.past c.from.result c.requires.paired (makes-now (net_in c.args.self.now) c.args.self.now.routers c.args.self.now.atoms c.args.self.now.labels c.walk_segments.new.labels c.args.self.now.owners.items c.index_mut-own.result.now c.cut_both.new.owners c.walk_segments.new.owners c.in_ok-delta.delta c.args.r c.args.op.now c.args.span.lo c.args.span.past c.from.result refl c.requires.paired c.requires.router c.requires.end c.from.ensures c.index_mut-own.ensures.value c.in_ok-ends.ensures.cut c.in_ok-delta.ensures.made) c.requires.order c.from.ensures refl
-
-pub returns-clause-cost : goal.returns-clause-cost
-returns-clause-cost g c = omega (arith, c.cut_both.ensures.cost, c.walk_segments.ensures.cost, looks-now (net_in c.args.self.now) c.args.self.now.routers c.args.self.now.atoms c.args.self.now.labels c.args.self.now.owners.items c.args.span.lo c.args.span.past refl c.requires.paired)
+pub returns-in_default-clause-cost : goal.returns-in_default-clause-cost
+returns-in_default-clause-cost g c = looks-paired _ _ _ _ _ _ _ _ _ c.requires.paired (found-own _ _ _ _ c.index_mut-table.result.now c.args.r c.from.result c.requires.paired c.requires.router c.from.ensures c.index_mut-table.ensures.value).along c.update.ensures.cost
 
 pub returns-in_err-delta-clause-cost : goal.returns-in_err-delta-clause-cost
-returns-in_err-delta-clause-cost g c = omega (arith, c.cut_both.ensures.cost, c.walk_segments.ensures.cost, looks-now (net_in c.args.self.now) c.args.self.now.routers c.args.self.now.atoms c.args.self.now.labels c.args.self.now.owners.items c.args.span.lo c.args.span.past refl c.requires.paired)
+returns-in_err-delta-clause-cost g c = looks-paired _ _ _ _ _ _ _ _ _ c.requires.paired (found-own _ _ _ _ c.index_mut-table.result.now c.args.r c.from.result c.requires.paired c.requires.router c.from.ensures c.index_mut-table.ensures.value).along c.update.ensures.cost
+
+pub returns-clause-cost : goal.returns-clause-cost
+returns-clause-cost g c = looks-paired _ _ _ _ _ _ _ _ _ c.requires.paired (found-own _ _ _ _ c.index_mut-table.result.now c.args.r c.from.result c.requires.paired c.requires.router c.from.ensures c.index_mut-table.ensures.value).along c.update.ensures.cost
+
+pub returns-in_default-clause-paired : goal.returns-in_default-clause-paired
+returns-in_default-clause-paired g c =
+    let f = found-own c.args.self.now.routers c.args.self.now.atoms c.args.self.now.labels c.args.self.now.tables.items c.index_mut-table.result.now c.args.r c.from.result c.requires.paired c.requires.router c.from.ensures c.index_mut-table.ensures.value in
+    paired-now c.args.self.now.routers c.args.self.now.atoms c.args.self.now.labels c.args.self.now.labels c.args.self.now.tables.items c.index_mut-table.result.now c.update.new.self c.new.result c.args.r c.args.op.now c.from.result c.from.ensures c.requires.paired
+    (makes-same c.args.self.now.routers c.args.self.now.atoms c.args.self.now.labels c.args.self.now.tables.items c.index_mut-table.result.now c.update.new.self c.new.result c.args.r c.args.op.now c.requires.paired f c.requires.ends c.update.ensures.form c.in_ok-after.ensures.table (at-none _ c.in_ok-after.field-0 c.in_default.is c.in_ok-after.ensures.same) c.new.ensures)
+
+pub returns-in_default-clause-told : goal.returns-in_default-clause-told
+returns-in_default-clause-told g c =
+    let f = found-own c.args.self.now.routers c.args.self.now.atoms c.args.self.now.labels c.args.self.now.tables.items c.index_mut-table.result.now c.args.r c.from.result c.requires.paired c.requires.router c.from.ensures c.index_mut-table.ensures.value in
+    retold-now c.args.self.now.routers c.args.self.now.atoms c.args.self.now.labels c.args.self.now.labels c.args.self.now.tables.items c.index_mut-table.result.now c.update.new.self c.new.result c.args.r c.args.op.now c.from.result c.from.ensures c.requires.paired
+    (makes-same c.args.self.now.routers c.args.self.now.atoms c.args.self.now.labels c.args.self.now.tables.items c.index_mut-table.result.now c.update.new.self c.new.result c.args.r c.args.op.now c.requires.paired f c.requires.ends c.update.ensures.form c.in_ok-after.ensures.table (at-none _ c.in_ok-after.field-0 c.in_default.is c.in_ok-after.ensures.same) c.new.ensures)
+
+pub reroute-requires-clause-ends : goal.reroute-requires-clause-ends
+reroute-requires-clause-ends g c =
+    let f = found-own c.args.self.now.routers c.args.self.now.atoms c.args.self.now.labels c.args.self.now.tables.items c.index_mut-table.result.now c.args.r c.from.result c.requires.paired c.requires.router c.from.ensures c.index_mut-table.ensures.value in
+    subst (RunsOfAtoms c.args.self.now.atoms) (sym c.deref.ensures.value)
+    (runs-of-atoms c.args.self.now.atoms c.args.self.now.labels c.args.self.now.tables.items c.index_mut-table.result.now c.update.new.self c.args.r.0 c.args.op.now c.update.new.runs.items f.along c.requires.ends (at-some _ c.in_ok-after.field-0 c.in-Some.after c.in-Some.is c.in_ok-after.ensures.had) c.in_ok-after.ensures.table (at-some _ c.in_ok-after.field-0 c.in-Some.after c.in-Some.is c.in_ok-after.ensures.runs))
+
+pub reroute-requires-clause-same : goal.reroute-requires-clause-same
+reroute-requires-clause-same g c =
+    let f = found-own c.args.self.now.routers c.args.self.now.atoms c.args.self.now.labels c.args.self.now.tables.items c.index_mut-table.result.now c.args.r c.from.result c.requires.paired c.requires.router c.from.ensures c.index_mut-table.ensures.value in
+    rw c.deref.ensures.value
+    (same-before c.args.self.now.atoms c.args.self.now.labels c.index_mut-table.result.now c.update.new.self (prefix_of_op c.args.op.now) c.in-Some.after c.update.new.runs.items c.args.r.0 f.along (at-some _ c.in_ok-after.field-0 c.in-Some.after c.in-Some.is c.in_ok-after.ensures.turned) (at-some _ c.in_ok-after.field-0 c.in-Some.after c.in-Some.is c.in_ok-after.ensures.runs))
+
+pub returns-clause-paired : goal.returns-clause-paired
+returns-clause-paired g c =
+    let f = found-own c.args.self.now.routers c.args.self.now.atoms c.args.self.now.labels c.args.self.now.tables.items c.index_mut-table.result.now c.args.r c.from.result c.requires.paired c.requires.router c.from.ensures c.index_mut-table.ensures.value in
+    paired-now c.args.self.now.routers c.args.self.now.atoms c.args.self.now.labels c.reroute.new.labels c.args.self.now.tables.items c.index_mut-table.result.now c.update.new.self c.in_ok-delta.delta c.args.r c.args.op.now c.from.result c.from.ensures c.requires.paired
+    (makes-turned c.args.self.now.routers c.args.self.now.atoms c.args.self.now.labels c.reroute.new.labels c.args.self.now.tables.items c.index_mut-table.result.now c.update.new.self c.in_ok-delta.delta c.args.r c.args.op.now c.in-Some.after c.update.new.runs.items f c.requires.ends c.update.ensures.form c.in_ok-after.ensures.table (at-some _ c.in_ok-after.field-0 c.in-Some.after c.in-Some.is c.in_ok-after.ensures.turned) (at-some _ c.in_ok-after.field-0 c.in-Some.after c.in-Some.is c.in_ok-after.ensures.runs) (rw (sym c.deref.ensures.value) c.in_ok-delta.ensures))
+
+pub returns-clause-told : goal.returns-clause-told
+returns-clause-told g c =
+    let f = found-own c.args.self.now.routers c.args.self.now.atoms c.args.self.now.labels c.args.self.now.tables.items c.index_mut-table.result.now c.args.r c.from.result c.requires.paired c.requires.router c.from.ensures c.index_mut-table.ensures.value in
+    retold-now c.args.self.now.routers c.args.self.now.atoms c.args.self.now.labels c.reroute.new.labels c.args.self.now.tables.items c.index_mut-table.result.now c.update.new.self c.in_ok-delta.delta c.args.r c.args.op.now c.from.result c.from.ensures c.requires.paired
+    (makes-turned c.args.self.now.routers c.args.self.now.atoms c.args.self.now.labels c.reroute.new.labels c.args.self.now.tables.items c.index_mut-table.result.now c.update.new.self c.in_ok-delta.delta c.args.r c.args.op.now c.in-Some.after c.update.new.runs.items f c.requires.ends c.update.ensures.form c.in_ok-after.ensures.table (at-some _ c.in_ok-after.field-0 c.in-Some.after c.in-Some.is c.in_ok-after.ensures.turned) (at-some _ c.in_ok-after.field-0 c.in-Some.after c.in-Some.is c.in_ok-after.ensures.runs) (rw (sym c.deref.ensures.value) c.in_ok-delta.ensures))

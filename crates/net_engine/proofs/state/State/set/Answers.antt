@@ -4,7 +4,7 @@ use Rattle.net_engine.proofs.Making.{ends-of_update, looks-after_cut, set-after_
 use Rattle.net_engine.proofs.state.State.set.Goals as goal
 
 pub update-requires-clause-ends : goal.update-requires-clause-ends
-update-requires-clause-ends g c = ends-of_update (kept_in c.cut.new.self).atoms c.prefix.result c.args.op.now c.prefix.ensures c.in_ok-first.ensures.made.ends
+update-requires-clause-ends g c = λ s. ends-of_update (kept_in c.cut.new.self).atoms c.prefix.result c.args.op.now c.prefix.ensures c.in_ok-first.ensures.made.ends
 
 pub returns-clause-made : goal.returns-clause-made
 returns-clause-made g c = IfOk-weaker c.update.result _ _ (λ delta h. set-after_cut (kept_in c.args.self.now) (kept_in c.cut.new.self) (kept_in c.update.new.self) c.args.r c.args.op.now c.prefix.result delta c.requires.sets c.prefix.ensures c.in_ok-first.ensures.made h) c.update.ensures.made

@@ -14,8 +14,7 @@ use Rattle.dn_model.specs.declared.run.Run.{Run}
 use Rattle.route_table.specs.Along.{Along, along, along_slot, begins_past, gap, is_passed_over, past_of}
 use Rattle.route_table.specs.Ascending.{AscendsFrom}
 use Rattle.route_table.specs.Own.{BeginWithin, EndAtEnds, is_end_in}
-use Rattle.route_table.specs.Slots.{AreSlots, IsSlot, key_of, slot_key}
-use Rattle.route_table.specs.declared.slots.PrefixRoutes.{PrefixRoutes}
+use Rattle.route_table.specs.Slots.{AreSlots, IsSlot, PrefixRoutes, key_of, slot_key}
 use Rattle.route_table.proofs.Blocks.{covers-in, nested-from, nested-to, size-some}
 
 -- ---- one slot

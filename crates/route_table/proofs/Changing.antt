@@ -1,19 +1,54 @@
--- One slot of a table changed in its place.
-use Rattle.std.proofs.Common.{◌≡◌, ◌∙◌, ℕ, List, Option, Result, Ok, Err, OnOk, OnErr, IfOk, ap, get_or, set}
+-- One slot of a table changed in the row of its prefix.
+use Rattle.std.proofs.Common.{◌≡◌, ◌<◌, ◌∙◌, ℕ, List, [], ◌∷◌, Option, Result, Ok, Err, OnOk, OnErr, IfOk, if◌then◌else◌, is_ok, length, ap, sym, subst, get_or, set, arith}
+use Rattle.std.specs.List.{insert}
+use Rattle.std.specs.List.Sorted.{IsPermutation}
+use Rattle.std.proofs.lemmas.List.Sorted.{IsPermutation-refl}
+use Rattle.dn_model.specs.Cidr.{Cidr, IsCidr}
 use Rattle.std.proofs.lemmas.List.{set-get_or}
 use Rattle.dn_model.specs.declared.entry.Op.{Op}
 use Rattle.dn_model.specs.declared.target.Target.{Target}
-use Rattle.route_table.specs.declared.slots.PrefixRoutes.{PrefixRoutes}
-use Rattle.route_table.specs.Slots.{IsSetAt, IsSetIn, IsUpdatedAt, IsUpdatedIn}
+use Rattle.route_table.specs.Ascending.{AscendsFrom}
+use Rattle.route_table.specs.Rows.{AddsSlots, KeepsSlots, slot_in, slots_in}
+use Rattle.route_table.specs.Targets.{metric_of}
+use Rattle.route_table.specs.Slots.{IsAddedAt, IsUpdatedAt, IsUpdatedIn, PrefixRoutes}
+use Rattle.route_table.specs.declared.rows.PrefixRow.{PrefixRow}
+use Rattle.route_table.proofs.SideBySide.{put-in, put-over, read}
 
-pub set-made : {E : Type 0} (r : Result (Unit {0}) E) (old new : List PrefixRoutes) (i m : ℕ) (t : Target) (v : PrefixRoutes) → ((d : PrefixRoutes) → OnOk r (IsSetIn (get_or old i d) v m t)) → new ≡ set old i v → OnOk r (IsSetAt old new i m t)
-set-made (Ok u) old new i m t v made is = record { slot = v; made = made; list = is }
-set-made (Err e) old new i m t v made is = tt
+pub update-made : {E : Type 0} (r : Result (Option Target) E) (lane : ℕ) (old new : List PrefixRow) (i : ℕ) (op : Op) (v : PrefixRow) → i < length old → ((d : PrefixRow) → IfOk r (λ first. IsUpdatedIn (slot_in lane (get_or old i d)) (slot_in lane v) op first)) → new ≡ set old i v → IfOk r (λ first. IsUpdatedAt (slots_in lane old) (slots_in lane new) i op first)
+update-made (Ok first) lane old new i op v l made is = record {
+  slot = slot_in lane v;
+  made = λ d. subst (λ (s : PrefixRoutes). IsUpdatedIn s (slot_in lane v) op first) (sym (read lane old i d v l)) (made v);
+  list = ap (slots_in lane) is ∙ put-over lane old i v;
+}
+update-made (Err e) lane old new i op v l made is = tt
 
-pub update-made : {E : Type 0} (r : Result (Option Target) E) (old new : List PrefixRoutes) (i : ℕ) (op : Op) (v : PrefixRoutes) → ((d : PrefixRoutes) → IfOk r (λ first. IsUpdatedIn (get_or old i d) v op first)) → new ≡ set old i v → IfOk r (λ first. IsUpdatedAt old new i op first)
-update-made (Ok first) old new i op v made is = record { slot = v; made = made; list = is }
-update-made (Err e) old new i op v made is = tt
+-- a row in the place of another that has the same slot in a table leaves the table's slots as they are
+pub over-others : (lane : ℕ) (old new : List PrefixRow) (i : ℕ) (v : PrefixRow) → i < length old → ((d : PrefixRow) (k : ℕ) → (k ≡ lane → ⊥) → slot_in k v ≡ slot_in k (get_or old i d)) → new ≡ set old i v → KeepsSlots lane old new
+over-others lane old new i v l same is k n =
+    let here : slot_in k v ≡ get_or (slots_in k old) i (slot_in k v) = same v k n ∙ sym (read k old i (slot_in k v) v l) in
+    ap (slots_in k) is ∙ put-over k old i v ∙ ap (λ (s : PrefixRoutes). set (slots_in k old) i s) here ∙ set-get_or (slots_in k old) i (slot_in k v)
 
-pub unmade : {T E : Type 0} (r : Result T E) (old new : List PrefixRoutes) (i : ℕ) (v : PrefixRoutes) → ((d : PrefixRoutes) → OnErr r (v ≡ get_or old i d)) → new ≡ set old i v → OnErr r (new ≡ old)
+-- ---- a row put in
+
+pub added-is : {E : Type 0} (r : Result (Unit {0}) E) (lane : ℕ) (old new : List PrefixRow) (i : ℕ) (p : Cidr) (m : ℕ) (t : Target) (v : PrefixRow) → IsCidr p → v.prefix ≡ p → (slot_in lane v).targets ≡ record { metric = m; target = t } ∷ [] → new ≡ (if is_ok r then insert old i v else old) → OnOk r (IsAddedAt (slots_in lane old) (slots_in lane new) i p m t)
+added-is (Ok u) lane old new i p m t v sound vp vt is = record {
+  slot = slot_in lane v;
+  prefix = vp;
+  sound = sound;
+  targets = subst (λ xs. IsPermutation xs (record { metric = m; target = t } ∷ [])) (sym vt) (IsPermutation-refl (record { metric = m; target = t } ∷ []));
+  metrics = subst (λ xs. AscendsFrom metric_of 0 xs) (sym vt) (omega arith, tt);
+  list = ap (slots_in lane) is ∙ put-in lane old i v;
+}
+added-is (Err e) lane old new i p m t v sound vp vt is = tt
+
+pub added-others : {E : Type 0} (r : Result (Unit {0}) E) (lane : ℕ) (old new : List PrefixRow) (i : ℕ) (p : Cidr) (v : PrefixRow) → v.prefix ≡ p → ((k : ℕ) → (k ≡ lane → ⊥) → (slot_in k v).targets ≡ []) → new ≡ (if is_ok r then insert old i v else old) → OnOk r (AddsSlots lane old new i p)
+added-others (Ok u) lane old new i p v vp none is = λ k n.
+    ap (slots_in k) is
+    ∙ put-in k old i v
+    ∙ ap (λ q. insert (slots_in k old) i (record { prefix = q; targets = (slot_in k v).targets })) vp
+    ∙ ap (λ xs. insert (slots_in k old) i (record { prefix = p; targets = xs })) (none k n)
+added-others (Err e) lane old new i p v vp none is = tt
+
+pub unmade : {T E : Type 0} (r : Result T E) (old new : List PrefixRow) (i : ℕ) (v : PrefixRow) → ((d : PrefixRow) → OnErr r (v ≡ get_or old i d)) → new ≡ set old i v → OnErr r (new ≡ old)
 unmade (Ok u) old new i v same is = tt
-unmade (Err e) old new i v same is = is ∙ ap (λ (x : PrefixRoutes). set old i x) (same v) ∙ set-get_or old i v
+unmade (Err e) old new i v same is = is ∙ ap (λ (x : PrefixRow). set old i x) (same v) ∙ set-get_or old i v

@@ -4,7 +4,7 @@ use Rattle.std.specs.List.{Contains, insert}
 use Rattle.std.proofs.lemmas.List.Sorted.{Contains-permutation, IsPermutation-insert, IsPermutation-sym}
 use Rattle.dn_model.proofs.Best.{contains-cases, contains-here, contains-there}
 use Rattle.route_table.specs.Above.{HasLength}
-use Rattle.route_table.specs.declared.slots.PrefixRoutes.{PrefixRoutes}
+use Rattle.route_table.specs.Slots.{PrefixRoutes}
 
 -- a length that is marked stays so where another one is
 marked-more : (lengths : List Bool) (n len : ℕ) → get_or lengths len true ≡ true → get_or (set lengths n true) len true ≡ true

@@ -13,6 +13,8 @@ pub mod Prefixes
 pub mod Searching
 pub mod Setting
 pub mod Shorter
+pub mod SideBySide
+pub mod Tabled
 pub mod Turned
 pub mod Updated
 pub mod Walking

@@ -19,10 +19,9 @@ use Rattle.dn_model.specs.declared.target.Target.TheVariants.{NoRoute}
 use Rattle.route_table.specs.Made.{IsFirstIn, IsMade}
 use Rattle.route_table.specs.Own.{SetsOrHas}
 use Rattle.route_table.specs.Searches.{IsBaseBefore}
-use Rattle.route_table.specs.Slots.{AreSlots, IsAddedAt, IsUnchangedBy, IsUpdatedAt, SetsOrHasSome, key_of, routes_at, routes_of, slot_key}
+use Rattle.route_table.specs.Slots.{AreSlots, IsAddedAt, IsUnchangedBy, IsUpdatedAt, PrefixRoutes, SetsOrHasSome, key_of, routes_at, routes_of, slot_key}
 use Rattle.route_table.specs.Targets.{IsFirst, cleared, route_at}
 use Rattle.route_table.specs.Whole.{IsWhole}
-use Rattle.route_table.specs.declared.slots.PrefixRoutes.{PrefixRoutes}
 use Rattle.route_table.specs.declared.targets.MetricTarget.{MetricTarget}
 use Rattle.route_table.proofs.Places.{found-insert, found-inside, found-set, gap-inside}
 use Rattle.route_table.proofs.Prefixes.{found-left, none-at, others-at, own-prefix}

@@ -17,9 +17,8 @@ use Rattle.dn_model.proofs.RunsFrom.{none-below}
 use Rattle.route_table.specs.Along.{along, past_of}
 use Rattle.route_table.specs.Ascending.{AscendsFrom, IsFound}
 use Rattle.route_table.specs.Own.{AreOwnRuns, IsPassed, is_longer_at, is_own}
-use Rattle.route_table.specs.Slots.{AreSlots, IsSlot, key_of, routes_at, routes_of, slot_key}
+use Rattle.route_table.specs.Slots.{AreSlots, IsSlot, PrefixRoutes, key_of, routes_at, routes_of, slot_key}
 use Rattle.route_table.specs.Targets.{route_at}
-use Rattle.route_table.specs.declared.slots.PrefixRoutes.{PrefixRoutes}
 use Rattle.route_table.specs.declared.targets.MetricTarget.{MetricTarget}
 use Rattle.route_table.proofs.Along.{EndsBefore, OfEach, begun-are, begun-within, begun_from, each-drop, has_route_at, is_left, runs-ends, runs-left, runs_from}
 use Rattle.route_table.proofs.Blocks.{cidr-end, covers-in, nested-from, size-some}

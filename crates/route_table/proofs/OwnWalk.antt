@@ -7,8 +7,7 @@ use Rattle.std.proofs.lemmas.List.Folds.{list_any-append}
 use Rattle.dn_model.specs.declared.run.Run.{Run}
 use Rattle.route_table.specs.Along.{Along, along, begins_past, gap}
 use Rattle.route_table.specs.Ascending.{AscendsFrom, IsFound}
-use Rattle.route_table.specs.Slots.{AreSlots, IsSlot, slot_key}
-use Rattle.route_table.specs.declared.slots.PrefixRoutes.{PrefixRoutes}
+use Rattle.route_table.specs.Slots.{AreSlots, IsSlot, PrefixRoutes, slot_key}
 use Rattle.route_table.proofs.Along.{Ends, along-ended, along-page, anew, each-drop, ends, runs-are, runs_from, with_begun}
 use Rattle.route_table.proofs.Places.{ascends-lower, found-inside}
 use Rattle.route_table.proofs.Searching.{few-slots}
@@ -53,7 +52,7 @@ slots-page slots page place h is = subst (λ xs. AreSlots xs) is (slots-take (dr
 
 -- ---- one page more
 
-module _ (slots page : List PrefixRoutes) (first place past : ℕ) (from : Along) (o : first ≤ place) (is : take (length page) (drop place slots) ≡ page) where
+module _ (slots page : List PrefixRoutes) (first place past n : ℕ) (from : Along) (o : first ≤ place) (many : n ≡ length page) (is : take (length page) (drop place slots) ≡ page) where
   abbrev behind : List PrefixRoutes
   behind = drop first slots
 
@@ -61,14 +60,14 @@ module _ (slots page : List PrefixRoutes) (first place past : ℕ) (from : Along
   done = along past from (take (place - first) behind)
 
   abbrev after : Along
-  after = along past from (take (place + length page - first) behind)
+  after = along past from (take (place + n - first) behind)
 
   page-is : take (length page) (drop (place - first) behind) ≡ page
   page-is =
       let e : first + (place - first) ≡ place = omega arith in
       ap (λ xs. take (length page) xs) (drop-drop (place - first) first slots ∙ ap (λ n. drop n slots) e) ∙ is
 
-  count : place + length page - first ≡ (place - first) + length page
+  count : place + n - first ≡ (place - first) + length page
   count = omega arith
 
   -- so far at `at`, with these runs
@@ -93,9 +92,9 @@ module _ (slots page : List PrefixRoutes) (first place past : ℕ) (from : Along
         let e : length after.begun ≡ length done.begun + length (along past here page).begun = ap (λ (w : Along). length w.begun) after-is ∙ length-append done.begun (along past here page).begun in
         omega arith
 
-  pub page-ended : begins_past past page ≡ true → begins_past past (take (place + length page - first) behind) ≡ true
+  pub page-ended : begins_past past page ≡ true → begins_past past (take (place + n - first) behind) ≡ true
   page-ended e =
-      let parts : take (place + length page - first) behind ≡ take (place - first) behind ++ page = ap (λ n. take n behind) count ∙ take-add (place - first) (length page) behind ∙ ap (λ xs. take (place - first) behind ++ xs) page-is in
+      let parts : take (place + n - first) behind ≡ take (place - first) behind ++ page = ap (λ n. take n behind) count ∙ take-add (place - first) (length page) behind ∙ ap (λ xs. take (place - first) behind ++ xs) page-is in
       ap (λ xs. begins_past past xs) parts
       ∙ list_any-append (λ s. leb past s.prefix.base) (take (place - first) behind) page
       ∙ or_right (begins_past past (take (place - first) behind)) (begins_past past page) e

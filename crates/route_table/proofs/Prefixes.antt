@@ -14,9 +14,8 @@ use Rattle.dn_model.proofs.Best.{filter-contains}
 use Rattle.dn_model.proofs.Filtered.{filter-whole}
 use Rattle.dn_model.proofs.Keyed.{contains-map}
 use Rattle.route_table.specs.Ascending.{AscendsFrom, IsFound, IsGap}
-use Rattle.route_table.specs.Slots.{key_of, routes_at, routes_of, slot_key}
+use Rattle.route_table.specs.Slots.{PrefixRoutes, key_of, routes_at, routes_of, slot_key}
 use Rattle.route_table.specs.Targets.{route_at, with_target, without_metric}
-use Rattle.route_table.specs.declared.slots.PrefixRoutes.{PrefixRoutes}
 use Rattle.route_table.specs.declared.targets.MetricTarget.{MetricTarget}
 
 -- ---- prefixes

@@ -7,8 +7,7 @@ use Rattle.std.proofs.lemmas.List.{get_or-drop, get_or-take, get_or_default, len
 use Rattle.version_pages.specs.Search.{EndsBelow}
 use Rattle.route_table.specs.Ascending.{AscendsFrom, IsFound, IsGap, IsPlace}
 use Rattle.route_table.specs.Searches.{IsBaseBefore}
-use Rattle.route_table.specs.Slots.{AreSlots, IsSlot, slot_key}
-use Rattle.route_table.specs.declared.slots.PrefixRoutes.{PrefixRoutes}
+use Rattle.route_table.specs.Slots.{AreSlots, IsSlot, PrefixRoutes, slot_key}
 use Rattle.route_table.proofs.Places.{found-at, gap-at, place-of}
 
 -- what stands in a page stands among all
@@ -62,7 +61,7 @@ near-place slots page first below key seen h is same ends l none =
     omega arith)
 
 -- the slot at the place, and whether it is that of the key
-near-slot : (slots page : List PrefixRoutes) (first below : ℕ) (s d : PrefixRoutes) → take (length page) (drop first slots) ≡ page → below < length page → s ≡ get_or page below s → s ≡ get_or slots (first + below) d
+pub near-slot : (slots page : List PrefixRoutes) (first below : ℕ) (s d : PrefixRoutes) → take (length page) (drop first slots) ≡ page → below < length page → s ≡ get_or page below s → s ≡ get_or slots (first + below) d
 near-slot slots page first below s d is l read = read ∙ get_or_default page below s d l ∙ page-read slots page first below d is l
 
 pub near-found : (slots page : List PrefixRoutes) (first below key : ℕ) (s : PrefixRoutes) → take (length page) (drop first slots) ≡ page → below < length page → s ≡ get_or page below s → IsPlace slot_key slots key (first + below) → slot_key s ≡ key → IsFound slot_key slots key (first + below)
@@ -95,6 +94,10 @@ near-before slots page first below (Some base) is l b = near-base slots page fir
 pub some-then : {O : Type 0} (o : Option O) (R : O → Type 0) (Q : Type 0) → ((x : O) → R x → Q) → IfSome o R → IfSome o (λ x. Q)
 some-then None R Q f h = tt
 some-then (Some x) R Q f h = f x h
+
+pub some-each : {O : Type 0} (o : Option O) (R S : O → Type 0) → ((x : O) → R x → S x) → IfSome o R → IfSome o S
+some-each None R S f h = tt
+some-each (Some x) R S f h = f x h
 
 pub none-then : {O : Type 0} (o : Option O) (R Q : Type 0) → (R → Q) → IfNone o R → IfNone o Q
 none-then None R Q f h = f h

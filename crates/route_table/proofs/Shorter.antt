@@ -14,9 +14,8 @@ use Rattle.dn_model.proofs.Keys.{base-once}
 use Rattle.route_table.specs.Above.{HasLength, IsAbove, IsFirstAbove, shares}
 use Rattle.route_table.specs.Ascending.{AscendsFrom, IsFound, IsGap, IsPlace}
 use Rattle.route_table.specs.Searches.{IsBaseBefore}
-use Rattle.route_table.specs.Slots.{AreSlots, IsSlot, key_of, slot_key}
+use Rattle.route_table.specs.Slots.{AreSlots, IsSlot, PrefixRoutes, key_of, slot_key}
 use Rattle.route_table.specs.Targets.{IsFirst}
-use Rattle.route_table.specs.declared.slots.PrefixRoutes.{PrefixRoutes}
 use Rattle.route_table.specs.declared.targets.MetricTarget.{MetricTarget}
 use Rattle.route_table.proofs.Blocks.{covers-from, covers-in, covers-to, size-some}
 use Rattle.route_table.proofs.OwnRuns.{each-of, longer-later}

@@ -21,9 +21,8 @@ use Rattle.route_table.specs.Above.{IsAbove, IsDoneAbove, IsFirstAbove, done_by}
 use Rattle.route_table.specs.Ascending.{AscendsFrom}
 use Rattle.route_table.specs.Made.{IsFirstIn, IsLeastOf}
 use Rattle.route_table.specs.Own.{BeginWithin, IsLooked, IsPassed, IsTurned, is_longer_at, is_own}
-use Rattle.route_table.specs.Slots.{AreSlots, key_of, routes_at, routes_of, slot_key}
+use Rattle.route_table.specs.Slots.{AreSlots, PrefixRoutes, key_of, routes_at, routes_of, slot_key}
 use Rattle.route_table.specs.Targets.{route_at}
-use Rattle.route_table.specs.declared.slots.PrefixRoutes.{PrefixRoutes}
 use Rattle.route_table.specs.declared.targets.MetricTarget.{MetricTarget}
 use Rattle.route_table.proofs.Around.{around-once}
 use Rattle.route_table.proofs.Blocks.{covers-from, covers-in, covers-to, nested-from, nested-to, size-some}

@@ -12,8 +12,7 @@ use Rattle.dn_model.specs.declared.target.Target.{Target}
 use Rattle.route_table.specs.Above.{IsDoneAbove}
 use Rattle.route_table.specs.Made.{IsFirstIn, IsMade}
 use Rattle.route_table.specs.Own.{IsLooked, IsPassed, IsTurned}
-use Rattle.route_table.specs.Slots.{AreSlots, routes_of}
-use Rattle.route_table.specs.declared.slots.PrefixRoutes.{PrefixRoutes}
+use Rattle.route_table.specs.Slots.{AreSlots, PrefixRoutes, routes_of}
 use Rattle.route_table.proofs.Turned.{AreOthers, looked-passed, others-after, same-everywhere, turned-above, turned-first}
 use Rattle.route_table.proofs.Whole.{table-of}
 

@@ -19,10 +19,9 @@ use Rattle.dn_model.proofs.Keys.{key-once, keys-after}
 use Rattle.dn_model.proofs.SamePermutation.{permutation-same}
 use Rattle.route_table.specs.Above.{HasLength}
 use Rattle.route_table.specs.Ascending.{AscendsFrom, IsFound, IsGap}
-use Rattle.route_table.specs.Slots.{AreSlots, IsAddedAt, IsClearedAt, IsSetAt, IsSlot, key_of, routes_at, routes_of, slot_key}
-use Rattle.route_table.specs.Targets.{cleared, metric_of, route_at}
+use Rattle.route_table.specs.Slots.{AreSlots, IsAddedAt, IsSlot, PrefixRoutes, key_of, routes_at, routes_of, slot_key}
+use Rattle.route_table.specs.Targets.{cleared, metric_of, route_at, with_target}
 use Rattle.route_table.specs.Whole.{IsWhole}
-use Rattle.route_table.specs.declared.slots.PrefixRoutes.{PrefixRoutes}
 use Rattle.route_table.specs.declared.targets.MetricTarget.{MetricTarget}
 use Rattle.route_table.proofs.Kept.{kept-insert, kept-set}
 use Rattle.route_table.proofs.Places.{all-from, ascends-insert, ascends-set, found-inside, found-key}
@@ -108,10 +107,28 @@ keeps-prefix p r e = not_from_false (is_of_prefix p r) e
 
 -- ---- settings
 
-set-whole : (slots new : List PrefixRoutes) (lengths : List Bool) (p : Cidr) (i m : ℕ) (t : Target) → IsWhole slots lengths → IsCidr p → IsFound slot_key slots (key_of p) i → IsSetAt slots new i m t → IsWhole new lengths
-set-whole slots new lengths p i m t h sound f s =
-    subst (λ xs. IsWhole xs lengths) (sym s.list)
-    (put-whole slots lengths p i s.slot h sound f ((s.made s.slot).same ∙ found-prefix slots p i s.slot h.form sound f) (s.made s.slot).metrics)
+-- the route with this metric was set among those of a slot
+pub record IsSetIn (old new : PrefixRoutes) (m : ℕ) (t : Target) : Type 0 where
+  pub same : new.prefix ≡ old.prefix
+  pub targets : IsPermutation new.targets (with_target old.targets m t)
+  pub metrics : AscendsFrom metric_of 0 new.targets
+
+-- the route with this metric was cleared among those of a slot, or without a metric all of them
+pub record IsClearedIn (old new : PrefixRoutes) (metric : Option ℕ) : Type 0 where
+  pub same : new.prefix ≡ old.prefix
+  pub targets : new.targets ≡ cleared old.targets metric
+  pub metrics : AscendsFrom metric_of 0 new.targets
+
+-- so it was in the slot at a place
+pub record IsSetAt (old new : List PrefixRoutes) (place : ℕ) (m : ℕ) (t : Target) : Type 0 where
+  pub slot : PrefixRoutes
+  pub made : (d : PrefixRoutes) → IsSetIn (get_or old place d) slot m t
+  pub list : new ≡ set old place slot
+
+pub record IsClearedAt (old new : List PrefixRoutes) (place : ℕ) (metric : Option ℕ) : Type 0 where
+  pub slot : PrefixRoutes
+  pub made : (d : PrefixRoutes) → IsClearedIn (get_or old place d) slot metric
+  pub list : new ≡ set old place slot
 
 pub set-ok : (slots new : List PrefixRoutes) (p : Cidr) (i m : ℕ) (t : Target) → AreSlots slots → IsCidr p → IsFound slot_key slots (key_of p) i → IsSetAt slots new i m t → IsPermutation (routes_of new) (after_op (routes_of slots) (Set p m t))
 set-ok slots new p i m t h sound f s =
@@ -124,14 +141,6 @@ set-ok slots new p i m t h sound f s =
     (set-at p m t (get_or slots i d).targets s.slot.targets (s.made d).targets)) in
     subst (λ xs. IsPermutation (routes_of xs) (after_op (routes_of slots) (Set p m t))) (sym s.list)
     (found-set q p 0 slots i s.slot route (keeps-key p m) h.keys f made)
-
-pub whole-after_set : {E : Type 0} (r : Result (Unit {0}) E) (slots new : List PrefixRoutes) (lengths : List Bool) (p : Cidr) (i m : ℕ) (t : Target) → IsWhole slots lengths → IsCidr p → IsFound slot_key slots (key_of p) i → OnOk r (IsSetAt slots new i m t) → OnErr r (new ≡ slots) → IsWhole new lengths
-whole-after_set (Ok u) slots new lengths p i m t h sound f ok err = set-whole slots new lengths p i m t h sound f ok
-whole-after_set (Err e) slots new lengths p i m t h sound f ok err = subst (λ xs. IsWhole xs lengths) (sym err) h
-
-pub ok-after_set : {E : Type 0} (r : Result (Unit {0}) E) (slots new : List PrefixRoutes) (now : List Route) (p : Cidr) (i m : ℕ) (t : Target) → routes_of slots ≡ now → AreSlots slots → IsCidr p → IsFound slot_key slots (key_of p) i → OnOk r (IsSetAt slots new i m t) → OnOk r (IsPermutation (routes_of new) (after_op now (Set p m t)))
-ok-after_set (Ok u) slots new now p i m t view h sound f ok = subst (λ rs. IsPermutation (routes_of new) (after_op rs (Set p m t))) view (set-ok slots new p i m t h sound f ok)
-ok-after_set (Err e) slots new now p i m t view h sound f ok = tt
 
 -- a route that is there already
 same-set : (now : List Route) (p : Cidr) (m : ℕ) (t : Target) → IsTable now → Contains now (record { prefix = p; metric = m; target = t }) → IsPermutation now (after_op now (Set p m t))
@@ -181,16 +190,7 @@ add-ok slots new p i m t h g a =
     subst (λ xs. IsPermutation (routes_of xs) (after_op (routes_of slots) (Set p m t))) (sym a.list)
     (gap-add (λ r. not (has_key p m r)) p 0 slots i a.slot route (keeps-key p m) h.keys g made)
 
-pub ok-after_add : {E : Type 0} (r : Result (Unit {0}) E) (slots new : List PrefixRoutes) (now : List Route) (p : Cidr) (i m : ℕ) (t : Target) → routes_of slots ≡ now → AreSlots slots → IsGap slot_key slots (key_of p) i → OnOk r (IsAddedAt slots new i p m t) → OnOk r (IsPermutation (routes_of new) (after_op now (Set p m t)))
-ok-after_add (Ok u) slots new now p i m t view h g ok = subst (λ rs. IsPermutation (routes_of new) (after_op rs (Set p m t))) view (add-ok slots new p i m t h g ok)
-ok-after_add (Err e) slots new now p i m t view h g ok = tt
-
 -- ---- clearings
-
-clear-whole : (slots new : List PrefixRoutes) (lengths : List Bool) (p : Cidr) (i : ℕ) (metric : Option ℕ) → IsWhole slots lengths → IsCidr p → IsFound slot_key slots (key_of p) i → IsClearedAt slots new i metric → IsWhole new lengths
-clear-whole slots new lengths p i metric h sound f s =
-    subst (λ xs. IsWhole xs lengths) (sym s.list)
-    (put-whole slots lengths p i s.slot h sound f ((s.made s.slot).same ∙ found-prefix slots p i s.slot h.form sound f) (s.made s.slot).metrics)
 
 slot-cleared : (q : Route → Bool) (p : Cidr) (v old : PrefixRoutes) → v.prefix ≡ p → old.prefix ≡ p → map (route_at p) v.targets ≡ filter q (map (route_at p) old.targets) → routes_at v ≡ filter q (routes_at old)
 slot-cleared q p v old vp op h = ap (λ a. map (route_at a) v.targets) vp ∙ h ∙ ap (λ a. filter q (map (route_at a) old.targets)) (sym op)
@@ -209,14 +209,6 @@ clear-is slots new p i (Some m) h sound f s =
 
 moved : (xs ys : List Route) → xs ≡ ys → IsPermutation xs ys
 moved xs ys e = subst (λ zs. IsPermutation xs zs) e (IsPermutation-refl xs)
-
-pub whole-after_clear : {E : Type 0} (r : Result (Unit {0}) E) (slots new : List PrefixRoutes) (lengths : List Bool) (p : Cidr) (i : ℕ) (metric : Option ℕ) → IsWhole slots lengths → IsCidr p → IsFound slot_key slots (key_of p) i → OnOk r (IsClearedAt slots new i metric) → OnErr r (new ≡ slots) → IsWhole new lengths
-whole-after_clear (Ok u) slots new lengths p i metric h sound f ok err = clear-whole slots new lengths p i metric h sound f ok
-whole-after_clear (Err e) slots new lengths p i metric h sound f ok err = subst (λ xs. IsWhole xs lengths) (sym err) h
-
-pub ok-after_clear : {E : Type 0} (r : Result (Unit {0}) E) (slots new : List PrefixRoutes) (now : List Route) (p : Cidr) (i : ℕ) (metric : Option ℕ) → routes_of slots ≡ now → AreSlots slots → IsCidr p → IsFound slot_key slots (key_of p) i → OnOk r (IsClearedAt slots new i metric) → OnOk r (IsPermutation (routes_of new) (after_op now (Clear p metric)))
-ok-after_clear (Ok u) slots new now p i metric view h sound f ok = moved (routes_of new) (after_op now (Clear p metric)) (clear-is slots new p i metric h sound f ok ∙ ap (λ rs. after_op rs (Clear p metric)) view)
-ok-after_clear (Err e) slots new now p i metric view h sound f ok = tt
 
 -- a clearing of what isn't there
 pub clear-gap : (slots : List PrefixRoutes) (now : List Route) (p : Cidr) (i : ℕ) (metric : Option ℕ) → routes_of slots ≡ now → AreSlots slots → IsGap slot_key slots (key_of p) i → IsPermutation now (after_op now (Clear p metric))
@@ -262,3 +254,22 @@ least-some slots now p i s x b view h sound f is least e =
           let w : (y : MetricTarget) × Contains s.targets y × (route_at s.prefix y ≡ r) = at-slot slots now p i s r view h f is c t in
           subst (λ (z : Route). x.metric ≤ z.metric) w.2 (least.1 w.0 w.1),
     )
+
+-- ---- another table's slot in the row of a prefix, without routes
+
+pub empty-whole : (slots : List PrefixRoutes) (lengths : List Bool) (p : Cidr) (i : ℕ) → IsWhole slots lengths → IsCidr p → IsGap slot_key slots (key_of p) i → IsWhole (insert slots i (record { prefix = p; targets = [] })) (set lengths p.len true)
+empty-whole slots lengths p i h sound g =
+    let v : PrefixRoutes = record { prefix = p; targets = [] } in
+    record {
+      form = record {
+        keys = ascends-insert slot_key 0 slots (key_of p) i v h.form.keys g (omega arith) refl;
+        each = all-insert slots i v h.form.each (record { sound = sound; metrics = tt });
+      };
+      kept = kept-insert slots i v lengths h.kept;
+    }
+
+pub empty-adds : (slots : List PrefixRoutes) (p : Cidr) (i : ℕ) → routes_of (insert slots i (record { prefix = p; targets = [] })) ≡ routes_of slots
+empty-adds [] p zero = refl
+empty-adds [] p (suc i) = refl
+empty-adds (s ∷ slots) p zero = refl
+empty-adds (s ∷ slots) p (suc i) = ap (λ rs. routes_at s ++ rs) (empty-adds slots p i)

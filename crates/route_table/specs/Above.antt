@@ -4,7 +4,7 @@ use Rattle.dn_model.specs.Cidr.{Cidr, covers}
 use Rattle.dn_model.specs.declared.target.Target.{Target}
 use Rattle.dn_model.specs.declared.target.Target.TheVariants.{NoRoute}
 use Rattle.route_table.specs.Targets.{IsFirst}
-use Rattle.route_table.specs.declared.slots.PrefixRoutes.{PrefixRoutes}
+use Rattle.route_table.specs.Slots.{PrefixRoutes}
 
 -- whether the prefix of this length around an address has another address too
 abbrev pub shares : ℕ → ℕ → ℕ → Bool

@@ -3,7 +3,7 @@ use Rattle.std.specs.Prelude.{ℕ, Bool, List, [], ◌∷◌, ◌++◌, fold, le
 use Rattle.std.specs.List.{list_any}
 use Rattle.dn_model.specs.Cidr.{size}
 use Rattle.dn_model.specs.declared.run.Run.{Run}
-use Rattle.route_table.specs.declared.slots.PrefixRoutes.{PrefixRoutes}
+use Rattle.route_table.specs.Slots.{PrefixRoutes}
 
 -- how far it has come: from this address on none was met; the runs so far; and where the prefixes begin that it went past
 pub record Along : Type 0 where

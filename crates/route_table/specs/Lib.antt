@@ -1,4 +1,5 @@
 pub mod Ascending
+pub mod Tables
 pub mod Targets
 pub mod Slots
 pub mod Searches
@@ -7,3 +8,4 @@ pub mod Along
 pub mod Own
 pub mod Whole
 pub mod Made
+pub mod Rows

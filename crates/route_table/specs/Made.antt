@@ -9,8 +9,7 @@ use Rattle.dn_model.specs.declared.target.Target.{Target}
 use Rattle.route_table.specs.Ascending.{IsFound}
 use Rattle.route_table.specs.Own.{SetsOrHas}
 use Rattle.route_table.specs.Searches.{IsBaseBefore}
-use Rattle.route_table.specs.Slots.{key_of, routes_of, slot_key}
-use Rattle.route_table.specs.declared.slots.PrefixRoutes.{PrefixRoutes}
+use Rattle.route_table.specs.Slots.{PrefixRoutes, key_of, routes_of, slot_key}
 
 -- the route of a prefix with the least metric
 pub record IsLeastOf (routes : List Route) (p : Cidr) (b : Route) : Type 0 where

@@ -10,7 +10,11 @@ use Rattle.route_table.specs.declared.targets.MetricTarget.{MetricTarget}
 use Rattle.dn_model.specs.declared.target.Target.{Target}
 use Rattle.route_table.specs.Ascending.{AscendsFrom}
 use Rattle.route_table.specs.Targets.{cleared, metric_of, route_at, with_target, IsFirst}
-use Rattle.route_table.specs.declared.slots.PrefixRoutes.{PrefixRoutes}
+
+-- the routes of one prefix in one table: what they do, by metric
+pub record PrefixRoutes : Type 0 where
+  pub prefix : Cidr
+  pub targets : List MetricTarget
 
 -- what tells prefixes apart: lengths are below 64
 abbrev pub key_of : Cidr → ℕ
@@ -34,29 +38,6 @@ pub record IsSlot (s : PrefixRoutes) : Type 0 where
 pub record AreSlots (slots : List PrefixRoutes) : Type 0 where
   pub keys : AscendsFrom slot_key 0 slots
   pub each : AllByRecursion IsSlot slots
-
--- the route with this metric was set among those of a slot
-pub record IsSetIn (old new : PrefixRoutes) (m : ℕ) (t : Target) : Type 0 where
-  pub same : new.prefix ≡ old.prefix
-  pub targets : IsPermutation new.targets (with_target old.targets m t)
-  pub metrics : AscendsFrom metric_of 0 new.targets
-
--- the route with this metric was cleared among those of a slot, or without a metric all of them
-pub record IsClearedIn (old new : PrefixRoutes) (metric : Option ℕ) : Type 0 where
-  pub same : new.prefix ≡ old.prefix
-  pub targets : new.targets ≡ cleared old.targets metric
-  pub metrics : AscendsFrom metric_of 0 new.targets
-
--- so it was in the slot at a place
-pub record IsSetAt (old new : List PrefixRoutes) (place : ℕ) (m : ℕ) (t : Target) : Type 0 where
-  pub slot : PrefixRoutes
-  pub made : (d : PrefixRoutes) → IsSetIn (slice_index_or old place d) slot m t
-  pub list : new ≡ set old place slot
-
-pub record IsClearedAt (old new : List PrefixRoutes) (place : ℕ) (metric : Option ℕ) : Type 0 where
-  pub slot : PrefixRoutes
-  pub made : (d : PrefixRoutes) → IsClearedIn (slice_index_or old place d) slot metric
-  pub list : new ≡ set old place slot
 
 -- one more slot stands at a place, with one route of a prefix
 pub record IsAddedAt (old new : List PrefixRoutes) (place : ℕ) (p : Cidr) (m : ℕ) (t : Target) : Type 0 where

@@ -1,16 +1,19 @@
-//! One router's routing table: routes by prefix and metric (rtnetlink(7)), and the route of an address (longest
+//! Routing tables of routers: routes by prefix and metric (rtnetlink(7)), and the route of an address (longest
 //! prefix, then least metric: RFC 1812).
 #![tactic(auto)]
 
 mod above;
 mod lengths;
 mod own;
+mod rows;
 mod search;
-mod slots;
 mod table;
+mod tables;
 mod targets;
 #[cfg(test)]
 mod tests;
 mod update;
 
+pub use rows::LANES;
 pub use table::RouteTable;
+pub use tables::RouteTables;

@@ -1,13 +1,14 @@
 //! The addresses of a prefix at which no longer prefix has a route.
 
-ghost use Rattle.std.specs.Prelude.{◌≡◌, ◌≤◌, ◌+◌, ◌^◌, ◌++◌, [], true, IfOk, OnOk, IsTrue, length};
+ghost use Rattle.std.specs.Prelude.{◌≡◌, ◌<◌, ◌≤◌, ◌+◌, ◌^◌, ◌++◌, [], true, IfOk, OnOk, IsTrue, length};
 ghost use Rattle.dn_model.specs.Cidr.{IsCidr, size};
 ghost use Rattle.route_table.specs.Along.{along, begins_past, gap};
 ghost use Rattle.route_table.specs.Ascending.{IsFound};
 ghost use Rattle.route_table.specs.Own.{AreOwnRuns, BeginWithin, IsPassed};
+ghost use Rattle.route_table.specs.Rows.{slots_in};
 ghost use Rattle.route_table.specs.Slots.{AreSlots, key_of, routes_of, slot_key};
 
-use crate::slots::PrefixRoutes;
+use crate::rows::PrefixRow;
 use dn_model::{OutOfMemory, Prefix, Run};
 use std::sync::ledger::Ledger;
 use step_count::Steps;
@@ -43,62 +44,66 @@ struct Walk {
     ended: bool,
 }
 
-/// Goes over some slots in order, and adds the gaps between those with routes. It looks at the routes of those alone that
-/// don't lie within one that it has gone past.
+/// Goes over the slots of one table in some rows, and adds the gaps between those with routes. It looks at the routes of
+/// those alone that don't lie within one that it has gone past.
 fn walk_page<L: Ledger>(
-    page: &[PrefixRoutes],
+    page: &[PrefixRow],
+    lane: usize,
     at: u64,
     past: u64,
     runs: &mut Vec<Run>,
     steps: &mut Steps<L>,
 ) -> Result<Walk, OutOfMemory>
-    requires form { AreSlots page.now }
+    requires lane { lane < 4 }
+    requires form { AreSlots (slots_in lane page.now) }
     requires past { past ≤ 2 ^ 32 }
     ensures at { IfOk result (λ walk.
-        walk.at ≡ (along past (record { at = at; runs = runs.old.items; begun = [] }) page.now).at) }
+        walk.at ≡ (along past (record { at = at; runs = runs.old.items; begun = [] }) (slots_in lane page.now)).at) }
     ensures runs { OnOk result (
-        runs.new.items ≡ (along past (record { at = at; runs = runs.old.items; begun = [] }) page.now).runs) }
-    ensures ended { IfOk result (λ walk. IsTrue walk.ended → begins_past past page.now ≡ true) }
+        runs.new.items ≡ (along past (record { at = at; runs = runs.old.items; begun = [] }) (slots_in lane page.now)).runs) }
+    ensures ended { IfOk result (λ walk. IsTrue walk.ended → begins_past past (slots_in lane page.now) ≡ true) }
     ensures cost { steps.new ≤ steps.old +
-        length (along past (record { at = at; runs = runs.old.items; begun = [] }) page.now).begun }
+        length (along past (record { at = at; runs = runs.old.items; begun = [] }) (slots_in lane page.now)).begun }
 {
     let mut at = at;
-    for slot in page {
-        let base = u64::from(slot.prefix.base());
+    for row in page {
+        let base = u64::from(row.prefix.base());
         if base >= past {
             return Ok(Walk { at, ended: true });
         }
-        if base >= at && !slot.targets.is_empty() {
+        if base >= at && !row.targets(lane).is_empty() {
             steps.tick();
             push_gap(runs, at, base)?;
-            at = past_of(slot.prefix);
+            at = past_of(row.prefix);
         }
     }
     Ok(Walk { at, ended: false })
 }
 
-/// Adds the runs of a prefix's own addresses, where there is none yet. The place is that of its slot.
+/// Adds the runs of a prefix's own addresses, where there is none yet. The place is that of its row.
 pub fn push_own_runs<L: Ledger>(
-    slots: &Pages<PrefixRoutes>,
+    rows: &Pages<PrefixRow>,
+    lane: usize,
     place: u64,
     prefix: Prefix,
     runs: &mut Vec<Run>,
     steps: &mut Steps<L>,
 ) -> Result<(), OutOfMemory>
-    requires form { AreSlots slots.now }
-    requires place { IsFound slot_key slots.now (key_of prefix) place }
+    requires lane { lane < 4 }
+    requires form { AreSlots (slots_in lane rows.now) }
+    requires place { IsFound slot_key (slots_in lane rows.now) (key_of prefix) place }
     requires empty { runs.old.items ≡ [] }
-    ensures own { OnOk result (AreOwnRuns (routes_of slots.now) prefix runs.new.items) }
-    ensures cost { IsPassed (routes_of slots.now) prefix steps.old steps.new }
+    ensures own { OnOk result (AreOwnRuns (routes_of (slots_in lane rows.now)) prefix runs.new.items) }
+    ensures cost { IsPassed (routes_of (slots_in lane rows.now)) prefix steps.old steps.new }
     ensures sound { IsCidr prefix }
 {
     let past = past_of(prefix);
     let mut at = u64::from(prefix.base());
     let mut place = place + 1;
     let mut ended = false;
-    'pages: while !ended && place < slots.len() {
-        let page = slots.run_from(place);
-        let walk = walk_page(page, at, past, runs, steps)?;
+    'pages: while !ended && place < rows.len() {
+        let page = rows.run_from(place);
+        let walk = walk_page(page, lane, at, past, runs, steps)?;
         at = walk.at;
         ended = walk.ended;
         place += page.len() as u64;

@@ -1,35 +1,32 @@
-//! The routing table.
+//! The routing table of one router.
 
-ghost use Rattle.std.specs.Prelude.{◌≡◌, ◌<◌, ◌≤◌, ℕ, [], ◌∷◌, ◌++◌, length, filter, not, OnOk, OnErr, IfOk, Contains, IsFalse, IsTrue, IfSome, IfNone, IsPermutation, Some, None};
+ghost use Rattle.std.specs.Prelude.{◌≡◌, ◌≤◌, [], ◌++◌, OnOk, OnErr, IfOk, Contains, IsFalse, IsTrue, IfSome, IfNone, IsPermutation, None};
 ghost use Rattle.dn_model.specs.Cidr.{IsCidr, covers};
 ghost use Rattle.dn_model.specs.Routes.{IsTable};
-ghost use Rattle.dn_model.specs.Entry.{prefix_of_op};
-ghost use Rattle.dn_model.specs.Table.{is_of_prefix, after_op, best, target_in};
+ghost use Rattle.dn_model.specs.Table.{is_of_prefix, after_op, best};
 ghost use Rattle.dn_model.specs.declared.entry.Op.TheVariants.{Set, Clear};
 ghost use Rattle.dn_model.specs.declared.entry.Route.{Route as RouteIs};
-ghost use Rattle.route_table.specs.Own.{AreOwnRuns, IsLooked, IsTurned, SetsOrHas};
-ghost use Rattle.route_table.specs.Slots.{routes_at, routes_of, IsSlot};
+ghost use Rattle.route_table.specs.Rows.{slot_in, slots_in};
+ghost use Rattle.route_table.specs.Slots.{routes_at, routes_of};
 
 use crate::lengths::Lengths;
-use crate::own::push_own_runs;
-use crate::slots::{PrefixRoutes, clear_at, place_of, set_at, slot_at};
-use crate::update::{begin, done_above, make};
-use dn_model::{List, Op, OutOfMemory, Prefix, Route, Run, Target};
+use crate::rows::{PrefixRow, place_of, row_at};
+use crate::update::make;
+use dn_model::{List, Op, OutOfMemory, Prefix, Route, Target};
 use std::alloc::Global;
 use std::marker::Model;
-use std::sync::ledger::Ledger;
-use step_count::Steps;
 use version_pages::Pages;
 
 /// The routes of one router. A contract sees it as the list of its routes, whose order means nothing: each prefix
 /// and metric is there once.
 ///
 /// They stand by prefix in shared pages: a copy is one count, and an update copies only the page of its prefix and the
-/// way to it, where a copy holds them too. A prefix whose routes are all cleared keeps its slot, so a table takes memory
-/// for each prefix that was ever set.
+/// way to it, where a copy holds them too. A prefix whose routes are all cleared keeps its row, so a table takes memory
+/// for each prefix that was ever set. It is the first of four that stand side by side, of which the others are empty:
+/// `RouteTables` has the routes of four routers in the same memory.
 #[derive(Drop)]
 pub struct RouteTable {
-    slots: Pages<PrefixRoutes>,
+    rows: Pages<PrefixRow>,
     /// The lengths of these prefixes.
     lengths: Lengths,
 }
@@ -37,14 +34,14 @@ pub struct RouteTable {
 impl Model for RouteTable {
     ghost use Rattle.std.specs.Prelude.{List};
     ghost use Rattle.dn_model.specs.declared.entry.Route.{Route};
+    ghost use Rattle.route_table.specs.Rows.{slots_in, AreWhole};
     ghost use Rattle.route_table.specs.Slots.{routes_of};
-    ghost use Rattle.route_table.specs.Whole.{IsWhole};
 
     ghost Value = { List Route };
 
-    ghost view = { λ t. routes_of t.slots };
+    ghost view = { λ t. routes_of (slots_in 0 t.rows) };
 
-    ghost invariant = { λ t. IsWhole t.slots t.lengths };
+    ghost invariant = { λ t. AreWhole t.rows t.lengths };
 }
 
 impl RouteTable {
@@ -53,7 +50,7 @@ impl RouteTable {
         ensures { result ≡ [] }
     {
         RouteTable {
-            slots: Pages::new(),
+            rows: Pages::new(),
             lengths: Lengths::new(),
         }
     }
@@ -65,11 +62,11 @@ impl RouteTable {
         ensures none { IfNone result ((r : RouteIs) → Contains self.now r → IsFalse (is_of_prefix prefix r)) }
         ensures some { IfSome result (λ b. Contains self.now b × (b.prefix ≡ prefix) × ((r : RouteIs) → Contains self.now r → IsTrue (is_of_prefix prefix r) → b.metric ≤ r.metric)) }
     {
-        let place = place_of(&self.slots, prefix);
-        let Some(slot) = slot_at(&self.slots, place, prefix) else {
+        let place = place_of(&self.rows, prefix);
+        let Some(row) = row_at(&self.rows, place, prefix) else {
             return None;
         };
-        let Some(first) = slot.targets.first() else {
+        let Some(first) = row.targets(0).first() else {
             return None;
         };
         Some(first.route(prefix))
@@ -87,22 +84,13 @@ impl RouteTable {
         ensures ok { OnOk result (IsPermutation self.new (after_op self.old (Set prefix metric target))) }
         ensures err { OnErr result (self.new ≡ self.old) }
     {
-        let place = place_of(&self.slots, prefix);
-        let Some(slot) = slot_at(&self.slots, place, prefix) else {
-            return begin(
-                alloc,
-                &mut self.slots,
-                &mut self.lengths,
-                place,
-                prefix,
-                metric,
-                target,
-            );
+        let op = Op::Set {
+            prefix,
+            metric,
+            target,
         };
-        if slot.targets.does(metric, target) {
-            return Ok(());
-        }
-        return set_at(alloc, &mut self.slots, place, metric, target);
+        make(alloc, &mut self.rows, 0, &mut self.lengths, &op, 0)?;
+        Ok(())
     }
 
     /// Removes the route of this prefix and metric; without a metric all routes of the prefix. One that isn't there
@@ -116,61 +104,9 @@ impl RouteTable {
         ensures ok { OnOk result (IsPermutation self.new (after_op self.old (Clear prefix metric))) }
         ensures err { OnErr result (self.new ≡ self.old) }
     {
-        let place = place_of(&self.slots, prefix);
-        let Some(slot) = slot_at(&self.slots, place, prefix) else {
-            return Ok(());
-        };
-        if !slot.targets.has(metric) {
-            return Ok(());
-        }
-        return clear_at(alloc, &mut self.slots, place, metric);
-    }
-
-    /// How many prefixes ever had a route.
-    pub fn prefixes(&self) -> u64 {
-        self.slots.len()
-    }
-
-    /// Makes an update, and tells the runs of the own addresses of its prefix, at which no longer prefix has a route: it
-    /// answers what is done there after it. Where it answers nothing, the same is done everywhere. The slot of the prefix is
-    /// looked for first near a place: any will do. It fails for want of memory alone, and then the table may be changed.
-    ///
-    /// A step is a look at the routes of one prefix that has some, or at what is done above one that has none. It takes two
-    /// at most, and one for each of some different addresses of the prefix at which routes' prefixes begin: those of the
-    /// longer prefixes with routes within it, of which none lies in another. Slots without routes are passed over without a
-    /// step. A clearing of a prefix without routes answers nothing.
-    pub fn update<L: Ledger>(
-        &mut self,
-        alloc: Global,
-        op: &Op,
-        near: u64,
-        runs: &mut Vec<Run>,
-        steps: &mut Steps<L>,
-    ) -> Result<Option<Target>, OutOfMemory>
-        ensures table { OnOk result (IsPermutation self.new (after_op self.old op.now)) }
-        ensures form { IsTable self.new }
-        ensures same { IfOk result (λ after. IfNone after ((a : ℕ) → target_in self.new a ≡ target_in self.old a)) }
-        ensures turned { IfOk result (λ after. IfSome after (IsTurned self.old self.new (prefix_of_op op.now))) }
-        ensures runs { IfOk result (λ after. IfSome after (λ _.
-            AreOwnRuns self.new (prefix_of_op op.now) runs.new.items)) }
-        ensures had { IfOk result (λ after. IfSome after (λ _. SetsOrHas self.old op.now)) }
-        ensures cost { IsLooked self.old (prefix_of_op op.now) steps.old steps.new }
-    {
-        let prefix = op.prefix();
-        runs.clear();
-        steps.tick();
-        let Some(made) = make(alloc, &mut self.slots, &mut self.lengths, op, near)? else {
-            return Ok(None);
-        };
-        if made.first.is_some() && made.first == made.before {
-            return Ok(None);
-        }
-        let after = match made.first {
-            Some(target) => target,
-            None => done_above(&self.slots, &self.lengths, prefix, made, steps),
-        };
-        push_own_runs(&self.slots, made.place, prefix, runs, steps)?;
-        Ok(Some(after))
+        let op = Op::Clear { prefix, metric };
+        make(alloc, &mut self.rows, 0, &mut self.lengths, &op, 0)?;
+        Ok(())
     }
 
     /// Of the routes whose prefixes have this length and cover an address the one with the least metric.
@@ -190,7 +126,7 @@ impl RouteTable {
         ensures value { result ≡ best self.now a }
         ensures table { IsTable self.now }
     {
-        if self.slots.len() == 0 {
+        if self.rows.len() == 0 {
             return None;
         }
         for len in (0..33u8).rev() {
@@ -207,7 +143,7 @@ impl RouteTable {
         ensures table { IsTable self.now }
     {
         let mut routes = Vec::new(alloc);
-        push_all(&mut routes, &self.slots)?;
+        push_all(&mut routes, &self.rows)?;
         Ok(List::from_vec(routes))
     }
 
@@ -215,43 +151,43 @@ impl RouteTable {
     pub fn copy(&self) -> Result<RouteTable, OutOfMemory>
         ensures { IfOk result (λ table. table ≡ self.now) }
     {
-        let slots = self.slots.copy()?;
+        let rows = self.rows.copy()?;
         Ok(RouteTable {
-            slots,
+            rows,
             lengths: self.lengths.copy(),
         })
     }
 }
 
-/// Adds the routes of all slots at the end of a list.
-fn push_all(routes: &mut Vec<Route>, slots: &Pages<PrefixRoutes>) -> Result<(), OutOfMemory>
-    ensures { OnOk result (routes.new.items ≡ routes.old.items ++ routes_of slots.now) }
+/// Adds the routes of the first table in all rows at the end of a list.
+fn push_all(routes: &mut Vec<Route>, rows: &Pages<PrefixRow>) -> Result<(), OutOfMemory>
+    ensures { OnOk result (routes.new.items ≡ routes.old.items ++ routes_of (slots_in 0 rows.now)) }
 {
     let mut place = 0;
-    'slots: while place < slots.len() {
-        let run = slots.run_from(place);
+    'rows: while place < rows.len() {
+        let run = rows.run_from(place);
         push_run(routes, run)?;
         place += run.len() as u64;
     }
     Ok(())
 }
 
-/// Adds the routes of some slots at the end of a list.
-fn push_run(routes: &mut Vec<Route>, run: &[PrefixRoutes]) -> Result<(), OutOfMemory>
-    ensures { OnOk result (routes.new.items ≡ routes.old.items ++ routes_of run.now) }
+/// Adds the routes of the first table in some rows at the end of a list.
+fn push_run(routes: &mut Vec<Route>, run: &[PrefixRow]) -> Result<(), OutOfMemory>
+    ensures { OnOk result (routes.new.items ≡ routes.old.items ++ routes_of (slots_in 0 run.now)) }
 {
-    for slot in run {
-        push_slot(routes, slot)?;
+    for row in run {
+        push_slot(routes, row)?;
     }
     Ok(())
 }
 
-/// Adds the routes of a slot at the end of a list.
-fn push_slot(routes: &mut Vec<Route>, slot: &PrefixRoutes) -> Result<(), OutOfMemory>
-    ensures { OnOk result (routes.new.items ≡ routes.old.items ++ routes_at slot.now) }
+/// Adds the routes of the first table in a row at the end of a list.
+fn push_slot(routes: &mut Vec<Route>, row: &PrefixRow) -> Result<(), OutOfMemory>
+    ensures { OnOk result (routes.new.items ≡ routes.old.items ++ routes_at (slot_in 0 row.now)) }
 {
-    for entry in slot.targets.as_slice() {
-        routes.push(entry.route(slot.prefix))?;
+    for entry in row.targets(0).as_slice() {
+        routes.push(entry.route(row.prefix))?;
     }
     Ok(())
 }

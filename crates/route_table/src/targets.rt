@@ -62,6 +62,16 @@ impl Model for TargetsByMetric {
 }
 
 impl TargetsByMetric {
+    /// No route.
+    pub fn none(alloc: Global) -> Self
+        ensures { result ≡ [] }
+    {
+        TargetsByMetric {
+            held: Held::Nothing,
+            alloc,
+        }
+    }
+
     /// One route, which takes no memory.
     pub fn one(alloc: Global, metric: u32, target: Target) -> Self
         ensures { result ≡ record { metric = metric; target = target } ∷ [] }

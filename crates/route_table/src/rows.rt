@@ -1,0 +1,209 @@
+//! The routes of the prefixes of four tables.
+
+ghost use Rattle.std.specs.Prelude.{◌≡◌, ◌<◌, ◌≤◌, ◌∷◌, ℕ, [], None, OnOk, OnErr, IfOk, IfSome, IfNone, IsFalse, IsTrue, IsPermutation, length, slice_index_or};
+ghost use Rattle.dn_model.specs.Cidr.{IsCidr};
+ghost use Rattle.route_table.specs.Ascending.{AscendsFrom, IsFound, IsGap, IsPlace};
+ghost use Rattle.route_table.specs.Rows.{row_key, slot_in, slots_in, AddsSlots, KeepsSlots};
+ghost use Rattle.route_table.specs.Slots.{key_of, slot_key, AreSlots, IsAddedAt, IsUnchangedBy, IsUpdatedAt, IsUpdatedIn, SetsOrHasSome, updated_targets, PrefixRoutes as Slot};
+ghost use Rattle.route_table.specs.Targets.{metric_of, IsFirst};
+
+use crate::targets::TargetsByMetric;
+use dn_model::{Op, OutOfMemory, Prefix, Target};
+use std::alloc::{AllocError, Global};
+use version_pages::{Keyed, Pages};
+
+/// How many tables stand side by side.
+pub const LANES: usize = 4;
+
+/// The routes of one prefix in each of the tables: what they do, by metric. Where all of them were cleared it stays, with
+/// none.
+#[derive(Drop)]
+pub struct PrefixRow {
+    pub prefix: Prefix,
+    pub lanes: [TargetsByMetric; LANES],
+}
+
+impl PrefixRow {
+    /// What the routes of one of the tables do.
+    pub fn targets(&self, lane: usize) -> &TargetsByMetric
+        requires { lane < 4 }
+        ensures { result.now ≡ (slot_in lane self.now).targets }
+    {
+        &self.lanes[lane]
+    }
+}
+
+impl Clone for PrefixRow {
+    ghost is_clone = { λ row copy. copy ≡ row };
+
+    fn clone(&self) -> Result<PrefixRow, AllocError> {
+        match copies(&self.lanes) {
+            Ok(lanes) => Ok(PrefixRow {
+                prefix: self.prefix,
+                lanes,
+            }),
+            Err(OutOfMemory) => Err(AllocError),
+        }
+    }
+}
+
+/// The same again.
+fn copies(lanes: &[TargetsByMetric; LANES]) -> Result<[TargetsByMetric; LANES], OutOfMemory>
+    ensures { IfOk result (λ copies. copies ≡ lanes.now) }
+{
+    let [first, second, third, fourth] = lanes;
+    Ok([
+        first.copy()?,
+        second.copy()?,
+        third.copy()?,
+        fourth.copy()?,
+    ])
+}
+
+/// Rows are searched by their prefixes.
+impl Keyed for PrefixRow {
+    ghost key_of = { row_key };
+
+    fn key(&self) -> u64 {
+        prefix_key(self.prefix)
+    }
+}
+
+/// What tells a prefix from others: they are in order of their first addresses, and then of their lengths.
+pub fn prefix_key(prefix: Prefix) -> u64
+    ensures value { result ≡ key_of prefix }
+    ensures sound { IsCidr prefix }
+{
+    u64::from(prefix.base()) * 64 + u64::from(prefix.len())
+}
+
+/// The place of the first row whose prefix doesn't go before this one.
+pub fn place_of(rows: &Pages<PrefixRow>, prefix: Prefix) -> u64
+    requires { (lane : ℕ) → AreSlots (slots_in lane rows.now) }
+    ensures place { (lane : ℕ) → IsPlace slot_key (slots_in lane rows.now) (key_of prefix) result }
+    ensures sound { IsCidr prefix }
+{
+    rows.count_below(prefix_key(prefix))
+}
+
+/// The row at a place where that of a prefix stands, if there is one.
+pub fn row_at(rows: &Pages<PrefixRow>, place: u64, prefix: Prefix) -> Option<&PrefixRow>
+    requires { (lane : ℕ) → IsPlace slot_key (slots_in lane rows.now) (key_of prefix) place }
+    ensures found { (lane : ℕ) → IfSome result (λ _. IsFound slot_key (slots_in lane rows.now) (key_of prefix) place) }
+    ensures row { (lane : ℕ) (d : Slot) → IfSome result (λ row.
+        slot_in lane row.now ≡ slice_index_or (slots_in lane rows.now) place d) }
+    ensures gap { (lane : ℕ) → IfNone result (IsGap slot_key (slots_in lane rows.now) (key_of prefix) place) }
+{
+    let Some(row) = rows.get(place) else {
+        return None;
+    };
+    if row.key() == prefix_key(prefix) {
+        return Some(row);
+    }
+    None
+}
+
+/// What the route of a slot with the least metric does. It is none where the slot has no route.
+pub fn first_of(row: &PrefixRow, lane: usize) -> Option<Target>
+    requires { lane < 4 }
+    ensures { IsFirst (slot_in lane row.now).targets result }
+{
+    let first = row.targets(lane).first()?;
+    Some(first.target)
+}
+
+/// Whether an update of its prefix changes anything in a slot.
+pub fn changes(row: &PrefixRow, lane: usize, op: &Op) -> bool
+    requires { lane < 4 }
+    ensures same { IsFalse result → IsUnchangedBy (slot_in lane row.now).targets op.now }
+    ensures some { IsTrue result → SetsOrHasSome (slot_in lane row.now).targets op.now }
+{
+    let targets = row.targets(lane);
+    match op {
+        Op::Set { metric, target, .. } => !targets.does(*metric, *target),
+        Op::Clear { metric, .. } => targets.has(*metric),
+    }
+}
+
+/// Makes an update of its prefix among the routes of a slot. After `OutOfMemory`, for which alone it fails, they are as before.
+fn update_targets(targets: &mut TargetsByMetric, op: &Op) -> Result<(), OutOfMemory>
+    ensures ok { OnOk result (IsPermutation targets.new (updated_targets targets.old op.now)) }
+    ensures err { OnErr result (targets.new ≡ targets.old) }
+    ensures metrics { AscendsFrom metric_of 0 targets.new }
+{
+    match op {
+        Op::Set { metric, target, .. } => return targets.set(*metric, *target),
+        Op::Clear { metric, .. } => targets.clear(*metric),
+    }
+    Ok(())
+}
+
+/// Makes an update of its prefix in a slot, and answers what its route with the least metric does then. After
+/// `OutOfMemory`, for which alone it fails, the row is as before.
+fn update_in(row: &mut PrefixRow, lane: usize, op: &Op) -> Result<Option<Target>, OutOfMemory>
+    requires { lane < 4 }
+    ensures ok { IfOk result (λ first. IsUpdatedIn (slot_in lane row.old) (slot_in lane row.new) op.now first) }
+    ensures others { (k : ℕ) → (k ≡ lane → ⊥) → slot_in k row.new ≡ slot_in k row.old }
+    ensures err { OnErr result (row.new ≡ row.old) }
+{
+    update_targets(&mut row.lanes[lane], op)?;
+    Ok(first_of(row, lane))
+}
+
+/// Makes an update in the slot at a place, and answers what its route with the least metric does then. After
+/// `OutOfMemory`, for which alone it fails, all is as before.
+pub fn update_at(
+    alloc: Global,
+    rows: &mut Pages<PrefixRow>,
+    lane: usize,
+    place: u64,
+    op: &Op,
+) -> Result<Option<Target>, OutOfMemory>
+    requires lane { lane < 4 }
+    requires inside { place < length rows.old }
+    ensures ok { IfOk result (λ first.
+        IsUpdatedAt (slots_in lane rows.old) (slots_in lane rows.new) place op.now first) }
+    ensures others { KeepsSlots lane rows.old rows.new }
+    ensures err { OnErr result (rows.new ≡ rows.old) }
+{
+    rows.change(alloc, place, |row: &mut PrefixRow| update_in(row, lane, op))?
+}
+
+/// A row with one route of a prefix in one of the tables.
+fn row_of(alloc: Global, lane: usize, prefix: Prefix, metric: u32, target: Target) -> PrefixRow
+    requires { lane < 4 }
+    ensures prefix { result.prefix ≡ prefix }
+    ensures targets { (slot_in lane result).targets ≡ record { metric = metric; target = target } ∷ [] }
+    ensures others { (k : ℕ) → (k ≡ lane → ⊥) → (slot_in k result).targets ≡ [] }
+{
+    let mut lanes = [
+        TargetsByMetric::none(alloc),
+        TargetsByMetric::none(alloc),
+        TargetsByMetric::none(alloc),
+        TargetsByMetric::none(alloc),
+    ];
+    lanes[lane] = TargetsByMetric::one(alloc, metric, target);
+    PrefixRow { prefix, lanes }
+}
+
+/// Puts a row at a place, with one route of a prefix in one of the tables. After `OutOfMemory`, for which alone it fails, all
+/// is as before.
+pub fn add_at(
+    alloc: Global,
+    rows: &mut Pages<PrefixRow>,
+    lane: usize,
+    place: u64,
+    prefix: Prefix,
+    metric: u32,
+    target: Target,
+) -> Result<(), OutOfMemory>
+    requires lane { lane < 4 }
+    requires inside { place ≤ length rows.old }
+    requires sound { IsCidr prefix }
+    ensures ok { OnOk result (IsAddedAt (slots_in lane rows.old) (slots_in lane rows.new) place prefix metric target) }
+    ensures others { OnOk result (AddsSlots lane rows.old rows.new place prefix) }
+    ensures err { OnErr result (rows.new ≡ rows.old) }
+{
+    let row = row_of(alloc, lane, prefix, metric, target);
+    return rows.insert_at(alloc, place, row);
+}

@@ -1,0 +1,122 @@
+//! The routing tables of four routers.
+
+ghost use Rattle.std.specs.Prelude.{◌≡◌, ◌<◌, ℕ, [], OnOk, IfOk, IfSome, IfNone, IsPermutation, replicate, slice_set};
+ghost use Rattle.dn_model.specs.Entry.{prefix_of_op};
+ghost use Rattle.dn_model.specs.Routes.{IsTable};
+ghost use Rattle.dn_model.specs.Table.{after_op, target_in};
+ghost use Rattle.route_table.specs.Own.{AreOwnRuns, IsLooked, IsTurned, SetsOrHas};
+ghost use Rattle.route_table.specs.Tables.{table_at};
+
+use crate::lengths::Lengths;
+use crate::own::push_own_runs;
+use crate::rows::PrefixRow;
+use crate::update::{done_above, make};
+use dn_model::{Op, OutOfMemory, Run, Target};
+use std::alloc::Global;
+use std::marker::Model;
+use std::sync::ledger::Ledger;
+use step_count::Steps;
+use version_pages::Pages;
+
+/// The routes of four routers, numbered from 0. A contract sees the list of their tables, each of which is the list of its
+/// routes, whose order means nothing: each prefix and metric is there once.
+///
+/// They stand side by side by prefix in shared pages: routers next to one another often have the same prefixes, one shortly
+/// after another, and then find the memory of each at hand. A copy is one count, and an update copies only the page of its
+/// prefix and the way to it, where a copy holds them too. A prefix that ever had a route at one of the routers takes memory
+/// for all four, and keeps it.
+#[derive(Drop)]
+pub struct RouteTables {
+    rows: Pages<PrefixRow>,
+    /// The lengths of these prefixes.
+    lengths: Lengths,
+}
+
+impl Model for RouteTables {
+    ghost use Rattle.std.specs.Prelude.{List};
+    ghost use Rattle.dn_model.specs.declared.entry.Route.{Route};
+    ghost use Rattle.route_table.specs.Rows.{tables_in, AreWhole};
+
+    ghost Value = { List (List Route) };
+
+    ghost view = { λ t. tables_in t.rows };
+
+    ghost invariant = { λ t. AreWhole t.rows t.lengths };
+}
+
+impl RouteTables {
+    /// The tables of four routers, none of which has a route. They take no memory.
+    pub fn new() -> Self
+        ensures { result ≡ replicate 4 [] }
+    {
+        RouteTables {
+            rows: Pages::new(),
+            lengths: Lengths::new(),
+        }
+    }
+
+    /// How many prefixes ever had a route at one of the routers.
+    pub fn prefixes(&self) -> u64 {
+        self.rows.len()
+    }
+
+    /// Makes an update of one router, and tells the runs of the own addresses of its prefix, at which no longer prefix has a
+    /// route there: it answers what that router does there after it. Where it answers nothing, the same is done everywhere.
+    /// The other routers' tables stay as they are. The row of the prefix is looked for first near a place: any will do. It
+    /// fails for want of memory alone, and then the router's table may be changed.
+    ///
+    /// A step is a look at the router's routes of one prefix that has some, or at what is done above one that has none. It
+    /// takes two at most, and one for each of some different addresses of the prefix at which prefixes of its routes begin:
+    /// those of the longer prefixes with routes within it, of which none lies in another. Rows where this router has no route
+    /// are passed over without a step. A clearing of a prefix without routes answers nothing.
+    pub fn update<L: Ledger>(
+        &mut self,
+        alloc: Global,
+        lane: usize,
+        op: &Op,
+        near: u64,
+        runs: &mut Vec<Run>,
+        steps: &mut Steps<L>,
+    ) -> Result<Option<Target>, OutOfMemory>
+        requires { lane < 4 }
+        ensures table { OnOk result (
+            IsPermutation (table_at self.new lane) (after_op (table_at self.old lane) op.now)) }
+        ensures others { self.new ≡ slice_set self.old lane (table_at self.new lane) }
+        ensures form { IsTable (table_at self.new lane) }
+        ensures same { IfOk result (λ after. IfNone after ((a : ℕ) →
+            target_in (table_at self.new lane) a ≡ target_in (table_at self.old lane) a)) }
+        ensures turned { IfOk result (λ after. IfSome after (
+            IsTurned (table_at self.old lane) (table_at self.new lane) (prefix_of_op op.now))) }
+        ensures runs { IfOk result (λ after. IfSome after (λ _.
+            AreOwnRuns (table_at self.new lane) (prefix_of_op op.now) runs.new.items)) }
+        ensures had { IfOk result (λ after. IfSome after (λ _. SetsOrHas (table_at self.old lane) op.now)) }
+        ensures cost { IsLooked (table_at self.old lane) (prefix_of_op op.now) steps.old steps.new }
+    {
+        let prefix = op.prefix();
+        runs.clear();
+        steps.tick();
+        let Some(made) = make(alloc, &mut self.rows, lane, &mut self.lengths, op, near)? else {
+            return Ok(None);
+        };
+        if made.first.is_some() && made.first == made.before {
+            return Ok(None);
+        }
+        let after = match made.first {
+            Some(target) => target,
+            None => done_above(&self.rows, lane, &self.lengths, prefix, made, steps),
+        };
+        push_own_runs(&self.rows, lane, made.place, prefix, runs, steps)?;
+        Ok(Some(after))
+    }
+
+    /// The same tables again, which share their routes with these.
+    pub fn copy(&self) -> Result<RouteTables, OutOfMemory>
+        ensures { IfOk result (λ tables. tables ≡ self.now) }
+    {
+        let rows = self.rows.copy()?;
+        Ok(RouteTables {
+            rows,
+            lengths: self.lengths.copy(),
+        })
+    }
+}

@@ -1,9 +1,8 @@
 -- The slots of one table among rows that four have together.
-use Rattle.std.proofs.Common.{◌≡◌, ◌<◌, ◌≤◌, ◌+◌, ◌-◌, ◌∙◌, ℕ, zero, suc, Option, Some, None, Bool, true, List, [], ◌∷◌, length, map, get_or, set, take, drop, refl, ap, sym, subst, ⊎_elim, arith}
+use Rattle.std.proofs.Common.{◌≡◌, ◌<◌, ◌≤◌, ◌-◌, ◌∙◌, ℕ, zero, suc, Option, Bool, true, List, [], ◌∷◌, length, get_or, set, take, drop, refl, ap, sym, subst, ⊎_elim, arith}
 use Rattle.std.specs.List.{insert}
-use Rattle.std.specs.Option.{IfSome}
 use Rattle.std.proofs.lemmas.Bool.{cases_lt}
-use Rattle.std.proofs.lemmas.List.{drop-map, get_or-map, get_or-set_other, get_or-set_same, length-map, map-set, take-map}
+use Rattle.std.proofs.lemmas.List.{drop-map, get_or-map, length-map, map-set, take-map}
 use Rattle.version_pages.specs.Search.{EndsBelow}
 use Rattle.dn_model.specs.Cidr.{Cidr, IsCidr}
 use Rattle.dn_model.specs.Entry.{prefix_of_op}
@@ -16,7 +15,6 @@ use Rattle.route_table.specs.Searches.{IsBaseBefore}
 use Rattle.route_table.specs.Slots.{IsAddedAt, IsUpdatedAt, PrefixRoutes, key_of, routes_of, slot_key}
 use Rattle.route_table.specs.Whole.{IsWhole}
 use Rattle.route_table.specs.declared.rows.PrefixRow.{PrefixRow}
-use Rattle.route_table.specs.declared.targets.MetricTarget.{MetricTarget}
 use Rattle.route_table.proofs.Made.{update-whole}
 use Rattle.route_table.proofs.Whole.{add-whole, empty-adds, empty-whole}
 

@@ -1,5 +1,5 @@
 -- Tables stay tables, and an update makes of one what it says.
-use Rattle.std.proofs.Common.{◌≡◌, ◌∙◌, ℕ, ◌+◌, ◌<◌, ◌≤◌, zero, suc, not, Bool, true, false, Some, None, Option, List, [], ◌∷◌, ◌++◌, map, length, get_or, set, filter, Result, Ok, Err, OnOk, OnErr, refl, ap, sym, subst, ⊎_elim, arith, eqb}
+use Rattle.std.proofs.Common.{◌≡◌, ◌∙◌, ℕ, ◌+◌, ◌<◌, ◌≤◌, zero, suc, not, Bool, true, false, Some, None, Option, List, [], ◌∷◌, ◌++◌, map, length, get_or, set, filter, refl, ap, sym, subst, ⊎_elim, arith, eqb}
 use Rattle.std.specs.List.{AllByRecursion, Contains, insert, list_any}
 use Rattle.std.specs.List.Sorted.{IsPermutation}
 use Rattle.std.proofs.lemmas.Bool.{and_from, and_left, cases_Bool, eqb-true, false_from_ne_true, not_from_false, or_from}

@@ -52,12 +52,7 @@ fn copies(lanes: &[TargetsByMetric; LANES]) -> Result<[TargetsByMetric; LANES], 
     ensures { IfOk result (λ copies. copies ≡ lanes.now) }
 {
     let [first, second, third, fourth] = lanes;
-    Ok([
-        first.copy()?,
-        second.copy()?,
-        third.copy()?,
-        fourth.copy()?,
-    ])
+    Ok([first.copy()?, second.copy()?, third.copy()?, fourth.copy()?])
 }
 
 /// Rows are searched by their prefixes.

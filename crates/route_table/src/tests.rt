@@ -2,7 +2,7 @@
 
 ghost use Rattle.std.specs.Prelude.{◌≡◌, ◌<◌};
 
-use super::RouteTable;
+use super::{RouteTable, RouteTables};
 use crate::table::prefix_around;
 use dn_model::{DropKind, Op, Prefix, Route, Run, Target};
 use std::alloc::Global;
@@ -275,37 +275,22 @@ fn a_copy_is_held_across_many_updates(rt: HostRuntime) {
     compare_plainly(&rt, rt.alloc(), &held, &old);
 }
 
-/// An update of a table, which is looked for first at its first slot, answers this and tells these runs.
+/// An update of the third of four tables, which is looked for first at the first row, answers this and tells these runs.
 fn compare_update<L: Ledger>(
     rt: &impl Abort,
     alloc: Global,
-    table: &mut RouteTable,
+    tables: &mut RouteTables,
     op: Op,
-    want: Target,
+    want: Option<Target>,
     want_runs: &[Run],
     steps: &mut Steps<L>,
 ) {
     let mut runs = Vec::new(alloc);
-    let after = table
-        .update(alloc, &op, 0, &mut runs, steps)
+    let after = tables
+        .update(alloc, 2, &op, 0, &mut runs, steps)
         .expect(rt, "memory");
-    assert_eq!(rt; after, Some(want));
+    assert_eq!(rt; after, want);
     assert_eq!(rt; runs.as_slice(), want_runs);
-}
-
-/// An update changes nothing.
-fn compare_unchanged<L: Ledger>(
-    rt: &impl Abort,
-    alloc: Global,
-    table: &mut RouteTable,
-    op: Op,
-    steps: &mut Steps<L>,
-) {
-    let mut runs = Vec::new(alloc);
-    let after = table
-        .update(alloc, &op, 0, &mut runs, steps)
-        .expect(rt, "memory");
-    assert_eq!(rt; after, None);
 }
 
 /// A route is set.
@@ -325,13 +310,35 @@ fn clearing(prefix: Prefix) -> Op {
     }
 }
 
+/// Its neighbours set the same prefixes and some within and around them, which is nothing to the third router.
+fn set_at_neighbours<L: Ledger>(
+    rt: &impl Abort,
+    alloc: Global,
+    tables: &mut RouteTables,
+    steps: &mut Steps<L>,
+) {
+    let mut runs = Vec::new(alloc);
+    let all = setting(Prefix::new(0, 0), 1, Target::Local);
+    let within = setting(Prefix::new(0x0A01_0200, 24), 1, Target::Exit(9));
+    let same = setting(ten_one(), 1, Target::Exit(9));
+    tables
+        .update(alloc, 1, &all, 0, &mut runs, steps)
+        .expect(rt, "memory");
+    tables
+        .update(alloc, 3, &within, 0, &mut runs, steps)
+        .expect(rt, "memory");
+    tables
+        .update(alloc, 3, &same, 0, &mut runs, steps)
+        .expect(rt, "memory");
+}
+
 fn updates_of_one_in_another<L: Ledger>(rt: &impl Abort, alloc: Global, blank: Blank)
     requires name { blank.name ≡ L.name }
     requires parts { blank.parts ≡ L.parts }
     requires some { 0 < blank.parts }
 {
     let steps = &mut Steps::<L>::new(blank);
-    let table = &mut RouteTable::new();
+    let tables = &mut RouteTables::new();
     let ten_all = [Run {
         lo: 0x0A00_0000,
         hi: 0x0AFF_FFFF,
@@ -352,33 +359,22 @@ fn updates_of_one_in_another<L: Ledger>(rt: &impl Abort, alloc: Global, blank: B
     ];
     let inner = Target::Exit(1);
     let outer = Target::Exit(2);
+    let local = Some(Target::Local);
     let set_ten = setting(ten(), 20, Target::Local);
-    compare_update(rt, alloc, table, set_ten, Target::Local, &ten_all, steps);
+    compare_update(rt, alloc, tables, set_ten, local, &ten_all, steps);
+    set_at_neighbours(rt, alloc, tables, steps);
     let set_again = setting(ten(), 20, Target::Local);
-    compare_unchanged(rt, alloc, table, set_again, steps);
+    compare_update(rt, alloc, tables, set_again, None, &[], steps);
     let set_one = setting(ten_one(), 5, inner);
-    compare_update(rt, alloc, table, set_one, inner, &one_all, steps);
+    compare_update(rt, alloc, tables, set_one, Some(inner), &one_all, steps);
     let set_less = setting(ten(), 10, outer);
-    compare_update(rt, alloc, table, set_less, outer, &around_one, steps);
-    compare_unchanged(rt, alloc, table, clearing(ten_zero()), steps);
-    compare_update(
-        rt,
-        alloc,
-        table,
-        clearing(ten_one()),
-        outer,
-        &one_all,
-        steps,
-    );
-    compare_update(
-        rt,
-        alloc,
-        table,
-        clearing(ten()),
-        Target::NoRoute,
-        &ten_all,
-        steps,
-    );
+    compare_update(rt, alloc, tables, set_less, Some(outer), &around_one, steps);
+    compare_update(rt, alloc, tables, clearing(ten_zero()), None, &[], steps);
+    let clear_one = clearing(ten_one());
+    compare_update(rt, alloc, tables, clear_one, Some(outer), &one_all, steps);
+    let clear_ten = clearing(ten());
+    let none = Some(Target::NoRoute);
+    compare_update(rt, alloc, tables, clear_ten, none, &ten_all, steps);
 }
 
 #[test]
@@ -414,33 +410,68 @@ fn compare_turned(
     }
 }
 
+/// An update of one of four tables, and of the table of that router alone, which shows whether what the first told is so.
+fn update_beside<L: Ledger>(
+    rt: &impl Abort,
+    alloc: Global,
+    tables: &mut RouteTables,
+    lane: usize,
+    alone: &mut RouteTable,
+    draw: u64,
+    steps: &mut Steps<L>,
+)
+    requires { lane < 4 }
+{
+    let op = some_op(draw);
+    let before = copied(rt, alone);
+    let mut runs = Vec::new(alloc);
+    let near = (draw >> 50) % 400;
+    let after = tables
+        .update(alloc, lane, &op, near, &mut runs, steps)
+        .expect(rt, "memory");
+    update_both(rt, alloc, alone, &mut Vec::new(alloc), &op);
+    compare_turned(rt, &before, alone, &runs, after);
+}
+
+/// Updates of the second and the last of four tables in turn.
+fn update_in_turn<L: Ledger>(
+    rt: &impl Abort,
+    alloc: Global,
+    tables: &mut RouteTables,
+    second: &mut RouteTable,
+    last: &mut RouteTable,
+    seed: u64,
+    steps: &mut Steps<L>,
+) {
+    let mut draw = seed;
+    for _ in 0..200u32 {
+        draw = next_draw(draw);
+        update_beside(rt, alloc, tables, 1, second, draw, steps);
+        draw = next_draw(draw);
+        update_beside(rt, alloc, tables, 3, last, draw, steps);
+    }
+}
+
 fn updates_near_any_place<L: Ledger>(rt: &impl Abort, alloc: Global, blank: Blank)
     requires name { blank.name ≡ L.name }
     requires parts { blank.parts ≡ L.parts }
     requires some { 0 < blank.parts }
 {
     let steps = &mut Steps::<L>::new(blank);
-    let mut table = RouteTable::new();
-    let mut plain = Vec::new(alloc);
-    let mut runs = Vec::new(alloc);
-    let mut draw = 3;
-    update_often(rt, alloc, &mut table, &mut plain, draw);
-    for _ in 0..300u32 {
-        draw = next_draw(draw);
-        let op = some_op(draw);
-        let before = copied(rt, &table);
-        let near = (draw >> 50) % 400;
-        let after = table
-            .update(alloc, &op, near, &mut runs, steps)
-            .expect(rt, "memory");
-        compare_turned(rt, &before, &table, &runs, after);
-        update_plainly(rt, &mut plain, &op);
-    }
-    compare_plainly(rt, alloc, &table, &plain);
+    let tables = &mut RouteTables::new();
+    let second = &mut RouteTable::new();
+    let last = &mut RouteTable::new();
+    update_in_turn(rt, alloc, tables, second, last, 3, steps);
+    let held = &mut tables.copy().expect(rt, "memory");
+    let held_second = &mut copied(rt, second);
+    let held_last = &mut copied(rt, last);
+    update_in_turn(rt, alloc, tables, second, last, 4, steps);
+    update_in_turn(rt, alloc, held, held_second, held_last, 5, steps);
+    update_in_turn(rt, alloc, tables, second, last, 6, steps);
 }
 
-/// Some hundred prefixes stand in several pages, many within others.
+/// Some hundred prefixes stand in several pages, many within others, and a copy is held and then changed too.
 #[test]
-fn an_update_is_looked_for_near_any_place(rt: HostRuntime) {
+fn four_tables_side_by_side_do_what_each_alone_does(rt: HostRuntime) {
     updates_near_any_place::<Brand>(&rt, rt.alloc(), Blank::new(1));
 }

@@ -1,6 +1,6 @@
-use Rattle.std.proofs.Common.{◌≡◌, ◌<◌, ◌+◌, ◌^◌, ◌∙◌, ap, length, sym, arith}
+use Rattle.std.proofs.Common.{◌≡◌, ◌<◌, ◌+◌, ◌^◌, ◌∙◌, ap, length, arith}
 use Rattle.route_table.specs.Rows.{slot_in, slots_in}
-use Rattle.route_table.specs.Slots.{key_of, slot_key}
+use Rattle.route_table.specs.Slots.{key_of}
 use Rattle.route_table.proofs.Searching.{near-before, near-fits, near-found, near-gap, near-place, near-slot, none-then, some-each, some-then}
 use Rattle.route_table.proofs.SideBySide.{ends, inside, page-of, stands}
 use Rattle.route_table.proofs.search.look_near.Goals.{else-below-eq0-via-then-below-eq0+else-first-ne0, else-below-eq0-via-else-below-eq0}

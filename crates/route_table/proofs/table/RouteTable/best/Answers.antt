@@ -1,5 +1,5 @@
 use Rattle.std.proofs.Common.{arith}
-use Rattle.route_table.specs.Rows.{slot_in, slots_in}
+use Rattle.route_table.specs.Rows.{slots_in}
 use Rattle.route_table.proofs.Around.{best-at-length, best-none, none-past}
 use Rattle.route_table.proofs.Whole.{table-of}
 use Rattle.route_table.proofs.table.RouteTable.best.Goals as goal

@@ -1,4 +1,4 @@
-use Rattle.route_table.specs.Rows.{slot_in, slots_in}
+use Rattle.route_table.specs.Rows.{slots_in}
 use Rattle.route_table.proofs.Whole.{table-of}
 use Rattle.route_table.proofs.table.RouteTable.routes.Goals as goal
 

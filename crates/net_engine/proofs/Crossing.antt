@@ -5,18 +5,25 @@ use Rattle.std.proofs.Crossing.{crosses}
 use Rattle.std.proofs.MapsCrossing as maps
 use Rattle.atom_map.proofs.Crossing.{AtomMap-send, AtomMap-sync}
 use Rattle.edge_labels.proofs.Crossing.{TargetRows-send, TargetRows-sync}
-use Rattle.route_table.proofs.Crossing.{RouteTable-send, RouteTable-sync}
-use Rattle.net_engine.specs.contracts.router_table.RouterTable as RouterTable
+use Rattle.route_table.proofs.Crossing.{RouteTables-send, RouteTables-sync}
+use Rattle.net_engine.specs.contracts.router_group.RouterGroup as RouterGroup
+use Rattle.net_engine.specs.contracts.router_tables.RouterTables as RouterTables
 use Rattle.net_engine.specs.contracts.version.Version as Version
 
-RouterTable-send : IsSend RouterTable.the_row
-RouterTable-send = search (RouteTable-send, sendable, crosses) depth 40
+RouterGroup-send : IsSend RouterGroup.the_row
+RouterGroup-send = search (RouteTables-send, sendable, crosses) depth 40
 
-RouterTable-sync : IsSync RouterTable.the_row
-RouterTable-sync = search (RouteTable-sync, sendable, crosses) depth 40
+RouterGroup-sync : IsSync RouterGroup.the_row
+RouterGroup-sync = search (RouteTables-sync, sendable, crosses) depth 40
+
+RouterTables-send : IsSend RouterTables.the_row
+RouterTables-send = search (RouterGroup-send, sendable, crosses) depth 40
+
+RouterTables-sync : IsSync RouterTables.the_row
+RouterTables-sync = search (RouterGroup-sync, sendable, crosses) depth 40
 
 pub Version-send : IsSend Version.the_row
-Version-send = search (AtomMap-send, RouterTable-send, TargetRows-send, sendable, crosses, maps.crosses) depth 40
+Version-send = search (AtomMap-send, RouterTables-send, TargetRows-send, sendable, crosses, maps.crosses) depth 40
 
 pub Version-sync : IsSync Version.the_row
-Version-sync = search (AtomMap-sync, RouterTable-sync, TargetRows-sync, sendable, crosses, maps.crosses) depth 40
+Version-sync = search (AtomMap-sync, RouterTables-sync, TargetRows-sync, sendable, crosses, maps.crosses) depth 40

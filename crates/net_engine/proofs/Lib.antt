@@ -4,6 +4,7 @@ pub mod Begun
 pub mod Crossing
 pub mod Cutting
 pub mod Does
+pub mod Grouped
 pub mod Held
 pub mod Looking
 pub mod RowsOfAtoms

@@ -4,7 +4,7 @@ use Rattle.std.specs.List.{Contains, list_any}
 use Rattle.std.specs.List.Sorted.{IsPermutation}
 use Rattle.std.specs.Option.{IfNone, IfSome}
 use Rattle.std.proofs.lemmas.Bool.{and_parts, cases_Bool, cases_eq, eqb-true, or_cases, or_left, or_right}
-use Rattle.std.proofs.lemmas.List.{get_or-set_other, get_or-set_same, get_or_default, length-set}
+use Rattle.std.proofs.lemmas.List.{get_or-set_other, get_or-set_same, length-set}
 use Rattle.std.proofs.lemmas.List.Sorted.{Contains-permutation}
 use Rattle.dn_model.specs.Atoms.{is_boundary}
 use Rattle.dn_model.specs.Cidr.{Cidr, size}
@@ -25,6 +25,7 @@ use Rattle.dn_model.specs.declared.target.Target.{Target}
 use Rattle.dn_model.proofs.Best.{contains-here, contains-there}
 use Rattle.edge_labels.specs.Labels.{Labels}
 use Rattle.route_table.specs.Own.{AreOwnRuns, EndAtEnds, IsLooked, IsTurned, SetsOrHas, is_end_in, is_own}
+use Rattle.route_table.specs.Tables.{table_at}
 use Rattle.net_engine.specs.Looks.{atoms_begun, atoms_between, atoms_met}
 use Rattle.net_engine.specs.Paired.{AreLabelled, ArePaired, GoAlong, atoms_with, does_at}
 use Rattle.net_engine.specs.Rerouted.{IsMoved, IsRerouted, RunsOfAtoms}
@@ -247,19 +248,9 @@ looks-paired routers rows x tables own r p was is h along looked =
 
 -- ---- as the call needs it
 
-pub own-found : (tables : AllRoutes) (n r : ℕ) (found : List Route) → n ≡ r → r < length tables → found ≡ get_or tables n found → found ≡ get_or tables r []
-own-found tables n r found e l is = is ∙ ap (λ k. get_or tables k found) e ∙ get_or_default tables r found [] l
-
--- what a router's routes are found by
-pub record Found (routers : ℕ) (rows : List AtomRow) (x : Labels) (tables : AllRoutes) (own : List Route) (r : RouterId) : Type 0 where
-  pub inside : r.0 < routers
-  pub own_is : own ≡ get_or tables r.0 []
-  pub along : GoAlong rows x r.0 own
-
-pub found-own : (routers : ℕ) (rows : List AtomRow) (x : Labels) (tables : AllRoutes) (own : List Route) (r : RouterId) (n : ℕ) → ArePaired routers rows x tables → r.0 < routers → n ≡ r.0 → own ≡ get_or tables n own → Found routers rows x tables own r
-found-own routers rows x tables own r n h l e is =
-    let own_is : own ≡ get_or tables r.0 [] = own-found tables n r.0 own e (subst (λ k. r.0 < k) (sym h.each) l) is in
-    record { inside = l; own_is = own_is; along = subst (λ (rs : List Route). GoAlong rows x r.0 rs) (sym own_is) (h.along r.0 l) }
+-- a router's routes stand by the atoms
+pub along-own : (routers : ℕ) (rows : List AtomRow) (x : Labels) (tables : AllRoutes) (r : ℕ) → ArePaired routers rows x tables → r < routers → GoAlong rows x r (table_at tables r)
+along-own routers rows x tables r h l = h.along r l
 
 -- what is known where nothing, or something, was answered
 pub at-none : (P : Type 0) (o : Option Target) → o ≡ None → IfNone o P → P
@@ -271,38 +262,38 @@ at-some P None t e h = absurd (let f : None ≡ Some t = e in cc)
 at-some P (Some u) t e h = let same : u ≡ t = cc in subst P same h
 
 -- the calls' answers, where nothing is done otherwise
-pub makes-same : (routers : ℕ) (rows : List AtomRow) (x : Labels) (tables : AllRoutes) (own made : List Route) (now : List Change) (r : RouterId) (op : Op) → ArePaired routers rows x tables → Found routers rows x tables own r → (IsSet op → BeginsAtEnds (atoms_with rows x tables) (prefix_of_op op)) → IsTable made → IsPermutation made (after_op own op) → ((a : ℕ) → target_in made a ≡ target_in own a) → now ≡ [] → Makes routers rows x x tables own made now r op
-makes-same routers rows x tables own made now r op h f sets table moved same none = record {
-  inside = f.inside;
-  own_is = f.own_is;
+pub makes-same : (routers : ℕ) (rows : List AtomRow) (x : Labels) (tables : AllRoutes) (made : List Route) (now : List Change) (r : RouterId) (op : Op) → ArePaired routers rows x tables → r.0 < routers → (IsSet op → BeginsAtEnds (atoms_with rows x tables) (prefix_of_op op)) → IsTable made → IsPermutation made (after_op (table_at tables r.0) op) → ((a : ℕ) → target_in made a ≡ target_in (table_at tables r.0) a) → now ≡ [] → Makes routers rows x x tables (table_at tables r.0) made now r op
+makes-same routers rows x tables made now r op h l sets table moved same none = record {
+  inside = l;
+  own_is = refl;
   table = table;
   moved = moved;
-  ends = made-ends rows x tables own made r.0 op f.along sets moved;
-  rerouted = rerouted-same rows x own made now r h.labelled f.along same none;
+  ends = made-ends rows x tables (table_at tables r.0) made r.0 op (h.along r.0 l) sets moved;
+  rerouted = rerouted-same rows x (table_at tables r.0) made now r h.labelled (h.along r.0 l) same none;
 }
 
 -- and where something is
-pub makes-turned : (routers : ℕ) (rows : List AtomRow) (x y : Labels) (tables : AllRoutes) (own made : List Route) (now : List Change) (r : RouterId) (op : Op) (after : Target) (runs : List Run) → Found routers rows x tables own r → (IsSet op → BeginsAtEnds (atoms_with rows x tables) (prefix_of_op op)) → IsTable made → IsPermutation made (after_op own op) → IsTurned own made (prefix_of_op op) after → AreOwnRuns made (prefix_of_op op) runs → IsMoved rows x y now r runs after → Makes routers rows x y tables own made now r op
-makes-turned routers rows x y tables own made now r op after runs f sets table moved turned runs_are m = record {
-  inside = f.inside;
-  own_is = f.own_is;
+pub makes-turned : (routers : ℕ) (rows : List AtomRow) (x y : Labels) (tables : AllRoutes) (made : List Route) (now : List Change) (r : RouterId) (op : Op) (after : Target) (runs : List Run) → ArePaired routers rows x tables → r.0 < routers → (IsSet op → BeginsAtEnds (atoms_with rows x tables) (prefix_of_op op)) → IsTable made → IsPermutation made (after_op (table_at tables r.0) op) → IsTurned (table_at tables r.0) made (prefix_of_op op) after → AreOwnRuns made (prefix_of_op op) runs → IsMoved rows x y now r runs after → Makes routers rows x y tables (table_at tables r.0) made now r op
+makes-turned routers rows x y tables made now r op after runs h l sets table moved turned runs_are m = record {
+  inside = l;
+  own_is = refl;
   table = table;
   moved = moved;
-  ends = made-ends rows x tables own made r.0 op f.along sets moved;
-  rerouted = rerouted-turned rows x y own made (prefix_of_op op) after runs now r f.along turned runs_are m;
+  ends = made-ends rows x tables (table_at tables r.0) made r.0 op (h.along r.0 l) sets moved;
+  rerouted = rerouted-turned rows x y (table_at tables r.0) made (prefix_of_op op) after runs now r (h.along r.0 l) turned runs_are m;
 }
 
 -- the router's list is put at its place
-pub paired-now : (routers : ℕ) (rows : List AtomRow) (x y : Labels) (tables : AllRoutes) (own made : List Route) (now : List Change) (r : RouterId) (op : Op) (n : ℕ) → n ≡ r.0 → ArePaired routers rows x tables → Makes routers rows x y tables own made now r op → ArePaired routers rows y (set tables n made)
-paired-now routers rows x y tables own made now r op n e h k = subst (λ i. ArePaired routers rows y (set tables i made)) (sym e) (paired-after-update routers rows x y tables own made now r op h k)
+pub paired-now : (routers : ℕ) (rows : List AtomRow) (x y : Labels) (tables new : AllRoutes) (own made : List Route) (now : List Change) (r : RouterId) (op : Op) → new ≡ set tables r.0 made → ArePaired routers rows x tables → Makes routers rows x y tables own made now r op → ArePaired routers rows y new
+paired-now routers rows x y tables new own made now r op e h k = subst (λ (ts : AllRoutes). ArePaired routers rows y ts) (sym e) (paired-after-update routers rows x y tables own made now r op h k)
 
-pub retold-now : (routers : ℕ) (rows : List AtomRow) (x y : Labels) (tables : AllRoutes) (own made : List Route) (now : List Change) (r : RouterId) (op : Op) (n : ℕ) → n ≡ r.0 → ArePaired routers rows x tables → Makes routers rows x y tables own made now r op → IsRetold (atoms_with rows x tables) (atoms_with rows y (set tables n made)) now
-retold-now routers rows x y tables own made now r op n e h k = subst (λ i. IsRetold (atoms_with rows x tables) (atoms_with rows y (set tables i made)) now) (sym e) (retold-after-update routers rows x y tables own made now r op h k)
+pub retold-now : (routers : ℕ) (rows : List AtomRow) (x y : Labels) (tables new : AllRoutes) (own made : List Route) (now : List Change) (r : RouterId) (op : Op) → new ≡ set tables r.0 made → ArePaired routers rows x tables → Makes routers rows x y tables own made now r op → IsRetold (atoms_with rows x tables) (atoms_with rows y new) now
+retold-now routers rows x y tables new own made now r op e h k = subst (λ (ts : AllRoutes). IsRetold (atoms_with rows x tables) (atoms_with rows y ts) now) (sym e) (retold-after-update routers rows x y tables own made now r op h k)
 
-pub updates-now : (tables : AllRoutes) (own made : List Route) (r : RouterId) (op : Op) (n : ℕ) → n ≡ r.0 → r.0 < length tables → own ≡ get_or tables n own → IsPermutation made (after_op own op) → UpdatesAt r.0 op tables (set tables n made)
-updates-now tables own made r op n e l is moved = record {
-  inside = l;
-  made = made;
-  as_updated = subst (λ (rs : List Route). IsPermutation made (after_op rs op)) (own-found tables n r.0 own e l is) moved;
-  placed = ap (λ i. set tables i made) e;
+pub updates-now : (routers : ℕ) (rows : List AtomRow) (x : Labels) (tables new : AllRoutes) (r : RouterId) (op : Op) → ArePaired routers rows x tables → r.0 < routers → new ≡ set tables r.0 (table_at new r.0) → IsPermutation (table_at new r.0) (after_op (table_at tables r.0) op) → UpdatesAt r.0 op tables new
+updates-now routers rows x tables new r op h l e moved = record {
+  inside = subst (λ n. r.0 < n) (sym h.each) l;
+  made = table_at new r.0;
+  as_updated = moved;
+  placed = e;
 }

@@ -70,7 +70,7 @@ is-net routers rows labels owners h = record {
 }
 
 pub net-form : (n : NetFields) → IsPaired n → IsNet (net_in n)
-net-form n h = is-net n.routers n.atoms n.labels n.tables.items h
+net-form n h = is-net n.routers n.atoms n.labels n.tables h
 
 pub paired-again : (routers : ℕ) (rows new : List AtomRow) (x y : Labels) (os ps : AllRoutes) → ArePaired routers rows x os → new ≡ rows → y ≡ x → ps ≡ os → ArePaired routers new y ps
 paired-again routers rows new x y os ps h r l o =

@@ -6,3 +6,4 @@ pub mod Walked
 pub mod Rerouted
 pub mod Whole
 pub mod Seen
+pub mod Grouped

@@ -10,15 +10,15 @@ use Rattle.net_engine.specs.declared.state.State.{State}
 
 -- the number of routers and the atoms in order
 abbrev pub net_in : NetFields → Net
-net_in n = net_of n.routers n.atoms n.labels n.tables.items
+net_in n = net_of n.routers n.atoms n.labels n.tables
 
 -- its atoms stand beside what routers do
 abbrev pub IsPaired : NetFields → Type 0
-IsPaired n = ArePaired n.routers n.atoms n.labels n.tables.items
+IsPaired n = ArePaired n.routers n.atoms n.labels n.tables
 
 -- the topology, the atoms in order, and the routes
 abbrev pub kept_in : State → Kept
-kept_in s = record { topology = arc_value s.topology; atoms = (net_in s.net).atoms; routes = s.net.tables.items }
+kept_in s = record { topology = arc_value s.topology; atoms = (net_in s.net).atoms; routes = s.net.tables }
 
 -- its atoms and its routes say the same, and the atoms stand beside what routers do
 pub record IsSound (s : State) : Type 0 where

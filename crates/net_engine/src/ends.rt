@@ -27,7 +27,7 @@ pub fn cut_ends(net: &mut Net, alloc: Global, prefix: Prefix) -> Result<u64, Out
     requires { IsPaired net.old }
     ensures routers { OnOk result (net.new.routers ≡ net.old.routers) }
     ensures paired { OnOk result (IsPaired net.new) }
-    ensures tables { OnOk result (net.new.tables.items ≡ net.old.tables.items) }
+    ensures tables { OnOk result (net.new.tables ≡ net.old.tables) }
     ensures parted { OnOk result (IsParted (net_in net.old).atoms (net_in net.new).atoms prefix) }
     ensures sound { IsCidr prefix }
 {

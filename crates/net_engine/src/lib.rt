@@ -8,7 +8,8 @@ mod net;
 #[cfg(test)]
 mod net_tests;
 mod relabel;
-mod router_table;
+mod router_group;
+mod router_tables;
 mod state;
 mod version;
 #[cfg(test)]

@@ -11,7 +11,7 @@ ghost use Rattle.net_engine.specs.Seen.{IsPaired, net_in};
 ghost use Rattle.net_engine.specs.Walked.{BeginsAtEnds, IsRetold, IsSet, UpdatesAt};
 
 use crate::relabel::reroute;
-use crate::router_table::RouterTable;
+use crate::router_tables::RouterTables;
 use atom_map::{AtomMap, AtomSpot};
 use delta_graph::Delta;
 use dn_model::{Op, OutOfMemory, RouterId, Run, Target};
@@ -28,7 +28,7 @@ pub struct Net {
     routers: u32,
     atoms: AtomMap,
     labels: TargetRows,
-    tables: Vec<RouterTable>,
+    tables: RouterTables,
     /// The runs of an update, in the memory of those of the one before.
     runs: Vec<Run>,
 }
@@ -39,11 +39,11 @@ impl Net {
         ensures routers { IfOk result (λ net. net.routers ≡ routers) }
         ensures atoms { IfOk result (λ net. (net_in net).atoms ≡ first_atom routers ∷ []) }
         ensures paired { IfOk result IsPaired }
-        ensures tables { IfOk result (λ net. net.tables.items ≡ replicate routers []) }
+        ensures tables { IfOk result (λ net. net.tables ≡ replicate routers []) }
     {
         let atoms = AtomMap::new(alloc)?;
         let labels = TargetRows::new(alloc, routers)?;
-        let tables = no_tables(alloc, routers)?;
+        let tables = RouterTables::new(alloc, routers)?;
         Ok(Net {
             routers,
             atoms,
@@ -62,7 +62,7 @@ impl Net {
         ensures routers { OnOk result (self.new.routers ≡ self.old.routers) }
         ensures atoms { OnOk result ((net_in self.new).atoms ≡ cut_atoms (net_in self.old).atoms at) }
         ensures paired { OnOk result (IsPaired self.new) }
-        ensures tables { OnOk result (self.new.tables.items ≡ self.old.tables.items) }
+        ensures tables { OnOk result (self.new.tables ≡ self.old.tables) }
     {
         let spot = spot_near(&self.atoms, near, at);
         let next = spot.place + 1;
@@ -89,12 +89,11 @@ impl Net {
         requires ends { IsSet op.now → BeginsAtEnds (net_in self.old).atoms (prefix_of_op op.now) }
         ensures routers { OnOk result (self.new.routers ≡ self.old.routers) }
         ensures paired { OnOk result (IsPaired self.new) }
-        ensures tables { OnOk result (UpdatesAt r.0 op.now self.old.tables.items self.new.tables.items) }
+        ensures tables { OnOk result (UpdatesAt r.0 op.now self.old.tables self.new.tables) }
         ensures told { IfOk result (IsRetold (net_in self.old).atoms (net_in self.new).atoms) }
         ensures cost { steps.new ≤ steps.old + 2 + atoms_met (net_in self.old).atoms (prefix_of_op op.now) }
     {
-        let table = &mut self.tables[usize::from(r.0)];
-        let Some(after) = table.update(alloc, op, &mut self.runs, steps)? else {
+        let Some(after) = self.tables.update(alloc, r, op, &mut self.runs, steps)? else {
             return Ok(Delta::new(alloc));
         };
         let delta = reroute(
@@ -113,11 +112,11 @@ impl Net {
     pub fn copy(&self, alloc: Global) -> Result<Net, OutOfMemory>
         ensures value { IfOk result (λ net. net_in net ≡ net_in self.now) }
         ensures paired { IfOk result (λ net. IsPaired self.now → IsPaired net) }
-        ensures tables { IfOk result (λ net. net.tables.items ≡ self.now.tables.items) }
+        ensures tables { IfOk result (λ net. net.tables ≡ self.now.tables) }
     {
         let atoms = self.atoms.copy()?;
         let labels = self.labels.copy()?;
-        let tables = copies(alloc, &self.tables)?;
+        let tables = self.tables.copy(alloc)?;
         Ok(Net {
             routers: self.routers,
             atoms,
@@ -179,26 +178,4 @@ fn spot_near(atoms: &AtomMap, near: Option<u64>, at: u32) -> AtomSpot
         Some(place) => atoms.spot_from(place, at),
         None => atoms.spot_of(at),
     }
-}
-
-/// The tables of so many routers without a route.
-fn no_tables(alloc: Global, routers: u32) -> Result<Vec<RouterTable>, OutOfMemory>
-    ensures { IfOk result (λ tables. tables.items ≡ replicate routers []) }
-{
-    let mut tables = Vec::new(alloc);
-    for _router in 0..routers {
-        tables.push(RouterTable::new())?;
-    }
-    Ok(tables)
-}
-
-/// The routes of each router again.
-fn copies(alloc: Global, tables: &[RouterTable]) -> Result<Vec<RouterTable>, OutOfMemory>
-    ensures { IfOk result (λ copies. copies.items ≡ tables.now) }
-{
-    let mut copies = Vec::new(alloc);
-    for table in tables {
-        copies.push(table.copy()?)?;
-    }
-    Ok(copies)
 }

@@ -1,72 +1,78 @@
-//! One router's routes.
+//! The routes of four routers.
 
-ghost use Rattle.std.specs.Prelude.{◌≡◌, ℕ, [], IfOk, IfSome, IfNone, OnOk, IsPermutation};
+ghost use Rattle.std.specs.Prelude.{◌≡◌, ◌<◌, ℕ, [], IfOk, IfSome, IfNone, OnOk, IsPermutation, replicate, slice_set};
 ghost use Rattle.dn_model.specs.Entry.{prefix_of_op};
 ghost use Rattle.dn_model.specs.Routes.{IsTable};
 ghost use Rattle.dn_model.specs.Table.{after_op, target_in};
 ghost use Rattle.route_table.specs.Own.{AreOwnRuns, IsLooked, IsTurned, SetsOrHas};
+ghost use Rattle.route_table.specs.Tables.{table_at};
 
 use atom_map::Guide;
 use dn_model::{Op, OutOfMemory, Run, Target};
-use route_table::RouteTable;
+use route_table::RouteTables;
 use std::alloc::Global;
 use std::marker::Model;
 use std::sync::ledger::Ledger;
 use step_count::Steps;
 
-/// The routes of a router, with a guide to where they stand. A contract sees the list of the routes, whose order means
-/// nothing.
+/// The routes of four routers, which stand side by side by prefix, with a guide to where they stand. A contract sees the
+/// four lists of routes, whose orders mean nothing.
 #[derive(Drop)]
-pub struct RouterTable {
-    routes: RouteTable,
+pub struct RouterGroup {
+    tables: RouteTables,
     /// Where to look for a prefix.
     guide: Guide,
 }
 
-impl Model for RouterTable {
+impl Model for RouterGroup {
     ghost use Rattle.std.specs.Prelude.{List};
     ghost use Rattle.dn_model.specs.declared.entry.Route.{Route};
 
-    ghost Value = { List Route };
+    ghost Value = { List (List Route) };
 
-    ghost view = { λ t. t.routes };
+    ghost view = { λ g. g.tables };
 }
 
-impl RouterTable {
-    /// No route, which takes no memory.
-    pub fn new() -> RouterTable
-        ensures { result ≡ [] }
+impl RouterGroup {
+    /// Four routers without a route, which takes no memory.
+    pub fn new() -> RouterGroup
+        ensures { result ≡ replicate 4 [] }
     {
-        RouterTable {
-            routes: RouteTable::new(),
+        RouterGroup {
+            tables: RouteTables::new(),
             guide: Guide::new(),
         }
     }
 
-    /// Makes an update, and tells the runs of the own addresses of its prefix, at which no longer prefix has a route: it
-    /// answers what is done there after it. Where it answers nothing, the same is done everywhere. It fails for want of
-    /// memory alone, and then the routes may be changed. Its steps are those of `RouteTable::update`.
+    /// Makes an update of the router at a place, and tells the runs of the own addresses of its prefix, at which the router
+    /// has no route of a longer one: it answers what the router does there after it. Where it answers nothing, the router
+    /// does the same everywhere. It fails for want of memory alone, and then the router's routes may be changed. Its steps
+    /// are those of `RouteTables::update`.
     pub fn update<L: Ledger>(
         &mut self,
         alloc: Global,
+        lane: usize,
         op: &Op,
         runs: &mut Vec<Run>,
         steps: &mut Steps<L>,
     ) -> Result<Option<Target>, OutOfMemory>
-        ensures table { OnOk result (IsPermutation self.new (after_op self.old op.now)) }
-        ensures form { IsTable self.new }
-        ensures same { IfOk result (λ after. IfNone after ((a : ℕ) → target_in self.new a ≡ target_in self.old a)) }
-        ensures turned { IfOk result (λ after. IfSome after (IsTurned self.old self.new (prefix_of_op op.now))) }
+        requires { lane < 4 }
+        ensures table { OnOk result (IsPermutation (table_at self.new lane) (after_op (table_at self.old lane) op.now)) }
+        ensures others { self.new ≡ slice_set self.old lane (table_at self.new lane) }
+        ensures form { IsTable (table_at self.new lane) }
+        ensures same { IfOk result (λ after. IfNone after ((a : ℕ) →
+            target_in (table_at self.new lane) a ≡ target_in (table_at self.old lane) a)) }
+        ensures turned { IfOk result (λ after. IfSome after (
+            IsTurned (table_at self.old lane) (table_at self.new lane) (prefix_of_op op.now))) }
         ensures runs { IfOk result (λ after. IfSome after (λ _.
-            AreOwnRuns self.new (prefix_of_op op.now) runs.new.items)) }
-        ensures had { IfOk result (λ after. IfSome after (λ _. SetsOrHas self.old op.now)) }
-        ensures cost { IsLooked self.old (prefix_of_op op.now) steps.old steps.new }
+            AreOwnRuns (table_at self.new lane) (prefix_of_op op.now) runs.new.items)) }
+        ensures had { IfOk result (λ after. IfSome after (λ _. SetsOrHas (table_at self.old lane) op.now)) }
+        ensures cost { IsLooked (table_at self.old lane) (prefix_of_op op.now) steps.old steps.new }
     {
         let base = op.prefix().base();
-        let before = self.routes.prefixes();
-        let after = self
-            .routes
-            .update(alloc, op, self.guide.place(base), runs, steps)?;
+        let before = self.tables.prefixes();
+        let near = self.guide.place(base);
+        let after = self.tables.update(alloc, lane, op, near, runs, steps)?;
         self.tell_guide(alloc, before, base);
         Ok(after)
     }
@@ -75,7 +81,7 @@ impl RouterTable {
     fn tell_guide(&mut self, alloc: Global, before: u64, base: u32)
         ensures { self.new ≡ self.old }
     {
-        if before == self.routes.prefixes() {
+        if before == self.tables.prefixes() {
             return;
         }
         if before == 0 {
@@ -85,12 +91,12 @@ impl RouterTable {
     }
 
     /// The same routes again.
-    pub fn copy(&self) -> Result<RouterTable, OutOfMemory>
-        ensures { IfOk result (λ table. table ≡ self.now) }
+    pub fn copy(&self) -> Result<RouterGroup, OutOfMemory>
+        ensures { IfOk result (λ tables. tables ≡ self.now) }
     {
-        let routes = self.routes.copy()?;
-        Ok(RouterTable {
-            routes,
+        let tables = self.tables.copy()?;
+        Ok(RouterGroup {
+            tables,
             guide: Guide::new(),
         })
     }

@@ -1,4 +1,4 @@
-//! Versions of a network of three routers, against answers worked out by hand and against the plain evaluator.
+//! Versions of networks of three and of six routers, against answers worked out by hand and against the plain evaluator.
 
 ghost use Rattle.std.specs.Prelude.{◌≡◌, ◌<◌, IfOk, length};
 ghost use Rattle.dn_model.specs.Entry.{IsEntryOf};
@@ -54,6 +54,13 @@ fn clear(prefix: Prefix, metric: Option<u32>) -> Update {
 fn entry(update: Update) -> Entry
     ensures { (t : TopologyIs) → 0 < length t.routers → IsEntryOf t result }
 {
+    entry_at(FIRST, update)
+}
+
+/// The same update of another router.
+fn entry_at(router: RouterId, update: Update) -> Entry
+    ensures { (t : TopologyIs) → router.0 < length t.routers → IsEntryOf t result }
+{
     let prefix = update.prefix;
     let op = match update.exit {
         Some(exit) => Op::Set {
@@ -67,7 +74,7 @@ fn entry(update: Update) -> Entry
         },
     };
     Entry {
-        router: FIRST,
+        router,
         feed_no: 1,
         op,
     }
@@ -158,6 +165,25 @@ fn advanced<L: Ledger>(
 {
     let mut steps = Steps::<L>::new(blank);
     version.advance(alloc, &entry(update), &mut steps)
+}
+
+/// The version after an update of one of the routers. Nobody reads the count of looks.
+fn advanced_at<L: Ledger>(
+    alloc: Global,
+    version: Version,
+    router: RouterId,
+    update: Update,
+    blank: Blank,
+) -> Result<Version, OutOfMemory>
+    requires router { router.0 < length version.topology.routers }
+    requires name { blank.name ≡ L.name }
+    requires parts { blank.parts ≡ L.parts }
+    requires some { 0 < blank.parts }
+    ensures { IfOk result (λ made. made.topology ≡ version.topology) }
+{
+    let mut steps = Steps::<L>::new(blank);
+    let (version, _) = version.advance(alloc, &entry_at(router, update), &mut steps)?;
+    Ok(version)
 }
 
 /// The version after an update, beside the one before it.
@@ -291,5 +317,70 @@ fn as_the_plain_evaluator(rt: HostRuntime) -> Result<(), Fail> {
         before = after;
         old = new;
     }
+    Ok(())
+}
+
+/// Six routers with no link between them.
+fn six_routers(alloc: Global) -> Result<Topology, OutOfMemory>
+    ensures { IfOk result (λ t. length t.routers ≡ 6) }
+{
+    let mut routers = List::new(alloc);
+    routers.push(Name::from_text(alloc, b"r1")?)?;
+    routers.push(Name::from_text(alloc, b"r2")?)?;
+    routers.push(Name::from_text(alloc, b"r3")?)?;
+    routers.push(Name::from_text(alloc, b"r4")?)?;
+    routers.push(Name::from_text(alloc, b"r5")?)?;
+    routers.push(Name::from_text(alloc, b"r6")?)?;
+    Ok(Topology {
+        routers,
+        links: List::new(alloc),
+        edges: List::new(alloc),
+    })
+}
+
+/// The interface where packets for an address leave each of six routers: none where a router has no route.
+fn exits(version: &Version, a: u32) -> [Option<u32>; 6]
+    requires { length version.now.topology.routers ≡ 6 }
+{
+    let mut exits = [None; 6];
+    for k in 0..6u16 {
+        if let Target::Exit(exit) = by_rows(version, RouterId(k), a) {
+            exits[usize::from(k)] = Some(exit);
+        }
+    }
+    exits
+}
+
+/// The first four routers stand side by side, and so do the last two. Each has a route of its own for one prefix, and the
+/// fifth alone has one inside. An update of one leaves the others' answers, and a copy's, as they are.
+#[test]
+fn each_router_keeps_its_own_routes(rt: HostRuntime) -> Result<(), Fail> {
+    let alloc = rt.alloc();
+    let mut version = Version::empty(alloc, Arc::new(alloc, six_routers(alloc)?)?)?;
+    for k in 0..6u16 {
+        let own = set(ten(), 20, u32::from(k) + 1);
+        version = advanced_at::<Brand>(alloc, version, RouterId(k), own, Blank::new(1))?;
+    }
+    let inside = set(Prefix::new(0x0A01_0000, 16), 9, 50);
+    let version = advanced_at::<Brand>(alloc, version, RouterId(4), inside, Blank::new(1))?;
+    let held = version.copy(alloc)?;
+    let better = set(ten(), 5, 60);
+    let version = advanced_at::<Brand>(alloc, version, RouterId(5), better, Blank::new(1))?;
+    let version = advanced_at::<Brand>(
+        alloc,
+        version,
+        RouterId(1),
+        clear(ten(), None),
+        Blank::new(1),
+    )?;
+    let all = [Some(1), Some(2), Some(3), Some(4), Some(5), Some(6)];
+    let within = [Some(1), Some(2), Some(3), Some(4), Some(50), Some(6)];
+    assert_eq!(rt; exits(&held, 0x0A00_0000), all);
+    assert_eq!(rt; exits(&held, 0x0A01_0000), within);
+    assert_eq!(rt; exits(&held, 0x0B00_0000), [None; 6]);
+    let all = [Some(1), None, Some(3), Some(4), Some(5), Some(60)];
+    let within = [Some(1), None, Some(3), Some(4), Some(50), Some(60)];
+    assert_eq!(rt; exits(&version, 0x0A00_0000), all);
+    assert_eq!(rt; exits(&version, 0x0A01_0000), within);
     Ok(())
 }

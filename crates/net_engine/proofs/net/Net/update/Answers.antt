@@ -1,53 +1,48 @@
 use Rattle.std.proofs.Common.{sym, subst}
 use Rattle.dn_model.specs.Entry.{prefix_of_op}
+use Rattle.route_table.specs.Tables.{table_at}
 use Rattle.net_engine.specs.Rerouted.{RunsOfAtoms}
-use Rattle.net_engine.proofs.Rerouting.{at-none, at-some, found-own, looks-paired, makes-same, makes-turned, paired-now, retold-now, runs-of-atoms, same-before}
+use Rattle.net_engine.proofs.Rerouting.{Makes, along-own, at-none, at-some, looks-paired, makes-same, makes-turned, paired-now, retold-now, runs-of-atoms, same-before}
 use Rattle.net_engine.proofs.net.Net.update.Goals as goal
 
 pub returns-in_err-after-clause-cost : goal.returns-in_err-after-clause-cost
-returns-in_err-after-clause-cost g c = looks-paired _ _ _ _ _ _ _ _ _ c.requires.paired (found-own _ _ _ _ c.index_mut-table.result.now c.args.r c.from.result c.requires.paired c.requires.router c.from.ensures c.index_mut-table.ensures.value).along c.update.ensures.cost
+returns-in_err-after-clause-cost g c = looks-paired _ _ _ _ _ _ _ _ _ c.requires.paired (along-own _ _ _ _ _ c.requires.paired c.requires.router) c.update.ensures.cost
 
 pub returns-in_default-clause-cost : goal.returns-in_default-clause-cost
-returns-in_default-clause-cost g c = looks-paired _ _ _ _ _ _ _ _ _ c.requires.paired (found-own _ _ _ _ c.index_mut-table.result.now c.args.r c.from.result c.requires.paired c.requires.router c.from.ensures c.index_mut-table.ensures.value).along c.update.ensures.cost
+returns-in_default-clause-cost g c = looks-paired _ _ _ _ _ _ _ _ _ c.requires.paired (along-own _ _ _ _ _ c.requires.paired c.requires.router) c.update.ensures.cost
 
 pub returns-in_err-delta-clause-cost : goal.returns-in_err-delta-clause-cost
-returns-in_err-delta-clause-cost g c = looks-paired _ _ _ _ _ _ _ _ _ c.requires.paired (found-own _ _ _ _ c.index_mut-table.result.now c.args.r c.from.result c.requires.paired c.requires.router c.from.ensures c.index_mut-table.ensures.value).along c.update.ensures.cost
+returns-in_err-delta-clause-cost g c = looks-paired _ _ _ _ _ _ _ _ _ c.requires.paired (along-own _ _ _ _ _ c.requires.paired c.requires.router) c.update.ensures.cost
 
 pub returns-clause-cost : goal.returns-clause-cost
-returns-clause-cost g c = looks-paired _ _ _ _ _ _ _ _ _ c.requires.paired (found-own _ _ _ _ c.index_mut-table.result.now c.args.r c.from.result c.requires.paired c.requires.router c.from.ensures c.index_mut-table.ensures.value).along c.update.ensures.cost
+returns-clause-cost g c = looks-paired _ _ _ _ _ _ _ _ _ c.requires.paired (along-own _ _ _ _ _ c.requires.paired c.requires.router) c.update.ensures.cost
 
 pub returns-in_default-clause-paired : goal.returns-in_default-clause-paired
 returns-in_default-clause-paired g c =
-    let f = found-own c.args.self.now.routers c.args.self.now.atoms c.args.self.now.labels c.args.self.now.tables.items c.index_mut-table.result.now c.args.r c.from.result c.requires.paired c.requires.router c.from.ensures c.index_mut-table.ensures.value in
-    paired-now c.args.self.now.routers c.args.self.now.atoms c.args.self.now.labels c.args.self.now.labels c.args.self.now.tables.items c.index_mut-table.result.now c.update.new.self c.new.result c.args.r c.args.op.now c.from.result c.from.ensures c.requires.paired
-    (makes-same c.args.self.now.routers c.args.self.now.atoms c.args.self.now.labels c.args.self.now.tables.items c.index_mut-table.result.now c.update.new.self c.new.result c.args.r c.args.op.now c.requires.paired f c.requires.ends c.update.ensures.form c.in_ok-after.ensures.table (at-none _ c.in_ok-after.field-0 c.in_default.is c.in_ok-after.ensures.same) c.new.ensures)
+    paired-now c.args.self.now.routers c.args.self.now.atoms c.args.self.now.labels c.args.self.now.labels c.args.self.now.tables c.update.new.self (table_at c.args.self.now.tables c.args.r.0) (table_at c.update.new.self c.args.r.0) c.new.result c.args.r c.args.op.now c.update.ensures.others c.requires.paired
+    (makes-same c.args.self.now.routers c.args.self.now.atoms c.args.self.now.labels c.args.self.now.tables (table_at c.update.new.self c.args.r.0) c.new.result c.args.r c.args.op.now c.requires.paired c.requires.router c.requires.ends c.update.ensures.form c.in_ok-after.ensures.table (at-none _ c.in_ok-after.field-0 c.in_default.is c.in_ok-after.ensures.same) c.new.ensures)
 
 pub returns-in_default-clause-told : goal.returns-in_default-clause-told
 returns-in_default-clause-told g c =
-    let f = found-own c.args.self.now.routers c.args.self.now.atoms c.args.self.now.labels c.args.self.now.tables.items c.index_mut-table.result.now c.args.r c.from.result c.requires.paired c.requires.router c.from.ensures c.index_mut-table.ensures.value in
-    retold-now c.args.self.now.routers c.args.self.now.atoms c.args.self.now.labels c.args.self.now.labels c.args.self.now.tables.items c.index_mut-table.result.now c.update.new.self c.new.result c.args.r c.args.op.now c.from.result c.from.ensures c.requires.paired
-    (makes-same c.args.self.now.routers c.args.self.now.atoms c.args.self.now.labels c.args.self.now.tables.items c.index_mut-table.result.now c.update.new.self c.new.result c.args.r c.args.op.now c.requires.paired f c.requires.ends c.update.ensures.form c.in_ok-after.ensures.table (at-none _ c.in_ok-after.field-0 c.in_default.is c.in_ok-after.ensures.same) c.new.ensures)
+    retold-now c.args.self.now.routers c.args.self.now.atoms c.args.self.now.labels c.args.self.now.labels c.args.self.now.tables c.update.new.self (table_at c.args.self.now.tables c.args.r.0) (table_at c.update.new.self c.args.r.0) c.new.result c.args.r c.args.op.now c.update.ensures.others c.requires.paired
+    (makes-same c.args.self.now.routers c.args.self.now.atoms c.args.self.now.labels c.args.self.now.tables (table_at c.update.new.self c.args.r.0) c.new.result c.args.r c.args.op.now c.requires.paired c.requires.router c.requires.ends c.update.ensures.form c.in_ok-after.ensures.table (at-none _ c.in_ok-after.field-0 c.in_default.is c.in_ok-after.ensures.same) c.new.ensures)
 
 pub reroute-requires-clause-ends : goal.reroute-requires-clause-ends
 reroute-requires-clause-ends g c =
-    let f = found-own c.args.self.now.routers c.args.self.now.atoms c.args.self.now.labels c.args.self.now.tables.items c.index_mut-table.result.now c.args.r c.from.result c.requires.paired c.requires.router c.from.ensures c.index_mut-table.ensures.value in
     subst (RunsOfAtoms c.args.self.now.atoms) (sym c.deref.ensures.value)
-    (runs-of-atoms c.args.self.now.atoms c.args.self.now.labels c.args.self.now.tables.items c.index_mut-table.result.now c.update.new.self c.args.r.0 c.args.op.now c.update.new.runs.items f.along c.requires.ends (at-some _ c.in_ok-after.field-0 c.in-Some.after c.in-Some.is c.in_ok-after.ensures.had) c.in_ok-after.ensures.table (at-some _ c.in_ok-after.field-0 c.in-Some.after c.in-Some.is c.in_ok-after.ensures.runs))
+    (runs-of-atoms c.args.self.now.atoms c.args.self.now.labels c.args.self.now.tables (table_at c.args.self.now.tables c.args.r.0) (table_at c.update.new.self c.args.r.0) c.args.r.0 c.args.op.now c.update.new.runs.items (along-own _ _ _ _ _ c.requires.paired c.requires.router) c.requires.ends (at-some _ c.in_ok-after.field-0 c.in-Some.after c.in-Some.is c.in_ok-after.ensures.had) c.in_ok-after.ensures.table (at-some _ c.in_ok-after.field-0 c.in-Some.after c.in-Some.is c.in_ok-after.ensures.runs))
 
 pub reroute-requires-clause-same : goal.reroute-requires-clause-same
 reroute-requires-clause-same g c =
-    let f = found-own c.args.self.now.routers c.args.self.now.atoms c.args.self.now.labels c.args.self.now.tables.items c.index_mut-table.result.now c.args.r c.from.result c.requires.paired c.requires.router c.from.ensures c.index_mut-table.ensures.value in
     rw c.deref.ensures.value
-    (same-before c.args.self.now.atoms c.args.self.now.labels c.index_mut-table.result.now c.update.new.self (prefix_of_op c.args.op.now) c.in-Some.after c.update.new.runs.items c.args.r.0 f.along (at-some _ c.in_ok-after.field-0 c.in-Some.after c.in-Some.is c.in_ok-after.ensures.turned) (at-some _ c.in_ok-after.field-0 c.in-Some.after c.in-Some.is c.in_ok-after.ensures.runs))
+    (same-before c.args.self.now.atoms c.args.self.now.labels (table_at c.args.self.now.tables c.args.r.0) (table_at c.update.new.self c.args.r.0) (prefix_of_op c.args.op.now) c.in-Some.after c.update.new.runs.items c.args.r.0 (along-own _ _ _ _ _ c.requires.paired c.requires.router) (at-some _ c.in_ok-after.field-0 c.in-Some.after c.in-Some.is c.in_ok-after.ensures.turned) (at-some _ c.in_ok-after.field-0 c.in-Some.after c.in-Some.is c.in_ok-after.ensures.runs))
 
 pub returns-clause-paired : goal.returns-clause-paired
 returns-clause-paired g c =
-    let f = found-own c.args.self.now.routers c.args.self.now.atoms c.args.self.now.labels c.args.self.now.tables.items c.index_mut-table.result.now c.args.r c.from.result c.requires.paired c.requires.router c.from.ensures c.index_mut-table.ensures.value in
-    paired-now c.args.self.now.routers c.args.self.now.atoms c.args.self.now.labels c.reroute.new.labels c.args.self.now.tables.items c.index_mut-table.result.now c.update.new.self c.in_ok-delta.delta c.args.r c.args.op.now c.from.result c.from.ensures c.requires.paired
-    (makes-turned c.args.self.now.routers c.args.self.now.atoms c.args.self.now.labels c.reroute.new.labels c.args.self.now.tables.items c.index_mut-table.result.now c.update.new.self c.in_ok-delta.delta c.args.r c.args.op.now c.in-Some.after c.update.new.runs.items f c.requires.ends c.update.ensures.form c.in_ok-after.ensures.table (at-some _ c.in_ok-after.field-0 c.in-Some.after c.in-Some.is c.in_ok-after.ensures.turned) (at-some _ c.in_ok-after.field-0 c.in-Some.after c.in-Some.is c.in_ok-after.ensures.runs) (rw (sym c.deref.ensures.value) c.in_ok-delta.ensures))
+    paired-now c.args.self.now.routers c.args.self.now.atoms c.args.self.now.labels c.reroute.new.labels c.args.self.now.tables c.update.new.self (table_at c.args.self.now.tables c.args.r.0) (table_at c.update.new.self c.args.r.0) c.in_ok-delta.delta c.args.r c.args.op.now c.update.ensures.others c.requires.paired
+    (makes-turned c.args.self.now.routers c.args.self.now.atoms c.args.self.now.labels c.reroute.new.labels c.args.self.now.tables (table_at c.update.new.self c.args.r.0) c.in_ok-delta.delta c.args.r c.args.op.now c.in-Some.after c.update.new.runs.items c.requires.paired c.requires.router c.requires.ends c.update.ensures.form c.in_ok-after.ensures.table (at-some _ c.in_ok-after.field-0 c.in-Some.after c.in-Some.is c.in_ok-after.ensures.turned) (at-some _ c.in_ok-after.field-0 c.in-Some.after c.in-Some.is c.in_ok-after.ensures.runs) (rw (sym c.deref.ensures.value) c.in_ok-delta.ensures))
 
 pub returns-clause-told : goal.returns-clause-told
 returns-clause-told g c =
-    let f = found-own c.args.self.now.routers c.args.self.now.atoms c.args.self.now.labels c.args.self.now.tables.items c.index_mut-table.result.now c.args.r c.from.result c.requires.paired c.requires.router c.from.ensures c.index_mut-table.ensures.value in
-    retold-now c.args.self.now.routers c.args.self.now.atoms c.args.self.now.labels c.reroute.new.labels c.args.self.now.tables.items c.index_mut-table.result.now c.update.new.self c.in_ok-delta.delta c.args.r c.args.op.now c.from.result c.from.ensures c.requires.paired
-    (makes-turned c.args.self.now.routers c.args.self.now.atoms c.args.self.now.labels c.reroute.new.labels c.args.self.now.tables.items c.index_mut-table.result.now c.update.new.self c.in_ok-delta.delta c.args.r c.args.op.now c.in-Some.after c.update.new.runs.items f c.requires.ends c.update.ensures.form c.in_ok-after.ensures.table (at-some _ c.in_ok-after.field-0 c.in-Some.after c.in-Some.is c.in_ok-after.ensures.turned) (at-some _ c.in_ok-after.field-0 c.in-Some.after c.in-Some.is c.in_ok-after.ensures.runs) (rw (sym c.deref.ensures.value) c.in_ok-delta.ensures))
+    retold-now c.args.self.now.routers c.args.self.now.atoms c.args.self.now.labels c.reroute.new.labels c.args.self.now.tables c.update.new.self (table_at c.args.self.now.tables c.args.r.0) (table_at c.update.new.self c.args.r.0) c.in_ok-delta.delta c.args.r c.args.op.now c.update.ensures.others c.requires.paired
+    (makes-turned c.args.self.now.routers c.args.self.now.atoms c.args.self.now.labels c.reroute.new.labels c.args.self.now.tables (table_at c.update.new.self c.args.r.0) c.in_ok-delta.delta c.args.r c.args.op.now c.in-Some.after c.update.new.runs.items c.requires.paired c.requires.router c.requires.ends c.update.ensures.form c.in_ok-after.ensures.table (at-some _ c.in_ok-after.field-0 c.in-Some.after c.in-Some.is c.in_ok-after.ensures.turned) (at-some _ c.in_ok-after.field-0 c.in-Some.after c.in-Some.is c.in_ok-after.ensures.runs) (rw (sym c.deref.ensures.value) c.in_ok-delta.ensures))

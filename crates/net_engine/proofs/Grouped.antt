@@ -1,0 +1,134 @@
+-- A router's table stands in its group, at its place there.
+use Rattle.std.proofs.Common.{◌≡◌, ℕ, zero, suc, ◌+◌, ◌-◌, ◌*◌, ◌/◌, ◌%◌, ◌<◌, ◌≤◌, ◌∙◌, min, List, [], ◌∷◌, ◌++◌, length, get_or, set, take, replicate, refl, ap, sym, subst, arith}
+use Rattle.std.specs.List.{All, flat_map}
+use Rattle.std.proofs.lemmas.List.{get_or-append-add, get_or-replicate, get_or-set_same, get_or-take, get_or_append_left, get_or_default, length-append, length-replicate, length-set, length-take-le, replicate-append-replicate, set-append_left, set-append_right, take-replicate}
+use Rattle.std.proofs.lemmas.List.Elements.{All-get_or, All-head, All-replicate, All-set, All-tail}
+use Rattle.std.proofs.lemmas.Nat.{div-add-mod', mod_below}
+use Rattle.dn_model.specs.declared.entry.Route.{Route}
+use Rattle.net_engine.specs.Grouped.{AreGroups, tables_in}
+use Rattle.net_engine.proofs.Standing.{AllRoutes}
+
+abbrev IsFour : AllRoutes → Type 0
+IsFour group = length group ≡ 4
+
+abbrev joined : List AllRoutes → AllRoutes
+joined groups = flat_map (λ group. group) groups
+
+-- ---- one group after the other
+
+pub length-joined : (groups : List AllRoutes) → All IsFour groups → length (joined groups) ≡ length groups * 4
+length-joined [] h = refl
+length-joined (x ∷ xs) h =
+    let first : length x ≡ 4 = All-head IsFour x xs h in
+    let rest : length (joined xs) ≡ length xs * 4 = length-joined xs (All-tail IsFour x xs h) in
+    length-append x (joined xs) ∙ omega arith
+
+pub get_or-joined : (groups : List AllRoutes) (g q n : ℕ) → All IsFour groups → q < 4 → n ≡ g * 4 + q → get_or (joined groups) n [] ≡ get_or (get_or groups g []) q []
+get_or-joined [] g q n h l e = refl
+get_or-joined (x ∷ xs) zero q n h l e =
+    let first : length x ≡ 4 = All-head IsFour x xs h in
+    let same : n ≡ q = omega arith in
+    ap (λ k. get_or (x ++ joined xs) k []) same ∙ get_or_append_left x (joined xs) [] q (omega arith)
+get_or-joined (x ∷ xs) (suc g) q n h l e =
+    let first : length x ≡ 4 = All-head IsFour x xs h in
+    let same : n ≡ length x + (g * 4 + q) = omega arith in
+    ap (λ k. get_or (x ++ joined xs) k []) same
+    ∙ get_or-append-add x (joined xs) (g * 4 + q) []
+    ∙ get_or-joined xs g q (g * 4 + q) (All-tail IsFour x xs h) l refl
+
+pub joined-set : (groups : List AllRoutes) (g q n : ℕ) (v : List Route) → All IsFour groups → q < 4 → n ≡ g * 4 + q → joined (set groups g (set (get_or groups g []) q v)) ≡ set (joined groups) n v
+joined-set [] g q n v h l e = refl
+joined-set (x ∷ xs) zero q n v h l e =
+    let first : length x ≡ 4 = All-head IsFour x xs h in
+    let same : q ≡ n = omega arith in
+    sym (set-append_left x (joined xs) q v (omega arith)) ∙ ap (λ k. set (x ++ joined xs) k v) same
+joined-set (x ∷ xs) (suc g) q n v h l e =
+    let first : length x ≡ 4 = All-head IsFour x xs h in
+    ap (λ (ts : AllRoutes). x ++ ts) (joined-set xs g q (n - 4) v (All-tail IsFour x xs h) l (omega arith))
+    ∙ sym (set-append_right x (joined xs) 4 n v first (omega arith))
+
+pub joined-replicate : (k : ℕ) (t : List Route) → joined (replicate k (replicate 4 t)) ≡ replicate (k * 4) t
+joined-replicate zero t = refl
+joined-replicate (suc k) t =
+    ap (λ (ts : AllRoutes). replicate 4 t ++ ts) (joined-replicate k t)
+    ∙ replicate-append-replicate 4 (k * 4) t
+    ∙ ap (λ n. replicate n t) (omega arith)
+
+-- ---- of so many routers
+
+pub take-of_set : (n : ℕ) (xs : AllRoutes) (i : ℕ) (y : List Route) → i < n → take n (set xs i y) ≡ set (take n xs) i y
+take-of_set zero xs i y l = absurd (omega arith)
+take-of_set (suc n) [] i y l = refl
+take-of_set (suc n) (x ∷ xs) zero y l = refl
+take-of_set (suc n) (x ∷ xs) (suc i) y l = ap (λ (ts : AllRoutes). x ∷ ts) (take-of_set n xs i y (omega arith))
+
+pub length-tables : (routers : ℕ) (groups : List AllRoutes) → AreGroups routers groups → length (tables_in routers groups) ≡ routers
+length-tables routers groups h = length-take-le routers (joined groups) (subst (λ k. routers ≤ k) (sym (length-joined groups h.four)) h.enough)
+
+pub tables-replicate : (routers k : ℕ) → routers ≤ k * 4 → tables_in routers (replicate k (replicate 4 [])) ≡ replicate routers []
+tables-replicate routers k h =
+    ap (λ (ts : AllRoutes). take routers ts) (joined-replicate k [])
+    ∙ take-replicate routers (k * 4) [] h
+
+-- what is found and made at a router: its group, and what the update makes of that
+pub record Finds (routers : ℕ) (groups : List AllRoutes) (tables group made : AllRoutes) (r n : ℕ) : Type 0 where
+  pub are : AreGroups routers groups
+  pub seen : tables_in routers groups ≡ tables
+  pub inside : r < length tables
+  pub place : n ≡ r
+  pub found : group ≡ get_or groups (n / 4) group
+  pub others : made ≡ set group (n % 4) (get_or made (n % 4) [])
+
+module _ (routers : ℕ) (groups : List AllRoutes) (tables group made : AllRoutes) (r n : ℕ) (h : Finds routers groups tables group made r n) where
+  lane : n % 4 < 4
+  lane = mod_below n 4 (omega arith)
+
+  parts : r ≡ n / 4 * 4 + n % 4
+  parts = sym h.place ∙ sym (div-add-mod' n 4)
+
+  below : r < routers
+  below = subst (λ k. r < k) (ap (λ (ts : AllRoutes). length ts) (sym h.seen) ∙ length-tables routers groups h.are) h.inside
+
+  there : n / 4 < length groups
+  there =
+      let below : r < routers = below in
+      let enough : routers ≤ length groups * 4 = h.are.enough in
+      let parts : r ≡ n / 4 * 4 + n % 4 = parts in
+      omega arith
+
+  group-is : group ≡ get_or groups (n / 4) []
+  group-is = h.found ∙ get_or_default groups (n / 4) group [] there
+
+  before : get_or tables r [] ≡ get_or group (n % 4) []
+  before =
+      ap (λ (ts : AllRoutes). get_or ts r []) (sym h.seen)
+      ∙ get_or-take routers (joined groups) r [] below
+      ∙ get_or-joined groups (n / 4) (n % 4) r h.are.four lane parts
+      ∙ ap (λ (ts : AllRoutes). get_or ts (n % 4) []) (sym group-is)
+
+  placed : tables_in routers (set groups (n / 4) made) ≡ set tables r (get_or made (n % 4) [])
+  placed =
+      ap (λ (ts : AllRoutes). tables_in routers (set groups (n / 4) ts)) (h.others ∙ ap (λ (ts : AllRoutes). set ts (n % 4) (get_or made (n % 4) [])) group-is)
+      ∙ ap (λ (ts : AllRoutes). take routers ts) (joined-set groups (n / 4) (n % 4) r (get_or made (n % 4) []) h.are.four lane parts)
+      ∙ take-of_set routers (joined groups) r (get_or made (n % 4) []) below
+      ∙ ap (λ (ts : AllRoutes). set ts r (get_or made (n % 4) [])) h.seen
+
+  after : get_or (tables_in routers (set groups (n / 4) made)) r [] ≡ get_or made (n % 4) []
+  after = ap (λ (ts : AllRoutes). get_or ts r []) placed ∙ get_or-set_same tables r (get_or made (n % 4) []) [] h.inside
+
+  -- what holds of the table at its place in the group holds of it at the router's place in the list of all
+  pub at-router : (P : List Route → List Route → Type 0) → P (get_or group (n % 4) []) (get_or made (n % 4) []) → P (get_or tables r []) (get_or (tables_in routers (set groups (n / 4) made)) r [])
+  at-router P k = subst (λ (t : List Route). P t (get_or (tables_in routers (set groups (n / 4) made)) r [])) (sym before) (subst (λ (t : List Route). P (get_or group (n % 4) []) t) (sym after) k)
+
+  -- and the others' are as before
+  pub others-after : tables_in routers (set groups (n / 4) made) ≡ set tables r (get_or (tables_in routers (set groups (n / 4) made)) r [])
+  others-after = placed ∙ ap (λ (t : List Route). set tables r t) (sym after)
+
+  four-made : length made ≡ 4
+  four-made = ap (λ (ts : AllRoutes). length ts) h.others ∙ length-set group (n % 4) (get_or made (n % 4) []) ∙ ap (λ (ts : AllRoutes). length ts) group-is ∙ All-get_or IsFour groups (n / 4) [] there h.are.four
+
+  pub groups-after : AreGroups routers (set groups (n / 4) made)
+  groups-after = record {
+    four = All-set IsFour groups (n / 4) made four-made h.are.four;
+    enough = subst (λ k. routers ≤ k * 4) (sym (length-set groups (n / 4) made)) h.are.enough;
+  }

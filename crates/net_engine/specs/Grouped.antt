@@ -1,0 +1,13 @@
+-- The tables of all routers, four in a group.
+use Rattle.std.specs.Prelude.{ℕ, List, All, length, take, ◌≡◌, ◌≤◌, ◌*◌}
+use Rattle.std.specs.List.{flat_map}
+use Rattle.dn_model.specs.declared.entry.Route.{Route}
+
+-- the tables of so many routers, in order: those of the first group, then those of the next
+abbrev pub tables_in : ℕ → List (List (List Route)) → List (List Route)
+tables_in routers groups = take routers (flat_map (λ group. group) groups)
+
+-- each group has four tables, and there are groups for so many routers
+pub record AreGroups (routers : ℕ) (groups : List (List (List Route))) : Type 0 where
+  pub four : All (λ group. length group ≡ 4) groups
+  pub enough : routers ≤ length groups * 4

@@ -1,8 +1,8 @@
 -- A router's table stands in its group, at its place there.
-use Rattle.std.proofs.Common.{◌≡◌, ℕ, zero, suc, ◌+◌, ◌-◌, ◌*◌, ◌/◌, ◌%◌, ◌<◌, ◌≤◌, ◌∙◌, min, List, [], ◌∷◌, ◌++◌, length, get_or, set, take, replicate, refl, ap, sym, subst, arith}
+use Rattle.std.proofs.Common.{◌≡◌, ℕ, zero, suc, ◌+◌, ◌-◌, ◌*◌, ◌/◌, ◌%◌, ◌<◌, ◌≤◌, ◌∙◌, List, [], ◌∷◌, ◌++◌, length, get_or, set, take, replicate, refl, ap, sym, subst, arith}
 use Rattle.std.specs.List.{All, flat_map}
-use Rattle.std.proofs.lemmas.List.{get_or-append-add, get_or-replicate, get_or-set_same, get_or-take, get_or_append_left, get_or_default, length-append, length-replicate, length-set, length-take-le, replicate-append-replicate, set-append_left, set-append_right, take-replicate}
-use Rattle.std.proofs.lemmas.List.Elements.{All-get_or, All-head, All-replicate, All-set, All-tail}
+use Rattle.std.proofs.lemmas.List.{get_or-append-add, get_or-set_same, get_or-take, get_or_append_left, get_or_default, length-append, length-set, length-take-le, replicate-append-replicate, set-append_left, set-append_right, take-replicate}
+use Rattle.std.proofs.lemmas.List.Elements.{All-get_or, All-head, All-set, All-tail}
 use Rattle.std.proofs.lemmas.Nat.{div-add-mod', mod_below}
 use Rattle.dn_model.specs.declared.entry.Route.{Route}
 use Rattle.net_engine.specs.Grouped.{AreGroups, tables_in}

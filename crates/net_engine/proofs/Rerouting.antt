@@ -30,7 +30,7 @@ use Rattle.net_engine.specs.Looks.{atoms_begun, atoms_between, atoms_met}
 use Rattle.net_engine.specs.Paired.{AreLabelled, ArePaired, GoAlong, atoms_with, does_at}
 use Rattle.net_engine.specs.Rerouted.{IsMoved, IsRerouted, RunsOfAtoms}
 use Rattle.net_engine.specs.Routed.{ends_in}
-use Rattle.net_engine.specs.Walked.{BeginsAtEnds, IsRetold, IsSet, UpdatesAt}
+use Rattle.net_engine.specs.Walked.{BeginsAtEnds, IsRetold, IsSet}
 use Rattle.net_engine.proofs.Does.{begins-paired, target-paired}
 use Rattle.net_engine.proofs.Looking.{begun-many, begun-meet, meets-paired}
 use Rattle.net_engine.proofs.Moving.{apart-below, apart-first, apart-rest, holds-first}
@@ -248,10 +248,6 @@ looks-paired routers rows x tables own r p was is h along looked =
 
 -- ---- as the call needs it
 
--- a router's routes stand by the atoms
-pub along-own : (routers : ℕ) (rows : List AtomRow) (x : Labels) (tables : AllRoutes) (r : ℕ) → ArePaired routers rows x tables → r < routers → GoAlong rows x r (table_at tables r)
-along-own routers rows x tables r h l = h.along r l
-
 -- what is known where nothing, or something, was answered
 pub at-none : (P : Type 0) (o : Option Target) → o ≡ None → IfNone o P → P
 at-none P None e h = h
@@ -289,11 +285,3 @@ paired-now routers rows x y tables new own made now r op e h k = subst (λ (ts :
 
 pub retold-now : (routers : ℕ) (rows : List AtomRow) (x y : Labels) (tables new : AllRoutes) (own made : List Route) (now : List Change) (r : RouterId) (op : Op) → new ≡ set tables r.0 made → ArePaired routers rows x tables → Makes routers rows x y tables own made now r op → IsRetold (atoms_with rows x tables) (atoms_with rows y new) now
 retold-now routers rows x y tables new own made now r op e h k = subst (λ (ts : AllRoutes). IsRetold (atoms_with rows x tables) (atoms_with rows y ts) now) (sym e) (retold-after-update routers rows x y tables own made now r op h k)
-
-pub updates-now : (routers : ℕ) (rows : List AtomRow) (x : Labels) (tables new : AllRoutes) (r : RouterId) (op : Op) → ArePaired routers rows x tables → r.0 < routers → new ≡ set tables r.0 (table_at new r.0) → IsPermutation (table_at new r.0) (after_op (table_at tables r.0) op) → UpdatesAt r.0 op tables new
-updates-now routers rows x tables new r op h l e moved = record {
-  inside = subst (λ n. r.0 < n) (sym h.each) l;
-  made = table_at new r.0;
-  as_updated = moved;
-  placed = e;
-}

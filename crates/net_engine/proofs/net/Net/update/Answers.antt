@@ -2,20 +2,20 @@ use Rattle.std.proofs.Common.{sym, subst}
 use Rattle.dn_model.specs.Entry.{prefix_of_op}
 use Rattle.route_table.specs.Tables.{table_at}
 use Rattle.net_engine.specs.Rerouted.{RunsOfAtoms}
-use Rattle.net_engine.proofs.Rerouting.{Makes, along-own, at-none, at-some, looks-paired, makes-same, makes-turned, paired-now, retold-now, runs-of-atoms, same-before}
+use Rattle.net_engine.proofs.Rerouting.{at-none, at-some, looks-paired, makes-same, makes-turned, paired-now, retold-now, runs-of-atoms, same-before}
 use Rattle.net_engine.proofs.net.Net.update.Goals as goal
 
 pub returns-in_err-after-clause-cost : goal.returns-in_err-after-clause-cost
-returns-in_err-after-clause-cost g c = looks-paired _ _ _ _ _ _ _ _ _ c.requires.paired (along-own _ _ _ _ _ c.requires.paired c.requires.router) c.update.ensures.cost
+returns-in_err-after-clause-cost g c = looks-paired _ _ _ _ _ _ _ _ _ c.requires.paired (c.requires.paired.along c.args.r.0 c.requires.router) c.update.ensures.cost
 
 pub returns-in_default-clause-cost : goal.returns-in_default-clause-cost
-returns-in_default-clause-cost g c = looks-paired _ _ _ _ _ _ _ _ _ c.requires.paired (along-own _ _ _ _ _ c.requires.paired c.requires.router) c.update.ensures.cost
+returns-in_default-clause-cost g c = looks-paired _ _ _ _ _ _ _ _ _ c.requires.paired (c.requires.paired.along c.args.r.0 c.requires.router) c.update.ensures.cost
 
 pub returns-in_err-delta-clause-cost : goal.returns-in_err-delta-clause-cost
-returns-in_err-delta-clause-cost g c = looks-paired _ _ _ _ _ _ _ _ _ c.requires.paired (along-own _ _ _ _ _ c.requires.paired c.requires.router) c.update.ensures.cost
+returns-in_err-delta-clause-cost g c = looks-paired _ _ _ _ _ _ _ _ _ c.requires.paired (c.requires.paired.along c.args.r.0 c.requires.router) c.update.ensures.cost
 
 pub returns-clause-cost : goal.returns-clause-cost
-returns-clause-cost g c = looks-paired _ _ _ _ _ _ _ _ _ c.requires.paired (along-own _ _ _ _ _ c.requires.paired c.requires.router) c.update.ensures.cost
+returns-clause-cost g c = looks-paired _ _ _ _ _ _ _ _ _ c.requires.paired (c.requires.paired.along c.args.r.0 c.requires.router) c.update.ensures.cost
 
 pub returns-in_default-clause-paired : goal.returns-in_default-clause-paired
 returns-in_default-clause-paired g c =
@@ -30,12 +30,12 @@ returns-in_default-clause-told g c =
 pub reroute-requires-clause-ends : goal.reroute-requires-clause-ends
 reroute-requires-clause-ends g c =
     subst (RunsOfAtoms c.args.self.now.atoms) (sym c.deref.ensures.value)
-    (runs-of-atoms c.args.self.now.atoms c.args.self.now.labels c.args.self.now.tables (table_at c.args.self.now.tables c.args.r.0) (table_at c.update.new.self c.args.r.0) c.args.r.0 c.args.op.now c.update.new.runs.items (along-own _ _ _ _ _ c.requires.paired c.requires.router) c.requires.ends (at-some _ c.in_ok-after.field-0 c.in-Some.after c.in-Some.is c.in_ok-after.ensures.had) c.in_ok-after.ensures.table (at-some _ c.in_ok-after.field-0 c.in-Some.after c.in-Some.is c.in_ok-after.ensures.runs))
+    (runs-of-atoms c.args.self.now.atoms c.args.self.now.labels c.args.self.now.tables (table_at c.args.self.now.tables c.args.r.0) (table_at c.update.new.self c.args.r.0) c.args.r.0 c.args.op.now c.update.new.runs.items (c.requires.paired.along c.args.r.0 c.requires.router) c.requires.ends (at-some _ c.in_ok-after.field-0 c.in-Some.after c.in-Some.is c.in_ok-after.ensures.had) c.in_ok-after.ensures.table (at-some _ c.in_ok-after.field-0 c.in-Some.after c.in-Some.is c.in_ok-after.ensures.runs))
 
 pub reroute-requires-clause-same : goal.reroute-requires-clause-same
 reroute-requires-clause-same g c =
     rw c.deref.ensures.value
-    (same-before c.args.self.now.atoms c.args.self.now.labels (table_at c.args.self.now.tables c.args.r.0) (table_at c.update.new.self c.args.r.0) (prefix_of_op c.args.op.now) c.in-Some.after c.update.new.runs.items c.args.r.0 (along-own _ _ _ _ _ c.requires.paired c.requires.router) (at-some _ c.in_ok-after.field-0 c.in-Some.after c.in-Some.is c.in_ok-after.ensures.turned) (at-some _ c.in_ok-after.field-0 c.in-Some.after c.in-Some.is c.in_ok-after.ensures.runs))
+    (same-before c.args.self.now.atoms c.args.self.now.labels (table_at c.args.self.now.tables c.args.r.0) (table_at c.update.new.self c.args.r.0) (prefix_of_op c.args.op.now) c.in-Some.after c.update.new.runs.items c.args.r.0 (c.requires.paired.along c.args.r.0 c.requires.router) (at-some _ c.in_ok-after.field-0 c.in-Some.after c.in-Some.is c.in_ok-after.ensures.turned) (at-some _ c.in_ok-after.field-0 c.in-Some.after c.in-Some.is c.in_ok-after.ensures.runs))
 
 pub returns-clause-paired : goal.returns-clause-paired
 returns-clause-paired g c =

@@ -1,8 +1,8 @@
 -- A router's table stands in its group, at its place there.
 use Rattle.std.proofs.Common.{◌≡◌, ℕ, zero, suc, ◌+◌, ◌-◌, ◌*◌, ◌/◌, ◌%◌, ◌<◌, ◌≤◌, ◌∙◌, List, [], ◌∷◌, ◌++◌, length, get_or, set, take, replicate, refl, ap, sym, subst, arith}
 use Rattle.std.specs.List.{All, flat_map}
-use Rattle.std.proofs.lemmas.List.{get_or-append-add, get_or-set_same, get_or-take, get_or_append_left, get_or_default, length-append, length-set, length-take-le, replicate-append-replicate, set-append_left, set-append_right, take-replicate}
-use Rattle.std.proofs.lemmas.List.Elements.{All-get_or, All-head, All-set, All-tail}
+use Rattle.std.proofs.lemmas.List.{get_or-append-add, get_or-set_same, get_or-take, get_or_append_left, get_or_default, length-append, length-take-le, replicate-append-replicate, set-append_left, set-append_right, take-replicate}
+use Rattle.std.proofs.lemmas.List.Elements.{All-head, All-tail}
 use Rattle.std.proofs.lemmas.Nat.{div-add-mod', mod_below}
 use Rattle.dn_model.specs.declared.entry.Route.{Route}
 use Rattle.net_engine.specs.Grouped.{AreGroups, tables_in}
@@ -16,14 +16,14 @@ joined groups = flat_map (λ group. group) groups
 
 -- ---- one group after the other
 
-pub length-joined : (groups : List AllRoutes) → All IsFour groups → length (joined groups) ≡ length groups * 4
+length-joined : (groups : List AllRoutes) → All IsFour groups → length (joined groups) ≡ length groups * 4
 length-joined [] h = refl
 length-joined (x ∷ xs) h =
     let first : length x ≡ 4 = All-head IsFour x xs h in
     let rest : length (joined xs) ≡ length xs * 4 = length-joined xs (All-tail IsFour x xs h) in
     length-append x (joined xs) ∙ omega arith
 
-pub get_or-joined : (groups : List AllRoutes) (g q n : ℕ) → All IsFour groups → q < 4 → n ≡ g * 4 + q → get_or (joined groups) n [] ≡ get_or (get_or groups g []) q []
+get_or-joined : (groups : List AllRoutes) (g q n : ℕ) → All IsFour groups → q < 4 → n ≡ g * 4 + q → get_or (joined groups) n [] ≡ get_or (get_or groups g []) q []
 get_or-joined [] g q n h l e = refl
 get_or-joined (x ∷ xs) zero q n h l e =
     let first : length x ≡ 4 = All-head IsFour x xs h in
@@ -36,7 +36,7 @@ get_or-joined (x ∷ xs) (suc g) q n h l e =
     ∙ get_or-append-add x (joined xs) (g * 4 + q) []
     ∙ get_or-joined xs g q (g * 4 + q) (All-tail IsFour x xs h) l refl
 
-pub joined-set : (groups : List AllRoutes) (g q n : ℕ) (v : List Route) → All IsFour groups → q < 4 → n ≡ g * 4 + q → joined (set groups g (set (get_or groups g []) q v)) ≡ set (joined groups) n v
+joined-set : (groups : List AllRoutes) (g q n : ℕ) (v : List Route) → All IsFour groups → q < 4 → n ≡ g * 4 + q → joined (set groups g (set (get_or groups g []) q v)) ≡ set (joined groups) n v
 joined-set [] g q n v h l e = refl
 joined-set (x ∷ xs) zero q n v h l e =
     let first : length x ≡ 4 = All-head IsFour x xs h in
@@ -47,7 +47,7 @@ joined-set (x ∷ xs) (suc g) q n v h l e =
     ap (λ (ts : AllRoutes). x ++ ts) (joined-set xs g q (n - 4) v (All-tail IsFour x xs h) l (omega arith))
     ∙ sym (set-append_right x (joined xs) 4 n v first (omega arith))
 
-pub joined-replicate : (k : ℕ) (t : List Route) → joined (replicate k (replicate 4 t)) ≡ replicate (k * 4) t
+joined-replicate : (k : ℕ) (t : List Route) → joined (replicate k (replicate 4 t)) ≡ replicate (k * 4) t
 joined-replicate zero t = refl
 joined-replicate (suc k) t =
     ap (λ (ts : AllRoutes). replicate 4 t ++ ts) (joined-replicate k t)
@@ -56,13 +56,13 @@ joined-replicate (suc k) t =
 
 -- ---- of so many routers
 
-pub take-of_set : (n : ℕ) (xs : AllRoutes) (i : ℕ) (y : List Route) → i < n → take n (set xs i y) ≡ set (take n xs) i y
+take-of_set : (n : ℕ) (xs : AllRoutes) (i : ℕ) (y : List Route) → i < n → take n (set xs i y) ≡ set (take n xs) i y
 take-of_set zero xs i y l = absurd (omega arith)
 take-of_set (suc n) [] i y l = refl
 take-of_set (suc n) (x ∷ xs) zero y l = refl
 take-of_set (suc n) (x ∷ xs) (suc i) y l = ap (λ (ts : AllRoutes). x ∷ ts) (take-of_set n xs i y (omega arith))
 
-pub length-tables : (routers : ℕ) (groups : List AllRoutes) → AreGroups routers groups → length (tables_in routers groups) ≡ routers
+length-tables : (routers : ℕ) (groups : List AllRoutes) → AreGroups routers groups → length (tables_in routers groups) ≡ routers
 length-tables routers groups h = length-take-le routers (joined groups) (subst (λ k. routers ≤ k) (sym (length-joined groups h.four)) h.enough)
 
 pub tables-replicate : (routers k : ℕ) → routers ≤ k * 4 → tables_in routers (replicate k (replicate 4 [])) ≡ replicate routers []
@@ -123,12 +123,3 @@ module _ (routers : ℕ) (groups : List AllRoutes) (tables group made : AllRoute
   -- and the others' are as before
   pub others-after : tables_in routers (set groups (n / 4) made) ≡ set tables r (get_or (tables_in routers (set groups (n / 4) made)) r [])
   others-after = placed ∙ ap (λ (t : List Route). set tables r t) (sym after)
-
-  four-made : length made ≡ 4
-  four-made = ap (λ (ts : AllRoutes). length ts) h.others ∙ length-set group (n % 4) (get_or made (n % 4) []) ∙ ap (λ (ts : AllRoutes). length ts) group-is ∙ All-get_or IsFour groups (n / 4) [] there h.are.four
-
-  pub groups-after : AreGroups routers (set groups (n / 4) made)
-  groups-after = record {
-    four = All-set IsFour groups (n / 4) made four-made h.are.four;
-    enough = subst (λ k. routers ≤ k * 4) (sym (length-set groups (n / 4) made)) h.are.enough;
-  }

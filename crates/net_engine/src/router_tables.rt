@@ -16,8 +16,8 @@ use std::marker::Model;
 use std::sync::ledger::Ledger;
 use step_count::Steps;
 
-/// The routes of each router. Four neighbours stand in a group, so that an update of one finds the page that one of the
-/// others had in hand. A contract sees a list of routes for each router, in order.
+/// The routes of each router. Four neighbours are a group, whose routes of a prefix stand side by side: an update of one of
+/// them finds at hand what an update of another has just read. A contract sees a list of routes for each router, in order.
 #[derive(Drop)]
 pub struct RouterTables {
     routers: u32,

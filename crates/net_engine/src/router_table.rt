@@ -15,7 +15,7 @@ use std::marker::Model;
 use std::sync::ledger::Ledger;
 use step_count::Steps;
 
-/// The routes of four routers, which stand side by side by prefix, with a guide to where they stand. A contract sees the
+/// The routes of four routers, which stand side by side by prefix, with a guide to where they stand. A contract sees
 /// four lists of routes, whose orders mean nothing.
 #[derive(Drop)]
 pub struct RouterGroup {
@@ -44,10 +44,10 @@ impl RouterGroup {
         }
     }
 
-    /// Makes an update of the router at a place, and tells the runs of the own addresses of its prefix, at which the router
-    /// has no route of a longer one: it answers what the router does there after it. Where it answers nothing, the router
-    /// does the same everywhere. It fails for want of memory alone, and then the router's routes may be changed. Its steps
-    /// are those of `RouteTables::update`.
+    /// Makes an update of the router at a place, and tells the runs of the own addresses of its prefix, at which the
+    /// router has no route of a longer one: it answers what the router does there after it. Where it answers nothing,
+    /// the router does the same everywhere. It fails for want of memory alone, and then the router's routes may be
+    /// changed. Its steps are those of `RouteTables::update`.
     pub fn update<L: Ledger>(
         &mut self,
         alloc: Global,
@@ -57,7 +57,8 @@ impl RouterGroup {
         steps: &mut Steps<L>,
     ) -> Result<Option<Target>, OutOfMemory>
         requires { lane < 4 }
-        ensures table { OnOk result (IsPermutation (table_at self.new lane) (after_op (table_at self.old lane) op.now)) }
+        ensures table { OnOk result (
+            IsPermutation (table_at self.new lane) (after_op (table_at self.old lane) op.now)) }
         ensures others { self.new ≡ slice_set self.old lane (table_at self.new lane) }
         ensures form { IsTable (table_at self.new lane) }
         ensures same { IfOk result (λ after. IfNone after ((a : ℕ) →

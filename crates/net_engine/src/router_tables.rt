@@ -16,8 +16,9 @@ use std::marker::Model;
 use std::sync::ledger::Ledger;
 use step_count::Steps;
 
-/// The routes of each router. Four neighbours are a group, whose routes of a prefix stand side by side: an update of one of
-/// them finds at hand what an update of another has just read. A contract sees a list of routes for each router, in order.
+/// The routes of each router. Four neighbours are a group, whose routes of a prefix stand side by side: an update of
+/// one of them finds at hand what an update of another has just read. A contract sees a list of routes for each router,
+/// in order.
 #[derive(Drop)]
 pub struct RouterTables {
     routers: u32,
@@ -45,10 +46,10 @@ impl RouterTables {
         Ok(RouterTables { routers, groups })
     }
 
-    /// Makes an update of a router, and tells the runs of the own addresses of its prefix, at which the router has no route
-    /// of a longer one: it answers what the router does there after it. Where it answers nothing, the router does the same
-    /// everywhere. It fails for want of memory alone, and then the router's routes may be changed. Its steps are those of
-    /// `RouteTables::update`.
+    /// Makes an update of a router, and tells the runs of the own addresses of its prefix, at which the router has no
+    /// route of a longer one: it answers what the router does there after it. Where it answers nothing, the router does
+    /// the same everywhere. It fails for want of memory alone, and then the router's routes may be changed. Its steps
+    /// are those of `RouteTables::update`.
     pub fn update<L: Ledger>(
         &mut self,
         alloc: Global,
@@ -58,7 +59,8 @@ impl RouterTables {
         steps: &mut Steps<L>,
     ) -> Result<Option<Target>, OutOfMemory>
         requires { r.0 < length self.old }
-        ensures table { OnOk result (IsPermutation (table_at self.new r.0) (after_op (table_at self.old r.0) op.now)) }
+        ensures table { OnOk result (
+            IsPermutation (table_at self.new r.0) (after_op (table_at self.old r.0) op.now)) }
         ensures others { self.new ≡ slice_set self.old r.0 (table_at self.new r.0) }
         ensures form { IsTable (table_at self.new r.0) }
         ensures same { IfOk result (λ after. IfNone after ((a : ℕ) →

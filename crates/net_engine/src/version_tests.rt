@@ -1,4 +1,4 @@
-//! Versions of networks of three and of six routers, against answers worked out by hand and against the plain evaluator.
+//! Versions of networks of three and of six routers, against answers worked out by hand and the plain evaluator.
 
 ghost use Rattle.std.specs.Prelude.{◌≡◌, ◌<◌, IfOk, length};
 ghost use Rattle.dn_model.specs.Entry.{IsEntryOf};
@@ -351,8 +351,8 @@ fn exits(version: &Version, a: u32) -> [Option<u32>; 6]
     exits
 }
 
-/// The first four routers stand side by side, and so do the last two. Each has a route of its own for one prefix, and the
-/// fifth alone has one inside. An update of one leaves the others' answers, and a copy's, as they are.
+/// The first four routers stand side by side, and so do the last two. Each has a route of its own for one prefix, and
+/// the fifth alone has one inside. An update of one leaves the others' answers, and a copy's, as they are.
 #[test]
 fn each_router_keeps_its_own_routes(rt: HostRuntime) -> Result<(), Fail> {
     let alloc = rt.alloc();

@@ -1,8 +1,8 @@
 -- The prefix of one length around an address.
-use Rattle.std.proofs.Common.{◌≡◌, ℕ, ◌<◌, ◌≤◌, ◌+◌, ◌∙◌, true, false, List, Option, Some, None, ap, sym, subst, ⊎_elim, arith, eqb}
+use Rattle.std.proofs.Common.{◌≡◌, ℕ, ◌<◌, ◌≤◌, ◌+◌, ◌∙◌, true, false, List, Option, Some, None, ap, sym, subst, arith, eqb}
 use Rattle.std.specs.List.{Contains}
 use Rattle.std.specs.Option.{IfNone, IfSome}
-use Rattle.std.proofs.lemmas.Bool.{and_from, both_ways, cases_lt, eq-eqb, false_from_ne_true}
+use Rattle.std.proofs.lemmas.Bool.{and_from, both_ways, eq-eqb, false_from_ne_true}
 use Rattle.dn_model.specs.Cidr.{Cidr, IsCidr, covers}
 use Rattle.dn_model.specs.Routes.{IsTable}
 use Rattle.dn_model.specs.Table.{is_of_prefix, best}
@@ -51,12 +51,6 @@ NoneFrom routes a len = (r : Route) → Contains routes r → covers r.prefix a 
 
 pub none-past : (routes : List Route) (a len : ℕ) → IsTable routes → 32 < len → NoneFrom routes a len
 none-past routes a len sound past r inside there from = let short : r.prefix.len ≤ 32 = (sound.prefixes r inside).len in omega arith
-
-pub none-more : (routes : List Route) (a next len : ℕ) → next ≡ len + 1 → NoneFrom routes a next → ((r : Route) → Contains routes r → covers r.prefix a ≡ true → r.prefix.len ≡ len → ⊥) → NoneFrom routes a len
-none-more routes a next len is longer this r inside there from = ⊎_elim
-    (λ (l : len < r.prefix.len). longer r inside there (omega arith))
-    (λ (l : r.prefix.len ≤ len). this r inside there (omega arith))
-    (cases_lt len r.prefix.len)
 
 pub best-at-length : (routes : List Route) (a next len : ℕ) (b : Route) → next ≡ len + 1 → IsTable routes → NoneFrom routes a next → IsLeastAround routes a len b → Some b ≡ best routes a
 best-at-length routes a next len b is sound longer least =

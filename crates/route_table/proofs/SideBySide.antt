@@ -89,9 +89,6 @@ keeps-routes lane old new h k n = ap routes_of (h k n)
 pub adds-routes : (lane : ℕ) (old new : List PrefixRow) (i : ℕ) (p : Cidr) → AddsSlots lane old new i p → KeepsRoutes lane old new
 adds-routes lane old new i p h k n = ap routes_of (h k n) ∙ empty-adds (slots_in k old) p i
 
-pub same-routes : (lane : ℕ) (old new : List PrefixRow) → new ≡ old → KeepsRoutes lane old new
-same-routes lane old new e k n = ap (λ rows. routes_of (slots_in k rows)) e
-
 -- a table is this one, or another
 by-lane : (P : ℕ → Type 0) (k lane : ℕ) → P lane → ((k ≡ lane → ⊥) → P k) → P k
 by-lane P k lane here other = ⊎_elim

@@ -346,6 +346,3 @@ looked-passed p old new was between now o l h = record {
       h.within;
   few = let m : now ≤ between + length h.begun = h.few in omega arith;
 }
-
-pub looked-none : (p : Cidr) (routes : List Route) (was now : ℕ) → now ≤ was + 2 → IsLooked routes p was now
-looked-none p routes was now l = record { begun = []; within = tt; few = omega arith }

@@ -1,6 +1,6 @@
--- Rows: the routes of one prefix in each of four tables that stand side by side. Each table has a slot in each row, which may
--- be without routes.
-use Rattle.std.specs.Prelude.{ℕ, Bool, List, [], ◌∷◌, insert, map, slice_index_or, ◌≡◌}
+-- Rows: the routes of one prefix in each of four tables that stand side by side. Each table has a slot in each row,
+-- which may be without routes. A table beyond the fourth has slots without routes.
+use Rattle.std.specs.Prelude.{ℕ, Bool, List, [], ◌∷◌, insert, map, slice_index_or, ◌≡◌, ◌≢◌}
 use Rattle.dn_model.specs.Cidr.{Cidr}
 use Rattle.dn_model.specs.declared.entry.Route.{Route}
 use Rattle.route_table.specs.Slots.{PrefixRoutes, key_of, routes_of}
@@ -10,11 +10,11 @@ use Rattle.route_table.specs.declared.rows.PrefixRow.{PrefixRow}
 abbrev pub row_key : PrefixRow → ℕ
 row_key row = key_of row.prefix
 
--- the slot of one of the tables
+-- the slot of one of the tables in a row
 abbrev pub slot_in : ℕ → PrefixRow → PrefixRoutes
 slot_in lane row = record { prefix = row.prefix; targets = slice_index_or row.lanes lane [] }
 
--- its slots, one row after another
+-- the slots of one of the tables, one row after another
 abbrev pub slots_in : ℕ → List PrefixRow → List PrefixRoutes
 slots_in lane rows = map (slot_in lane) rows
 
@@ -22,18 +22,18 @@ slots_in lane rows = map (slot_in lane) rows
 abbrev pub tables_in : List PrefixRow → List (List Route)
 tables_in rows = routes_of (slots_in 0 rows) ∷ routes_of (slots_in 1 rows) ∷ routes_of (slots_in 2 rows) ∷ routes_of (slots_in 3 rows) ∷ []
 
--- what always holds of each of them
+-- what always holds of rows: the slots of each of the tables are in order, and the lengths of their prefixes are known
 abbrev pub AreWhole : List PrefixRow → List Bool → Type 0
 AreWhole rows lengths = (lane : ℕ) → IsWhole (slots_in lane rows) lengths
 
--- the tables but this one have the slots that they had
+-- each table but this one has the slots that it had
 abbrev pub KeepsSlots : ℕ → List PrefixRow → List PrefixRow → Type 0
-KeepsSlots lane old new = (k : ℕ) → (k ≡ lane → ⊥) → slots_in k new ≡ slots_in k old
+KeepsSlots lane old new = (k : ℕ) → k ≢ lane → slots_in k new ≡ slots_in k old
 
--- or the routes
+-- each table but this one has the routes that it had
 abbrev pub KeepsRoutes : ℕ → List PrefixRow → List PrefixRow → Type 0
-KeepsRoutes lane old new = (k : ℕ) → (k ≡ lane → ⊥) → routes_of (slots_in k new) ≡ routes_of (slots_in k old)
+KeepsRoutes lane old new = (k : ℕ) → k ≢ lane → routes_of (slots_in k new) ≡ routes_of (slots_in k old)
 
--- or one more at a place, without routes
+-- each table but this one has the slots that it had, and one more at a place, without routes
 abbrev pub AddsSlots : ℕ → List PrefixRow → List PrefixRow → ℕ → Cidr → Type 0
-AddsSlots lane old new place p = (k : ℕ) → (k ≡ lane → ⊥) → slots_in k new ≡ insert (slots_in k old) place (record { prefix = p; targets = [] })
+AddsSlots lane old new place p = (k : ℕ) → k ≢ lane → slots_in k new ≡ insert (slots_in k old) place (record { prefix = p; targets = [] })

@@ -15,8 +15,8 @@ use crate::table::prefix_around;
 use dn_model::{Prefix, Target};
 use version_pages::Pages;
 
-/// What the first route of the longest prefix does that is shorter than a prefix, holds it and has routes. The place is that
-/// of the prefix; the first address of the row before it may be at hand.
+/// What the first route of the longest prefix does that is shorter than a prefix, holds it and has routes. The place is
+/// that of the prefix; the first address of the row before it may be at hand.
 pub fn first_above(
     rows: &Pages<PrefixRow>,
     lane: usize,

@@ -4,7 +4,7 @@ ghost use Rattle.std.specs.Prelude.{◌≡◌, ◌<◌, ◌≤◌, ◌+◌, ◌^
 ghost use Rattle.dn_model.specs.Cidr.{IsCidr, size};
 ghost use Rattle.route_table.specs.Along.{along, begins_past, gap};
 ghost use Rattle.route_table.specs.Ascending.{IsFound};
-ghost use Rattle.route_table.specs.Own.{AreOwnRuns, BeginWithin, IsPassed};
+ghost use Rattle.route_table.specs.Own.{AreOwnRuns, IsPassed};
 ghost use Rattle.route_table.specs.Rows.{slots_in};
 ghost use Rattle.route_table.specs.Slots.{AreSlots, key_of, routes_of, slot_key};
 
@@ -44,8 +44,8 @@ struct Walk {
     ended: bool,
 }
 
-/// Goes over the slots of one table in some rows, and adds the gaps between those with routes. It looks at the routes of
-/// those alone that don't lie within one that it has gone past.
+/// Goes over the slots of one table in some rows, and adds the gaps between those with routes. It looks at the routes
+/// of those alone that don't lie within one that it has gone past.
 fn walk_page<L: Ledger>(
     page: &[PrefixRow],
     lane: usize,
@@ -59,8 +59,8 @@ fn walk_page<L: Ledger>(
     requires past { past ≤ 2 ^ 32 }
     ensures at { IfOk result (λ walk.
         walk.at ≡ (along past (record { at = at; runs = runs.old.items; begun = [] }) (slots_in lane page.now)).at) }
-    ensures runs { OnOk result (
-        runs.new.items ≡ (along past (record { at = at; runs = runs.old.items; begun = [] }) (slots_in lane page.now)).runs) }
+    ensures runs { OnOk result (runs.new.items ≡
+        (along past (record { at = at; runs = runs.old.items; begun = [] }) (slots_in lane page.now)).runs) }
     ensures ended { IfOk result (λ walk. IsTrue walk.ended → begins_past past (slots_in lane page.now) ≡ true) }
     ensures cost { steps.new ≤ steps.old +
         length (along past (record { at = at; runs = runs.old.items; begun = [] }) (slots_in lane page.now)).begun }

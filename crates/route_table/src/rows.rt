@@ -1,6 +1,6 @@
 //! The routes of the prefixes of four tables.
 
-ghost use Rattle.std.specs.Prelude.{◌≡◌, ◌<◌, ◌≤◌, ◌∷◌, ℕ, [], None, OnOk, OnErr, IfOk, IfSome, IfNone, IsFalse, IsTrue, IsPermutation, length, slice_index_or};
+ghost use Rattle.std.specs.Prelude.{◌≡◌, ◌≢◌, ◌<◌, ◌≤◌, ◌∷◌, ℕ, [], None, OnOk, OnErr, IfOk, IfSome, IfNone, IsFalse, IsTrue, IsPermutation, length, slice_index_or};
 ghost use Rattle.dn_model.specs.Cidr.{IsCidr};
 ghost use Rattle.route_table.specs.Ascending.{AscendsFrom, IsFound, IsGap, IsPlace};
 ghost use Rattle.route_table.specs.Rows.{row_key, slot_in, slots_in, AddsSlots, KeepsSlots};
@@ -12,11 +12,11 @@ use dn_model::{Op, OutOfMemory, Prefix, Target};
 use std::alloc::{AllocError, Global};
 use version_pages::{Keyed, Pages};
 
-/// How many tables stand side by side.
+/// How many tables stand side by side. They are numbered from 0.
 pub const LANES: usize = 4;
 
-/// The routes of one prefix in each of the tables: what they do, by metric. Where all of them were cleared it stays, with
-/// none.
+/// The routes of one prefix in each of the tables: what they do, by metric. What one table has of them is its slot in
+/// the row. A row whose routes are all cleared stays.
 #[derive(Drop)]
 pub struct PrefixRow {
     pub prefix: Prefix,
@@ -120,7 +120,8 @@ pub fn changes(row: &PrefixRow, lane: usize, op: &Op) -> bool
     }
 }
 
-/// Makes an update of its prefix among the routes of a slot. After `OutOfMemory`, for which alone it fails, they are as before.
+/// Makes an update of its prefix among the routes of a slot. After `OutOfMemory`, for which alone it fails, they are as
+/// before.
 fn update_targets(targets: &mut TargetsByMetric, op: &Op) -> Result<(), OutOfMemory>
     ensures ok { OnOk result (IsPermutation targets.new (updated_targets targets.old op.now)) }
     ensures err { OnErr result (targets.new ≡ targets.old) }
@@ -138,7 +139,7 @@ fn update_targets(targets: &mut TargetsByMetric, op: &Op) -> Result<(), OutOfMem
 fn update_in(row: &mut PrefixRow, lane: usize, op: &Op) -> Result<Option<Target>, OutOfMemory>
     requires { lane < 4 }
     ensures ok { IfOk result (λ first. IsUpdatedIn (slot_in lane row.old) (slot_in lane row.new) op.now first) }
-    ensures others { (k : ℕ) → (k ≡ lane → ⊥) → slot_in k row.new ≡ slot_in k row.old }
+    ensures others { (k : ℕ) → k ≢ lane → slot_in k row.new ≡ slot_in k row.old }
     ensures err { OnErr result (row.new ≡ row.old) }
 {
     update_targets(&mut row.lanes[lane], op)?;
@@ -169,7 +170,7 @@ fn row_of(alloc: Global, lane: usize, prefix: Prefix, metric: u32, target: Targe
     requires { lane < 4 }
     ensures prefix { result.prefix ≡ prefix }
     ensures targets { (slot_in lane result).targets ≡ record { metric = metric; target = target } ∷ [] }
-    ensures others { (k : ℕ) → (k ≡ lane → ⊥) → (slot_in k result).targets ≡ [] }
+    ensures others { (k : ℕ) → k ≢ lane → (slot_in k result).targets ≡ [] }
 {
     let mut lanes = [
         TargetsByMetric::none(alloc),
@@ -181,8 +182,8 @@ fn row_of(alloc: Global, lane: usize, prefix: Prefix, metric: u32, target: Targe
     PrefixRow { prefix, lanes }
 }
 
-/// Puts a row at a place, with one route of a prefix in one of the tables. After `OutOfMemory`, for which alone it fails, all
-/// is as before.
+/// Puts a row at a place, with one route of a prefix in one of the tables. After `OutOfMemory`, for which alone it
+/// fails, all is as before.
 pub fn add_at(
     alloc: Global,
     rows: &mut Pages<PrefixRow>,

@@ -33,11 +33,12 @@ fn page_near(rows: &Pages<PrefixRow>, near: u64) -> (&[PrefixRow], u64, usize)
     (page, first, (place - first) as usize)
 }
 
-/// Where a search for the row of a prefix ends, where that is in the page of a place, and behind its first row or at the
-/// very beginning. It looks first there.
+/// Where a search for the row of a prefix ends, where that is in the page of a place, and behind its first row or at
+/// the very beginning. It looks first there.
 fn look_near(rows: &Pages<PrefixRow>, near: u64, prefix: Prefix) -> Option<Spot<'_>>
     requires { (lane : ℕ) → AreSlots (slots_in lane rows.now) }
-    ensures place { (lane : ℕ) → IfSome result (λ spot. IsPlace slot_key (slots_in lane rows.now) (key_of prefix) spot.place) }
+    ensures place { (lane : ℕ) → IfSome result (λ spot.
+        IsPlace slot_key (slots_in lane rows.now) (key_of prefix) spot.place) }
     ensures found { (lane : ℕ) → IfSome result (λ spot. IfSome spot.row (λ _.
         IsFound slot_key (slots_in lane rows.now) (key_of prefix) spot.place)) }
     ensures row { (lane : ℕ) (d : Slot) → IfSome result (λ spot. IfSome spot.row (λ row.
@@ -109,7 +110,8 @@ pub fn look(rows: &Pages<PrefixRow>, near: u64, prefix: Prefix) -> Spot<'_>
 }
 
 /// Where to look next in a search that is left with the places from `low` up to, and without, `high`, and that looked
-/// first at `near`: on the other side of what it has looked at there, each time twice as far away, and at most half way.
+/// first at `near`: on the other side of what it has looked at there, each time twice as far away, and at most half
+/// way.
 fn next_look(low: usize, high: usize, near: usize) -> usize
     requires { low < high }
     ensures from { low ≤ result }

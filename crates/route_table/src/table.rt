@@ -22,8 +22,8 @@ use version_pages::Pages;
 ///
 /// They stand by prefix in shared pages: a copy is one count, and an update copies only the page of its prefix and the
 /// way to it, where a copy holds them too. A prefix whose routes are all cleared keeps its row, so a table takes memory
-/// for each prefix that was ever set. It is the first of four that stand side by side, of which the others are empty:
-/// `RouteTables` has the routes of four routers in the same memory.
+/// for each prefix that was ever set. A row has room for the routes of four tables, of which this one uses the first:
+/// `RouteTables` uses all.
 #[derive(Drop)]
 pub struct RouteTable {
     rows: Pages<PrefixRow>,
@@ -60,7 +60,8 @@ impl RouteTable {
     pub fn least_of(&self, prefix: Prefix) -> Option<Route>
         ensures table { IsTable self.now }
         ensures none { IfNone result ((r : RouteIs) → Contains self.now r → IsFalse (is_of_prefix prefix r)) }
-        ensures some { IfSome result (λ b. Contains self.now b × (b.prefix ≡ prefix) × ((r : RouteIs) → Contains self.now r → IsTrue (is_of_prefix prefix r) → b.metric ≤ r.metric)) }
+        ensures some { IfSome result (λ b. Contains self.now b × (b.prefix ≡ prefix) ×
+            ((r : RouteIs) → Contains self.now r → IsTrue (is_of_prefix prefix r) → b.metric ≤ r.metric)) }
     {
         let place = place_of(&self.rows, prefix);
         let Some(row) = row_at(&self.rows, place, prefix) else {
@@ -112,8 +113,11 @@ impl RouteTable {
     /// Of the routes whose prefixes have this length and cover an address the one with the least metric.
     fn best_of_length(&self, a: u32, len: u8) -> Option<Route>
         requires { len ≤ 32 }
-        ensures none { IfNone result ((r : RouteIs) → Contains self.now r → IsTrue (covers r.prefix a) → r.prefix.len ≡ len → ⊥) }
-        ensures some { IfSome result (λ b. Contains self.now b × IsTrue (covers b.prefix a) × (b.prefix.len ≡ len) × ((r : RouteIs) → Contains self.now r → IsTrue (covers r.prefix a) → r.prefix.len ≡ len → b.metric ≤ r.metric)) }
+        ensures none { IfNone result ((r : RouteIs) →
+            Contains self.now r → IsTrue (covers r.prefix a) → r.prefix.len ≡ len → ⊥) }
+        ensures some { IfSome result (λ b.
+            Contains self.now b × IsTrue (covers b.prefix a) × (b.prefix.len ≡ len) × ((r : RouteIs) →
+            Contains self.now r → IsTrue (covers r.prefix a) → r.prefix.len ≡ len → b.metric ≤ r.metric)) }
         ensures table { IsTable self.now }
     {
         self.least_of(prefix_around(a, len))

@@ -18,13 +18,14 @@ use std::sync::ledger::Ledger;
 use step_count::Steps;
 use version_pages::Pages;
 
-/// The routes of four routers, numbered from 0. A contract sees the list of their tables, each of which is the list of its
-/// routes, whose order means nothing: each prefix and metric is there once.
+/// The routes of four routers, numbered from 0. A contract sees the list of their tables, each of which is the list of
+/// its routes, whose order means nothing: each prefix and metric is there once.
 ///
-/// They stand side by side by prefix in shared pages: routers next to one another often have the same prefixes, one shortly
-/// after another, and then find the memory of each at hand. A copy is one count, and an update copies only the page of its
-/// prefix and the way to it, where a copy holds them too. A prefix that ever had a route at one of the routers takes memory
-/// for all four, and keeps it.
+/// Their routes of a prefix stand side by side, in order of the prefixes, in shared pages: where the routers are told
+/// of the same prefixes at about the same time, what one has read is still in the processor's cache for the next. A
+/// copy is one count, and an update copies only the page of its prefix, with the routes of all four, and the way to it,
+/// where a copy holds them too. A prefix that ever had a route at one of the routers takes memory for all four, and
+/// keeps it.
 #[derive(Drop)]
 pub struct RouteTables {
     rows: Pages<PrefixRow>,
@@ -60,15 +61,17 @@ impl RouteTables {
         self.rows.len()
     }
 
-    /// Makes an update of one router, and tells the runs of the own addresses of its prefix, at which no longer prefix has a
-    /// route there: it answers what that router does there after it. Where it answers nothing, the same is done everywhere.
-    /// The other routers' tables stay as they are. The row of the prefix is looked for first near a place: any will do. It
-    /// fails for want of memory alone, and then the router's table may be changed.
+    /// Makes an update of the router that has this number, from 0 to 3, and tells the runs of the own addresses of its
+    /// prefix, at which the router has no route of a longer one: it answers what the router does there after it. Where
+    /// it answers nothing, the router does the same everywhere. The other routers' tables stay as they are. The row of
+    /// the prefix is looked for first near a place: any will do. It fails for want of memory alone, and then the
+    /// router's table may be changed.
     ///
-    /// A step is a look at the router's routes of one prefix that has some, or at what is done above one that has none. It
-    /// takes two at most, and one for each of some different addresses of the prefix at which prefixes of its routes begin:
-    /// those of the longer prefixes with routes within it, of which none lies in another. Rows where this router has no route
-    /// are passed over without a step. A clearing of a prefix without routes answers nothing.
+    /// A step is a look at the router's routes of one prefix that has some, or at what it does above one that has none.
+    /// It takes two at most, and one for each of some different addresses of the prefix at which prefixes of the
+    /// router's routes begin: those of the longer prefixes with routes within it, of which none lies in another. Rows
+    /// in which the router has no route are passed over without a step. A clearing of a prefix without routes answers
+    /// nothing.
     pub fn update<L: Ledger>(
         &mut self,
         alloc: Global,

@@ -30,8 +30,9 @@ impl MetricTarget {
     }
 }
 
-/// What the routes of one prefix do, by ascending metric, each metric once. A contract sees the list. Almost all prefixes have
-/// one route: that stands here and takes no memory; more are a list behind a pointer, and each call looks at all of them.
+/// What the routes of one prefix do, by ascending metric, each metric once. A contract sees the list. Almost all
+/// prefixes have one route: that stands here and takes no memory; more are a list behind a pointer, and each call looks
+/// at all of them.
 #[derive(Drop)]
 pub struct TargetsByMetric {
     held: Held,
@@ -109,7 +110,8 @@ impl TargetsByMetric {
     /// The one with the least metric.
     pub fn first(&self) -> Option<MetricTarget>
         ensures none { IfNone result (self.now ≡ []) }
-        ensures some { IfSome result (λ x. Contains self.now x × ((y : Entry) → Contains self.now y → x.metric ≤ y.metric)) }
+        ensures some { IfSome result (λ x. Contains self.now x ×
+            ((y : Entry) → Contains self.now y → x.metric ≤ y.metric)) }
     {
         self.as_slice().first().copied()
     }
@@ -211,8 +213,8 @@ fn put_beside(alloc: Global, other: MetricTarget, entry: MetricTarget) -> Result
     Ok(Held::More(targets))
 }
 
-/// Puts a route among others, in the place of the one with the same metric. After `OutOfMemory`, for which alone it fails,
-/// they are as before.
+/// Puts a route among others, in the place of the one with the same metric. After `OutOfMemory`, for which alone it
+/// fails, they are as before.
 fn put(targets: &mut Vec<MetricTarget>, entry: MetricTarget) -> Result<(), OutOfMemory>
     requires { AscendsFrom metric_of 0 targets.old.items }
     ensures ok { OnOk result (

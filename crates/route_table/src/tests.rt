@@ -275,7 +275,8 @@ fn a_copy_is_held_across_many_updates(rt: HostRuntime) {
     compare_plainly(&rt, rt.alloc(), &held, &old);
 }
 
-/// An update of the third of four tables, which is looked for first at the first row, answers this and tells these runs.
+/// An update of the third of four tables, which is looked for first at the first row, answers this and tells these
+/// runs.
 fn compare_update<L: Ledger>(
     rt: &impl Abort,
     alloc: Global,
@@ -410,7 +411,8 @@ fn compare_turned(
     }
 }
 
-/// An update of one of four tables, and of the table of that router alone, which shows whether what the first told is so.
+/// An update of one of four tables, and of the table of that router alone, which shows whether what the first told is
+/// so.
 fn update_beside<L: Ledger>(
     rt: &impl Abort,
     alloc: Global,
@@ -433,12 +435,12 @@ fn update_beside<L: Ledger>(
     compare_turned(rt, &before, alone, &runs, after);
 }
 
-/// Updates of the second and the last of four tables in turn.
+/// Updates of the first and the last of four tables in turn.
 fn update_in_turn<L: Ledger>(
     rt: &impl Abort,
     alloc: Global,
     tables: &mut RouteTables,
-    second: &mut RouteTable,
+    first: &mut RouteTable,
     last: &mut RouteTable,
     seed: u64,
     steps: &mut Steps<L>,
@@ -446,7 +448,7 @@ fn update_in_turn<L: Ledger>(
     let mut draw = seed;
     for _ in 0..200u32 {
         draw = next_draw(draw);
-        update_beside(rt, alloc, tables, 1, second, draw, steps);
+        update_beside(rt, alloc, tables, 0, first, draw, steps);
         draw = next_draw(draw);
         update_beside(rt, alloc, tables, 3, last, draw, steps);
     }
@@ -459,19 +461,19 @@ fn updates_near_any_place<L: Ledger>(rt: &impl Abort, alloc: Global, blank: Blan
 {
     let steps = &mut Steps::<L>::new(blank);
     let tables = &mut RouteTables::new();
-    let second = &mut RouteTable::new();
+    let first = &mut RouteTable::new();
     let last = &mut RouteTable::new();
-    update_in_turn(rt, alloc, tables, second, last, 3, steps);
+    update_in_turn(rt, alloc, tables, first, last, 3, steps);
     let held = &mut tables.copy().expect(rt, "memory");
-    let held_second = &mut copied(rt, second);
+    let held_first = &mut copied(rt, first);
     let held_last = &mut copied(rt, last);
-    update_in_turn(rt, alloc, tables, second, last, 4, steps);
-    update_in_turn(rt, alloc, held, held_second, held_last, 5, steps);
-    update_in_turn(rt, alloc, tables, second, last, 6, steps);
+    update_in_turn(rt, alloc, tables, first, last, 4, steps);
+    update_in_turn(rt, alloc, held, held_first, held_last, 5, steps);
+    update_in_turn(rt, alloc, tables, first, last, 6, steps);
 }
 
 /// Some hundred prefixes stand in several pages, many within others, and a copy is held and then changed too.
 #[test]
-fn four_tables_side_by_side_do_what_each_alone_does(rt: HostRuntime) {
+fn tables_side_by_side_do_what_each_alone_does(rt: HostRuntime) {
     updates_near_any_place::<Brand>(&rt, rt.alloc(), Blank::new(1));
 }

@@ -4,12 +4,12 @@ ghost use Rattle.std.specs.Prelude.{ℕ, ◌≡◌, ◌<◌, ◌+◌, None, IfOk
 ghost use Rattle.dn_model.specs.Cidr.{IsCidr};
 ghost use Rattle.dn_model.specs.Entry.{prefix_of_op};
 ghost use Rattle.dn_model.specs.Table.{after_op};
-ghost use Rattle.route_table.specs.Above.{HasLength, IsDoneAbove};
-ghost use Rattle.route_table.specs.Ascending.{IsFound, IsGap, IsPlace};
+ghost use Rattle.route_table.specs.Above.{IsDoneAbove};
+ghost use Rattle.route_table.specs.Ascending.{IsFound, IsGap};
 ghost use Rattle.route_table.specs.Made.{IsMade};
-ghost use Rattle.route_table.specs.Rows.{slots_in, AddsSlots, AreWhole, KeepsRoutes};
+ghost use Rattle.route_table.specs.Rows.{slots_in, AreWhole, KeepsRoutes};
 ghost use Rattle.route_table.specs.Searches.{IsBaseBefore};
-ghost use Rattle.route_table.specs.Slots.{key_of, routes_of, slot_key, AreSlots, IsAddedAt};
+ghost use Rattle.route_table.specs.Slots.{key_of, routes_of, slot_key};
 
 use crate::above::first_above;
 use crate::lengths::Lengths;
@@ -21,8 +21,8 @@ use std::sync::ledger::Ledger;
 use step_count::Steps;
 use version_pages::Pages;
 
-/// An update that was made in the row of its prefix: where that stands, the first address of the prefix of the row before
-/// it, if that was at hand, and what the prefix's route with the least metric did and does.
+/// An update that was made in the row of its prefix: where that stands, the first address of the prefix of the row
+/// before it, if that was at hand, and what the prefix's route with the least metric did and does.
 #[derive(Clone, Copy, Debug, PartialEq, Eq)]
 pub struct Made {
     pub place: u64,
@@ -31,9 +31,9 @@ pub struct Made {
     pub first: Option<Target>,
 }
 
-/// Makes an update of one of the tables in the row of its prefix, which is put there where there is none. It answers nothing
-/// where that changes nothing. The row is looked for first near a place: any will do. After `OutOfMemory`, for which alone
-/// it fails, all is as before.
+/// Makes an update of one of the tables in the row of its prefix, which is put there where there is none. It answers
+/// nothing where that changes nothing. The row is looked for first near a place: any will do. After `OutOfMemory`, for
+/// which alone it fails, all is as before.
 pub fn make(
     alloc: Global,
     rows: &mut Pages<PrefixRow>,
@@ -74,7 +74,7 @@ pub fn make(
     }))
 }
 
-/// Makes an update of a prefix that has no row: a clearing changes nothing.
+/// Makes an update of a prefix that has no row, which belongs at a place: a clearing changes nothing.
 fn make_first(
     alloc: Global,
     rows: &mut Pages<PrefixRow>,
@@ -106,7 +106,8 @@ fn make_first(
     else {
         return Ok(None);
     };
-    begin(alloc, rows, lane, lengths, place, *prefix, *metric, *target)?;
+    add_at(alloc, rows, lane, place, *prefix, *metric, *target)?;
+    lengths.add(prefix.len());
     Ok(Some(Made {
         place,
         base,
@@ -115,34 +116,8 @@ fn make_first(
     }))
 }
 
-/// Puts a row at the place of its prefix, with one route in one of the tables. After `OutOfMemory`, for which alone it fails,
-/// all is as before.
-fn begin(
-    alloc: Global,
-    rows: &mut Pages<PrefixRow>,
-    lane: usize,
-    lengths: &mut Lengths,
-    place: u64,
-    prefix: Prefix,
-    metric: u32,
-    target: Target,
-) -> Result<(), OutOfMemory>
-    requires lane { lane < 4 }
-    requires whole { AreWhole rows.old lengths.old }
-    requires gap { (k : ℕ) → IsGap slot_key (slots_in k rows.old) (key_of prefix) place }
-    requires sound { IsCidr prefix }
-    ensures ok { OnOk result (IsAddedAt (slots_in lane rows.old) (slots_in lane rows.new) place prefix metric target) }
-    ensures err { OnErr result (rows.new ≡ rows.old) }
-    ensures others { KeepsRoutes lane rows.old rows.new }
-    ensures whole { AreWhole rows.new lengths.new }
-{
-    add_at(alloc, rows, lane, place, prefix, metric, target)?;
-    lengths.add(prefix.len());
-    Ok(())
-}
-
-/// What is done at the own addresses of a prefix whose routes all were cleared: that of the prefix above it. It is one step,
-/// however many prefixes without routes are passed over on the way.
+/// What is done at the own addresses of a prefix whose routes all were cleared: that of the prefix above it. It is one
+/// step, however many prefixes without routes are passed over on the way.
 pub fn done_above<L: Ledger>(
     rows: &Pages<PrefixRow>,
     lane: usize,

@@ -1,4 +1,4 @@
-use Rattle.route_table.proofs.tests.four_tables_side_by_side_do_what_each_alone_does.Given as goal
+use Rattle.route_table.proofs.tests.tables_side_by_side_do_what_each_alone_does.Given as goal
 
 -- the ledger of the blank
 abbrev pub ghosts-updates_near_any_place : goal.ghosts-updates_near_any_place

@@ -55,9 +55,10 @@ impl Version {
     ///
     /// A step is a look at one set of rules: the routes that the router has of one prefix, or what it does above a prefix that
     /// has none any more. It takes at most two more than there are atoms that have an address of the prefix, of which there
-    /// are as many after the update as before it. Searches, prefixes that are passed over since they have no route any more
-    /// or lie within one that was looked at, and what is read and written at the atoms take no step. A setting adds an atom
-    /// for each end of the prefix at which none begins yet, and a clearing adds none.
+    /// are as many after the update as before it. Searches, prefixes that are passed over since the router has no route of
+    /// them, as where its neighbours have one or it had one, or since they lie within one that was looked at, and what is
+    /// read and written at the atoms take no step. A setting adds an atom for each end of the prefix at which none begins
+    /// yet, and a clearing adds none.
     pub fn advance<L: Ledger>(
         self,
         alloc: Global,

@@ -45,7 +45,7 @@ impl Guide {
         }
     }
 
-    /// A place from which on to look for an address.
+    /// A place near which to look for an address.
     pub fn place(&self, at: u32) -> u64 {
         match &self.begun {
             Some(begun) => guess(begun, (at >> BITS) as usize, u64::from(at % (1 << BITS))),

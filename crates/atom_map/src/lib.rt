@@ -5,8 +5,6 @@
 mod guide;
 mod map;
 mod search;
-#[cfg(test)]
-mod tests;
 
 pub use guide::Guide;
 pub use map::AtomMap;

@@ -125,8 +125,8 @@ impl AtomMap {
         place_from(&self.rows, self.guide.place(a), a)
     }
 
-    /// The place of the atom that has an address. It looks first in the page of a place that is at hand, from there on: where
-    /// the atom is that one or little behind it, it is found in one descent.
+    /// The place of the atom that has an address. It looks first in the page of a place that is at hand, right behind that
+    /// place: where the atom stands in that page, it is found in one descent.
     pub fn place_from(&self, near: u64, a: u32) -> u64
         ensures inside { result < length self.now }
         ensures from { (d : AtomRow) → (slice_index_or self.now result d).low ≤ a }
@@ -139,7 +139,8 @@ impl AtomMap {
     }
 
     /// The places of the atoms that have two addresses, the second of which isn't below the first. It looks first in the page
-    /// of a place that may be at hand, from there on: where both atoms stand there, they are found in one descent.
+    /// of a place that may be at hand, right behind that place: where both atoms stand in that page, they are found in one
+    /// descent.
     pub fn places_from(&self, near: Option<u64>, lo: u32, hi: u32) -> (u64, u64)
         ensures first { IsAtomPlace self.now result.0 lo }
         ensures last { IsAtomPlace self.now result.1 hi }
@@ -172,7 +173,8 @@ impl AtomMap {
         spot_from(&self.rows, self.guide.place(a), a)
     }
 
-    /// The atom of an address and its place. It looks first in the page of a place that is at hand, from there on.
+    /// The atom of an address and its place. It looks first in the page of a place that is at hand, right behind that
+    /// place.
     pub fn spot_from(&self, near: u64, a: u32) -> AtomSpot
         ensures { IsAtomAt self.now result.place a result.row }
     {

@@ -1,13 +1,13 @@
 //! Atoms in order: the one of an address, the first ones, and two in the place of one.
 
-ghost use Rattle.std.specs.Prelude.{◌≡◌, ◌<◌, ◌≤◌, ◌^◌, IfOk, IfSome, OnOk, OnErr, length, map, drop, slice_index_or, take};
+ghost use Rattle.std.specs.Prelude.{◌≡◌, ◌<◌, ◌≤◌, ◌^◌, IfOk, IfSome, OnOk, OnErr, length, map, drop, slice_index_or};
 ghost use Rattle.dn_model.specs.Atoms.{AreAtoms, atom_of};
 ghost use Rattle.dn_model.specs.declared.atom_row.AtomRow.{AtomRow};
 ghost use Rattle.atom_map.specs.Index.{first_below, AgreeBelow, IsAtomAt, IsAtomPlace, IsNoted, IsPartedAt};
 
 use dn_model::{AtomId, AtomRow, OutOfMemory};
 use std::alloc::Global;
-use version_pages::{Keyed, Pages};
+use version_pages::{Keyed, Pages, count_below_from};
 
 /// The atom of an address, and its place: how many atoms go before it.
 #[derive(Clone, Copy, Debug, PartialEq, Eq)]
@@ -38,86 +38,17 @@ pub fn place_of(rows: &Pages<AtomRow>, a: u32) -> u64
     past - 1
 }
 
-/// How many of these atoms end at an address or below it, of which so many are known to. Its steps grow as it goes up, so
-/// that it looks at few of them where the count is little more.
-fn count_up(run: &[AtomRow], from: usize, a: u32) -> usize
-    requires { from ≤ length run.now }
-    ensures inside { result ≤ length run.now }
-    ensures after { (d : AtomRow) → result < length run.now → a < (slice_index_or run.now result d).past }
-{
-    let mut low = from;
-    let mut high = run.len();
-    'halving: while low < high {
-        let middle = low + ((high - low) / 2).min(low - from);
-        if run[middle].past <= u64::from(a) {
-            low = middle + 1;
-        } else {
-            high = middle;
-        }
-    }
-    low
-}
-
-/// How many of these atoms end at an address or below it, where the one at a place is known to end above it. Its steps
-/// grow as it goes down, so that it looks at few of them where the count is little less.
-fn count_down(run: &[AtomRow], from: usize, a: u32) -> usize
-    requires inside { from ≤ length run.now }
-    requires after { (d : AtomRow) → from < length run.now → a < (slice_index_or run.now from d).past }
-    ensures inside { result ≤ length run.now }
-    ensures after { (d : AtomRow) → result < length run.now → a < (slice_index_or run.now result d).past }
-{
-    let mut low = 0;
-    let mut high = from;
-    'halving: while low < high {
-        let middle = high - 1 - ((high - low) / 2).min(from - high);
-        if run[middle].past <= u64::from(a) {
-            low = middle + 1;
-        } else {
-            high = middle;
-        }
-    }
-    low
-}
-
-/// How many of these atoms end at an address or below it. It looks at few of them where the count is near to the one that
-/// is expected, and at the last alone where all of them do and more are expected.
-fn count_below(run: &[AtomRow], expected: usize, a: u32) -> usize
-    ensures inside { result ≤ length run.now }
-    ensures after { (d : AtomRow) → result < length run.now → a < (slice_index_or run.now result d).past }
-{
-    let Some(last) = run.len().checked_sub(1) else {
-        return 0;
-    };
-    let first = expected.min(last);
-    if run[first].past <= u64::from(a) {
-        return count_up(run, first + 1, a);
-    }
-    return count_down(run, first, a);
-}
-
-/// Which of these atoms has an address. It looks first where it is expected.
+/// Which of these atoms has an address: the last that doesn't begin above it, unless it ends before it, as the last of a
+/// page may. It looks first where the atom is expected.
 fn place_in(run: &[AtomRow], expected: usize, a: u32) -> Option<usize>
     ensures { IfSome result (λ place. IsAtomPlace run.now place a) }
 {
-    let below = count_below(run, expected, a);
-    if below == run.len() {
+    let begun = count_below_from(run, u64::from(a) + 1, expected.saturating_add(1));
+    let place = begun.checked_sub(1)?;
+    if run[place].past <= u64::from(a) {
         return None;
     }
-    let low = run[below].low;
-    if low > u64::from(a) {
-        return None;
-    }
-    Some(below)
-}
-
-/// The page of the atom at a place, or the last page where there are fewer, with the place of its first atom, and how many
-/// of its atoms go before that place.
-fn page_near(rows: &Pages<AtomRow>, near: u64) -> (&[AtomRow], u64, usize)
-    ensures { take (length result.0.now) (drop result.1 rows.now) ≡ result.0.now }
-{
-    let place = near.min(rows.len().saturating_sub(1));
-    let (page, first) = rows.page_at(place);
-    (page, first, (place - first) as usize)
+    Some(place)
 }
 
 /// The atom of an address, where it stands in one page with the atom at a place. It looks first so many places behind that
@@ -126,7 +57,7 @@ pub fn spot_near(rows: &Pages<AtomRow>, near: u64, expected: usize, a: u32) -> O
     requires { AreAtoms rows.now }
     ensures { IfSome result (λ spot. IsAtomAt rows.now spot.place a spot.row) }
 {
-    let (page, first, at) = page_near(rows, near);
+    let (page, first, at) = rows.page_near(near);
     let below = place_in(page, at.saturating_add(expected), a)?;
     let place = first + below as u64;
     Some(AtomSpot {
@@ -148,7 +79,7 @@ pub fn places_near(
     ensures first { IfSome result (λ places. IsAtomPlace rows.now places.0 lo) }
     ensures last { IfSome result (λ places. IsAtomPlace rows.now places.1 hi) }
 {
-    let (page, from, at) = page_near(rows, near);
+    let (page, from, at) = rows.page_near(near);
     let first = place_in(page, at.saturating_add(expected), lo)?;
     let last = place_in(page, first, hi)?;
     Some((from + first as u64, from + last as u64))

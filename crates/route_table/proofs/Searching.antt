@@ -1,4 +1,4 @@
--- What a look at one page of slots finds among all of them.
+-- What a look at one page finds among all rows.
 use Rattle.std.proofs.Common.{◌≡◌, ◌≢◌, ℕ, ◌+◌, ◌-◌, ◌<◌, ◌≤◌, ◌^◌, ◌∙◌, Option, Some, None, List, [], ◌∷◌, length, get_or, take, drop, min, ap, sym, subst, ⊎_elim, arith}
 use Rattle.std.specs.List.{AllByRecursion}
 use Rattle.std.specs.Option.{IfNone, IfSome}
@@ -11,17 +11,17 @@ use Rattle.route_table.specs.Slots.{AreSlots, IsSlot, PrefixRoutes, slot_key}
 use Rattle.route_table.proofs.Places.{found-at, gap-at, place-of}
 
 -- what stands in a page stands among all
-page-read : (slots page : List PrefixRoutes) (first k : ℕ) (d : PrefixRoutes) → take (length page) (drop first slots) ≡ page → k < length page → get_or page k d ≡ get_or slots (first + k) d
-page-read slots page first k d is l =
-    ap (λ (xs : List PrefixRoutes). get_or xs k d) (sym is)
-    ∙ get_or-take (length page) (drop first slots) k d l
-    ∙ get_or-drop first slots k d
+page-read : {T : Type 0} (rows page : List T) (first k : ℕ) (d : T) → take (length page) (drop first rows) ≡ page → k < length page → get_or page k d ≡ get_or rows (first + k) d
+page-read {T} rows page first k d is l =
+    ap (λ (xs : List T). get_or xs k d) (sym is)
+    ∙ get_or-take (length page) (drop first rows) k d l
+    ∙ get_or-drop first rows k d
 
-page-inside : (slots page : List PrefixRoutes) (first : ℕ) → take (length page) (drop first slots) ≡ page → 0 < length page → first + length page ≤ length slots
-page-inside slots page first is l =
-    let e : length (take (length page) (drop first slots)) ≡ length page = ap (λ (xs : List PrefixRoutes). length xs) is in
-    let m : length (take (length page) (drop first slots)) ≡ min (length page) (length (drop first slots)) = length-take (length page) (drop first slots) in
-    let n : length (drop first slots) ≡ length slots - first = length-drop first slots in
+page-inside : {T : Type 0} (rows page : List T) (first : ℕ) → take (length page) (drop first rows) ≡ page → 0 < length page → first + length page ≤ length rows
+page-inside {T} rows page first is l =
+    let e : length (take (length page) (drop first rows)) ≡ length page = ap (λ (xs : List T). length xs) is in
+    let m : length (take (length page) (drop first rows)) ≡ min (length page) (length (drop first rows)) = length-take (length page) (drop first rows) in
+    let n : length (drop first rows) ≡ length rows - first = length-drop first rows in
     omega arith
 
 -- there are fewer slots than keys
@@ -40,38 +40,38 @@ near-fits slots page first below h is l =
     let few : 0 + length slots ≤ 2 ^ 38 = few-slots 0 slots h.keys h.each (omega arith) in
     omega arith
 
-pub near-place : (slots page : List PrefixRoutes) (first below key seen : ℕ) → AreSlots slots → take (length page) (drop first slots) ≡ page → seen ≡ key → EndsBelow slot_key page seen below → below < length page → (below ≡ 0 → first ≡ 0) → IsPlace slot_key slots key (first + below)
-near-place slots page first below key seen h is same ends l none =
-    let inside : first + length page ≤ length slots = page-inside slots page first is (omega arith) in
-    place-of slot_key 0 slots key (first + below) h.keys (omega arith)
+pub near-place : {T : Type 0} (key_of : T → ℕ) (rows page : List T) (first below key seen : ℕ) → AscendsFrom key_of 0 rows → take (length page) (drop first rows) ≡ page → seen ≡ key → EndsBelow key_of page seen below → below < length page → (below ≡ 0 → first ≡ 0) → IsPlace key_of rows key (first + below)
+near-place key_of rows page first below key seen h is same ends l none =
+    let inside : first + length page ≤ length rows = page-inside rows page first is (omega arith) in
+    place-of key_of 0 rows key (first + below) h (omega arith)
     (λ d m.
     ⊎_elim
     (λ (n : 0 < below).
-    let b : slot_key (get_or page (below - 1) d) < seen = ends.before d n in
-    let r : slot_key (get_or page (below - 1) d) ≡ slot_key (get_or slots (first + (below - 1)) d) = ap slot_key (page-read slots page first (below - 1) d is (omega arith)) in
+    let b : key_of (get_or page (below - 1) d) < seen = ends.before d n in
+    let r : key_of (get_or page (below - 1) d) ≡ key_of (get_or rows (first + (below - 1)) d) = ap key_of (page-read rows page first (below - 1) d is (omega arith)) in
     let e : first + (below - 1) ≡ first + below - 1 = omega arith in
-    subst (λ i. slot_key (get_or slots i d) < key) e (omega arith))
+    subst (λ i. key_of (get_or rows i d) < key) e (omega arith))
     (λ (n : below ≤ 0).
     let z : first ≡ 0 = none (omega arith) in
     absurd (omega arith))
     (cases_lt 0 below))
     (λ d m.
-    let a : seen ≤ slot_key (get_or page below d) = ends.after d l in
-    let r : slot_key (get_or page below d) ≡ slot_key (get_or slots (first + below) d) = ap slot_key (page-read slots page first below d is l) in
+    let a : seen ≤ key_of (get_or page below d) = ends.after d l in
+    let r : key_of (get_or page below d) ≡ key_of (get_or rows (first + below) d) = ap key_of (page-read rows page first below d is l) in
     omega arith)
 
--- the slot at the place, and whether it is that of the key
-pub near-slot : (slots page : List PrefixRoutes) (first below : ℕ) (s d : PrefixRoutes) → take (length page) (drop first slots) ≡ page → below < length page → s ≡ get_or page below s → s ≡ get_or slots (first + below) d
-near-slot slots page first below s d is l read = read ∙ get_or_default page below s d l ∙ page-read slots page first below d is l
+-- the row at the place, and whether it is that of the key
+pub near-row : {T : Type 0} (rows page : List T) (first below : ℕ) (r d : T) → take (length page) (drop first rows) ≡ page → below < length page → r ≡ get_or page below r → r ≡ get_or rows (first + below) d
+near-row rows page first below r d is l read = read ∙ get_or_default page below r d l ∙ page-read rows page first below d is l
 
-pub near-found : (slots page : List PrefixRoutes) (first below key : ℕ) (s : PrefixRoutes) → take (length page) (drop first slots) ≡ page → below < length page → s ≡ get_or page below s → IsPlace slot_key slots key (first + below) → slot_key s ≡ key → IsFound slot_key slots key (first + below)
-near-found slots page first below key s is l read place e =
-    let inside : first + length page ≤ length slots = page-inside slots page first is (omega arith) in
-    found-at slot_key slots key (first + below) s place (omega arith) (ap slot_key (sym (near-slot slots page first below s s is l read)) ∙ e)
+pub near-found : {T : Type 0} (key_of : T → ℕ) (rows page : List T) (first below key : ℕ) (r : T) → take (length page) (drop first rows) ≡ page → below < length page → r ≡ get_or page below r → IsPlace key_of rows key (first + below) → key_of r ≡ key → IsFound key_of rows key (first + below)
+near-found key_of rows page first below key r is l read place e =
+    let inside : first + length page ≤ length rows = page-inside rows page first is (omega arith) in
+    found-at key_of rows key (first + below) r place (omega arith) (ap key_of (sym (near-row rows page first below r r is l read)) ∙ e)
 
-pub near-gap : (slots page : List PrefixRoutes) (first below key : ℕ) (s : PrefixRoutes) → take (length page) (drop first slots) ≡ page → below < length page → s ≡ get_or page below s → IsPlace slot_key slots key (first + below) → slot_key s ≢ key → IsGap slot_key slots key (first + below)
-near-gap slots page first below key s is l read place n =
-    gap-at slot_key slots key (first + below) place (λ d m e. n (ap slot_key (near-slot slots page first below s d is l read) ∙ e))
+pub near-gap : {T : Type 0} (key_of : T → ℕ) (rows page : List T) (first below key : ℕ) (r : T) → take (length page) (drop first rows) ≡ page → below < length page → r ≡ get_or page below r → IsPlace key_of rows key (first + below) → key_of r ≢ key → IsGap key_of rows key (first + below)
+near-gap key_of rows page first below key r is l read place n =
+    gap-at key_of rows key (first + below) place (λ d m e. n (ap key_of (near-row rows page first below r d is l read) ∙ e))
 
 near-base : (slots page : List PrefixRoutes) (first below base : ℕ) → take (length page) (drop first slots) ≡ page → below < length page → IsBaseBefore page below base → IsBaseBefore slots (first + below) base
 near-base slots page first below base is l b =

@@ -1,21 +1,21 @@
 -- The slots of one table among rows that four have together.
-use Rattle.std.proofs.Common.{◌≡◌, ◌<◌, ◌≤◌, ◌-◌, ◌∙◌, ℕ, zero, suc, Option, Bool, true, List, [], ◌∷◌, length, get_or, set, take, drop, refl, ap, sym, subst, ⊎_elim, arith}
+use Rattle.std.proofs.Common.{◌≡◌, ◌+◌, ◌<◌, ◌≤◌, ◌-◌, ◌∙◌, ℕ, zero, suc, Option, Bool, true, List, [], ◌∷◌, length, get_or, set, take, drop, refl, ap, sym, subst, ⊎_elim, arith}
 use Rattle.std.specs.List.{insert}
 use Rattle.std.proofs.lemmas.Bool.{cases_lt}
 use Rattle.std.proofs.lemmas.List.{drop-map, get_or-map, length-map, map-set, take-map}
-use Rattle.version_pages.specs.Search.{EndsBelow}
 use Rattle.dn_model.specs.Cidr.{Cidr, IsCidr}
 use Rattle.dn_model.specs.Entry.{prefix_of_op}
 use Rattle.dn_model.specs.declared.entry.Op.{Op}
 use Rattle.dn_model.specs.declared.entry.Route.{Route}
 use Rattle.dn_model.specs.declared.target.Target.{Target}
-use Rattle.route_table.specs.Ascending.{IsFound, IsGap}
+use Rattle.route_table.specs.Ascending.{AscendsFrom, IsFound, IsGap, IsPlace}
 use Rattle.route_table.specs.Rows.{AddsSlots, AreWhole, KeepsRoutes, KeepsSlots, row_key, slot_in, slots_in, tables_in}
 use Rattle.route_table.specs.Searches.{IsBaseBefore}
 use Rattle.route_table.specs.Slots.{IsAddedAt, IsUpdatedAt, PrefixRoutes, key_of, routes_of, slot_key}
 use Rattle.route_table.specs.Whole.{IsWhole}
 use Rattle.route_table.specs.declared.rows.PrefixRow.{PrefixRow}
 use Rattle.route_table.proofs.Made.{update-whole}
+use Rattle.route_table.proofs.Places.{found-inside}
 use Rattle.route_table.proofs.Whole.{add-whole, empty-adds, empty-whole}
 
 -- ---- what stands at a place
@@ -36,31 +36,33 @@ inside lane rows i l = subst (λ n. i < n) (sym (long lane rows)) l
 pub within : (lane : ℕ) (rows : List PrefixRow) (i : ℕ) → i < length (slots_in lane rows) → i < length rows
 within lane rows i l = subst (λ n. i < n) (long lane rows) l
 
-pub up-to : (lane : ℕ) (rows : List PrefixRow) (i : ℕ) → i ≤ length (slots_in lane rows) → i ≤ length rows
-up-to lane rows i l = subst (λ n. i ≤ n) (long lane rows) l
-
 -- where the one before a place begins
 pub base-at : (lane : ℕ) (rows : List PrefixRow) (i base : ℕ) (r : PrefixRow) → 0 < i → i ≤ length rows → r ≡ get_or rows (i - 1) r → base ≡ r.prefix.base → IsBaseBefore (slots_in lane rows) i base
 base-at lane rows i base r some l is b = record { some = some; base_is = λ d. ap (λ (s : PrefixRoutes). s.prefix.base) (sym (stands lane rows (i - 1) r d (omega arith) is)) ∙ sym b }
 
--- some row, where one is wanted
-pub blank : PrefixRow
-blank = record { prefix = record { base = 0; len = 0 }; lanes = [] }
+-- ---- what a search among the rows finds, as each of the tables has it
 
--- where a search among the rows ends, there one among the slots does
-pub ends : (lane : ℕ) (rows : List PrefixRow) (key at : ℕ) → EndsBelow row_key rows key at → EndsBelow slot_key (slots_in lane rows) key at
-ends lane rows key at h =
-    let many : length (slots_in lane rows) ≡ length rows = long lane rows in
-    let inside = h.inside in
-    record {
-      inside = omega arith;
-      before = λ d l.
-          let is : get_or (slots_in lane rows) (at - 1) d ≡ slot_in lane (get_or rows (at - 1) blank) = read lane rows (at - 1) d blank (omega arith) in
-          subst (λ (s : PrefixRoutes). slot_key s < key) (sym is) (h.before blank l);
-      after = λ d l.
-          let is : get_or (slots_in lane rows) at d ≡ slot_in lane (get_or rows at blank) = read lane rows at d blank (omega arith) in
-          subst (λ (s : PrefixRoutes). key ≤ slot_key s) (sym is) (h.after blank (omega arith));
-    }
+pub keys-in : (lane start : ℕ) (rows : List PrefixRow) → AscendsFrom slot_key start (slots_in lane rows) → AscendsFrom row_key start rows
+keys-in lane start [] h = tt
+keys-in lane start (r ∷ rows) h = (h.0, keys-in lane (row_key r + 1) rows h.1)
+
+pub place-in : (lane : ℕ) (rows : List PrefixRow) (k i : ℕ) → IsPlace row_key rows k i → IsPlace slot_key (slots_in lane rows) k i
+place-in lane [] k i h = h
+place-in lane (r ∷ rows) k zero h = h
+place-in lane (r ∷ rows) k (suc i) h = (h.0, place-in lane rows k i h.1)
+
+pub found-in : (lane : ℕ) (rows : List PrefixRow) (k i : ℕ) → IsFound row_key rows k i → IsFound slot_key (slots_in lane rows) k i
+found-in lane [] k i h = h
+found-in lane (r ∷ rows) k zero h = h
+found-in lane (r ∷ rows) k (suc i) h = (h.0, found-in lane rows k i h.1)
+
+pub gap-in : (lane : ℕ) (rows : List PrefixRow) (k i : ℕ) → IsGap row_key rows k i → IsGap slot_key (slots_in lane rows) k i
+gap-in lane [] k i h = h
+gap-in lane (r ∷ rows) k zero h = h
+gap-in lane (r ∷ rows) k (suc i) h = (h.0, gap-in lane rows k i h.1)
+
+pub slot-in : (lane : ℕ) (rows : List PrefixRow) (k i : ℕ) (r : PrefixRow) (d : PrefixRoutes) → IsFound row_key rows k i → r ≡ get_or rows i r → slot_in lane r ≡ get_or (slots_in lane rows) i d
+slot-in lane rows k i r d h is = stands lane rows i r d (found-inside row_key rows k i h) is
 
 -- a page of the rows has a page of the slots
 pub page-of : (lane : ℕ) (rows page : List PrefixRow) (first : ℕ) → take (length page) (drop first rows) ≡ page → take (length (slots_in lane page)) (drop first (slots_in lane rows)) ≡ slots_in lane page

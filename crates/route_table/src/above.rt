@@ -9,9 +9,9 @@ ghost use Rattle.route_table.specs.Rows.{slots_in, AreWhole};
 ghost use Rattle.route_table.specs.Slots.{key_of, slot_key};
 
 use crate::lengths::Lengths;
-use crate::rows::{PrefixRow, first_of};
+use crate::prefix::prefix_around;
+use crate::rows::{LANES, PrefixRow, first_of};
 use crate::search::look;
-use crate::table::prefix_around;
 use dn_model::{Prefix, Target};
 use version_pages::Pages;
 
@@ -25,7 +25,7 @@ pub fn first_above(
     place: u64,
     before: Option<u32>,
 ) -> Option<Target>
-    requires lane { lane < 4 }
+    requires lane { lane < LANES }
     requires whole { AreWhole rows.now lengths.now }
     requires place { IsPlace slot_key (slots_in lane rows.now) (key_of prefix) place }
     requires before { IfSome before (IsBaseBefore (slots_in lane rows.now) place) }

@@ -5,13 +5,12 @@
 mod above;
 mod lengths;
 mod own;
+mod prefix;
 mod rows;
 mod search;
 mod table;
 mod tables;
 mod targets;
-#[cfg(test)]
-mod tests;
 mod update;
 
 pub use rows::LANES;

@@ -8,7 +8,7 @@ ghost use Rattle.route_table.specs.Own.{AreOwnRuns, IsPassed};
 ghost use Rattle.route_table.specs.Rows.{slots_in};
 ghost use Rattle.route_table.specs.Slots.{AreSlots, key_of, routes_of, slot_key};
 
-use crate::rows::PrefixRow;
+use crate::rows::{LANES, PrefixRow};
 use dn_model::{OutOfMemory, Prefix, Run};
 use std::sync::ledger::Ledger;
 use step_count::Steps;
@@ -54,7 +54,7 @@ fn walk_page<L: Ledger>(
     runs: &mut Vec<Run>,
     steps: &mut Steps<L>,
 ) -> Result<Walk, OutOfMemory>
-    requires lane { lane < 4 }
+    requires lane { lane < LANES }
     requires form { AreSlots (slots_in lane page.now) }
     requires past { past ≤ 2 ^ 32 }
     ensures at { IfOk result (λ walk.
@@ -89,7 +89,7 @@ pub fn push_own_runs<L: Ledger>(
     runs: &mut Vec<Run>,
     steps: &mut Steps<L>,
 ) -> Result<(), OutOfMemory>
-    requires lane { lane < 4 }
+    requires lane { lane < LANES }
     requires form { AreSlots (slots_in lane rows.now) }
     requires place { IsFound slot_key (slots_in lane rows.now) (key_of prefix) place }
     requires empty { runs.old.items ≡ [] }

@@ -4,9 +4,11 @@ ghost use Rattle.std.specs.Prelude.{◌≡◌, ◌≢◌, ◌<◌, ◌≤◌, �
 ghost use Rattle.dn_model.specs.Cidr.{IsCidr};
 ghost use Rattle.route_table.specs.Ascending.{AscendsFrom, IsFound, IsGap, IsPlace};
 ghost use Rattle.route_table.specs.Rows.{row_key, slot_in, slots_in, AddsSlots, KeepsSlots};
-ghost use Rattle.route_table.specs.Slots.{key_of, slot_key, AreSlots, IsAddedAt, IsUnchangedBy, IsUpdatedAt, IsUpdatedIn, SetsOrHasSome, updated_targets, PrefixRoutes as Slot};
+ghost use Rattle.route_table.specs.Slots.{key_of, AreSlots, IsAddedAt, IsUnchangedBy, IsUpdatedAt, IsUpdatedIn, SetsOrHasSome, updated_targets};
 ghost use Rattle.route_table.specs.Targets.{metric_of, IsFirst};
+ghost use Rattle.route_table.specs.declared.rows.PrefixRow.{PrefixRow as Row};
 
+use crate::prefix::prefix_key;
 use crate::targets::TargetsByMetric;
 use dn_model::{Op, OutOfMemory, Prefix, Target};
 use std::alloc::{AllocError, Global};
@@ -26,7 +28,7 @@ pub struct PrefixRow {
 impl PrefixRow {
     /// What the routes of one of the tables do.
     pub fn targets(&self, lane: usize) -> &TargetsByMetric
-        requires { lane < 4 }
+        requires { lane < LANES }
         ensures { result.now ≡ (slot_in lane self.now).targets }
     {
         &self.lanes[lane]
@@ -64,43 +66,42 @@ impl Keyed for PrefixRow {
     }
 }
 
-/// What tells a prefix from others: they are in order of their first addresses, and then of their lengths.
-pub fn prefix_key(prefix: Prefix) -> u64
-    ensures value { result ≡ key_of prefix }
-    ensures sound { IsCidr prefix }
-{
-    u64::from(prefix.base()) * 64 + u64::from(prefix.len())
-}
-
 /// The place of the first row whose prefix doesn't go before this one.
 pub fn place_of(rows: &Pages<PrefixRow>, prefix: Prefix) -> u64
     requires { (lane : ℕ) → AreSlots (slots_in lane rows.now) }
-    ensures place { (lane : ℕ) → IsPlace slot_key (slots_in lane rows.now) (key_of prefix) result }
+    ensures place { IsPlace row_key rows.now (key_of prefix) result }
     ensures sound { IsCidr prefix }
 {
     rows.count_below(prefix_key(prefix))
 }
 
-/// The row at a place where that of a prefix stands, if there is one.
-pub fn row_at(rows: &Pages<PrefixRow>, place: u64, prefix: Prefix) -> Option<&PrefixRow>
-    requires { (lane : ℕ) → IsPlace slot_key (slots_in lane rows.now) (key_of prefix) place }
-    ensures found { (lane : ℕ) → IfSome result (λ _. IsFound slot_key (slots_in lane rows.now) (key_of prefix) place) }
-    ensures row { (lane : ℕ) (d : Slot) → IfSome result (λ row.
-        slot_in lane row.now ≡ slice_index_or (slots_in lane rows.now) place d) }
-    ensures gap { (lane : ℕ) → IfNone result (IsGap slot_key (slots_in lane rows.now) (key_of prefix) place) }
+/// A row, if it is that of a prefix.
+pub fn own_row(row: &PrefixRow, prefix: Prefix) -> Option<&PrefixRow>
+    ensures some { IfSome result (λ own. own.now ≡ row.now × row_key row.now ≡ key_of prefix) }
+    ensures none { IfNone result (row_key row.now ≢ key_of prefix) }
 {
-    let Some(row) = rows.get(place) else {
-        return None;
-    };
     if row.key() == prefix_key(prefix) {
         return Some(row);
     }
     None
 }
 
+/// The row at a place where that of a prefix stands, if there is one.
+pub fn row_at(rows: &Pages<PrefixRow>, place: u64, prefix: Prefix) -> Option<&PrefixRow>
+    requires { IsPlace row_key rows.now (key_of prefix) place }
+    ensures found { IfSome result (λ _. IsFound row_key rows.now (key_of prefix) place) }
+    ensures row { (d : Row) → IfSome result (λ row. row.now ≡ slice_index_or rows.now place d) }
+    ensures gap { IfNone result (IsGap row_key rows.now (key_of prefix) place) }
+{
+    let Some(row) = rows.get(place) else {
+        return None;
+    };
+    own_row(row, prefix)
+}
+
 /// What the route of a slot with the least metric does. It is none where the slot has no route.
 pub fn first_of(row: &PrefixRow, lane: usize) -> Option<Target>
-    requires { lane < 4 }
+    requires { lane < LANES }
     ensures { IsFirst (slot_in lane row.now).targets result }
 {
     let first = row.targets(lane).first()?;
@@ -109,7 +110,7 @@ pub fn first_of(row: &PrefixRow, lane: usize) -> Option<Target>
 
 /// Whether an update of its prefix changes anything in a slot.
 pub fn changes(row: &PrefixRow, lane: usize, op: &Op) -> bool
-    requires { lane < 4 }
+    requires { lane < LANES }
     ensures same { IsFalse result → IsUnchangedBy (slot_in lane row.now).targets op.now }
     ensures some { IsTrue result → SetsOrHasSome (slot_in lane row.now).targets op.now }
 {
@@ -137,7 +138,7 @@ fn update_targets(targets: &mut TargetsByMetric, op: &Op) -> Result<(), OutOfMem
 /// Makes an update of its prefix in a slot, and answers what its route with the least metric does then. After
 /// `OutOfMemory`, for which alone it fails, the row is as before.
 fn update_in(row: &mut PrefixRow, lane: usize, op: &Op) -> Result<Option<Target>, OutOfMemory>
-    requires { lane < 4 }
+    requires { lane < LANES }
     ensures ok { IfOk result (λ first. IsUpdatedIn (slot_in lane row.old) (slot_in lane row.new) op.now first) }
     ensures others { (k : ℕ) → k ≢ lane → slot_in k row.new ≡ slot_in k row.old }
     ensures err { OnErr result (row.new ≡ row.old) }
@@ -155,7 +156,7 @@ pub fn update_at(
     place: u64,
     op: &Op,
 ) -> Result<Option<Target>, OutOfMemory>
-    requires lane { lane < 4 }
+    requires lane { lane < LANES }
     requires inside { place < length rows.old }
     ensures ok { IfOk result (λ first.
         IsUpdatedAt (slots_in lane rows.old) (slots_in lane rows.new) place op.now first) }
@@ -167,7 +168,7 @@ pub fn update_at(
 
 /// A row with one route of a prefix in one of the tables.
 fn row_of(alloc: Global, lane: usize, prefix: Prefix, metric: u32, target: Target) -> PrefixRow
-    requires { lane < 4 }
+    requires { lane < LANES }
     ensures prefix { result.prefix ≡ prefix }
     ensures targets { (slot_in lane result).targets ≡ record { metric = metric; target = target } ∷ [] }
     ensures others { (k : ℕ) → k ≢ lane → (slot_in k result).targets ≡ [] }
@@ -193,7 +194,7 @@ pub fn add_at(
     metric: u32,
     target: Target,
 ) -> Result<(), OutOfMemory>
-    requires lane { lane < 4 }
+    requires lane { lane < LANES }
     requires inside { place ≤ length rows.old }
     requires sound { IsCidr prefix }
     ensures ok { OnOk result (IsAddedAt (slots_in lane rows.old) (slots_in lane rows.new) place prefix metric target) }

@@ -1,7 +1,7 @@
 //! The routing table of one router.
 
 ghost use Rattle.std.specs.Prelude.{◌≡◌, ◌≤◌, [], ◌++◌, OnOk, OnErr, IfOk, Contains, IsFalse, IsTrue, IfSome, IfNone, IsPermutation, None};
-ghost use Rattle.dn_model.specs.Cidr.{IsCidr, covers};
+ghost use Rattle.dn_model.specs.Cidr.{covers};
 ghost use Rattle.dn_model.specs.Routes.{IsTable};
 ghost use Rattle.dn_model.specs.Table.{is_of_prefix, after_op, best};
 ghost use Rattle.dn_model.specs.declared.entry.Op.TheVariants.{Set, Clear};
@@ -10,6 +10,7 @@ ghost use Rattle.route_table.specs.Rows.{slot_in, slots_in};
 ghost use Rattle.route_table.specs.Slots.{routes_at, routes_of};
 
 use crate::lengths::Lengths;
+use crate::prefix::prefix_around;
 use crate::rows::{PrefixRow, place_of, row_at};
 use crate::update::make;
 use dn_model::{List, Op, OutOfMemory, Prefix, Route, Target};
@@ -194,16 +195,4 @@ fn push_slot(routes: &mut Vec<Route>, row: &PrefixRow) -> Result<(), OutOfMemory
         routes.push(entry.route(row.prefix))?;
     }
     Ok(())
-}
-
-/// The prefix of this length that covers an address.
-pub fn prefix_around(a: u32, len: u8) -> Prefix
-    requires { len ≤ 32 }
-    ensures len { result.len ≡ len }
-    ensures covers { IsTrue (covers result a) }
-    ensures sound { IsCidr result }
-{
-    let size = 1u64 << (32 - len);
-    let base = a as u64 - a as u64 % size;
-    Prefix::new(base as u32, len)
 }

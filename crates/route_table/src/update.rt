@@ -1,19 +1,19 @@
 //! Updates of one of the tables.
 
-ghost use Rattle.std.specs.Prelude.{ℕ, ◌≡◌, ◌<◌, ◌+◌, None, IfOk, IfSome, IfNone, OnOk, OnErr, IsPermutation};
+ghost use Rattle.std.specs.Prelude.{◌≡◌, ◌<◌, ◌+◌, None, IfOk, IfSome, IfNone, OnOk, OnErr, IsPermutation};
 ghost use Rattle.dn_model.specs.Cidr.{IsCidr};
 ghost use Rattle.dn_model.specs.Entry.{prefix_of_op};
 ghost use Rattle.dn_model.specs.Table.{after_op};
 ghost use Rattle.route_table.specs.Above.{IsDoneAbove};
 ghost use Rattle.route_table.specs.Ascending.{IsFound, IsGap};
 ghost use Rattle.route_table.specs.Made.{IsMade};
-ghost use Rattle.route_table.specs.Rows.{slots_in, AreWhole, KeepsRoutes};
+ghost use Rattle.route_table.specs.Rows.{row_key, slots_in, AreWhole, KeepsRoutes};
 ghost use Rattle.route_table.specs.Searches.{IsBaseBefore};
 ghost use Rattle.route_table.specs.Slots.{key_of, routes_of, slot_key};
 
 use crate::above::first_above;
 use crate::lengths::Lengths;
-use crate::rows::{PrefixRow, add_at, changes, first_of, update_at};
+use crate::rows::{LANES, PrefixRow, add_at, changes, first_of, update_at};
 use crate::search::{Spot, look};
 use dn_model::{Op, OutOfMemory, Prefix, Target};
 use std::alloc::Global;
@@ -42,7 +42,7 @@ pub fn make(
     op: &Op,
     near: u64,
 ) -> Result<Option<Made>, OutOfMemory>
-    requires lane { lane < 4 }
+    requires lane { lane < LANES }
     requires whole { AreWhole rows.old lengths.old }
     ensures made { IfOk result (λ made. IfSome made (λ m.
         IsMade (slots_in lane rows.old) (slots_in lane rows.new) op.now m.place m.base m.before m.first)) }
@@ -84,9 +84,9 @@ fn make_first(
     place: u64,
     base: Option<u32>,
 ) -> Result<Option<Made>, OutOfMemory>
-    requires lane { lane < 4 }
+    requires lane { lane < LANES }
     requires whole { AreWhole rows.old lengths.old }
-    requires gap { (k : ℕ) → IsGap slot_key (slots_in k rows.old) (key_of (prefix_of_op op.now)) place }
+    requires gap { IsGap row_key rows.old (key_of (prefix_of_op op.now)) place }
     requires base { IfSome base (IsBaseBefore (slots_in lane rows.old) place) }
     requires sound { IsCidr (prefix_of_op op.now) }
     ensures made { IfOk result (λ made. IfSome made (λ m.
@@ -126,7 +126,7 @@ pub fn done_above<L: Ledger>(
     made: Made,
     steps: &mut Steps<L>,
 ) -> Target
-    requires lane { lane < 4 }
+    requires lane { lane < LANES }
     requires whole { AreWhole rows.now lengths.now }
     requires found { IsFound slot_key (slots_in lane rows.now) (key_of prefix) made.place }
     requires base { IfSome made.base (IsBaseBefore (slots_in lane rows.now) made.place) }

@@ -3,12 +3,12 @@
 #![tactic(auto)]
 
 mod growth;
+mod halving;
 mod keyed;
 mod page;
 mod pages;
-#[cfg(test)]
-mod tests;
 mod tree;
 
+pub use halving::count_below_from;
 pub use keyed::Keyed;
 pub use pages::Pages;

@@ -94,6 +94,18 @@ impl<T: Keyed> Pages<T> {
         (&[], i)
     }
 
+    /// The page of the element at a place, or the last page where there are fewer, with the place of its first element, and
+    /// how many of its elements go before that place. So a search that is about right looks at one page.
+    pub fn page_near(&self, near: u64) -> (&[T], u64, usize)
+        ensures near { near < length self.now → result.1 + result.2 ≡ near }
+        ensures some { 0 < length self.now → result.2 < length result.0.now }
+        ensures page { take (length result.0.now) (drop result.1 self.now) ≡ result.0.now }
+    {
+        let place = near.min(self.len().saturating_sub(1));
+        let (page, first) = self.page_at(place);
+        (page, first, (place - first) as usize)
+    }
+
     /// The elements from a place to the end of its page, at least one where there is one at the place. So a loop over
     /// many elements goes down the tree once for each page.
     pub fn run_from(&self, i: u64) -> &[T]

@@ -1,23 +1,21 @@
-use Rattle.std.proofs.Common.{◌≡◌, ◌<◌, true, false, ap, length, refl, sym, ◌∙◌}
-use Rattle.route_table.specs.Rows.{slot_in, slots_in}
-use Rattle.route_table.specs.Slots.{slot_key, key_of}
+use Rattle.std.proofs.Common.{◌≡◌, true, false, ap, refl, sym, ◌∙◌}
+use Rattle.route_table.specs.Rows.{row_key}
+use Rattle.route_table.specs.Slots.{key_of}
 use Rattle.route_table.proofs.Places.{found-at, gap-at}
-use Rattle.route_table.proofs.SideBySide.{inside, stands, within}
+use Rattle.route_table.proofs.Searching.{none-then, some-each, some-then}
 use Rattle.route_table.proofs.rows.row_at.Goals as goal
 
 pub returns-in_default-clause-gap : goal.returns-in_default-clause-gap
-returns-in_default-clause-gap c = λ lane. gap-at slot_key (slots_in lane c.args.rows.now) (key_of c.args.prefix) c.args.place (c.requires lane)
-    (λ d l e. let t : false ≡ true = c.in_default.ensures.inside.1 (within lane c.args.rows.now c.args.place l) in cc)
+returns-in_default-clause-gap c = gap-at row_key c.args.rows.now (key_of c.args.prefix) c.args.place c.requires
+    (λ d l e. let t : false ≡ true = c.in_default.ensures.inside.1 l in cc)
 
-pub returns-then-key-prefix_key-clause-found : goal.returns-then-key-prefix_key-clause-found
-returns-then-key-prefix_key-clause-found c = λ lane.
-    let l : c.args.place < length c.args.rows.now = c.in-Some.ensures.inside.0 refl in
-    found-at slot_key (slots_in lane c.args.rows.now) (key_of c.args.prefix) c.args.place (slot_in lane c.in-Some.row.now) (c.requires lane) (inside lane c.args.rows.now c.args.place l)
-    (ap slot_key (sym (stands lane c.args.rows.now c.args.place c.in-Some.row.now (slot_in lane c.in-Some.row.now) l (c.in-Some.ensures.element c.in-Some.row.now))) ∙ sym c.key.ensures ∙ c.if-key-prefix_key.true ∙ c.prefix_key.ensures.value)
+pub returns-clause-found : goal.returns-clause-found
+returns-clause-found c = some-then c.own_row.result _ _ (λ own h. found-at row_key c.args.rows.now (key_of c.args.prefix) c.args.place c.in-Some.row.now c.requires (c.in-Some.ensures.inside.0 refl)
+    (ap row_key (sym (c.in-Some.ensures.element c.in-Some.row.now)) ∙ h.1)) c.own_row.ensures.some
 
-pub returns-then-key-prefix_key-clause-row : goal.returns-then-key-prefix_key-clause-row
-returns-then-key-prefix_key-clause-row c = λ lane d. stands lane c.args.rows.now c.args.place c.in-Some.row.now d (c.in-Some.ensures.inside.0 refl) (c.in-Some.ensures.element c.in-Some.row.now)
+pub returns-clause-row : goal.returns-clause-row
+returns-clause-row c = λ d. some-each c.own_row.result _ _ (λ own h. h.0 ∙ c.in-Some.ensures.element d) c.own_row.ensures.some
 
 pub returns-clause-gap : goal.returns-clause-gap
-returns-clause-gap c = λ lane. gap-at slot_key (slots_in lane c.args.rows.now) (key_of c.args.prefix) c.args.place (c.requires lane)
-    (λ d l e. c.if-key-prefix_key.false (c.key.ensures ∙ ap slot_key (stands lane c.args.rows.now c.args.place c.in-Some.row.now d (c.in-Some.ensures.inside.0 refl) (c.in-Some.ensures.element c.in-Some.row.now)) ∙ e ∙ sym c.prefix_key.ensures.value))
+returns-clause-gap c = none-then c.own_row.result _ _ (λ n. gap-at row_key c.args.rows.now (key_of c.args.prefix) c.args.place c.requires
+    (λ d l e. n (ap row_key (c.in-Some.ensures.element d) ∙ e))) c.own_row.ensures.none

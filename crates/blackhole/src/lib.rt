@@ -5,7 +5,5 @@ mod fall;
 mod falls;
 mod holes;
 mod row_fall;
-#[cfg(test)]
-mod tests;
 
 pub use holes::blackholes;

@@ -4,7 +4,5 @@
 
 mod delta;
 mod join;
-#[cfg(test)]
-mod tests;
 
 pub use delta::Delta;

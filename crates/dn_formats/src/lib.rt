@@ -11,8 +11,6 @@ pub mod frame_cause;
 mod laws;
 mod payload;
 mod print;
-#[cfg(test)]
-mod print_tests;
 mod raw_route;
 mod script;
 pub mod script_cause;

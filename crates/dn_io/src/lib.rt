@@ -14,8 +14,6 @@ mod refusals;
 mod remainder;
 mod sure;
 mod sure_world;
-#[cfg(test)]
-mod tests;
 mod traits;
 
 pub use call_book::CallBook;

@@ -18,26 +18,18 @@ mod name;
 mod plain;
 mod plain_cycle;
 mod plain_delta;
-#[cfg(test)]
-mod plain_delta_tests;
 mod plain_holes;
 mod plain_intervals;
 mod plain_loops;
-#[cfg(test)]
-mod plain_query_tests;
 mod plain_reach;
 mod plain_runs;
 mod plain_test;
-#[cfg(test)]
-mod plain_tests;
 mod ports;
 mod prefix;
 mod query;
 mod rule;
 mod run;
 mod target;
-#[cfg(test)]
-mod test_network;
 mod topology;
 mod unknown;
 

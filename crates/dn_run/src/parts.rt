@@ -179,6 +179,3 @@ pub fn read_parts(alloc: Global, parts: &[String]) -> Result<RunParts, PartsRefu
     }
     Ok(said)
 }
-
-#[cfg(test)]
-mod tests;

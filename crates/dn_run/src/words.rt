@@ -168,6 +168,3 @@ pub fn read_words(alloc: Global, words: &[String]) -> Result<Command, WordsRefus
         },
     }
 }
-
-#[cfg(test)]
-mod tests;

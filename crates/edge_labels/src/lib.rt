@@ -14,8 +14,6 @@ mod label_graph;
 mod sets;
 mod split_codes;
 mod target_rows;
-#[cfg(test)]
-mod tests;
 
 pub use atom_set::AtomSet;
 pub use label_graph::LabelGraph;

@@ -21,5 +21,7 @@ mod tests;
 mod trial;
 #[cfg(test)]
 mod update;
+#[cfg(test)]
+mod version_tests;
 
 pub use same::is_same_answer;

@@ -14,8 +14,6 @@ mod publisher;
 mod reader;
 mod shelf;
 mod shot;
-#[cfg(test)]
-mod tests;
 
 pub use issue::Origin;
 pub use publisher::{FastPins, Publisher};

@@ -8,6 +8,3 @@ mod write;
 
 pub use cutter::{Cutter, Finish, Next};
 pub use write::write_frame;
-
-#[cfg(test)]
-mod tests;

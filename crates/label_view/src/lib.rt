@@ -4,8 +4,6 @@
 
 mod list_view;
 pub mod runs;
-#[cfg(test)]
-mod tests;
 mod view;
 
 pub use list_view::ListView;

@@ -8,8 +8,6 @@ mod first_order;
 mod follow;
 mod known;
 mod row;
-#[cfg(test)]
-mod tests;
 mod walk;
 
 pub use all_rows::loops;

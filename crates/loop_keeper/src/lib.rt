@@ -11,7 +11,5 @@ mod kept_cycle;
 mod kept_loops;
 mod number_set;
 mod telling;
-#[cfg(test)]
-mod tests;
 
 pub use kept_loops::KeptLoops;

@@ -4,8 +4,6 @@
 
 mod made;
 mod network;
-#[cfg(test)]
-mod tests;
 mod updates;
 
 pub use made::{MadeInput, make_input};

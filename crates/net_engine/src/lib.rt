@@ -5,14 +5,10 @@
 
 mod ends;
 mod net;
-#[cfg(test)]
-mod net_tests;
 mod relabel;
 mod router_group;
 mod router_tables;
 mod state;
 mod version;
-#[cfg(test)]
-mod version_tests;
 
 pub use version::Version;

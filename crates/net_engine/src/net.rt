@@ -54,8 +54,8 @@ impl Net {
     }
 
     /// Cuts the atom that has an address in two there, if it doesn't begin there: both parts have what the whole has.
-    /// No router's routes are touched. It looks for the atom first at a place that may be at hand, from there on, and answers
-    /// the place of the atom that begins at the address then. It fails for want of memory alone, and then nothing is said of
+    /// No router's routes are touched. It looks for the atom first near a place that may be at hand, and answers the
+    /// place of the atom that begins at the address then. It fails for want of memory alone, and then nothing is said of
     /// it.
     pub fn cut(&mut self, alloc: Global, at: u32, near: Option<u64>) -> Result<u64, OutOfMemory>
         requires { IsPaired self.old }
@@ -74,8 +74,8 @@ impl Net {
     }
 
     /// Makes an update of a router, and tells where it does something else than before. Where it sets a route, atoms begin
-    /// at the ends of its prefix. The atom that begins where the prefix does is looked for first at a place that may be at
-    /// hand, from there on. It fails for want of memory alone, and then nothing is said of it.
+    /// at the ends of its prefix. The atom that begins where the prefix does is looked for first near a place that may be
+    /// at hand. It fails for want of memory alone, and then nothing is said of it.
     pub fn update<L: Ledger>(
         &mut self,
         alloc: Global,
@@ -170,7 +170,7 @@ impl Net {
     }
 }
 
-/// The atom of an address, and its place. It looks first at a place that may be at hand, from there on.
+/// The atom of an address, and its place. It looks first near a place that may be at hand.
 fn spot_near(atoms: &AtomMap, near: Option<u64>, at: u32) -> AtomSpot
     ensures { IsAtomAt atoms.now result.place at result.row }
 {

@@ -30,7 +30,7 @@ struct Done {
     target: Target,
 }
 
-/// The place of the first atom of a run, and that behind its last. The first is looked for first at a place, from there on.
+/// The place of the first atom of a run, and that behind its last. The first is looked for first near a place.
 fn places(atoms: &AtomMap, run: Run, near: u64) -> (u64, u64)
     requires form { AreAtoms atoms.now }
     requires order { run.lo ≤ run.hi }
@@ -44,7 +44,7 @@ fn places(atoms: &AtomMap, run: Run, near: u64) -> (u64, u64)
 }
 
 /// A router does something else with each atom of a run, at whose ends atoms begin, and that is told. The first atom is looked
-/// for first at a place, from there on; it answers the place of what begins behind the run. It fails for want of memory
+/// for first near a place; it answers the place of what begins behind the run. It fails for want of memory
 /// alone, and then nothing is said of the labels, nor of what is told.
 fn move_run(
     alloc: Global,
@@ -107,7 +107,7 @@ fn move_runs(
     Ok(delta)
 }
 
-/// The place of the atom that has an address. It is looked for first at a place that may be at hand, from there on.
+/// The place of the atom that has an address. It is looked for first near a place that may be at hand.
 fn place_near(atoms: &AtomMap, near: Option<u64>, a: u32) -> u64
     ensures inside { result < length atoms.now }
     ensures from { (d : AtomRow) → (slice_index_or atoms.now result d).low ≤ a }
@@ -119,8 +119,8 @@ fn place_near(atoms: &AtomMap, near: Option<u64>, a: u32) -> u64
     }
 }
 
-/// What a router does with an address, and the place of the atom that has it, which is looked for first at a place that may be
-/// at hand, from there on.
+/// What a router does with an address, and the place of the atom that has it, which is looked for first near a place that may
+/// be at hand.
 fn done_at(atoms: &AtomMap, labels: &TargetRows, r: RouterId, near: Option<u64>, a: u32) -> Done
     requires router { r.0 < labels.now.routers }
     requires labelled { AreLabelled atoms.now labels.now }
@@ -134,7 +134,7 @@ fn done_at(atoms: &AtomMap, labels: &TargetRows, r: RouterId, near: Option<u64>,
 }
 
 /// A router does something with each atom of some runs, where it did one and the same, and it is told of them if it is
-/// something else. The first atom is looked for first at a place that may be at hand, from there on. It fails for want of
+/// something else. The first atom is looked for first near a place that may be at hand. It fails for want of
 /// memory alone, and then nothing is said of the labels.
 pub fn reroute(
     alloc: Global,

@@ -50,7 +50,7 @@ impl State {
     }
 
     /// Makes an update of one of the routers. Where it sets a route, atoms begin at the ends of its prefix. There may be a
-    /// place at which to look first for the atom that begins where the prefix does, from there on.
+    /// place near which to look first for the atom that begins where the prefix does.
     fn update<L: Ledger>(
         &mut self,
         alloc: Global,

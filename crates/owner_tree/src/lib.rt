@@ -5,8 +5,6 @@
 mod held;
 mod owners;
 mod rules;
-#[cfg(test)]
-mod tests;
 
 pub use dn_model::Rule;
 pub use owners::Owners;

@@ -13,8 +13,6 @@ mod part;
 mod ranges;
 mod reached;
 mod share;
-#[cfg(test)]
-mod tests;
 
 pub use cycles::loops;
 pub use holes::blackholes;

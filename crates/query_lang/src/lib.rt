@@ -11,8 +11,6 @@ mod query_line;
 mod query_text;
 mod script_line;
 mod script_text;
-#[cfg(test)]
-mod tests;
 mod text_cut;
 mod told_text;
 

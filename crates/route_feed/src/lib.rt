@@ -6,20 +6,12 @@
 //! it are read on.
 #![tactic(auto)]
 
-#[cfg(test)]
-mod edit_tests;
 mod feed_reader;
 mod feed_step;
 mod frame_step;
 mod intake;
 mod port_hints;
-#[cfg(test)]
-mod port_tests;
 mod route_op;
-#[cfg(test)]
-mod test_network;
-#[cfg(test)]
-mod tests;
 mod workspace;
 
 pub use feed_reader::FeedReader;

@@ -14,6 +14,3 @@ mod write;
 pub use dn_formats::{Item, ItemKind, Payload, RawRoute, Refused, RouteKind, Skip};
 pub use read::{read_payload, read_payload_in};
 pub use write::write_route;
-
-#[cfg(test)]
-mod tests;

@@ -13,8 +13,6 @@ mod lists;
 mod router;
 mod steps;
 mod taken;
-#[cfg(test)]
-mod tests;
 mod value;
 
 pub use dn_model::{Port, port};

@@ -7,13 +7,9 @@
 mod book;
 mod lock;
 mod parts;
-#[cfg(test)]
-mod plain_book;
 mod plays;
 mod seat;
 mod shelved;
-#[cfg(test)]
-mod tests;
 mod turn;
 mod view;
 

@@ -8,8 +8,6 @@ mod shot;
 mod snapshot;
 mod standing;
 mod store;
-#[cfg(test)]
-mod tests;
 mod versions;
 
 pub use asking::AskRefused;

@@ -3,8 +3,6 @@
 
 mod arrivals;
 mod link_use;
-#[cfg(test)]
-mod tests;
 mod way;
 
 pub use arrivals::reach;

@@ -2,7 +2,5 @@
 #![tactic(auto)]
 
 mod missed;
-#[cfg(test)]
-mod tests;
 
 pub use missed::waypoint;

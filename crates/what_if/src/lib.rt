@@ -2,8 +2,6 @@
 #![tactic(auto)]
 
 mod links;
-#[cfg(test)]
-mod tests;
 mod without;
 
 pub use without::Without;

@@ -1,0 +1,76 @@
+//! Small networks, row by row, and what several tests ask of a view.
+
+ghost use Rattle.std.specs.Prelude.{◌≡◌};
+
+use dn_model::{ForwardingRow, LinkId, List, RouterId, Target};
+use label_view::{LabelView, ListView};
+use std::alloc::Global;
+use std::process::Abort;
+
+pub(crate) const FIRST: RouterId = RouterId(0);
+
+pub(crate) const SECOND: RouterId = RouterId(1);
+
+pub(crate) const THIRD: RouterId = RouterId(2);
+
+pub(crate) const FOURTH: RouterId = RouterId(3);
+
+pub(crate) const TO_FIRST: Target = Target::To(FIRST, LinkId(0));
+
+pub(crate) const TO_SECOND: Target = Target::To(SECOND, LinkId(0));
+
+pub(crate) const TO_THIRD: Target = Target::To(THIRD, LinkId(0));
+
+pub(crate) const TO_FOURTH: Target = Target::To(FOURTH, LinkId(0));
+
+/// The last address.
+pub(crate) const LAST: u32 = 4_294_967_295;
+
+/// The address after the last.
+pub(crate) const PAST: u64 = 4_294_967_296;
+
+/// A value crosses to another thread.
+pub(crate) fn crosses<T: Send + Sync>(_value: &T) {}
+
+/// What a router does with an address, by the bound alone.
+pub(crate) fn target_at<V: LabelView>(view: &V, r: RouterId, a: u32) -> Option<Target> {
+    if u32::from(r.0) < view.routers() {
+        return Some(view.target(r, view.atom_of(a)));
+    }
+    None
+}
+
+/// What the routers do with the addresses from `low` up to, and without, `past`.
+pub(crate) fn row(
+    rt: &impl Abort,
+    alloc: Global,
+    low: u64,
+    past: u64,
+    targets: &[Target],
+) -> ForwardingRow
+    ensures low { result.low ≡ low }
+    ensures past { result.past ≡ past }
+    ensures targets { result.targets ≡ targets.now }
+{
+    let mut list = Vec::new(alloc);
+    list.extend_from_slice(targets).expect(rt, "memory");
+    ForwardingRow {
+        low,
+        past,
+        targets: List::from_vec(list),
+    }
+}
+
+/// Up to 9 r1 sends all to r2, from 10 to 19 r2 sends it back, and from 20 on r1 has no route.
+pub(crate) fn there_and_back(rt: &impl Abort, alloc: Global) -> ListView
+    ensures { result.routers ≡ 2 }
+{
+    let mut rows = List::new(alloc);
+    rows.push(row(rt, alloc, 0, 10, &[TO_SECOND, Target::Local][..]))
+        .expect(rt, "memory");
+    rows.push(row(rt, alloc, 10, 20, &[TO_SECOND, TO_FIRST][..]))
+        .expect(rt, "memory");
+    rows.push(row(rt, alloc, 20, PAST, &[Target::NoRoute, Target::Local][..]))
+        .expect(rt, "memory");
+    ListView::new(2, rows)
+}

@@ -1,0 +1,39 @@
+//! A view of two routers with links down.
+
+use crate::network::{FIRST, LAST, PAST, SECOND, crosses, row, target_at};
+use dn_model::{LinkId, List, Target};
+use label_view::{LabelView, ListView};
+use std::alloc::Global;
+use std::process::Abort;
+use what_if::Without;
+
+const OVER_THREE: Target = Target::To(SECOND, LinkId(3));
+
+const OVER_FOUR: Target = Target::To(FIRST, LinkId(4));
+
+/// Up to 9 the first router goes on over the link 3 and the second over the link 4; from 10 on there is no route.
+fn pair(rt: &impl Abort, alloc: Global) -> ListView {
+    let high = [Target::NoRoute, Target::LinkDown(LinkId(4))];
+    let mut rows = List::new(alloc);
+    rows.push(row(rt, alloc, 0, 10, &[OVER_THREE, OVER_FOUR][..]))
+        .expect(rt, "memory");
+    rows.push(row(rt, alloc, 10, PAST, &high[..]))
+        .expect(rt, "memory");
+    ListView::new(2, rows)
+}
+
+#[test]
+fn only_what_went_over_a_link_that_is_down_changes(rt: HostRuntime) {
+    let view = pair(&rt, rt.alloc());
+    let down = [LinkId(3), LinkId(3), LinkId(9)];
+    let without = Without::new(&view, &down[..]);
+    crosses(&without);
+    assert_eq!(rt; without.atoms(), 2);
+    assert_eq!(rt; without.bounds(without.atom_of(LAST)), (10, PAST));
+    assert_eq!(rt;
+        target_at(&without, FIRST, 9),
+        Some(Target::LinkDown(LinkId(3)))
+    );
+    assert_eq!(rt; target_at(&without, SECOND, 9), Some(OVER_FOUR));
+    assert_eq!(rt; target_at(&without, FIRST, 10), Some(Target::NoRoute));
+}

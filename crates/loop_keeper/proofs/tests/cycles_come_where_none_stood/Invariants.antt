@@ -1,5 +1,0 @@
-use Rattle.loop_keeper.proofs.tests.cycles_come_where_none_stood.Given as goal
-
--- the ledger of the blank
-abbrev pub ghosts-cycles_come : goal.ghosts-cycles_come
-ghosts-cycles_come g a = record { name = a.blank.name; parts = a.blank.parts }

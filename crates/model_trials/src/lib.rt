@@ -1,0 +1,11 @@
+//! Trials of the plain evaluator of `dn_model`: small histories, whose answers were worked out by hand.
+#![tactic(auto)]
+
+#[cfg(test)]
+mod network;
+#[cfg(test)]
+mod plain_delta_tests;
+#[cfg(test)]
+mod plain_query_tests;
+#[cfg(test)]
+mod plain_tests;

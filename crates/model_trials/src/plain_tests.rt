@@ -1,0 +1,100 @@
+//! The plain evaluator's routes, targets and walks on small histories, whose answers were worked out by hand.
+
+use crate::network::{clear, network, set};
+use dn_model::{
+    Entry, LinkId, PathEnd, Prefix, Route, RouterId, Target, plain_routes, plain_target, plain_walk,
+};
+use std::alloc::Global;
+use std::process::Abort;
+
+/// 10.0.0.0/8.
+fn ten() -> Prefix {
+    Prefix::new(0x0A00_0000, 8)
+}
+
+/// 10.1.0.0/16.
+fn ten_one() -> Prefix {
+    Prefix::new(0x0A01_0000, 16)
+}
+
+/// With no link down, router 0 does this with 10.1.0.7 after a history.
+fn compare_first(rt: &impl Abort, alloc: Global, entries: &[Entry], want: Target) {
+    let routes = plain_routes(alloc, entries, RouterId(0)).expect(rt, "memory");
+    let target = plain_target(routes.as_slice(), &[], 0x0A01_0007);
+    assert_eq!(rt; target, want, "after {}", entries.len());
+}
+
+#[test]
+fn least_metric_of_the_longest_prefix(rt: HostRuntime) {
+    let history = [
+        set(0, ten_one(), 5, Target::Exit(1)),
+        set(0, ten_one(), 20, Target::Exit(2)),
+        set(0, ten(), 0, Target::Exit(3)),
+        set(1, ten_one(), 0, Target::Exit(4)),
+        clear(0, ten_one(), Some(5)),
+        clear(0, ten_one(), None),
+        clear(0, ten(), None),
+    ];
+    compare_first(&rt, rt.alloc(), &[], Target::NoRoute);
+    compare_first(&rt, rt.alloc(), &history[..1], Target::Exit(1));
+    compare_first(&rt, rt.alloc(), &history[..2], Target::Exit(1));
+    compare_first(&rt, rt.alloc(), &history[..3], Target::Exit(1));
+    compare_first(&rt, rt.alloc(), &history[..4], Target::Exit(1));
+    compare_first(&rt, rt.alloc(), &history[..5], Target::Exit(2));
+    compare_first(&rt, rt.alloc(), &history[..6], Target::Exit(3));
+    compare_first(&rt, rt.alloc(), &history, Target::NoRoute);
+}
+
+/// With these links down, a router with these routes does this with an address.
+fn compare_down(rt: &impl Abort, routes: &[Route], down: &[LinkId], a: u32, want: Target) {
+    assert_eq!(rt; plain_target(routes, down, a), want);
+}
+
+#[test]
+fn a_link_that_is_down(rt: HostRuntime) {
+    let history = [set(0, ten(), 0, Target::To(RouterId(1), LinkId(4)))];
+    let routes = plain_routes(rt.alloc(), &history, RouterId(0)).expect(&rt, "memory");
+    let routes = routes.as_slice();
+    let both = [LinkId(3), LinkId(4)];
+    let up = Target::To(RouterId(1), LinkId(4));
+    compare_down(&rt, routes, &both[..1], 0x0AFF_FFFF, up);
+    compare_down(&rt, routes, &both, 0x0AFF_FFFF, Target::LinkDown(LinkId(4)));
+    compare_down(&rt, routes, &both[1..], 0x0B00_0000, Target::NoRoute);
+    compare_down(&rt, routes, &both[1..], 0x09FF_FFFF, Target::NoRoute);
+}
+
+/// The walk of an address from router 0 has these routers and this end.
+fn compare_walk(
+    rt: &impl Abort,
+    alloc: Global,
+    entries: &[Entry],
+    a: u32,
+    want: &[RouterId],
+    want_end: PathEnd,
+) {
+    let t = network(alloc).expect(rt, "memory");
+    let walk = plain_walk(alloc, &t, entries, &[], RouterId(0), a);
+    let (routers, end) = walk.expect(rt, "memory");
+    assert_eq!(rt; routers.as_slice(), want);
+    assert_eq!(rt; end, want_end);
+}
+
+/// The network has three routers, so that a walk of three hops is in a loop.
+#[test]
+fn a_walk_that_loops(rt: HostRuntime) {
+    let history = [
+        set(0, ten(), 0, Target::To(RouterId(1), LinkId(0))),
+        set(1, ten(), 0, Target::To(RouterId(0), LinkId(0))),
+    ];
+    let around = [RouterId(0), RouterId(1), RouterId(0), RouterId(1)];
+    compare_walk(
+        &rt,
+        rt.alloc(),
+        &history,
+        0x0A00_0000,
+        &around,
+        PathEnd::Loop,
+    );
+    let stays = PathEnd::At(Target::NoRoute);
+    compare_walk(&rt, rt.alloc(), &history, 0x0B00_0000, &around[..1], stays);
+}

@@ -1,0 +1,22 @@
+//! Trials of the crates below the engine: lists in shared pages, atoms, labels, rules and routing tables. Each file
+//! tries one of them through its public calls.
+#![tactic(auto)]
+
+#[cfg(test)]
+mod atom_tests;
+#[cfg(test)]
+mod crossing;
+#[cfg(test)]
+mod draw;
+#[cfg(test)]
+mod label_tests;
+#[cfg(test)]
+mod owner_tests;
+#[cfg(test)]
+mod pages_tests;
+#[cfg(test)]
+mod plain_list;
+#[cfg(test)]
+mod rows_tests;
+#[cfg(test)]
+mod table_tests;

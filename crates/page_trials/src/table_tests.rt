@@ -1,0 +1,480 @@
+//! Tables whose answers were worked out by hand, or are compared with a plain list.
+
+ghost use Rattle.std.specs.Prelude.{◌≡◌, ◌<◌, ◌≤◌};
+
+use crate::crossing::crosses;
+use crate::draw::next_draw;
+use dn_model::{DropKind, Op, Prefix, Route, Run, Target};
+use route_table::{RouteTable, RouteTables};
+use std::alloc::Global;
+use std::marker::Brand;
+use std::process::Abort;
+use std::sync::ledger::{Blank, Ledger};
+use step_count::Steps;
+
+/// 10.0.0.0/8.
+fn ten() -> Prefix {
+    Prefix::new(0x0A00_0000, 8)
+}
+
+/// 10.0.0.0/16.
+fn ten_zero() -> Prefix {
+    Prefix::new(0x0A00_0000, 16)
+}
+
+/// 10.1.0.0/16.
+fn ten_one() -> Prefix {
+    Prefix::new(0x0A01_0000, 16)
+}
+
+fn route(prefix: Prefix, metric: u32, target: Target) -> Route {
+    Route {
+        prefix,
+        metric,
+        target,
+    }
+}
+
+fn set(rt: &impl Abort, alloc: Global, table: &mut RouteTable, new: Route) {
+    table
+        .set(alloc, new.prefix, new.metric, new.target)
+        .expect(rt, "memory");
+}
+
+fn clear(
+    rt: &impl Abort,
+    alloc: Global,
+    table: &mut RouteTable,
+    prefix: Prefix,
+    metric: Option<u32>,
+) {
+    table.clear(alloc, prefix, metric).expect(rt, "memory");
+}
+
+fn copied(rt: &impl Abort, table: &RouteTable) -> RouteTable {
+    table.copy().expect(rt, "memory")
+}
+
+/// 10.0.0.0/8 with metric 20, and 10.1.0.0/16 with metric 5 and then with metric 20.
+fn set_three(rt: &impl Abort, alloc: Global, table: &mut RouteTable) {
+    set(rt, alloc, table, route(ten(), 20, Target::Local));
+    set(rt, alloc, table, route(ten_one(), 5, Target::Exit(1)));
+    let dropped = Target::Dropped(DropKind::Blackhole);
+    set(rt, alloc, table, route(ten_one(), 20, dropped));
+}
+
+/// What the table does with an address.
+fn compare_target(rt: &impl Abort, table: &RouteTable, a: u32, want: Option<Target>) {
+    let target = match table.best(a) {
+        Some(route) => Some(route.target),
+        None => None,
+    };
+    assert_eq!(rt; target, want);
+}
+
+/// The least metric of a prefix.
+fn compare_least(rt: &impl Abort, table: &RouteTable, prefix: Prefix, want: Option<u32>) {
+    let least = match table.least_of(prefix) {
+        Some(route) => Some(route.metric),
+        None => None,
+    };
+    assert_eq!(rt; least, want);
+}
+
+#[test]
+fn the_longest_prefix_wins_and_then_the_least_metric(rt: HostRuntime) {
+    let mut table = RouteTable::new();
+    compare_target(&rt, &table, 0x0A01_0007, None);
+    set_three(&rt, rt.alloc(), &mut table);
+    crosses(&table);
+    compare_target(&rt, &table, 0x0A01_0007, Some(Target::Exit(1)));
+    compare_target(&rt, &table, 0x0A02_0007, Some(Target::Local));
+    compare_target(&rt, &table, 0x0B00_0000, None);
+}
+
+/// All routes of a table are these.
+fn compare_routes(rt: &impl Abort, alloc: Global, table: &RouteTable, want: &[Route]) {
+    let routes = table.routes(alloc).expect(rt, "memory");
+    assert_eq!(rt; routes.as_slice(), want);
+}
+
+#[test]
+fn a_clear_without_a_metric_takes_all_routes_of_its_prefix(rt: HostRuntime) {
+    let mut table = RouteTable::new();
+    set_three(&rt, rt.alloc(), &mut table);
+    let before = copied(&rt, &table);
+    clear(&rt, rt.alloc(), &mut table, ten_one(), Some(5));
+    let dropped = Target::Dropped(DropKind::Blackhole);
+    compare_target(&rt, &table, 0x0A01_0007, Some(dropped));
+    clear(&rt, rt.alloc(), &mut table, ten_one(), None);
+    compare_routes(&rt, rt.alloc(), &table, &[route(ten(), 20, Target::Local)]);
+    compare_target(&rt, &before, 0x0A01_0007, Some(Target::Exit(1)));
+}
+
+/// Prefixes with one first address are told apart, and of each the metrics.
+#[test]
+fn several_metrics_of_a_prefix(rt: HostRuntime) {
+    let mut table = RouteTable::new();
+    for metric in 0..5u32 {
+        let metric = (metric * 3) % 5 + 10;
+        set(
+            &rt,
+            rt.alloc(),
+            &mut table,
+            route(ten(), metric, Target::Exit(metric)),
+        );
+    }
+    compare_least(&rt, &table, ten(), Some(10));
+    compare_least(&rt, &table, ten_zero(), None);
+    set(
+        &rt,
+        rt.alloc(),
+        &mut table,
+        route(ten_zero(), 7, Target::Local),
+    );
+    set(&rt, rt.alloc(), &mut table, route(ten(), 10, Target::Local));
+    compare_target(&rt, &table, 0x0AFF_0000, Some(Target::Local));
+    clear(&rt, rt.alloc(), &mut table, ten(), Some(9));
+    clear(&rt, rt.alloc(), &mut table, ten(), Some(12));
+    clear(&rt, rt.alloc(), &mut table, ten(), Some(10));
+    compare_least(&rt, &table, ten(), Some(11));
+    clear(&rt, rt.alloc(), &mut table, ten(), None);
+    compare_least(&rt, &table, ten(), None);
+    compare_routes(
+        &rt,
+        rt.alloc(),
+        &table,
+        &[route(ten_zero(), 7, Target::Local)],
+    );
+    set(
+        &rt,
+        rt.alloc(),
+        &mut table,
+        route(ten(), 8, Target::Exit(3)),
+    );
+    compare_target(&rt, &table, 0x0AFF_0000, Some(Target::Exit(3)));
+}
+
+/// The prefix of this length that has an address.
+fn prefix_around(a: u32, len: u8) -> Prefix
+    requires { len ≤ 32 }
+{
+    let size = 1u64 << (32 - len);
+    let base = a as u64 - a as u64 % size;
+    Prefix::new(base as u32, len)
+}
+
+/// One of some hundred prefixes of several lengths, many within others.
+fn some_prefix(k: u32) -> Prefix {
+    let len = (k % 17) as u8 + 8;
+    prefix_around(k.wrapping_mul(0x01F3_5A00), len)
+}
+
+/// A route is set in a plain list.
+fn set_plainly(rt: &impl Abort, plain: &mut Vec<Route>, new: Route) {
+    plain.retain(|old| old.prefix != new.prefix || old.metric != new.metric);
+    plain.push(new).expect(rt, "memory");
+}
+
+/// A route is cleared in a plain list, or without a metric all of a prefix.
+fn clear_plainly(plain: &mut Vec<Route>, prefix: Prefix, metric: Option<u32>) {
+    match metric {
+        Some(metric) => plain.retain(|old| old.prefix != prefix || old.metric != metric),
+        None => plain.retain(|old| old.prefix != prefix),
+    }
+}
+
+/// A route is set, or one is cleared, or all of a prefix.
+fn some_op(draw: u64) -> Op {
+    let prefix = some_prefix(((draw >> 33) % 300) as u32);
+    let metric = ((draw >> 20) % 4) as u32;
+    let kind = (draw >> 12) % 8;
+    if kind < 5 {
+        let exit = ((draw >> 15) % 3) as u32;
+        return Op::Set {
+            prefix,
+            metric,
+            target: Target::Exit(exit),
+        };
+    }
+    let metric = if kind < 7 { Some(metric) } else { None };
+    Op::Clear { prefix, metric }
+}
+
+/// An update of a plain list.
+fn update_plainly(rt: &impl Abort, plain: &mut Vec<Route>, op: &Op) {
+    match *op {
+        Op::Set {
+            prefix,
+            metric,
+            target,
+        } => set_plainly(rt, plain, route(prefix, metric, target)),
+        Op::Clear { prefix, metric } => clear_plainly(plain, prefix, metric),
+    }
+}
+
+/// An update of both.
+fn update_both(
+    rt: &impl Abort,
+    alloc: Global,
+    table: &mut RouteTable,
+    plain: &mut Vec<Route>,
+    op: &Op,
+) {
+    update_plainly(rt, plain, op);
+    match *op {
+        Op::Set {
+            prefix,
+            metric,
+            target,
+        } => set(rt, alloc, table, route(prefix, metric, target)),
+        Op::Clear { prefix, metric } => clear(rt, alloc, table, prefix, metric),
+    }
+}
+
+/// Many updates of both.
+fn update_often(
+    rt: &impl Abort,
+    alloc: Global,
+    table: &mut RouteTable,
+    plain: &mut Vec<Route>,
+    seed: u64,
+) {
+    let mut draw = seed;
+    for _ in 0..2000u32 {
+        draw = next_draw(draw);
+        update_both(rt, alloc, table, plain, &some_op(draw));
+    }
+}
+
+/// The table has the routes of a plain list, and no others.
+fn compare_plainly(rt: &impl Abort, alloc: Global, table: &RouteTable, plain: &[Route]) {
+    let routes = table.routes(alloc).expect(rt, "memory");
+    assert_eq!(rt; routes.as_slice().len(), plain.len());
+    for route in routes.as_slice() {
+        assert!(rt; plain.contains(route));
+    }
+    for k in 0..300 {
+        let prefix = some_prefix(k);
+        let of_prefix = plain.iter().filter(|route| route.prefix == prefix);
+        let least = of_prefix.map(|route| route.metric).min();
+        compare_least(rt, table, prefix, least);
+    }
+}
+
+/// Some hundred prefixes stand in several pages. A copy that is held while they change keeps what it had.
+#[test]
+fn a_copy_is_held_across_many_updates(rt: HostRuntime) {
+    let mut table = RouteTable::new();
+    let mut plain = Vec::new(rt.alloc());
+    update_often(&rt, rt.alloc(), &mut table, &mut plain, 1);
+    compare_plainly(&rt, rt.alloc(), &table, &plain);
+    let held = copied(&rt, &table);
+    let old = plain.clone().expect(&rt, "memory");
+    update_often(&rt, rt.alloc(), &mut table, &mut plain, 2);
+    compare_plainly(&rt, rt.alloc(), &table, &plain);
+    compare_plainly(&rt, rt.alloc(), &held, &old);
+}
+
+/// An update of the third of four tables, which is looked for first at the first row, answers this and tells these
+/// runs.
+fn compare_update<L: Ledger>(
+    rt: &impl Abort,
+    alloc: Global,
+    tables: &mut RouteTables,
+    op: Op,
+    want: Option<Target>,
+    want_runs: &[Run],
+    steps: &mut Steps<L>,
+) {
+    let mut runs = Vec::new(alloc);
+    let after = tables
+        .update(alloc, 2, &op, 0, &mut runs, steps)
+        .expect(rt, "memory");
+    assert_eq!(rt; after, want);
+    assert_eq!(rt; runs.as_slice(), want_runs);
+}
+
+/// A route is set.
+fn setting(prefix: Prefix, metric: u32, target: Target) -> Op {
+    Op::Set {
+        prefix,
+        metric,
+        target,
+    }
+}
+
+/// All routes of a prefix are cleared.
+fn clearing(prefix: Prefix) -> Op {
+    Op::Clear {
+        prefix,
+        metric: None,
+    }
+}
+
+/// Its neighbours set the same prefixes and some within and around them, which is nothing to the third router.
+fn set_at_neighbours<L: Ledger>(
+    rt: &impl Abort,
+    alloc: Global,
+    tables: &mut RouteTables,
+    steps: &mut Steps<L>,
+) {
+    let mut runs = Vec::new(alloc);
+    let all = setting(Prefix::new(0, 0), 1, Target::Local);
+    let within = setting(Prefix::new(0x0A01_0200, 24), 1, Target::Exit(9));
+    let same = setting(ten_one(), 1, Target::Exit(9));
+    tables
+        .update(alloc, 1, &all, 0, &mut runs, steps)
+        .expect(rt, "memory");
+    tables
+        .update(alloc, 3, &within, 0, &mut runs, steps)
+        .expect(rt, "memory");
+    tables
+        .update(alloc, 3, &same, 0, &mut runs, steps)
+        .expect(rt, "memory");
+}
+
+fn updates_of_one_in_another<L: Ledger>(rt: &impl Abort, alloc: Global, blank: Blank)
+    requires name { blank.name ≡ L.name }
+    requires parts { blank.parts ≡ L.parts }
+    requires some { 0 < blank.parts }
+{
+    let steps = &mut Steps::<L>::new(blank);
+    let tables = &mut RouteTables::new();
+    let ten_all = [Run {
+        lo: 0x0A00_0000,
+        hi: 0x0AFF_FFFF,
+    }];
+    let one_all = [Run {
+        lo: 0x0A01_0000,
+        hi: 0x0A01_FFFF,
+    }];
+    let around_one = [
+        Run {
+            lo: 0x0A00_0000,
+            hi: 0x0A00_FFFF,
+        },
+        Run {
+            lo: 0x0A02_0000,
+            hi: 0x0AFF_FFFF,
+        },
+    ];
+    let inner = Target::Exit(1);
+    let outer = Target::Exit(2);
+    let local = Some(Target::Local);
+    let set_ten = setting(ten(), 20, Target::Local);
+    compare_update(rt, alloc, tables, set_ten, local, &ten_all, steps);
+    set_at_neighbours(rt, alloc, tables, steps);
+    let set_again = setting(ten(), 20, Target::Local);
+    compare_update(rt, alloc, tables, set_again, None, &[], steps);
+    let set_one = setting(ten_one(), 5, inner);
+    compare_update(rt, alloc, tables, set_one, Some(inner), &one_all, steps);
+    let set_less = setting(ten(), 10, outer);
+    compare_update(rt, alloc, tables, set_less, Some(outer), &around_one, steps);
+    compare_update(rt, alloc, tables, clearing(ten_zero()), None, &[], steps);
+    let clear_one = clearing(ten_one());
+    compare_update(rt, alloc, tables, clear_one, Some(outer), &one_all, steps);
+    let clear_ten = clearing(ten());
+    let none = Some(Target::NoRoute);
+    compare_update(rt, alloc, tables, clear_ten, none, &ten_all, steps);
+}
+
+#[test]
+fn an_update_tells_the_own_addresses_of_its_prefix(rt: HostRuntime) {
+    updates_of_one_in_another::<Brand>(&rt, rt.alloc(), Blank::new(1));
+}
+
+/// What a table does with an address.
+fn target_of(table: &RouteTable, a: u32) -> Target {
+    match table.best(a) {
+        Some(route) => route.target,
+        None => Target::NoRoute,
+    }
+}
+
+/// At addresses in these runs a table does what was answered, at all others what it did before.
+fn compare_turned(
+    rt: &impl Abort,
+    before: &RouteTable,
+    table: &RouteTable,
+    runs: &[Run],
+    after: Option<Target>,
+) {
+    for k in 0..60u32 {
+        let a = some_prefix(k * 5).base();
+        let mut want = target_of(before, a);
+        if let Some(target) = after {
+            if runs.iter().any(|run| run.lo <= a && a <= run.hi) {
+                want = target;
+            }
+        }
+        assert_eq!(rt; target_of(table, a), want);
+    }
+}
+
+/// An update of one of four tables, and of the table of that router alone, which shows whether what the first told is
+/// so.
+fn update_beside<L: Ledger>(
+    rt: &impl Abort,
+    alloc: Global,
+    tables: &mut RouteTables,
+    lane: usize,
+    alone: &mut RouteTable,
+    draw: u64,
+    steps: &mut Steps<L>,
+)
+    requires { lane < 4 }
+{
+    let op = some_op(draw);
+    let before = copied(rt, alone);
+    let mut runs = Vec::new(alloc);
+    let near = (draw >> 50) % 400;
+    let after = tables
+        .update(alloc, lane, &op, near, &mut runs, steps)
+        .expect(rt, "memory");
+    update_both(rt, alloc, alone, &mut Vec::new(alloc), &op);
+    compare_turned(rt, &before, alone, &runs, after);
+}
+
+/// Updates of the first and the last of four tables in turn.
+fn update_in_turn<L: Ledger>(
+    rt: &impl Abort,
+    alloc: Global,
+    tables: &mut RouteTables,
+    first: &mut RouteTable,
+    last: &mut RouteTable,
+    seed: u64,
+    steps: &mut Steps<L>,
+) {
+    let mut draw = seed;
+    for _ in 0..200u32 {
+        draw = next_draw(draw);
+        update_beside(rt, alloc, tables, 0, first, draw, steps);
+        draw = next_draw(draw);
+        update_beside(rt, alloc, tables, 3, last, draw, steps);
+    }
+}
+
+fn updates_near_any_place<L: Ledger>(rt: &impl Abort, alloc: Global, blank: Blank)
+    requires name { blank.name ≡ L.name }
+    requires parts { blank.parts ≡ L.parts }
+    requires some { 0 < blank.parts }
+{
+    let steps = &mut Steps::<L>::new(blank);
+    let tables = &mut RouteTables::new();
+    let first = &mut RouteTable::new();
+    let last = &mut RouteTable::new();
+    update_in_turn(rt, alloc, tables, first, last, 3, steps);
+    let held = &mut tables.copy().expect(rt, "memory");
+    let held_first = &mut copied(rt, first);
+    let held_last = &mut copied(rt, last);
+    update_in_turn(rt, alloc, tables, first, last, 4, steps);
+    update_in_turn(rt, alloc, held, held_first, held_last, 5, steps);
+    update_in_turn(rt, alloc, tables, first, last, 6, steps);
+}
+
+/// Some hundred prefixes stand in several pages, many within others, and a copy is held and then changed too.
+#[test]
+fn tables_side_by_side_do_what_each_alone_does(rt: HostRuntime) {
+    updates_near_any_place::<Brand>(&rt, rt.alloc(), Blank::new(1));
+}

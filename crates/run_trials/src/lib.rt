@@ -1,0 +1,31 @@
+//! Trials of whole runs of the program, over files in memory: reports and refusals that were worked out by hand, jobs
+//! that a gate holds, and jobs side by side, whose reports are held against what the plain evaluator of `dn_model`
+//! says.
+#![tactic(auto)]
+
+#[cfg(test)]
+mod held_gate;
+#[cfg(test)]
+mod history_tests;
+#[cfg(test)]
+mod made_tests;
+#[cfg(test)]
+mod parts_tests;
+#[cfg(test)]
+mod query_tests;
+#[cfg(test)]
+mod read_gate;
+#[cfg(test)]
+mod run_tests;
+#[cfg(test)]
+mod script_tests;
+#[cfg(test)]
+mod slow_gate;
+#[cfg(test)]
+mod trial;
+#[cfg(test)]
+mod trial_tests;
+#[cfg(test)]
+mod whole_run;
+#[cfg(test)]
+mod words_tests;

@@ -1,0 +1,484 @@
+//! Whole runs over files in memory, against reports worked out by hand.
+
+ghost use Rattle.std.specs.Prelude.{◌≡◌, ◌≤◌};
+
+use crate::whole_run::{
+    Came, RING, add_file, bytes_of, come_into, compare, file, file_by, frame_of, set_frame, texts,
+    whole_sink,
+};
+use dn_io::{MemFile, MemSink, NoGate};
+use dn_run::Status;
+use std::alloc::Global;
+use std::process::Abort;
+use std::sync::Wait;
+use std::thread::Threads;
+
+/// The ring, but link `b` uses the end of link `a` at `r1` again.
+const END_TWICE: &str =
+    "routers = [\"r1\", \"r2\", \"r3\"]\n[[link]]\nname = \"a\"\nends = [\"r1:2\", \"r2:2\"]\n[[link]]\nname = \"b\"\nends = [\"r1:2\", \"r3:2\"]\n";
+
+const TAKE_ALL: &str = "take r1 all\npath r1 10.1.2.3\n";
+
+/// The words of a run with a feed of `r1` and a script.
+const USUAL: [&str; 5] = ["deltanet", "run", "topology", "r1=f1", "@script"];
+
+/// The words of a run with a feed of `r1` alone.
+const FEED_ALONE: [&str; 4] = ["deltanet", "run", "topology", "r1=f1"];
+
+/// A frame that sets 0.0.0.0/0 over interface 2, with metric 20.
+const DEFAULT: [u8; 56] = [
+    1, 1, 0, 56, 52, 0, 0, 0, 24, 0, 1, 5, 0, 0, 0, 0, 0, 0, 0, 0, 2, 0, 0, 0, 254, 11, 0, 1, 0, 0,
+    0, 0, 8, 0, 5, 0, 192, 0, 2, 1, 8, 0, 4, 0, 2, 0, 0, 0, 8, 0, 6, 0, 20, 0, 0, 0,
+];
+
+/// A frame of two messages: one clears 10.0.0.0/8 with metric 20, and one sets it over interface 3.
+const MOVE_TO_3: [u8; 108] = [
+    1, 1, 0, 108, 44, 0, 0, 0, 25, 0, 1, 0, 0, 0, 0, 0, 0, 0, 0, 0, 2, 8, 0, 0, 254, 11, 0, 1, 0,
+    0, 0, 0, 8, 0, 1, 0, 10, 0, 0, 0, 8, 0, 6, 0, 20, 0, 0, 0, 60, 0, 0, 0, 24, 0, 1, 5, 0, 0, 0,
+    0, 0, 0, 0, 0, 2, 8, 0, 0, 254, 11, 0, 1, 0, 0, 0, 0, 8, 0, 1, 0, 10, 0, 0, 0, 8, 0, 5, 0, 192,
+    0, 2, 1, 8, 0, 4, 0, 3, 0, 0, 0, 8, 0, 6, 0, 20, 0, 0, 0,
+];
+
+/// A frame whose first message sets 10.0.0.0/8, and whose second says that it is 15 bytes long.
+const BAD_LENGTH: [u8; 80] = [
+    1, 1, 0, 80, 60, 0, 0, 0, 24, 0, 1, 5, 0, 0, 0, 0, 0, 0, 0, 0, 2, 8, 0, 0, 254, 11, 0, 1, 0, 0,
+    0, 0, 8, 0, 1, 0, 10, 0, 0, 0, 8, 0, 5, 0, 192, 0, 2, 1, 8, 0, 4, 0, 2, 0, 0, 0, 8, 0, 6, 0,
+    20, 0, 0, 0, 15, 0, 0, 0, 24, 0, 0, 0, 0, 0, 0, 0, 0, 0, 0, 0,
+];
+
+/// A frame that sets a multipath route, and then one with a message of IPv6.
+const MULTIPATH_AND_IPV6: [u8; 84] = [
+    1, 1, 0, 52, 48, 0, 0, 0, 24, 0, 1, 5, 0, 0, 0, 0, 0, 0, 0, 0, 2, 8, 0, 0, 254, 11, 0, 1, 0, 0,
+    0, 0, 8, 0, 1, 0, 10, 0, 0, 0, 12, 0, 9, 0, 8, 0, 0, 0, 2, 0, 0, 0, 1, 1, 0, 32, 28, 0, 0, 0,
+    24, 0, 1, 5, 0, 0, 0, 0, 0, 0, 0, 0, 10, 0, 0, 0, 254, 11, 0, 1, 0, 0, 0, 0,
+];
+
+/// A frame that sets 10.0.0.1 of length 8, so that a bit past the prefix is set.
+const HOST_BITS: [u8; 64] = [
+    1, 1, 0, 64, 60, 0, 0, 0, 24, 0, 1, 5, 0, 0, 0, 0, 0, 0, 0, 0, 2, 8, 0, 0, 254, 11, 0, 1, 0, 0,
+    0, 0, 8, 0, 1, 0, 10, 0, 0, 1, 8, 0, 5, 0, 192, 0, 2, 1, 8, 0, 4, 0, 2, 0, 0, 0, 8, 0, 6, 0,
+    20, 0, 0, 0,
+];
+
+/// A frame that clears 10.0.0.0/8 of any metric.
+const CLEAR: [u8; 40] = [
+    1, 1, 0, 40, 36, 0, 0, 0, 25, 0, 1, 0, 0, 0, 0, 0, 0, 0, 0, 0, 2, 8, 0, 0, 254, 11, 0, 1, 0, 0,
+    0, 0, 8, 0, 1, 0, 10, 0, 0, 0,
+];
+
+/// What a run of these words comes to, over a topology, a script and the feeds `f1`, `f2` and `f3`, into this sink.
+fn come<R: Abort + Threads + Wait + Sync>(
+    rt: &R,
+    alloc: Global,
+    words: &[&str],
+    topology: MemFile,
+    script: &str,
+    feed: MemFile,
+    sink: MemSink,
+) -> Came
+    requires topology { 1 ≤ topology.step }
+    requires feed { 1 ≤ feed.step }
+    requires sink { sink.plan.faults ≡ 0 }
+{
+    let words = texts(rt, alloc, words);
+    let mut files = Vec::new(alloc);
+    add_file(rt, &mut files, topology);
+    add_file(rt, &mut files, file(rt, alloc, "script", script.as_bytes()));
+    add_file(rt, &mut files, feed);
+    add_file(rt, &mut files, file(rt, alloc, "f2", &set_frame(0, 8, 3)));
+    add_file(rt, &mut files, file(rt, alloc, "f3", &set_frame(0, 8, 1)));
+    come_into(rt, alloc, words.as_slice(), files, sink, &NoGate)
+}
+
+/// What a run of these words comes to, over these texts and this feed of `r1`.
+fn come_to<R: Abort + Threads + Wait + Sync>(
+    rt: &R,
+    alloc: Global,
+    words: &[&str],
+    topology: &str,
+    script: &str,
+    feed: &[u8],
+) -> Came {
+    let topology = file(rt, alloc, "topology", topology.as_bytes());
+    let feed = file(rt, alloc, "f1", feed);
+    come(rt, alloc, words, topology, script, feed, whole_sink(alloc))
+}
+
+/// A run of the usual words, over the ring and this feed of `r1`, into this sink, comes to this status and text.
+fn compare_feed_into<R: Abort + Threads + Wait + Sync>(
+    rt: &R,
+    alloc: Global,
+    feed: MemFile,
+    sink: MemSink,
+    status: Status,
+    text: &str,
+)
+    requires feed { 1 ≤ feed.step }
+    requires sink { sink.plan.faults ≡ 0 }
+{
+    let topology = file(rt, alloc, "topology", RING.as_bytes());
+    let came = come(rt, alloc, &USUAL, topology, TAKE_ALL, feed, sink);
+    compare(rt, &came, status, text);
+}
+
+const FIRST_PATH: &str =
+    "feed 1 r1 updates 1 skipped 0 refused 0 end\nhistory 1\n1 feed 1 r1 set 10.0.0.0/8 metric 20 to r2 by a\njob 1\nline 2 at 1 path r1 10.1.2.3\nhops r1 r2\nend noroute\ndone\n";
+
+#[test]
+fn tells_of_a_path(rt: HostRuntime) {
+    let came = come_to(&rt, rt.alloc(), &USUAL, RING, TAKE_ALL, &set_frame(0, 8, 2));
+    compare(&rt, &came, Status::Done, FIRST_PATH);
+}
+
+#[test]
+fn tells_the_same_byte_by_byte(rt: HostRuntime) {
+    let alloc = rt.alloc();
+    let feed = file_by(&rt, alloc, "f1", &set_frame(0, 8, 2), 1, &[]);
+    let sink = MemSink::new(alloc, 1, Vec::new(alloc));
+    compare_feed_into(&rt, alloc, feed, sink, Status::Done, FIRST_PATH);
+}
+
+#[test]
+fn stops_where_the_sink_fails(rt: HostRuntime) {
+    let alloc = rt.alloc();
+    let feed = file(&rt, alloc, "f1", &set_frame(0, 8, 2));
+    let fails = Vec::from_slice(alloc, &[2]).expect(&rt, "memory");
+    let sink = MemSink::new(alloc, 16, fails);
+    compare_feed_into(
+        &rt,
+        alloc,
+        feed,
+        sink,
+        Status::WriteFault,
+        "feed 1 r1 update",
+    );
+}
+
+const FAILED_FEED: &str =
+    "feed 1 r1 updates 1 skipped 0 refused 0 readfault\nhistory 1\n1 feed 1 r1 set 10.0.0.0/8 metric 20 to r2 by a\njob 1\nline 2 at 1 path r1 10.1.2.3\nhops r1 r2\nend noroute\ndone\n";
+
+#[test]
+fn a_feed_that_fails_ends_alone(rt: HostRuntime) {
+    let alloc = rt.alloc();
+    let feed = file_by(&rt, alloc, "f1", &set_frame(0, 8, 2), 64, &[2]);
+    compare_feed_into(
+        &rt,
+        alloc,
+        feed,
+        whole_sink(alloc),
+        Status::ReadFault,
+        FAILED_FEED,
+    );
+}
+
+#[test]
+fn a_topology_that_fails_is_told(rt: HostRuntime) {
+    let alloc = rt.alloc();
+    let topology = file_by(&rt, alloc, "topology", RING.as_bytes(), 4096, &[1]);
+    let feed = file(&rt, alloc, "f1", &set_frame(0, 8, 2));
+    let came = come(
+        &rt,
+        alloc,
+        &USUAL,
+        topology,
+        TAKE_ALL,
+        feed,
+        whole_sink(alloc),
+    );
+    compare(&rt, &came, Status::ReadFault, "error read topology\n");
+}
+
+/// All but the last byte.
+fn but_the_last(bytes: &[u8]) -> &[u8] {
+    match bytes {
+        [front @ .., _] => front,
+        [] => bytes,
+    }
+}
+
+const CUT_SHORT: &str =
+    "feed 1 r1 updates 0 skipped 0 refused 0 cutshort 0\nhistory 0\njob 1\nline 2 at 0 path r1 10.1.2.3\nhops r1\nend noroute\ndone\n";
+
+#[test]
+fn a_feed_is_cut_short(rt: HostRuntime) {
+    let frame = set_frame(0, 8, 2);
+    let came = come_to(
+        &rt,
+        rt.alloc(),
+        &USUAL,
+        RING,
+        TAKE_ALL,
+        but_the_last(&frame),
+    );
+    compare(&rt, &came, Status::Refusals, CUT_SHORT);
+}
+
+/// Asks the same path before the first take, between the takes, and after the last.
+const SCRIPT_BY_TURNS: &str =
+    "path r1 10.1.2.3\ntake r1 1\npath r1 10.1.2.3\ntake r1 all\npath r1 10.1.2.3\n";
+
+const BY_TURNS: &str =
+    "feed 1 r1 updates 3 skipped 0 refused 0 end\nhistory 3\n1 feed 1 r1 set 10.0.0.0/8 metric 20 to r2 by a\n2 feed 1 r1 set 10.1.0.0/16 metric 20 to r3 by c\n3 feed 1 r1 set 10.2.0.0/16 metric 20 to r3 by c\njob 1\nline 1 at 0 path r1 10.1.2.3\nhops r1\nend noroute\nline 3 at 1 path r1 10.1.2.3\nhops r1 r2\nend noroute\nline 5 at 3 path r1 10.1.2.3\nhops r1 r3\nend noroute\ndone\n";
+
+#[test]
+fn pins_hold_what_was_taken(rt: HostRuntime) {
+    let alloc = rt.alloc();
+    let (first, second, third) = (set_frame(0, 8, 2), set_frame(1, 16, 3), set_frame(2, 16, 3));
+    let bytes = bytes_of(&rt, alloc, &[&first, &second, &third]);
+    let came = come_to(&rt, alloc, &USUAL, RING, SCRIPT_BY_TURNS, bytes.as_slice());
+    compare(&rt, &came, Status::Done, BY_TURNS);
+}
+
+const TWO_MESSAGES: &str =
+    "feed 1 r1 updates 3 skipped 0 refused 0 end\nhistory 3\n1 feed 1 r1 set 10.0.0.0/8 metric 20 to r2 by a\n2 feed 1 r1 clear 10.0.0.0/8 metric 20\n3 feed 1 r1 set 10.0.0.0/8 metric 20 to r3 by c\njob 1\ndone\n";
+
+#[test]
+fn a_frame_of_two_messages(rt: HostRuntime) {
+    let alloc = rt.alloc();
+    let bytes = bytes_of(&rt, alloc, &[&set_frame(0, 8, 2), &MOVE_TO_3]);
+    let came = come_to(&rt, alloc, &FEED_ALONE, RING, "", bytes.as_slice());
+    compare(&rt, &came, Status::Done, TWO_MESSAGES);
+}
+
+const REFUSED_FRAME: &str =
+    "feed 1 r1 updates 1 skipped 0 refused 1 end\nrefused offset 0 message 60 cause 1 BadLength\nhistory 1\n1 feed 1 r1 set 10.0.0.0/8 metric 20 to r2 by a\njob 1\ndone\n";
+
+#[test]
+fn a_refused_frame_changes_nothing(rt: HostRuntime) {
+    let alloc = rt.alloc();
+    let bytes = bytes_of(&rt, alloc, &[&BAD_LENGTH, &set_frame(0, 8, 2)]);
+    let came = come_to(&rt, alloc, &FEED_ALONE, RING, "", bytes.as_slice());
+    compare(&rt, &came, Status::Refusals, REFUSED_FRAME);
+}
+
+/// A run over a feed without updates comes to this status, and tells this of the feed after the word `skipped`.
+fn compare_feed<R: Abort + Threads + Wait + Sync>(
+    rt: &R,
+    alloc: Global,
+    bytes: &[u8],
+    status: Status,
+    told: &str,
+) {
+    let text = format!(in alloc;
+        "feed 1 r1 updates 0 skipped {told}history 0\njob 1\ndone\n"
+    ).expect(rt, "memory");
+    let came = come_to(rt, alloc, &FEED_ALONE, RING, "", bytes);
+    compare(rt, &came, status, text.as_str());
+}
+
+#[test]
+fn feeds_that_end_before_a_frame(rt: HostRuntime) {
+    let alloc = rt.alloc();
+    compare_feed(&rt, alloc, &[], Status::Done, "0 refused 0 end\n");
+    let lost = "0 refused 0 lost 0 BadVersion\n";
+    compare_feed(&rt, alloc, &[2], Status::Refusals, lost);
+    let lost = "0 refused 0 lost 0 BadFrameLength\n";
+    compare_feed(&rt, alloc, &[1, 1, 0, 3], Status::Refusals, lost);
+}
+
+#[test]
+fn feeds_of_refused_frames(rt: HostRuntime) {
+    let alloc = rt.alloc();
+    let told = "0 refused 1 end\nrefused offset 0 message 0 cause 14 FrameType\n";
+    compare_feed(
+        &rt,
+        alloc,
+        &[1, 2, 0, 4, 1, 1, 0, 4],
+        Status::Refusals,
+        told,
+    );
+    let told = "1 refused 1 end\nrefused offset 0 message 0 cause 9 Multipath\n";
+    compare_feed(&rt, alloc, &MULTIPATH_AND_IPV6, Status::Refusals, told);
+    let told = "0 refused 1 end\nrefused offset 0 message 0 cause 13 UnknownInterface\n";
+    compare_feed(&rt, alloc, &set_frame(0, 8, 9), Status::Refusals, told);
+    let told = "0 refused 1 end\nrefused offset 0 message 0 cause 7 HostBits\n";
+    compare_feed(&rt, alloc, &HOST_BITS, Status::Refusals, told);
+}
+
+const CLEARED: &str =
+    "feed 1 r1 updates 1 skipped 0 refused 0 end\nhistory 1\n1 feed 1 r1 clear 10.0.0.0/8\njob 1\nline 2 at 1 path r1 10.1.2.3\nhops r1\nend noroute\nline 3 at 1 delta\nnone\ndone\n";
+
+#[test]
+fn a_clear_of_empty_tables(rt: HostRuntime) {
+    let script = "take r1 all\npath r1 10.1.2.3\ndelta\n";
+    let came = come_to(&rt, rt.alloc(), &USUAL, RING, script, &CLEAR);
+    compare(&rt, &came, Status::Done, CLEARED);
+}
+
+/// A run over a feed of one update prints this update and this change.
+fn compare_change<R: Abort + Threads + Wait + Sync>(
+    rt: &R,
+    alloc: Global,
+    bytes: &[u8],
+    update: &str,
+    change: &str,
+) {
+    let text = format!(in alloc;
+        "feed 1 r1 updates 1 skipped 0 refused 0 end\nhistory 1\n1 feed 1 r1 set {update}\njob 1\nline 2 at 1 delta\nr1 {change}\ndone\n"
+    ).expect(rt, "memory");
+    let came = come_to(rt, alloc, &USUAL, RING, "take r1 all\ndelta\n", bytes);
+    compare(rt, &came, Status::Done, text.as_str());
+}
+
+#[test]
+fn what_one_update_changes(rt: HostRuntime) {
+    let update = "0.0.0.0/0 metric 20 to r2 by a";
+    let change = "0.0.0.0-255.255.255.255 noroute -> to r2 by a";
+    compare_change(&rt, rt.alloc(), &DEFAULT, update, change);
+    let last_address = frame_of([255, 255, 255, 255], 32, 0, 1);
+    let update = "255.255.255.255/32 metric 0 exit 1";
+    let change = "255.255.255.255-255.255.255.255 noroute -> exit 1";
+    compare_change(&rt, rt.alloc(), &last_address, update, change);
+}
+
+const CLEARED_BOTH: &str =
+    "feed 1 r1 updates 3 skipped 0 refused 0 end\nhistory 3\n1 feed 1 r1 set 10.0.0.0/8 metric 20 to r2 by a\n2 feed 1 r1 set 10.0.0.0/8 metric 5 to r3 by c\n3 feed 1 r1 clear 10.0.0.0/8\njob 1\nline 2 at 2 path r1 10.0.0.1\nhops r1 r3\nend noroute\nline 4 at 3 delta\nr1 10.0.0.0-10.255.255.255 to r3 by c -> noroute\ndone\n";
+
+#[test]
+fn a_clear_of_both_metrics_changes_to_no_route(rt: HostRuntime) {
+    let alloc = rt.alloc();
+    let (first, second) = (set_frame(0, 8, 2), frame_of([10, 0, 0, 0], 8, 5, 3));
+    let bytes = bytes_of(&rt, alloc, &[&first, &second, &CLEAR]);
+    let script = "take r1 2\npath r1 10.0.0.1\ntake r1 all\ndelta\n";
+    let came = come_to(&rt, alloc, &USUAL, RING, script, bytes.as_slice());
+    compare(&rt, &came, Status::Done, CLEARED_BOTH);
+}
+
+const THREE_FEEDS: &str =
+    "feed 1 r1 updates 1 skipped 0 refused 0 end\nfeed 2 r2 updates 1 skipped 0 refused 0 end\nfeed 3 r3 updates 1 skipped 0 refused 0 end\nhistory 3\n1 feed 1 r1 set 10.0.0.0/8 metric 20 to r2 by a\n2 feed 2 r2 set 10.0.0.0/8 metric 20 to r3 by b\n3 feed 3 r3 set 10.0.0.0/8 metric 20 exit 1\njob 1\nline 4 at 3 path r1 10.0.0.0\nhops r1 r2 r3\nend exit 1\ndone\n";
+
+#[test]
+fn a_path_over_three_feeds(rt: HostRuntime) {
+    let words = [
+        "deltanet", "run", "topology", "r1=f1", "@script", "r2=f2", "r3=f3",
+    ];
+    let script = "take r1 all\ntake r2 all\ntake r3 all\npath r1 10.0.0.0\n";
+    let came = come_to(&rt, rt.alloc(), &words, RING, script, &set_frame(0, 8, 2));
+    compare(&rt, &came, Status::Done, THREE_FEEDS);
+}
+
+const LOOP_OF_TWO: &str =
+    "feed 1 r1 updates 1 skipped 0 refused 0 end\nfeed 2 r3 updates 1 skipped 0 refused 0 end\nhistory 2\n1 feed 1 r1 set 10.0.0.0/8 metric 20 to r3 by c\n2 feed 2 r3 set 10.0.0.0/8 metric 20 to r1 by c\njob 1\nline 3 at 2 path r1 10.0.0.0\nhops r1 r3 r1 r3\nend loop\ndone\n";
+
+#[test]
+fn a_loop_of_two_of_three(rt: HostRuntime) {
+    let words = ["deltanet", "run", "topology", "r1=f1", "r3=f2", "@script"];
+    let script = "take r1 all\ntake r3 all\npath r1 10.0.0.0\n";
+    let came = come_to(&rt, rt.alloc(), &words, RING, script, &set_frame(0, 8, 3));
+    compare(&rt, &came, Status::Done, LOOP_OF_TWO);
+}
+
+const TWO_JOBS: &str =
+    "feed 1 r3 updates 1 skipped 0 refused 0 end\nfeed 2 r1 updates 0 skipped 0 refused 0 end\nhistory 1\n1 feed 1 r3 set 10.0.0.0/8 metric 20 exit 1\njob 1\njob 2\ndone\n";
+
+#[test]
+fn feeds_that_no_script_takes_are_jobs(rt: HostRuntime) {
+    let words = ["deltanet", "run", "topology", "r3=f3", "r1=f1"];
+    let came = come_to(&rt, rt.alloc(), &words, RING, "", &[]);
+    compare(&rt, &came, Status::Done, TWO_JOBS);
+}
+
+const UNKNOWN_NAME: &str =
+    "history 0\njob 1\nline 1 path r9 10.0.0.0\nunknown router r9\nline 2 at 0 path r1 10.0.0.0\nhops r1\nend noroute\nline 3 at 0 delta\nnone\ndone\n";
+
+#[test]
+fn an_unknown_name_makes_no_pin(rt: HostRuntime) {
+    let words = ["deltanet", "run", "topology", "@script"];
+    let script = "path r9 10.0.0.0\npath r1 10.0.0.0\ndelta\n";
+    let came = come_to(&rt, rt.alloc(), &words, RING, script, &[]);
+    compare(&rt, &came, Status::Done, UNKNOWN_NAME);
+}
+
+/// A run of these words over the ring and an empty feed comes to this status and text.
+fn compare_words<R: Abort + Threads + Wait + Sync>(
+    rt: &R,
+    alloc: Global,
+    words: &[&str],
+    status: Status,
+    text: &str,
+) {
+    let came = come_to(rt, alloc, words, RING, TAKE_ALL, &[]);
+    compare(rt, &came, status, text);
+}
+
+/// A run with this part after the feed of `r1` is refused with this text.
+fn compare_part<R: Abort + Threads + Wait + Sync>(rt: &R, alloc: Global, part: &str, text: &str) {
+    let words = ["deltanet", "run", "topology", "r1=f1", part];
+    compare_words(rt, alloc, &words, Status::BadWords, text);
+}
+
+#[test]
+fn refused_words(rt: HostRuntime) {
+    let alloc = rt.alloc();
+    compare_words(&rt, alloc, &["deltanet"], Status::BadWords, "error words\n");
+    compare_part(&rt, alloc, "x", "error part 2 BadPart\n");
+    compare_part(&rt, alloc, "r1=f2", "error part 2 RouterTwice\n");
+    compare_part(&rt, alloc, "r9=f2", "error part 2 UnknownRouter\n");
+    compare_part(&rt, alloc, "@", "error part 2 BadPart\n");
+}
+
+/// A run over this topology is refused with this text.
+fn compare_topology<R: Abort + Threads + Wait + Sync>(
+    rt: &R,
+    alloc: Global,
+    topology: &str,
+    text: &str,
+) {
+    let came = come_to(rt, alloc, &USUAL, topology, TAKE_ALL, &[]);
+    compare(rt, &came, Status::BadTopology, text);
+}
+
+#[test]
+fn refused_topologies(rt: HostRuntime) {
+    let alloc = rt.alloc();
+    let missing = "error topology top 0 3 MissingKey\n";
+    compare_topology(&rt, alloc, "routers = 1\n", missing);
+    let twice = "error topology link 2 7 EndTwice\n";
+    compare_topology(&rt, alloc, END_TWICE, twice);
+}
+
+/// A run with this script before the feed is refused with this text.
+fn compare_script<R: Abort + Threads + Wait + Sync>(
+    rt: &R,
+    alloc: Global,
+    script: &str,
+    text: &str,
+) {
+    let words = ["deltanet", "run", "topology", "@script", "r1=f1"];
+    let came = come_to(rt, alloc, &words, RING, script, &[]);
+    compare(rt, &came, Status::BadScript, text);
+}
+
+#[test]
+fn refused_scripts(rt: HostRuntime) {
+    let alloc = rt.alloc();
+    let unknown = "error script 1 line 1 2 TakeUnknown\n";
+    compare_script(&rt, alloc, "take r9 all\n", unknown);
+    let first = "error script 1 line 1 1 BadLine\n";
+    compare_script(&rt, alloc, "path r1 r9\n", first);
+    let second = "error script 1 line 2 1 BadLine\n";
+    compare_script(&rt, alloc, "# a note\ntake r1 0\n", second);
+}
+
+/// A run of this topology, feed of `r1` and script, of which one file isn't there, ends with this text.
+fn compare_files<R: Abort + Threads + Wait + Sync>(
+    rt: &R,
+    alloc: Global,
+    files: [&str; 3],
+    text: &str,
+) {
+    let [topology, feed, script] = files;
+    let words = ["deltanet", "run", topology, feed, script];
+    compare_words(rt, alloc, &words, Status::ReadFault, text);
+}
+
+#[test]
+fn files_that_are_not_there(rt: HostRuntime) {
+    let alloc = rt.alloc();
+    let files = ["none", "r1=f1", "@script"];
+    compare_files(&rt, alloc, files, "error read topology\n");
+    let files = ["topology", "r1=none", "@script"];
+    compare_files(&rt, alloc, files, "error read part 1\n");
+    let files = ["topology", "r1=f1", "@none"];
+    compare_files(&rt, alloc, files, "error read part 2\n");
+}

@@ -1,0 +1,349 @@
+//! Trials of jobs side by side: whole runs of eight jobs, held at a gate for a while that looks drawn. Which order of
+//! the updates and which positions a run chose is read from its report; the rest of the report then has to be what the
+//! plain evaluator of `dn_model` says, and order and positions what the lines of the jobs allow.
+
+use crate::slow_gate::SlowGate;
+use crate::trial::{
+    FEEDS, TAKEN, UNTAKEN, UPDATES, count_of, entries, files, ring_text, script_text, words,
+};
+use crate::whole_run::{Came, come_into, whole_sink};
+use dn_formats::{FeedEnd, FeedTold, JobTold, Line, Outcome, Script, Told};
+use dn_model::{Answer, Entry, List, Posted, Query, RouterId, Topology, plain_answer};
+use query_lang::read_script;
+use run_report::report_text;
+use std::alloc::{AllocError, Global};
+use std::process::Abort;
+use std::str;
+use std::sync::Wait;
+use std::thread::Threads;
+use topology::read_topology;
+use version_pages::Pages;
+
+/// What a trial's run comes to.
+fn come<R: Abort + Threads + Wait + Sync>(rt: &R, alloc: Global, seed: u32) -> Came {
+    let words = words(rt, alloc);
+    let files = files(rt, alloc, seed);
+    let gate = SlowGate::new(seed);
+    come_into(rt, alloc, words.as_slice(), files, whole_sink(alloc), &gate)
+}
+
+/// The number that a word is, or 0.
+fn number_of(word: Option<&str>) -> u32 {
+    match word {
+        Some(word) => word.parse::<u32>().unwrap_or(0),
+        None => 0,
+    }
+}
+
+/// What a run chose: for each entry of the history its feed, and the position of each query, one job after another.
+#[derive(Drop)]
+struct Chosen {
+    order: Vec<u32>,
+    pins: Vec<u32>,
+}
+
+impl Chosen {
+    /// Notes what a line of a report tells of this.
+    fn note(&mut self, line: &str) -> Result<(), AllocError> {
+        let mut words = line.split(' ');
+        let first = words.next();
+        let second = words.next();
+        let third = words.next();
+        let fourth = words.next();
+        if second == Some("feed") {
+            self.order.push(number_of(third))?;
+        }
+        if first == Some("line") && third == Some("at") {
+            self.pins.push(number_of(fourth))?;
+        }
+        Ok(())
+    }
+}
+
+/// What a run chose, by its report.
+fn choice_of(alloc: Global, report: &[u8]) -> Result<Chosen, AllocError> {
+    let mut chosen = Chosen {
+        order: Vec::new(alloc),
+        pins: Vec::new(alloc),
+    };
+    let Ok(report) = str::from_utf8(report) else {
+        return Ok(chosen);
+    };
+    for line in report.lines() {
+        chosen.note(line)?;
+    }
+    Ok(chosen)
+}
+
+/// The routers of the feeds.
+fn routers(alloc: Global) -> Result<Vec<RouterId>, AllocError> {
+    let mut routers = Vec::new(alloc);
+    for router in 0..FEEDS {
+        routers.push(RouterId(router as u16))?;
+    }
+    Ok(routers)
+}
+
+/// The script at this place.
+fn script(rt: &impl Abort, alloc: Global, topology: &Topology, seed: u32, number: usize) -> Script {
+    let routers = routers(alloc).expect(rt, "memory");
+    let text = script_text(rt, alloc, seed, number);
+    let script = read_script(alloc, text.as_bytes(), topology, routers.as_slice(), &[]);
+    script.ok().expect(rt, "a script")
+}
+
+/// The scripts of a trial.
+fn scripts(rt: &impl Abort, alloc: Global, topology: &Topology, seed: u32) -> Vec<Script> {
+    let mut scripts = Vec::new(alloc);
+    for number in 0..TAKEN.len() {
+        let script = script(rt, alloc, topology, seed, number);
+        scripts.push(script).expect(rt, "memory");
+    }
+    scripts
+}
+
+/// A trial and what its run chose.
+#[derive(Drop)]
+struct Trial {
+    topology: Topology,
+    seed: u32,
+    chosen: Chosen,
+}
+
+impl Trial {
+    /// The plain evaluator's answer after the first so many updates.
+    fn plain(&self, rt: &impl Abort, alloc: Global, pin: u32, query: &Query) -> Answer {
+        let order = self.chosen.order.as_slice();
+        assert!(rt; pin as usize <= order.len());
+        let past = entries(rt, alloc, &self.topology, self.seed, &order[..pin as usize]);
+        let None = query.unknown(&self.topology) else {
+            panic!(rt; "known names");
+        };
+        plain_answer(alloc, &self.topology, past.as_slice(), query).expect(rt, "memory")
+    }
+
+    /// What is due of a query at this position.
+    fn told(&self, rt: &impl Abort, alloc: Global, pin: u32, line: u32, query: &Query) -> Told {
+        let answer = self.plain(rt, alloc, pin, query);
+        Told {
+            line,
+            query: query.copy(alloc).expect(rt, "memory"),
+            outcome: Outcome::Answered {
+                number: pin,
+                answer,
+            },
+        }
+    }
+
+    /// What is due of a script's queries, whose positions come after the first so many.
+    fn tolds(&self, rt: &impl Abort, alloc: Global, script: &Script, from: usize) -> List<Told> {
+        let mut tolds = List::new(alloc);
+        for line in script.lines.as_slice() {
+            if let Line::Ask { line, query } = line {
+                let at = from.saturating_add(tolds.len());
+                let pin = self.chosen.pins.get(at).copied().expect(rt, "a position");
+                let told = self.told(rt, alloc, pin, *line, query);
+                tolds.push(told).expect(rt, "memory");
+            }
+        }
+        tolds
+    }
+
+    /// What is due of each job: of each script's, and of each feed that none takes.
+    fn jobs(&self, rt: &impl Abort, alloc: Global, scripts: &[Script]) -> Vec<JobTold> {
+        let mut jobs = Vec::new(alloc);
+        let mut from = 0usize;
+        let mut number = 1u32;
+        for script in scripts {
+            let told = self.tolds(rt, alloc, script, from);
+            from = from.saturating_add(told.len());
+            jobs.push(JobTold { number, told }).expect(rt, "memory");
+            number = number.saturating_add(1);
+        }
+        assert_eq!(rt; from, self.chosen.pins.len());
+        for _feed in UNTAKEN {
+            let told = List::new(alloc);
+            jobs.push(JobTold { number, told }).expect(rt, "memory");
+            number = number.saturating_add(1);
+        }
+        jobs
+    }
+
+    /// The history that the run chose.
+    fn history(&self, rt: &impl Abort, alloc: Global) -> Pages<Posted> {
+        let order = self.chosen.order.as_slice();
+        let past = entries(rt, alloc, &self.topology, self.seed, order);
+        let mut history = Pages::new();
+        for entry in past.as_slice() {
+            post(rt, alloc, &mut history, *entry);
+        }
+        history
+    }
+}
+
+/// Adds an entry to a history.
+fn post(rt: &impl Abort, alloc: Global, history: &mut Pages<Posted>, entry: Entry) {
+    let posted = Posted { seat: 0, entry };
+    history.push(alloc, posted).expect(rt, "memory");
+}
+
+/// What is told of the feeds.
+fn feeds_told(alloc: Global) -> Result<Vec<FeedTold>, AllocError> {
+    let mut feeds = Vec::new(alloc);
+    for router in 0..FEEDS {
+        feeds.push(FeedTold {
+            feed_no: router + 1,
+            router: RouterId(router as u16),
+            updates: u64::from(UPDATES),
+            skipped: 0,
+            refused: List::new(alloc),
+            end: Some(FeedEnd::End),
+        })?;
+    }
+    Ok(feeds)
+}
+
+/// The report has each feed's updates, and is what the plain evaluator says over what the run chose.
+fn compare_report(rt: &impl Abort, alloc: Global, trial: &Trial, jobs: &[JobTold], report: &[u8]) {
+    for feed in 1..FEEDS + 1 {
+        let count = count_of(trial.chosen.order.as_slice(), feed);
+        assert_eq!(rt; count, UPDATES as usize);
+    }
+    let feeds = feeds_told(alloc).expect(rt, "memory");
+    let history = trial.history(rt, alloc);
+    let due = report_text(alloc, &trial.topology, feeds.as_slice(), &history, jobs);
+    let due = due.expect(rt, "memory");
+    assert_eq!(rt; due.as_slice(), report, "seed {}", trial.seed);
+}
+
+/// A script's job takes at most so many further frames of a feed.
+fn take(own: &mut Vec<u32>, feed: u32, count: u32) -> Result<(), AllocError> {
+    for _frame in 0..count {
+        if count_of(own.as_slice(), feed) < UPDATES as usize {
+            own.push(feed)?;
+        }
+    }
+    Ok(())
+}
+
+/// The entries of these feeds, in the history's order.
+fn among(alloc: Global, order: &[u32], taken: &[u32]) -> Result<Vec<u32>, AllocError> {
+    let mut among = Vec::new(alloc);
+    for feed in order {
+        if taken.contains(feed) {
+            among.push(*feed)?;
+        }
+    }
+    Ok(among)
+}
+
+/// The position of a query is at least the one before, and holds just these entries of the feeds that its script takes.
+fn compare_pin(
+    rt: &impl Abort,
+    alloc: Global,
+    order: &[u32],
+    taken: &[u32],
+    pins: [usize; 2],
+    own: &[u32],
+) {
+    let [before, pin] = pins;
+    assert!(rt; before <= pin && pin <= order.len());
+    let among = among(alloc, &order[..pin], taken).expect(rt, "memory");
+    assert_eq!(rt; among.as_slice(), own);
+}
+
+/// The position of the query at this place.
+fn pin_of(rt: &impl Abort, tolds: &[Told], at: usize) -> usize {
+    assert!(rt; at < tolds.len());
+    let Outcome::Answered { number, .. } = tolds[at].outcome else {
+        panic!(rt; "an answer");
+    };
+    number as usize
+}
+
+/// A script's job takes its feeds' updates by its lines, and then the rest of each feed, in the order in which the
+/// lines first take it: so they stand in the history, and at each query its position holds what the lines before took.
+fn compare_job(
+    rt: &impl Abort,
+    alloc: Global,
+    order: &[u32],
+    taken: &[u32],
+    script: &Script,
+    tolds: &[Told],
+) {
+    let mut own = Vec::new(alloc);
+    let mut asked = 0usize;
+    let mut before = 0usize;
+    for line in script.lines.as_slice() {
+        match line {
+            Line::Take { router, count, .. } => {
+                let count = count.unwrap_or(UPDATES).min(UPDATES);
+                take(&mut own, u32::from(router.0) + 1, count).expect(rt, "memory");
+            }
+            Line::Ask { .. } => {
+                let pin = pin_of(rt, tolds, asked);
+                compare_pin(rt, alloc, order, taken, [before, pin], own.as_slice());
+                asked = asked.saturating_add(1);
+                before = pin;
+            }
+        }
+    }
+    for feed in taken {
+        take(&mut own, *feed, UPDATES).expect(rt, "memory");
+    }
+    compare_pin(
+        rt,
+        alloc,
+        order,
+        taken,
+        [before, order.len()],
+        own.as_slice(),
+    );
+}
+
+/// The trial of a seed whose run wrote this report.
+fn trial_of(rt: &impl Abort, alloc: Global, seed: u32, report: &[u8]) -> Trial {
+    let text = ring_text(rt, alloc);
+    let topology = read_topology(alloc, text.as_bytes());
+    Trial {
+        topology: topology.ok().expect(rt, "a topology"),
+        seed,
+        chosen: choice_of(alloc, report).expect(rt, "memory"),
+    }
+}
+
+/// Each script's job did what its lines say, in their order.
+fn compare_jobs(
+    rt: &impl Abort,
+    alloc: Global,
+    trial: &Trial,
+    scripts: &[Script],
+    jobs: &[JobTold],
+) {
+    let order = trial.chosen.order.as_slice();
+    assert!(rt; scripts.len() == TAKEN.len() && TAKEN.len() <= jobs.len());
+    for number in 0..TAKEN.len() {
+        let tolds = jobs[number].told.as_slice();
+        compare_job(rt, alloc, order, TAKEN[number], &scripts[number], tolds);
+    }
+}
+
+/// A run with this seed is lawful.
+fn compare_trial<R: Abort + Threads + Wait + Sync>(rt: &R, alloc: Global, seed: u32) {
+    let came = come(rt, alloc, seed);
+    let report = came.written.as_slice();
+    let trial = trial_of(rt, alloc, seed, report);
+    let scripts = scripts(rt, alloc, &trial.topology, seed);
+    let jobs = trial.jobs(rt, alloc, scripts.as_slice());
+    compare_report(rt, alloc, &trial, jobs.as_slice(), report);
+    compare_jobs(rt, alloc, &trial, scripts.as_slice(), jobs.as_slice());
+}
+
+/// `bench/README.md` says how the trials are run again and again, for other interleavings.
+#[test]
+fn eight_jobs_make_one_history(rt: HostRuntime) {
+    let alloc = rt.alloc();
+    compare_trial(&rt, alloc, 1);
+    compare_trial(&rt, alloc, 2);
+    compare_trial(&rt, alloc, 3);
+}

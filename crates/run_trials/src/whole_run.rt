@@ -1,0 +1,146 @@
+//! What trials of whole runs share: a network, frames, files in memory, and a run over them.
+
+ghost use Rattle.std.specs.Prelude.{◌≡◌, ◌≤◌, All};
+
+use dn_io::{Gate, MemFile, MemSink, MemWorld, NoGate};
+use dn_run::{Status, run};
+use std::alloc::Global;
+use std::process::Abort;
+use std::sync::Wait;
+use std::thread::Threads;
+
+/// Three routers in a ring: each has an edge at its interface 1, and links at 2 and 3.
+pub(crate) const RING: &str =
+    "routers = [\"r1\", \"r2\", \"r3\"]\n[[link]]\nname = \"a\"\nends = [\"r1:2\", \"r2:2\"]\n[[link]]\nname = \"b\"\nends = [\"r2:3\", \"r3:2\"]\n[[link]]\nname = \"c\"\nends = [\"r3:3\", \"r1:3\"]\n[[edge]]\nat = \"r1:1\"\n[[edge]]\nat = \"r2:1\"\n[[edge]]\nat = \"r3:1\"\n";
+
+/// A frame that sets a prefix over interface `oif`, with this metric and the gateway 192.0.2.1.
+pub(crate) fn frame_of(base: [u8; 4], len: u8, metric: u8, oif: u8) -> [u8; 64] {
+    let [a, b, c, d] = base;
+    [
+        1, 1, 0, 64, 60, 0, 0, 0, 24, 0, 1, 5, 0, 0, 0, 0, 0, 0, 0, 0, 2, len, 0, 0, 254, 11, 0, 1,
+        0, 0, 0, 0, 8, 0, 1, 0, a, b, c, d, 8, 0, 5, 0, 192, 0, 2, 1, 8, 0, 4, 0, oif, 0, 0, 0, 8,
+        0, 6, 0, metric, 0, 0, 0,
+    ]
+}
+
+/// A frame that sets 10.`second`.0.0 of this length over interface `oif`, with metric 20.
+pub(crate) fn set_frame(second: u8, len: u8, oif: u8) -> [u8; 64] {
+    frame_of([10, second, 0, 0], len, 20, oif)
+}
+
+/// The bytes of frames, one after another.
+pub(crate) fn bytes_of(rt: &impl Abort, alloc: Global, frames: &[&[u8]]) -> Vec<u8> {
+    let mut bytes = Vec::new(alloc);
+    for frame in frames {
+        bytes.extend_from_slice(frame).expect(rt, "memory");
+    }
+    bytes
+}
+
+/// A text in memory.
+pub(crate) fn text(rt: &impl Abort, alloc: Global, text: &str) -> String {
+    String::from_str(alloc, text).expect(rt, "memory")
+}
+
+/// Texts in memory, in order.
+pub(crate) fn texts(rt: &impl Abort, alloc: Global, words: &[&str]) -> Vec<String> {
+    let mut texts = Vec::new(alloc);
+    for word in words {
+        texts.push(text(rt, alloc, word)).expect(rt, "memory");
+    }
+    texts
+}
+
+/// A file that gives `step` bytes at a time, of which these reads fail.
+pub(crate) fn file_by(
+    rt: &impl Abort,
+    alloc: Global,
+    name: &str,
+    bytes: &[u8],
+    step: usize,
+    fails: &[u64],
+) -> MemFile
+    requires { 1 ≤ step }
+    ensures { 1 ≤ result.step }
+{
+    MemFile {
+        name: text(rt, alloc, name),
+        bytes: Vec::from_slice(alloc, bytes).expect(rt, "memory"),
+        step,
+        fails: Vec::from_slice(alloc, fails).expect(rt, "memory"),
+    }
+}
+
+/// A file whose reads give much at a time and never fail.
+pub(crate) fn file(rt: &impl Abort, alloc: Global, name: &str, bytes: &[u8]) -> MemFile
+    ensures { 1 ≤ result.step }
+{
+    file_by(rt, alloc, name, bytes, 4096, &[])
+}
+
+/// Adds a file, each of which gives some bytes at a time.
+pub(crate) fn add_file(rt: &impl Abort, files: &mut Vec<MemFile>, file: MemFile)
+    requires files { All (λ file. 1 ≤ file.step) files.old.items }
+    requires file { 1 ≤ file.step }
+    ensures { All (λ file. 1 ≤ file.step) files.new.items }
+{
+    files.push(file).expect(rt, "memory");
+}
+
+/// A sink that takes much at a time and never fails.
+pub(crate) fn whole_sink(alloc: Global) -> MemSink
+    ensures { result.plan.faults ≡ 0 }
+{
+    MemSink::new(alloc, 4096, Vec::new(alloc))
+}
+
+/// What a run came to.
+#[derive(Drop)]
+pub(crate) struct Came {
+    pub(crate) status: Status,
+    pub(crate) written: Vec<u8>,
+}
+
+/// What a run of these words comes to, over these files, into this sink, whose jobs a gate may hold.
+pub(crate) fn come_into<R: Abort + Threads + Wait + Sync, G: Gate>(
+    rt: &R,
+    alloc: Global,
+    words: &[String],
+    files: Vec<MemFile>,
+    mut sink: MemSink,
+    gate: &G,
+) -> Came
+    requires files { All (λ file. 1 ≤ file.step) files.items }
+    requires sink { sink.plan.faults ≡ 0 }
+{
+    let mut world = MemWorld::new(alloc, files, Vec::new(alloc));
+    let status = run(rt, alloc, words, &mut world, &mut sink, gate);
+    let written = Vec::from_slice(alloc, sink.written()).expect(rt, "memory");
+    Came { status, written }
+}
+
+/// What a run of these words comes to, over these files.
+pub(crate) fn come<R: Abort + Threads + Wait + Sync>(
+    rt: &R,
+    alloc: Global,
+    words: &[&str],
+    files: Vec<MemFile>,
+) -> Came
+    requires files { All (λ file. 1 ≤ file.step) files.items }
+{
+    let words = texts(rt, alloc, words);
+    come_into(
+        rt,
+        alloc,
+        words.as_slice(),
+        files,
+        whole_sink(alloc),
+        &NoGate,
+    )
+}
+
+/// A run came to this status and wrote this text.
+pub(crate) fn compare(rt: &impl Abort, came: &Came, status: Status, text: &str) {
+    assert_eq!(rt; came.status, status, "{text}");
+    assert_eq!(rt; came.written.as_slice(), text.as_bytes(), "{text}");
+}

@@ -1,0 +1,18 @@
+//! Trials of what is read and printed: texts of topologies and scripts, printed values, reports and error lines, byte
+//! for byte, and which fault is answered. The crate has nothing but tests, over the public calls of the crates tried.
+#![tactic(auto)]
+
+#[cfg(test)]
+mod error_tests;
+#[cfg(test)]
+mod print_tests;
+#[cfg(test)]
+mod query_tests;
+#[cfg(test)]
+mod report_tests;
+#[cfg(test)]
+mod script_tests;
+#[cfg(test)]
+mod topology_tests;
+#[cfg(test)]
+mod two_routers;

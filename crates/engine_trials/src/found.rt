@@ -1,6 +1,6 @@
 //! What a trial met.
 
-use crate::same::is_same_answer;
+use answer_equality::is_same_answer;
 use dn_model::{Answer, Ask, Entry, Hole, Op, PathEnd, Query, Target};
 use label_view::LabelView;
 

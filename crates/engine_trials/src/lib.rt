@@ -1,7 +1,7 @@
 //! Trials of the engine: histories that are drawn by fixed seeds, in which what a version of a network shows, with links
 //! down too, and what updates changed are compared with what the plain evaluator of `dn_model` says. That one has tables,
 //! walks and answers of its own; only the types, and `router` and `link` of `dn_model`, which look names up, serve both
-//! sides. The crate's tests are the trials; what it offers is the comparison of two answers.
+//! sides.
 #![tactic(auto)]
 
 #[cfg(test)]
@@ -14,7 +14,6 @@ mod found;
 mod question;
 #[cfg(test)]
 mod ring;
-mod same;
 #[cfg(test)]
 mod tests;
 #[cfg(test)]
@@ -23,5 +22,3 @@ mod trial;
 mod update;
 #[cfg(test)]
 mod version_tests;
-
-pub use same::is_same_answer;

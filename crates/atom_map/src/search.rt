@@ -39,7 +39,7 @@ pub fn place_of(rows: &Pages<AtomRow>, a: u32) -> u64
 }
 
 /// Which of these atoms has an address: the last that doesn't begin above it, unless it ends before it, as the last of a
-/// page may. It looks first where the atom is expected.
+/// page may. It looks first at the atom behind the expected one, and then at that one.
 fn place_in(run: &[AtomRow], expected: usize, a: u32) -> Option<usize>
     ensures { IfSome result (λ place. IsAtomPlace run.now place a) }
 {
@@ -51,8 +51,8 @@ fn place_in(run: &[AtomRow], expected: usize, a: u32) -> Option<usize>
     Some(place)
 }
 
-/// The atom of an address, where it stands in one page with the atom at a place. It looks first so many places behind that
-/// place as the atom is expected to be.
+/// The atom of an address, where it stands in one page with the atom at a place. It is expected so many places behind that
+/// one, and looked for there first.
 pub fn spot_near(rows: &Pages<AtomRow>, near: u64, expected: usize, a: u32) -> Option<AtomSpot>
     requires { AreAtoms rows.now }
     ensures { IfSome result (λ spot. IsAtomAt rows.now spot.place a spot.row) }
@@ -66,8 +66,8 @@ pub fn spot_near(rows: &Pages<AtomRow>, near: u64, expected: usize, a: u32) -> O
     })
 }
 
-/// The places of the atoms that have two addresses, where both stand in one page with the atom at a place. It looks first
-/// for the atom of the first address where that is expected, and for the other from there.
+/// The places of the atoms that have two addresses, where both stand in one page with the atom at a place. The first is
+/// looked for where it is expected, and the other from there.
 pub fn places_near(
     rows: &Pages<AtomRow>,
     near: u64,

@@ -1,6 +1,6 @@
 //! Updates of one of the tables.
 
-ghost use Rattle.std.specs.Prelude.{◌≡◌, ◌<◌, ◌+◌, None, IfOk, IfSome, IfNone, OnOk, OnErr, IsPermutation};
+ghost use Rattle.std.specs.Prelude.{◌≡◌, ◌<◌, ◌+◌, None, IfOk, IfSome, IfNone, OnErr, IsPermutation};
 ghost use Rattle.dn_model.specs.Cidr.{IsCidr};
 ghost use Rattle.dn_model.specs.Entry.{prefix_of_op};
 ghost use Rattle.dn_model.specs.Table.{after_op};

@@ -1,15 +1,54 @@
 //! A small network, its updates, and what the plain evaluator says of it.
 
-ghost use Rattle.std.specs.Prelude.{◌≡◌, ◌∷◌, [], IfOk, IsTrue, All, codes, false};
+ghost use Rattle.std.specs.Prelude.{IsTrue, All};
 ghost use Rattle.dn_model.specs.Entry.{IsTargetOf, IsOpOf, IsEntryOf};
-ghost use Rattle.dn_model.specs.Name.{is_name_text};
 
 use dn_model::{
-    Answer, Ask, Entry, List, Name, Op, OutOfMemory, Prefix, Query, RouterId, Target, TopoEnd,
-    TopoLink, Topology, is_name, plain_answer,
+    Answer, Ask, Entry, LinkId, Name, Op, Prefix, Query, RouterId, Target, Topology, is_name,
+    plain_answer,
 };
 use std::alloc::Global;
 use std::process::Abort;
+use topology::read_topology;
+
+/// Three routers, `r1`, `r2` and `r3`, with a link `a` from r1 to r2, a link `c` from r1 to r3 and a link `b` from r2
+/// to r3.
+const NETWORK: &str = "routers = [\"r1\", \"r2\", \"r3\"]
+[[link]]
+name = \"a\"
+ends = [\"r1:2\", \"r2:2\"]
+[[link]]
+name = \"c\"
+ends = [\"r1:3\", \"r3:3\"]
+[[link]]
+name = \"b\"
+ends = [\"r2:3\", \"r3:2\"]
+";
+
+/// From r1 to r2 over the link a.
+pub const TO_SECOND: Target = Target::To(RouterId(1), LinkId(0));
+
+/// From r1 to r3 over the link c.
+pub const TO_THIRD: Target = Target::To(RouterId(2), LinkId(1));
+
+/// From r2 to r3 over the link b.
+pub const SECOND_TO_THIRD: Target = Target::To(RouterId(2), LinkId(2));
+
+/// From r2 back to r1 over the link a.
+pub const BACK: Target = Target::To(RouterId(0), LinkId(0));
+
+/// From r3 to r2 over the link b.
+pub const THIRD_TO_SECOND: Target = Target::To(RouterId(1), LinkId(2));
+
+/// 10.0.0.0/8.
+pub fn ten() -> Prefix {
+    Prefix::new(0x0A00_0000, 8)
+}
+
+/// 10.1.0.0/16.
+pub fn ten_one() -> Prefix {
+    Prefix::new(0x0A01_0000, 16)
+}
 
 /// Whether a target may be one of a route of the network.
 fn is_target_of(t: &Topology, target: Target) -> bool
@@ -53,71 +92,11 @@ fn are_entries_of(t: &Topology, entries: &[Entry]) -> bool
     true
 }
 
-/// The names of three routers.
-fn names(alloc: Global) -> Result<List<Name>, OutOfMemory>
-    ensures { IfOk result (λ names. names ≡ codes "r1" ∷ codes "r2" ∷ codes "r3" ∷ []) }
-{
-    let mut names = List::new(alloc);
-    names.push(Name::from_text(alloc, b"r1")?)?;
-    names.push(Name::from_text(alloc, b"r2")?)?;
-    names.push(Name::from_text(alloc, b"r3")?)?;
-    Ok(names)
-}
-
-/// An interface of a router.
-fn end(router: u16, index: u32) -> TopoEnd
-    ensures { result ≡ record { router = record { 0 = router }; index = index } }
-{
-    TopoEnd {
-        router: RouterId(router),
-        index,
-    }
-}
-
-/// A link between interfaces of two routers.
-fn link(
-    alloc: Global,
-    name: &[u8],
-    first: TopoEnd,
-    second: TopoEnd,
-) -> Result<TopoLink, OutOfMemory>
-    requires { IsTrue (is_name_text name.now) }
-    ensures { IfOk result (λ link. link ≡ record { name = name.now; first = first; second = second; unnumbered = false }) }
-{
-    let name = Name::from_text(alloc, name)?;
-    Ok(TopoLink {
-        name,
-        first,
-        second,
-        unnumbered: false,
-    })
-}
-
-/// A link between each two routers.
-fn links(alloc: Global) -> Result<List<TopoLink>, OutOfMemory>
-    ensures { IfOk result (λ links. links
-        ≡ record { name = codes "a"; first = record { router = record { 0 = 0 }; index = 2 }; second = record { router = record { 0 = 1 }; index = 2 }; unnumbered = false }
-        ∷ record { name = codes "c"; first = record { router = record { 0 = 0 }; index = 3 }; second = record { router = record { 0 = 2 }; index = 3 }; unnumbered = false }
-        ∷ record { name = codes "b"; first = record { router = record { 0 = 1 }; index = 3 }; second = record { router = record { 0 = 2 }; index = 2 }; unnumbered = false } ∷ []) }
-{
-    let mut links = List::new(alloc);
-    links.push(link(alloc, b"a", end(0, 2), end(1, 2))?)?;
-    links.push(link(alloc, b"c", end(0, 3), end(2, 3))?)?;
-    links.push(link(alloc, b"b", end(1, 3), end(2, 2))?)?;
-    Ok(links)
-}
-
-/// Three routers, `r1`, `r2` and `r3`, with a link `a` from r1 to r2, a link `c` from r1 to r3 and a link `b` from r2
-/// to r3.
-pub fn network(alloc: Global) -> Result<Topology, OutOfMemory> {
-    let routers = names(alloc)?;
-    let links = links(alloc)?;
-    let edges = List::new(alloc);
-    Ok(Topology {
-        routers,
-        links,
-        edges,
-    })
+/// The network.
+pub fn network(rt: &impl Abort, alloc: Global) -> Topology {
+    read_topology(alloc, NETWORK.as_bytes())
+        .ok()
+        .expect(rt, "a topology")
 }
 
 /// An update that sets what a router does with a prefix.
@@ -143,14 +122,14 @@ pub fn clear(router: u16, prefix: Prefix, metric: Option<u32>) -> Entry {
 }
 
 /// A name.
-pub fn named(rt: &impl Abort, alloc: Global, text: &[u8]) -> Name {
+pub fn name_of(rt: &impl Abort, alloc: Global, text: &[u8]) -> Name {
     assert!(rt; is_name(text));
     Name::from_text(alloc, text).expect(rt, "memory")
 }
 
 /// The plain evaluator's answer to a query over these entries.
 pub fn answer_to(rt: &impl Abort, alloc: Global, entries: &[Entry], query: &Query) -> Answer {
-    let t = network(alloc).expect(rt, "memory");
+    let t = network(rt, alloc);
     assert!(rt; are_entries_of(&t, entries), "entries of the network");
     assert!(rt; query.unknown(&t).is_none(), "names of the network");
     plain_answer(alloc, &t, entries, query).expect(rt, "memory")

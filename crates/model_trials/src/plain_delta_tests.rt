@@ -2,14 +2,10 @@
 
 ghost use Rattle.std.specs.Prelude.{◌≤◌};
 
-use crate::network::{answer, clear, set};
-use dn_model::{Answer, Ask, Change, Entry, LinkId, Prefix, RouterId, Run, Target};
+use crate::network::{TO_SECOND, TO_THIRD, answer, clear, set, ten};
+use dn_model::{Answer, Ask, Change, Entry, Prefix, RouterId, Run, Target};
 use std::alloc::Global;
 use std::process::Abort;
-
-const TO_SECOND: Target = Target::To(RouterId(1), LinkId(0));
-
-const TO_THIRD: Target = Target::To(RouterId(2), LinkId(1));
 
 /// The changes that an answer tells; None where it is another.
 fn changes_of(answer: &Answer) -> Option<&[Change]> {
@@ -52,7 +48,7 @@ fn all_addresses_and_the_last(rt: HostRuntime) {
 
 #[test]
 fn all_metrics_cleared(rt: HostRuntime) {
-    let ten = Prefix::new(0x0A00_0000, 8);
+    let ten = ten();
     let (lo, hi) = (0x0A00_0000, 0x0AFF_FFFF);
     let history = [
         set(0, ten, 20, TO_SECOND),
@@ -69,7 +65,7 @@ fn all_metrics_cleared(rt: HostRuntime) {
 
 #[test]
 fn runs_around_a_longer_prefix(rt: HostRuntime) {
-    let ten = Prefix::new(0x0A00_0000, 8);
+    let ten = ten();
     let exit = Target::Exit(1);
     let history = [
         set(1, Prefix::new(0x0A01_0000, 16), 0, Target::Local),

@@ -3,7 +3,10 @@
 ghost use Rattle.std.specs.Prelude.{◌≡◌, ◌∷◌, [], codes};
 ghost use Rattle.dn_model.specs.Query.{IsAskedWithout};
 
-use crate::network::{answer, answer_to, clear, named, set};
+use crate::network::{
+    BACK, SECOND_TO_THIRD, THIRD_TO_SECOND, TO_SECOND, TO_THIRD, answer, answer_to, clear, name_of,
+    set, ten, ten_one,
+};
 use crate::plain_delta_tests::{change, compare_delta};
 use dn_model::{
     Answer, Ask, Cycle, DropKind, Entry, Hole, LinkId, List, Name, PathEnd, Prefix, Query,
@@ -11,21 +14,6 @@ use dn_model::{
 };
 use std::alloc::Global;
 use std::process::Abort;
-
-/// From r1 to r2 over the link a.
-const TO_SECOND: Target = Target::To(RouterId(1), LinkId(0));
-
-/// From r1 to r3 over the link c.
-const TO_THIRD: Target = Target::To(RouterId(2), LinkId(1));
-
-/// From r2 to r3 over the link b.
-const SECOND_TO_THIRD: Target = Target::To(RouterId(2), LinkId(2));
-
-/// From r2 back to r1 over the link a.
-const BACK: Target = Target::To(RouterId(0), LinkId(0));
-
-/// From r3 to r2 over the link b.
-const THIRD_TO_SECOND: Target = Target::To(RouterId(1), LinkId(2));
 
 /// 10.0.0.0/8, as runs.
 const TEN: [Run; 1] = [Run {
@@ -51,14 +39,6 @@ const ALL: [Run; 1] = [Run {
 }];
 
 const NONE: [Run; 0] = [];
-
-fn ten() -> Prefix {
-    Prefix::new(0x0A00_0000, 8)
-}
-
-fn ten_one() -> Prefix {
-    Prefix::new(0x0A01_0000, 16)
-}
 
 fn ten_nine() -> Prefix {
     Prefix::new(0x0A09_0000, 24)
@@ -103,7 +83,7 @@ fn path_of(answer: &Answer) -> Option<(&[RouterId], PathEnd)> {
 
 /// These addresses from r1 come to the router of this name.
 fn compare_reach(rt: &impl Abort, alloc: Global, entries: &[Entry], to: &[u8], want: &[Run]) {
-    let question = Ask::Reach(named(rt, alloc, b"r1"), named(rt, alloc, to));
+    let question = Ask::Reach(name_of(rt, alloc, b"r1"), name_of(rt, alloc, to));
     let answer = answer(rt, alloc, entries, question);
     assert_eq!(rt; runs_of(&answer), Some(want));
 }
@@ -111,9 +91,9 @@ fn compare_reach(rt: &impl Abort, alloc: Global, entries: &[Entry], to: &[u8], w
 /// These addresses from r1 come to r3 without having met r2.
 fn compare_missing_second(rt: &impl Abort, alloc: Global, entries: &[Entry], want: &[Run]) {
     let question = Ask::Waypoint(
-        named(rt, alloc, b"r1"),
-        named(rt, alloc, b"r3"),
-        named(rt, alloc, b"r2"),
+        name_of(rt, alloc, b"r1"),
+        name_of(rt, alloc, b"r3"),
+        name_of(rt, alloc, b"r2"),
     );
     let answer = answer(rt, alloc, entries, question);
     assert_eq!(rt; runs_of(&answer), Some(want));
@@ -121,7 +101,12 @@ fn compare_missing_second(rt: &impl Abort, alloc: Global, entries: &[Entry], wan
 
 /// Where addresses from r1 vanish.
 fn holes_from_first(rt: &impl Abort, alloc: Global, entries: &[Entry]) -> Answer {
-    answer(rt, alloc, entries, Ask::Blackholes(named(rt, alloc, b"r1")))
+    answer(
+        rt,
+        alloc,
+        entries,
+        Ask::Blackholes(name_of(rt, alloc, b"r1")),
+    )
 }
 
 /// The link b, twice.
@@ -146,13 +131,13 @@ fn answer_without_b(rt: &impl Abort, alloc: Global, entries: &[Entry], ask: Ask)
 
 /// Which addresses from r1 come to r3 without the link b.
 fn reach_without_b(rt: &impl Abort, alloc: Global, entries: &[Entry]) -> Answer {
-    let question = Ask::Reach(named(rt, alloc, b"r1"), named(rt, alloc, b"r3"));
+    let question = Ask::Reach(name_of(rt, alloc, b"r1"), name_of(rt, alloc, b"r3"));
     answer_without_b(rt, alloc, entries, question)
 }
 
 /// Where addresses from r1 vanish without the link b.
 fn holes_without_b(rt: &impl Abort, alloc: Global, entries: &[Entry]) -> Answer {
-    let question = Ask::Blackholes(named(rt, alloc, b"r1"));
+    let question = Ask::Blackholes(name_of(rt, alloc, b"r1"));
     answer_without_b(rt, alloc, entries, question)
 }
 
@@ -239,7 +224,7 @@ fn compare_holes(rt: &impl Abort, answer: &Answer, want: &[Vanishing<'_>]) {
 
 #[test]
 fn a_path_of_three_routers(rt: HostRuntime) {
-    let question = Ask::Path(named(&rt, rt.alloc(), b"r1"), 0x0A00_0000);
+    let question = Ask::Path(name_of(&rt, rt.alloc(), b"r1"), 0x0A00_0000);
     let answer = answer(&rt, rt.alloc(), &history()[..3], question);
     let routers = [RouterId(0), RouterId(1), RouterId(2)];
     let end = PathEnd::At(Target::Exit(1));
@@ -280,7 +265,7 @@ fn what_loops_past_a_router_reaches_it(rt: HostRuntime) {
 
 #[test]
 fn each_end_of_a_link_uses_it(rt: HostRuntime) {
-    let question = Ask::Uses(named(&rt, rt.alloc(), b"a"));
+    let question = Ask::Uses(name_of(&rt, rt.alloc(), b"a"));
     let answer = answer(&rt, rt.alloc(), &history()[..4], question);
     let looping = [Run {
         lo: 0x0A01_0000,

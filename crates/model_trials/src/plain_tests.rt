@@ -1,21 +1,11 @@
 //! The plain evaluator's routes, targets and walks on small histories, whose answers were worked out by hand.
 
-use crate::network::{clear, network, set};
+use crate::network::{BACK, TO_SECOND, clear, network, set, ten, ten_one};
 use dn_model::{
-    Entry, LinkId, PathEnd, Prefix, Route, RouterId, Target, plain_routes, plain_target, plain_walk,
+    Entry, LinkId, PathEnd, Route, RouterId, Target, plain_routes, plain_target, plain_walk,
 };
 use std::alloc::Global;
 use std::process::Abort;
-
-/// 10.0.0.0/8.
-fn ten() -> Prefix {
-    Prefix::new(0x0A00_0000, 8)
-}
-
-/// 10.1.0.0/16.
-fn ten_one() -> Prefix {
-    Prefix::new(0x0A01_0000, 16)
-}
 
 /// With no link down, router 0 does this with 10.1.0.7 after a history.
 fn compare_first(rt: &impl Abort, alloc: Global, entries: &[Entry], want: Target) {
@@ -72,7 +62,7 @@ fn compare_walk(
     want: &[RouterId],
     want_end: PathEnd,
 ) {
-    let t = network(alloc).expect(rt, "memory");
+    let t = network(rt, alloc);
     let walk = plain_walk(alloc, &t, entries, &[], RouterId(0), a);
     let (routers, end) = walk.expect(rt, "memory");
     assert_eq!(rt; routers.as_slice(), want);
@@ -82,10 +72,7 @@ fn compare_walk(
 /// The network has three routers, so that a walk of three hops is in a loop.
 #[test]
 fn a_walk_that_loops(rt: HostRuntime) {
-    let history = [
-        set(0, ten(), 0, Target::To(RouterId(1), LinkId(0))),
-        set(1, ten(), 0, Target::To(RouterId(0), LinkId(0))),
-    ];
+    let history = [set(0, ten(), 0, TO_SECOND), set(1, ten(), 0, BACK)];
     let around = [RouterId(0), RouterId(1), RouterId(0), RouterId(1)];
     compare_walk(
         &rt,

@@ -1,5 +1,5 @@
 use Rattle.store_trials.proofs.store_tests.answer_of.Given as goal
 
 -- the ledger of the blank
-abbrev pub ghosts-counted : goal.ghosts-counted
-ghosts-counted a = record { name = a.blank.name; parts = a.blank.parts }
+abbrev pub ghosts-answer_by_ledger : goal.ghosts-answer_by_ledger
+ghosts-answer_by_ledger a = record { name = a.blank.name; parts = a.blank.parts }

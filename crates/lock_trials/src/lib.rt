@@ -1,4 +1,5 @@
-//! Trials of the version lock and of the pins that wait for nobody, over histories whose entries were worked out by hand.
+//! Trials of the version lock and of the pins that wait for nobody, over histories whose entries were worked out by
+//! hand.
 #![tactic(auto)]
 
 #[cfg(test)]

@@ -6,6 +6,7 @@ ghost use Rattle.version_lock.specs.Callers.{IsSeatOf, IsNoteOf, IsSameSeat, Has
 use crate::plain_book::{PlainBook, entry, plain_book};
 use dn_model::OutOfMemory;
 use std::alloc::Global;
+use std::process::Abort;
 use std::sync::Wait;
 use std::test::Fail;
 use std::thread::{Threads, join};
@@ -13,6 +14,7 @@ use version_lock::{Note, PostRefused, Seat, VersionLock};
 
 /// A lock over an empty book.
 fn lock_of(
+    rt: &impl Abort,
     alloc: Global,
     limit: u32,
     seats: u32,
@@ -22,7 +24,7 @@ fn lock_of(
     ensures seats { IfOk result (λ made. made.0.setup.seats ≡ seats) }
     ensures first { IfOk result (λ made. made.1 ≡ first_seat made.0) }
 {
-    VersionLock::new(alloc, plain_book(alloc, limit)?, seats)
+    VersionLock::new(alloc, plain_book(rt, alloc, limit)?, seats)
 }
 
 /// What two threads share, and what goes from one to the other.
@@ -32,7 +34,7 @@ fn moves<T: Send>(_value: &T) {}
 
 #[test]
 fn one_seat_applies_and_pins(rt: HostRuntime) -> Result<(), Fail> {
-    let (lock, mut seat) = lock_of(rt.alloc(), 10, 1)?;
+    let (lock, mut seat) = lock_of(&rt, rt.alloc(), 10, 1)?;
     crosses(&lock);
     moves(&seat);
     let before = lock.pin(&rt, &mut seat)?.snap.number();
@@ -49,7 +51,7 @@ fn one_seat_applies_and_pins(rt: HostRuntime) -> Result<(), Fail> {
 
 #[test]
 fn a_full_book_refuses(rt: HostRuntime) -> Result<(), Fail> {
-    let (lock, mut seat) = lock_of(rt.alloc(), 2, 1)?;
+    let (lock, mut seat) = lock_of(&rt, rt.alloc(), 2, 1)?;
     let first = lock.apply(&rt, &mut seat, &entry(1));
     let second = lock.apply(&rt, &mut seat, &entry(2));
     let third = lock.apply(&rt, &mut seat, &entry(3));
@@ -62,7 +64,7 @@ fn a_full_book_refuses(rt: HostRuntime) -> Result<(), Fail> {
 
 #[test]
 fn one_thread_sees_what_it_was_not_told(rt: HostRuntime) -> Result<(), Fail> {
-    let (lock, mut a) = lock_of(rt.alloc(), 10, 2)?;
+    let (lock, mut a) = lock_of(&rt, rt.alloc(), 10, 2)?;
     let mut b = lock.split(&mut a, 1);
     assert_eq!(rt; (a.number(), a.span(), b.number(), b.span()), (0, 1, 1, 1));
     let position = lock.apply(&rt, &mut a, &entry(1));
@@ -158,7 +160,7 @@ fn tell<R: Threads + Wait + Sync>(
 
 #[test]
 fn a_note_goes_to_another_thread(rt: HostRuntime) -> Result<(), Fail> {
-    let (lock, mut a) = lock_of(rt.alloc(), 10, 2)?;
+    let (lock, mut a) = lock_of(&rt, rt.alloc(), 10, 2)?;
     let b = lock.split(&mut a, 1);
     assert_eq!(rt; tell(&rt, &lock, a, b), (Some(1), Some(1)));
     Ok(())
@@ -166,7 +168,7 @@ fn a_note_goes_to_another_thread(rt: HostRuntime) -> Result<(), Fail> {
 
 #[test]
 fn two_threads_contend(rt: HostRuntime) -> Result<(), Fail> {
-    let (lock, seat) = lock_of(rt.alloc(), 10000, 2)?;
+    let (lock, seat) = lock_of(&rt, rt.alloc(), 10000, 2)?;
     let seat = in_two(&rt, &lock, seat, 2000);
     let book = lock.close(seat);
     assert_eq!(rt; book.posted.len(), 4000);

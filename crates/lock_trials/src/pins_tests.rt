@@ -104,8 +104,8 @@ fn pin_to_the_end<R: Wait>(rt: &R, alloc: Global) -> Result<[u32; 6], OutOfMemor
 }
 
 /// The first reader has the one place and the second has none. How many entries the first pinned before the publication
-/// and holds after it, pins then untold, and pins when it has learnt a mark; and what `pin_untold_and_told` tells of the
-/// second.
+/// and holds after it, pins then untold, and pins when it has learnt a mark; and what `pin_untold_and_told` tells of
+/// the second.
 fn pin_around<R: Wait>(
     rt: &R,
     publisher: &mut Publisher<PlainShot>,

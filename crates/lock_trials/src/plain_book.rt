@@ -1,14 +1,19 @@
 //! A book that keeps its history in a list.
 
-ghost use Rattle.std.specs.Prelude.{◌≡◌, ◌<◌, ◌≤◌, ◌∷◌, [], length, IfOk, codes};
+ghost use Rattle.std.specs.Prelude.{◌≡◌, ◌<◌, ◌≤◌, [], length, IfOk};
 ghost use Rattle.std.specs.Arc.{arc_value};
 ghost use Rattle.dn_model.specs.Entry.{IsEntryOf};
 ghost use Rattle.dn_model.specs.declared.topology.Topology.{Topology};
 
-use dn_model::{Entry, List, Name, Op, OutOfMemory, Posted, Prefix, RouterId, Topology};
+use dn_model::{Entry, List, Op, OutOfMemory, Posted, Prefix, RouterId, Topology};
 use std::alloc::Global;
+use std::process::Abort;
 use std::sync::Arc;
+use topology::read_topology;
 use version_lock::{Book, PostRefused};
+
+/// One router.
+const NETWORK: &str = "routers = [\"r1\"]\n";
 
 #[derive(Drop)]
 pub(crate) struct PlainBook {
@@ -69,33 +74,27 @@ impl Book for PlainBook {
     }
 }
 
-/// The name of one router.
-fn names(alloc: Global) -> Result<List<Name>, OutOfMemory>
-    ensures { IfOk result (λ names. names ≡ codes "r1" ∷ []) }
+/// The network, which has a router.
+fn network(rt: &impl Abort, alloc: Global) -> Topology
+    ensures { 0 < length result.routers }
 {
-    let mut names = List::new(alloc);
-    names.push(Name::from_text(alloc, b"r1")?)?;
-    Ok(names)
-}
-
-/// A network of one router, `r1`.
-fn network(alloc: Global) -> Result<Topology, OutOfMemory>
-    ensures { IfOk result (λ t. 0 < length t.routers) }
-{
-    let routers = names(alloc)?;
-    Ok(Topology {
-        routers,
-        links: List::new(alloc),
-        edges: List::new(alloc),
-    })
+    let t = read_topology(alloc, NETWORK.as_bytes())
+        .ok()
+        .expect(rt, "a topology");
+    assert!(rt; t.router_count() > 0);
+    t
 }
 
 /// An empty book of this limit.
-pub(crate) fn plain_book(alloc: Global, limit: u32) -> Result<PlainBook, OutOfMemory>
+pub(crate) fn plain_book(
+    rt: &impl Abort,
+    alloc: Global,
+    limit: u32,
+) -> Result<PlainBook, OutOfMemory>
     ensures empty { IfOk result (λ b. b.posted ≡ []) }
     ensures router { IfOk result (λ b. 0 < length (arc_value b.topology).routers) }
 {
-    let topology = Arc::new(alloc, network(alloc)?)?;
+    let topology = Arc::new(alloc, network(rt, alloc))?;
     Ok(PlainBook {
         alloc,
         topology,

@@ -59,7 +59,7 @@ fn by_version<L: Ledger>(
 }
 
 /// The version after an update, made in its own place. Nobody reads the count of looks, which takes no bytes.
-fn advanced<L: Ledger>(
+fn advance_version<L: Ledger>(
     alloc: Global,
     version: Version,
     entry: &Entry,
@@ -78,7 +78,7 @@ fn advanced<L: Ledger>(
 }
 
 /// The version after an update, made beside the one before it. Nobody reads the count of looks.
-fn applied<L: Ledger>(
+fn apply_version<L: Ledger>(
     alloc: Global,
     version: &Version,
     entry: &Entry,
@@ -162,7 +162,7 @@ impl Course {
             feed_no,
             op,
         } = *entry;
-        let (version, delta) = advanced::<Brand>(alloc, version, entry, Blank::new(1))?;
+        let (version, delta) = advance_version::<Brand>(alloc, version, entry, Blank::new(1))?;
         entries.push(Entry {
             router,
             feed_no,
@@ -178,14 +178,14 @@ impl Course {
         ))
     }
 
-    /// The history with an update more, whose version is made beside this one, and what that changed. It fails for want of
-    /// memory alone.
+    /// The history with an update more, whose version is made beside this one, and what that changed. It fails for want
+    /// of memory alone.
     pub fn apply(&self, alloc: Global, entry: &Entry) -> Result<(Course, Delta), OutOfMemory>
         requires { IsEntryOf self.now.topology entry.now }
         ensures { IfOk result (λ made. made.0 ≡ more self.now entry.now) }
     {
         let topology = Arc::try_clone(&self.topology)?;
-        let (version, delta) = applied::<Brand>(alloc, &self.version, entry, Blank::new(1))?;
+        let (version, delta) = apply_version::<Brand>(alloc, &self.version, entry, Blank::new(1))?;
         let mut entries = Vec::from_slice(alloc, self.entries.as_slice())?;
         entries.push(*entry)?;
         Ok((
@@ -198,8 +198,8 @@ impl Course {
         ))
     }
 
-    /// The answers to a query whose names the topology has, by the version, for `Ask::Delta` with these changes, and by the
-    /// plain evaluator over the updates so far. It fails for want of memory alone.
+    /// The answers to a query whose names the topology has, by the version, for `Ask::Delta` with these changes, and by
+    /// the plain evaluator over the updates so far. It fails for want of memory alone.
     pub fn answers(
         &self,
         alloc: Global,

@@ -1,7 +1,7 @@
-//! Trials of the engine: histories that are drawn by fixed seeds, in which what a version of a network shows, with links
-//! down too, and what updates changed are compared with what the plain evaluator of `dn_model` says. That one has tables,
-//! walks and answers of its own; only the types, and `router` and `link` of `dn_model`, which look names up, serve both
-//! sides.
+//! Trials of the engine: histories that are drawn by fixed seeds, in which what a version of a network shows, with
+//! links down too, and what updates changed are compared with what the plain evaluator of `dn_model` says. That one has
+//! tables, walks and answers of its own; only the types, and `router` and `link` of `dn_model`, which look names up,
+//! serve both sides.
 #![tactic(auto)]
 
 #[cfg(test)]

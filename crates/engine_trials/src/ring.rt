@@ -60,10 +60,10 @@ fn ring_text(alloc: Global, routers: u16) -> Result<String, OutOfMemory> {
     Ok(text)
 }
 
-/// A ring of routers, which are `r0`, `r1` and so on. Each has an edge at its interface 1, the link to the next router at
-/// 2, and the one from the router before at 3. Of more than two routers each has a link to the next but one at 4 too, and
-/// the one from the last but one at 5. A router alone has no link, and two have two links between them. More routers than
-/// a topology may have, which are 1,024, are refused.
+/// A ring of routers, which are `r0`, `r1` and so on. Each has an edge at its interface 1, the link to the next router
+/// at 2, and the one from the router before at 3. Of more than two routers each has a link to the next but one at 4
+/// too, and the one from the last but one at 5. A router alone has no link, and two have two links between them. More
+/// routers than a topology may have, which are 1,024, are refused.
 pub fn ring(alloc: Global, routers: u16) -> Result<Topology, TopoRefused> {
     let text = ring_text(alloc, routers)?;
     read_topology(alloc, text.as_bytes())

@@ -177,14 +177,14 @@ fn ask(
 }
 
 /// An update of a history's network.
-fn drawn(course: &Course, spot: &Spot, draw: &mut Draw) -> Entry
+fn next_entry(course: &Course, spot: &Spot, draw: &mut Draw) -> Entry
     ensures { IsEntryOf course.now.topology result }
 {
     drawn_entry(course.topology(), spot, draw)
 }
 
 /// The history with an update more, and what that changed: of four times three in the version's own place.
-fn made(
+fn advance_or_apply(
     alloc: Global,
     course: Course,
     entry: &Entry,
@@ -207,9 +207,9 @@ fn step(
     draw: &mut Draw,
     found: &mut Found,
 ) -> Result<Course, OutOfMemory> {
-    let entry = drawn(&course, spot, draw);
+    let entry = next_entry(&course, spot, draw);
     found.note_update(course.entries(), &entry);
-    let (next, delta) = made(alloc, course, &entry, draw)?;
+    let (next, delta) = advance_or_apply(alloc, course, &entry, draw)?;
     found.note_rows(next.version());
     if is_told {
         compare_changes(alloc, &next, delta.changes(), found)?;
@@ -241,7 +241,7 @@ fn step_beside(
     draw: &mut Draw,
     found: &mut Found,
 ) -> Result<Course, OutOfMemory> {
-    let entry = drawn(held, spot, draw);
+    let entry = next_entry(held, spot, draw);
     let (other, delta) = held.apply(alloc, &entry)?;
     let changes = delta.changes();
     found.note_beside(!changes.is_empty());
@@ -324,7 +324,7 @@ fn hold_through(
 }
 
 /// What is met over a network that has a router.
-fn met(alloc: Global, topology: Topology, trial: &Trial) -> Result<Found, OutOfMemory>
+fn run_over(alloc: Global, topology: Topology, trial: &Trial) -> Result<Found, OutOfMemory>
     requires { 0 < length topology.routers }
 {
     let mut draw = Draw::new(trial.seed);
@@ -343,5 +343,5 @@ pub fn agree(alloc: Global, trial: &Trial) -> Result<Found, TopoRefused> {
     if topology.router_count() == 0 {
         return Ok(Found::new());
     }
-    Ok(met(alloc, topology, trial)?)
+    Ok(run_over(alloc, topology, trial)?)
 }

@@ -6,8 +6,8 @@ ghost use Rattle.dn_model.specs.Entry.{IsEntryOf, IsOpOf, IsTargetOf};
 use crate::draw::{Draw, Spot, drawn_prefix};
 use dn_model::{DropKind, Entry, Op, Port, Prefix, RouterId, Target, Topology, port};
 
-/// What a route through a router's interface does: over a link to the far router, out of the network at an edge, or, at an
-/// interface that the topology doesn't have, to its segment.
+/// What a route through a router's interface does: over a link to the far router, out of the network at an edge, or, at
+/// an interface that the topology doesn't have, to its segment.
 fn through(topology: &Topology, router: RouterId, index: u32) -> Target
     ensures { IsTargetOf topology.now result }
 {
@@ -33,8 +33,8 @@ fn drawn_target(topology: &Topology, router: RouterId, draw: &mut Draw) -> Targe
     }
 }
 
-/// What an update of a router does to the routes of a prefix: of six, four set one, one clears all, and one clears that of
-/// a metric.
+/// What an update of a router does to the routes of a prefix: of six, four set one, one clears all, and one clears that
+/// of a metric.
 fn drawn_op(topology: &Topology, router: RouterId, prefix: Prefix, draw: &mut Draw) -> Op
     ensures { IsOpOf topology.now result }
 {

@@ -121,7 +121,7 @@ const ADDRESSES: [u32; 16] = [
 ];
 
 /// The history of a network of so many routers, before any update.
-fn begun(rt: &impl Abort, alloc: Global, routers: u16) -> Course {
+fn new_course(rt: &impl Abort, alloc: Global, routers: u16) -> Course {
     let topology = ring(alloc, routers).expect(rt, "a network");
     assert!(rt; topology.router_count() > 0);
     Course::new(alloc, topology).expect(rt, "memory")
@@ -137,7 +137,7 @@ fn entry_in(rt: &impl Abort, topology: &Topology, router: RouterId, update: Upda
 
 /// The history with an update of a router more, whose version is made in the place of the one before it, and what that
 /// changed.
-fn told(
+fn advance_and_tell(
     rt: &impl Abort,
     alloc: Global,
     course: Course,
@@ -149,20 +149,20 @@ fn told(
 }
 
 /// The same history.
-fn advanced(
+fn advance(
     rt: &impl Abort,
     alloc: Global,
     course: Course,
     router: RouterId,
     update: Update,
 ) -> Course {
-    let (course, _) = told(rt, alloc, course, router, update);
+    let (course, _) = advance_and_tell(rt, alloc, course, router, update);
     course
 }
 
 /// The history with an update of the first router more, whose version is made beside the one before it, and what that
 /// changed.
-fn applied(rt: &impl Abort, alloc: Global, course: &Course, update: Update) -> (Course, Delta) {
+fn apply(rt: &impl Abort, alloc: Global, course: &Course, update: Update) -> (Course, Delta) {
     let entry = entry_in(rt, course.topology(), FIRST, update);
     course.apply(alloc, &entry).expect(rt, "memory")
 }
@@ -234,7 +234,7 @@ fn compare_atom(rt: &impl Abort, version: &Version, a: u32, place: u64, bounds: 
 
 #[test]
 fn a_new_network_has_one_atom_of_all_addresses(rt: HostRuntime) {
-    let course = begun(&rt, rt.alloc(), 2);
+    let course = new_course(&rt, rt.alloc(), 2);
     compare_counts(&rt, course.version(), 2, 1);
     compare_atom(&rt, course.version(), 5, 0, (0, 0x1_0000_0000));
     assert_eq!(rt; by_rows(&rt, course.version(), SECOND, 5), Target::NoRoute);
@@ -251,11 +251,11 @@ fn compare_three_atoms(rt: &impl Abort, version: &Version) {
 /// The ends of a prefix that is set again, with another metric and of another router, are no further cuts.
 #[test]
 fn a_cut_is_made_once(rt: HostRuntime) {
-    let course = begun(&rt, rt.alloc(), 2);
-    let course = advanced(&rt, rt.alloc(), course, FIRST, set(ten(), 20, 2));
+    let course = new_course(&rt, rt.alloc(), 2);
+    let course = advance(&rt, rt.alloc(), course, FIRST, set(ten(), 20, 2));
     compare_three_atoms(&rt, course.version());
-    let course = advanced(&rt, rt.alloc(), course, FIRST, set(ten(), 5, 3));
-    let course = advanced(&rt, rt.alloc(), course, SECOND, set(ten(), 20, 2));
+    let course = advance(&rt, rt.alloc(), course, FIRST, set(ten(), 5, 3));
+    let course = advance(&rt, rt.alloc(), course, SECOND, set(ten(), 20, 2));
     let copy = course.copy(rt.alloc()).expect(&rt, "memory");
     compare_three_atoms(&rt, course.version());
     compare_three_atoms(&rt, copy.version());
@@ -263,9 +263,9 @@ fn a_cut_is_made_once(rt: HostRuntime) {
 
 #[test]
 fn of_two_metrics_the_lesser_wins(rt: HostRuntime) {
-    let course = begun(&rt, rt.alloc(), 3);
-    let course = advanced(&rt, rt.alloc(), course, FIRST, set(ten(), 20, 2));
-    let (course, better) = told(&rt, rt.alloc(), course, FIRST, set(ten(), 5, 3));
+    let course = new_course(&rt, rt.alloc(), 3);
+    let course = advance(&rt, rt.alloc(), course, FIRST, set(ten(), 20, 2));
+    let (course, better) = advance_and_tell(&rt, rt.alloc(), course, FIRST, set(ten(), 5, 3));
     let change = Change {
         router: FIRST,
         run: Run {
@@ -296,21 +296,21 @@ fn inside_ten() -> Update {
 #[test]
 fn a_copy_that_is_held_keeps_its_answers(rt: HostRuntime) {
     let around = set(Prefix::new(0, 0), 0, 1);
-    let course = begun(&rt, rt.alloc(), 3);
-    let course = advanced(&rt, rt.alloc(), course, FIRST, set(ten(), 20, 2));
-    let course = advanced(&rt, rt.alloc(), course, FIRST, inside_ten());
+    let course = new_course(&rt, rt.alloc(), 3);
+    let course = advance(&rt, rt.alloc(), course, FIRST, set(ten(), 20, 2));
+    let course = advance(&rt, rt.alloc(), course, FIRST, inside_ten());
     let held = course.copy(rt.alloc()).expect(&rt, "memory");
-    let course = advanced(&rt, rt.alloc(), course, FIRST, around);
-    let course = advanced(&rt, rt.alloc(), course, FIRST, clear(ten(), None));
+    let course = advance(&rt, rt.alloc(), course, FIRST, around);
+    let course = advance(&rt, rt.alloc(), course, FIRST, clear(ten(), None));
     compare_course(&rt, rt.alloc(), &held);
     compare_course(&rt, rt.alloc(), &course);
-    let held = advanced(&rt, rt.alloc(), held, FIRST, clear(ten(), None));
+    let held = advance(&rt, rt.alloc(), held, FIRST, clear(ten(), None));
     compare_after_one(&rt, rt.alloc(), held.version(), inside_ten());
 }
 
 /// The history with an update more. The version before it, the one after it and what is told are compared.
 fn step(rt: &impl Abort, alloc: Global, old: Course, update: Update) -> Course {
-    let (new, delta) = applied(rt, alloc, &old, update);
+    let (new, delta) = apply(rt, alloc, &old, update);
     compare_course(rt, alloc, &old);
     compare_course(rt, alloc, &new);
     compare_told(rt, old.version(), new.version(), delta.changes());
@@ -319,7 +319,7 @@ fn step(rt: &impl Abort, alloc: Global, old: Course, update: Update) -> Course {
 
 #[test]
 fn as_the_plain_evaluator(rt: HostRuntime) {
-    let mut course = begun(&rt, rt.alloc(), 3);
+    let mut course = new_course(&rt, rt.alloc(), 3);
     for update in updates() {
         course = step(&rt, rt.alloc(), course, update);
     }
@@ -343,10 +343,10 @@ fn compare_exits(rt: &impl Abort, version: &Version, a: u32, want: [Option<u32>;
 
 /// The history of six routers, after each has set a route of its own for one prefix.
 fn with_own_routes(rt: &impl Abort, alloc: Global) -> Course {
-    let mut course = begun(rt, alloc, 6);
+    let mut course = new_course(rt, alloc, 6);
     for k in 0..6u16 {
         let own = set(ten(), 20, u32::from(k) + 1);
-        course = advanced(rt, alloc, course, RouterId(k), own);
+        course = advance(rt, alloc, course, RouterId(k), own);
     }
     course
 }
@@ -357,10 +357,10 @@ fn with_own_routes(rt: &impl Abort, alloc: Global) -> Course {
 fn each_router_keeps_its_own_routes(rt: HostRuntime) {
     let course = with_own_routes(&rt, rt.alloc());
     let inside = set(Prefix::new(0x0A01_0000, 16), 9, 50);
-    let course = advanced(&rt, rt.alloc(), course, RouterId(4), inside);
+    let course = advance(&rt, rt.alloc(), course, RouterId(4), inside);
     let held = course.copy(rt.alloc()).expect(&rt, "memory");
-    let course = advanced(&rt, rt.alloc(), course, RouterId(5), set(ten(), 5, 60));
-    let course = advanced(&rt, rt.alloc(), course, SECOND, clear(ten(), None));
+    let course = advance(&rt, rt.alloc(), course, RouterId(5), set(ten(), 5, 60));
+    let course = advance(&rt, rt.alloc(), course, SECOND, clear(ten(), None));
     let all = [Some(1), Some(2), Some(3), Some(4), Some(5), Some(6)];
     let within = [Some(1), Some(2), Some(3), Some(4), Some(50), Some(6)];
     compare_exits(&rt, held.version(), 0x0A00_0000, all);

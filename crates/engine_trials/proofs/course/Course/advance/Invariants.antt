@@ -1,5 +1,5 @@
 use Rattle.engine_trials.proofs.course.Course.advance.Given as goal
 
 -- the ledger of the blank
-abbrev pub ghosts-advanced : goal.ghosts-advanced
-ghosts-advanced a = record { name = a.blank.name; parts = a.blank.parts }
+abbrev pub ghosts-advance_version : goal.ghosts-advance_version
+ghosts-advance_version a = record { name = a.blank.name; parts = a.blank.parts }

@@ -1,4 +1,4 @@
-//! What no clause says: the printed texts of queries, their answers and unknown names, byte for byte.
+//! The printed texts of queries, their answers and unknown names, byte for byte.
 
 ghost use Rattle.std.specs.Prelude.{IsTrue};
 ghost use Rattle.dn_model.specs.Name.{is_name_text};
@@ -20,13 +20,13 @@ fn name(rt: &impl Abort, alloc: Global, text: &[u8]) -> Name
 }
 
 /// What is told of a query is printed as this text.
-fn compare_told(rt: &impl Abort, alloc: Global, told: &Told, want: &[u8]) {
+fn compare_told(rt: &impl Abort, alloc: Global, told: &Told, want: &str) {
     let text = answer_text(alloc, &network(rt, alloc), told).expect(rt, "memory");
-    assert!(rt; text.as_bytes() == want);
+    assert_eq!(rt; text.as_bytes(), want.as_bytes(), "{want}");
 }
 
 /// What is told of `path r1 10.1.2.3` in line 2.
-fn compare_path(rt: &impl Abort, alloc: Global, outcome: Outcome, want: &[u8]) {
+fn compare_path(rt: &impl Abort, alloc: Global, outcome: Outcome, want: &str) {
     let ask = Ask::Path(name(rt, alloc, b"r1"), 0x0a01_0203);
     let told = Told {
         line: 2,
@@ -45,23 +45,28 @@ fn walk(rt: &impl Abort, alloc: Global) -> Answer {
     }
 }
 
+const WALK: &str = "line 2 at 1 path r1 10.1.2.3
+hops r1 r2
+end noroute
+";
+
 #[test]
 fn prints_an_answer(rt: HostRuntime) {
     let alloc = rt.alloc();
     let answer = walk(&rt, alloc);
-    let want = b"line 2 at 1 path r1 10.1.2.3\nhops r1 r2\nend noroute\n";
-    compare_path(&rt, alloc, Outcome::Answered { number: 1, answer }, want);
+    let outcome = Outcome::Answered { number: 1, answer };
+    compare_path(&rt, alloc, outcome, WALK);
 }
 
 #[test]
 fn prints_an_unknown_name(rt: HostRuntime) {
-    let want = b"line 2 path r1 10.1.2.3\nunknown router r1\n";
+    let want = "line 2 path r1 10.1.2.3\nunknown router r1\n";
     let outcome = Outcome::Unknown(Unknown::Router(1));
     compare_path(&rt, rt.alloc(), outcome, want);
 }
 
 /// What is told of `delta` in line 3, answered with these changes.
-fn compare_delta(rt: &impl Abort, alloc: Global, changes: &[Change], want: &[u8]) {
+fn compare_delta(rt: &impl Abort, alloc: Global, changes: &[Change], want: &str) {
     let changes = Vec::from_slice(alloc, changes).expect(rt, "memory");
     let told = Told {
         line: 3,
@@ -77,7 +82,7 @@ fn compare_delta(rt: &impl Abort, alloc: Global, changes: &[Change], want: &[u8]
 #[test]
 fn prints_changes(rt: HostRuntime) {
     let alloc = rt.alloc();
-    compare_delta(&rt, alloc, &[], b"line 3 at 2 delta\nnone\n");
+    compare_delta(&rt, alloc, &[], "line 3 at 2 delta\nnone\n");
     let change = Change {
         router: RouterId(1),
         run: Run {
@@ -87,12 +92,12 @@ fn prints_changes(rt: HostRuntime) {
         before: Target::Local,
         after: Target::Exit(7),
     };
-    let want = b"line 3 at 2 delta\nr2 10.0.0.0-10.255.255.255 local -> exit 7\n";
+    let want = "line 3 at 2 delta\nr2 10.0.0.0-10.255.255.255 local -> exit 7\n";
     compare_delta(&rt, alloc, &[change], want);
 }
 
 /// A query in line 4, answered over seven entries.
-fn compare_answer(rt: &impl Abort, alloc: Global, ask: Ask, answer: Answer, want: &[u8]) {
+fn compare_answer(rt: &impl Abort, alloc: Global, ask: Ask, answer: Answer, want: &str) {
     let told = Told {
         line: 4,
         query: Query::of(alloc, ask),
@@ -114,14 +119,17 @@ fn two_runs(rt: &impl Abort, alloc: Global) -> List<Run> {
     List::from_vec(Vec::from_slice(alloc, &[first, last]).expect(rt, "memory"))
 }
 
+const REACH: &str = "line 4 at 7 reach r1 r2
+10.0.0.0-10.255.255.255
+255.255.255.255-255.255.255.255
+";
+
 #[test]
 fn prints_runs(rt: HostRuntime) {
     let alloc = rt.alloc();
     let ask = Ask::Reach(name(&rt, alloc, b"r1"), name(&rt, alloc, b"r2"));
     let answer = Answer::Runs(two_runs(&rt, alloc));
-    let want =
-        b"line 4 at 7 reach r1 r2\n10.0.0.0-10.255.255.255\n255.255.255.255-255.255.255.255\n";
-    compare_answer(&rt, alloc, ask, answer, want);
+    compare_answer(&rt, alloc, ask, answer, REACH);
 }
 
 #[test]
@@ -132,18 +140,24 @@ fn prints_no_run(rt: HostRuntime) {
         name(&rt, alloc, b"r2"),
         name(&rt, alloc, b"r2"),
     );
-    let want = b"line 4 at 7 waypoint r1 r2 r2\nnone\n";
+    let want = "line 4 at 7 waypoint r1 r2 r2\nnone\n";
     compare_answer(&rt, alloc, ask, Answer::Runs(List::new(alloc)), want);
 }
+
+const USES: &str = "line 4 at 7 uses a
+from r2
+none
+from r1
+10.0.0.0-10.255.255.255
+255.255.255.255-255.255.255.255
+";
 
 #[test]
 fn prints_uses(rt: HostRuntime) {
     let alloc = rt.alloc();
     let ask = Ask::Uses(name(&rt, alloc, b"a"));
     let answer = Answer::Uses(List::new(alloc), two_runs(&rt, alloc));
-    let want =
-        b"line 4 at 7 uses a\nfrom r2\nnone\nfrom r1\n10.0.0.0-10.255.255.255\n255.255.255.255-255.255.255.255\n";
-    compare_answer(&rt, alloc, ask, answer, want);
+    compare_answer(&rt, alloc, ask, answer, USES);
 }
 
 /// All addresses go round between `r1` and `r2`, of which the least is 10.0.0.0.
@@ -164,10 +178,10 @@ fn one_cycle(rt: &impl Abort, alloc: Global) -> List<Cycle> {
 fn prints_loops(rt: HostRuntime) {
     let alloc = rt.alloc();
     let answer = Answer::Loops(one_cycle(&rt, alloc));
-    let want = b"line 4 at 7 loops\ncycle r1 r2 least 10.0.0.0 addresses 4294967296\n";
+    let want = "line 4 at 7 loops\ncycle r1 r2 least 10.0.0.0 addresses 4294967296\n";
     compare_answer(&rt, alloc, Ask::Loops, answer, want);
     let answer = Answer::Loops(List::new(alloc));
-    compare_answer(&rt, alloc, Ask::Loops, answer, b"line 4 at 7 loops\nnone\n");
+    compare_answer(&rt, alloc, Ask::Loops, answer, "line 4 at 7 loops\nnone\n");
 }
 
 /// One more black hole, of two runs.
@@ -189,24 +203,31 @@ fn push_hole(
 }
 
 /// The answer to `blackholes r1`.
-fn compare_holes(rt: &impl Abort, alloc: Global, holes: List<Hole>, want: &[u8]) {
+fn compare_holes(rt: &impl Abort, alloc: Global, holes: List<Hole>, want: &str) {
     let ask = Ask::Blackholes(name(rt, alloc, b"r1"));
     compare_answer(rt, alloc, ask, Answer::Holes(holes), want);
 }
 
+const TWO_HOLES: &str = "line 4 at 7 blackholes r1
+at r1 dropped unreachable
+10.0.0.0-10.255.255.255
+255.255.255.255-255.255.255.255
+at r2 linkdown a
+10.0.0.0-10.255.255.255
+255.255.255.255-255.255.255.255
+";
+
 #[test]
 fn prints_black_holes(rt: HostRuntime) {
     let alloc = rt.alloc();
-    let want = b"line 4 at 7 blackholes r1\nnone\n";
+    let want = "line 4 at 7 blackholes r1\nnone\n";
     compare_holes(&rt, alloc, List::new(alloc), want);
     let mut holes = List::new(alloc);
     let unreachable = Target::Dropped(DropKind::Unreachable);
     push_hole(&rt, alloc, &mut holes, RouterId(0), unreachable);
     let down = Target::LinkDown(LinkId(0));
     push_hole(&rt, alloc, &mut holes, RouterId(1), down);
-    let want =
-        b"line 4 at 7 blackholes r1\nat r1 dropped unreachable\n10.0.0.0-10.255.255.255\n255.255.255.255-255.255.255.255\nat r2 linkdown a\n10.0.0.0-10.255.255.255\n255.255.255.255-255.255.255.255\n";
-    compare_holes(&rt, alloc, holes, want);
+    compare_holes(&rt, alloc, holes, TWO_HOLES);
 }
 
 /// The query of a script's only line.
@@ -223,7 +244,7 @@ fn compare_unknown(
     alloc: Global,
     network: &Topology,
     unknown: Unknown,
-    want: &[u8],
+    want: &str,
 ) {
     let text = b"without x,y waypoint p q r";
     let script = read_script(alloc, text, network, &[], &[]).expect(rt, "a script");
@@ -233,7 +254,7 @@ fn compare_unknown(
         outcome: Outcome::Unknown(unknown),
     };
     let text = answer_text(alloc, network, &told).expect(rt, "memory");
-    assert!(rt; text.as_bytes().ends_with(want));
+    assert!(rt; text.as_bytes().ends_with(want.as_bytes()), "{want}");
 }
 
 /// The unknown names of that query, by their places.
@@ -241,9 +262,9 @@ fn compare_unknown(
 fn prints_each_unknown_name(rt: HostRuntime) {
     let alloc = rt.alloc();
     let net = network(&rt, alloc);
-    compare_unknown(&rt, alloc, &net, Unknown::Link(1), b"unknown link x\n");
-    compare_unknown(&rt, alloc, &net, Unknown::Link(2), b"unknown link y\n");
-    compare_unknown(&rt, alloc, &net, Unknown::Router(3), b"unknown router p\n");
-    compare_unknown(&rt, alloc, &net, Unknown::Router(4), b"unknown router q\n");
-    compare_unknown(&rt, alloc, &net, Unknown::Router(5), b"unknown router r\n");
+    compare_unknown(&rt, alloc, &net, Unknown::Link(1), "unknown link x\n");
+    compare_unknown(&rt, alloc, &net, Unknown::Link(2), "unknown link y\n");
+    compare_unknown(&rt, alloc, &net, Unknown::Router(3), "unknown router p\n");
+    compare_unknown(&rt, alloc, &net, Unknown::Router(4), "unknown router q\n");
+    compare_unknown(&rt, alloc, &net, Unknown::Router(5), "unknown router r\n");
 }

@@ -1,18 +1,19 @@
 //! The printed report, byte for byte, and writing it to a sink that takes parts and fails.
 
-ghost use Rattle.std.specs.Prelude.{◌≡◌, ◌∷◌, [], IfOk, codes, IsTrue, false};
+ghost use Rattle.std.specs.Prelude.{IsTrue};
 ghost use Rattle.dn_model.specs.Name.{is_name_text};
 
 use dn_formats::frame_cause::{BAD_FRAME_LENGTH, BAD_VERSION};
 use dn_formats::{FeedEnd, FeedTold, JobTold, Outcome, RefusedFrame, Told};
 use dn_io::{Failed, MemSink};
 use dn_model::{
-    Answer, Ask, Change, DropKind, Entry, LinkId, List, Name, Op, OutOfMemory, PathEnd, Posted,
-    Prefix, Query, RouterId, Run, Target, TopoEnd, TopoLink, Topology, Unknown,
+    Answer, Ask, Change, DropKind, Entry, LinkId, List, Name, Op, PathEnd, Posted, Prefix, Query,
+    RouterId, Run, Target, Topology, Unknown,
 };
 use run_report::{report_text, write_report};
 use std::alloc::Global;
 use std::process::Abort;
+use topology::read_topology;
 use version_pages::Pages;
 
 const FIRST: RouterId = RouterId(0);
@@ -21,79 +22,43 @@ const SECOND: RouterId = RouterId(1);
 
 const THIRD: RouterId = RouterId(2);
 
-/// The names of three routers.
-fn routers(alloc: Global) -> Result<List<Name>, OutOfMemory>
-    ensures { IfOk result (λ names. names ≡ codes "r1" ∷ codes "r2" ∷ codes "r3" ∷ []) }
-{
-    let mut names = List::new(alloc);
-    names.push(Name::from_text(alloc, b"r1")?)?;
-    names.push(Name::from_text(alloc, b"r2")?)?;
-    names.push(Name::from_text(alloc, b"r3")?)?;
-    Ok(names)
-}
-
-/// A link between interfaces of two routers.
-fn link(
-    alloc: Global,
-    name: &[u8],
-    first: TopoEnd,
-    second: TopoEnd,
-) -> Result<TopoLink, OutOfMemory>
-    requires { IsTrue (is_name_text name.now) }
-    ensures { IfOk result (λ link. link ≡ record { name = name.now; first = first; second = second; unnumbered = false }) }
-{
-    let name = Name::from_text(alloc, name)?;
-    Ok(TopoLink {
-        name,
-        first,
-        second,
-        unnumbered: false,
-    })
-}
-
-/// An interface of a router.
-fn end(router: RouterId, index: u32) -> TopoEnd
-    ensures { result ≡ record { router = router; index = index } }
-{
-    TopoEnd { router, index }
-}
-
-/// Three links, each from a router to the next.
-fn links(alloc: Global) -> Result<List<TopoLink>, OutOfMemory>
-    ensures { IfOk result (λ links. links
-        ≡ record { name = codes "a"; first = record { router = record { 0 = 0 }; index = 2 }; second = record { router = record { 0 = 1 }; index = 2 }; unnumbered = false }
-        ∷ record { name = codes "b"; first = record { router = record { 0 = 1 }; index = 3 }; second = record { router = record { 0 = 2 }; index = 2 }; unnumbered = false }
-        ∷ record { name = codes "c"; first = record { router = record { 0 = 2 }; index = 3 }; second = record { router = record { 0 = 0 }; index = 3 }; unnumbered = false } ∷ []) }
-{
-    let mut links = List::new(alloc);
-    links.push(link(alloc, b"a", end(FIRST, 2), end(SECOND, 2))?)?;
-    links.push(link(alloc, b"b", end(SECOND, 3), end(THIRD, 2))?)?;
-    links.push(link(alloc, b"c", end(THIRD, 3), end(FIRST, 3))?)?;
-    Ok(links)
-}
-
-/// An edge at each router.
-fn edges(alloc: Global) -> Result<List<TopoEnd>, OutOfMemory>
-    ensures { IfOk result (λ edges. edges
-        ≡ record { router = record { 0 = 0 }; index = 1 } ∷ record { router = record { 0 = 1 }; index = 1 } ∷ record { router = record { 0 = 2 }; index = 1 } ∷ []) }
-{
-    let mut edges = List::new(alloc);
-    edges.push(end(FIRST, 1))?;
-    edges.push(end(SECOND, 1))?;
-    edges.push(end(THIRD, 1))?;
-    Ok(edges)
-}
+const TRIANGLE: &str = "routers = [\"r1\", \"r2\", \"r3\"]
+[[link]]
+name = \"a\"
+ends = [\"r1:2\", \"r2:2\"]
+[[link]]
+name = \"b\"
+ends = [\"r2:3\", \"r3:2\"]
+[[link]]
+name = \"c\"
+ends = [\"r3:3\", \"r1:3\"]
+[[edge]]
+at = \"r1:1\"
+[[edge]]
+at = \"r2:1\"
+[[edge]]
+at = \"r3:1\"
+";
 
 /// Three routers in a triangle.
-fn triangle(alloc: Global) -> Result<Topology, OutOfMemory> {
-    let routers = routers(alloc)?;
-    let links = links(alloc)?;
-    let edges = edges(alloc)?;
-    Ok(Topology {
-        routers,
-        links,
-        edges,
-    })
+fn triangle(rt: &impl Abort, alloc: Global) -> Topology {
+    read_topology(alloc, TRIANGLE.as_bytes())
+        .ok()
+        .expect(rt, "a topology")
+}
+
+/// The report of these is this text.
+fn compare_report(
+    rt: &impl Abort,
+    alloc: Global,
+    feeds: &[FeedTold],
+    history: &Pages<Posted>,
+    jobs: &[JobTold],
+    want: &str,
+) {
+    let topology = triangle(rt, alloc);
+    let text = report_text(alloc, &topology, feeds, history, jobs).expect(rt, "memory");
+    assert_eq!(rt; text.as_slice(), want.as_bytes(), "{want}");
 }
 
 /// What is told of a feed of r1 that ended, with no frame refused.
@@ -118,7 +83,7 @@ fn set_ten(target: Target) -> Op {
 }
 
 /// A history of updates of r1's feed.
-fn history(alloc: Global, ops: &[Op]) -> Result<Pages<Posted>, OutOfMemory> {
+fn history(rt: &impl Abort, alloc: Global, ops: &[Op]) -> Pages<Posted> {
     let mut history = Pages::new();
     for op in ops {
         let posted = Posted {
@@ -129,47 +94,42 @@ fn history(alloc: Global, ops: &[Op]) -> Result<Pages<Posted>, OutOfMemory> {
                 op: *op,
             },
         };
-        history.push(alloc, posted)?;
+        history.push(alloc, posted).expect(rt, "memory");
     }
-    Ok(history)
+    history
 }
 
 /// The query for the walk of 10.1.2.3 from a router.
-fn path_query(alloc: Global, router: &[u8]) -> Result<Query, OutOfMemory>
+fn path_query(rt: &impl Abort, alloc: Global, router: &[u8]) -> Query
     requires { IsTrue (is_name_text router.now) }
 {
-    let router = Name::from_text(alloc, router)?;
-    Ok(Query::of(alloc, Ask::Path(router, 0x0a01_0203)))
+    let router = Name::from_text(alloc, router).expect(rt, "memory");
+    Query::of(alloc, Ask::Path(router, 0x0a01_0203))
 }
 
-/// What is told of that query, answered from one entry by these hops and this end.
-fn told(alloc: Global, line: u32, hops: &[RouterId], end: PathEnd) -> Result<Told, OutOfMemory> {
-    let hops = List::from_vec(Vec::from_slice(alloc, hops)?);
-    Ok(Told {
+/// What is told of that query for r1, answered from one entry by these hops and this end.
+fn told_path(rt: &impl Abort, alloc: Global, line: u32, hops: &[RouterId], end: PathEnd) -> Told {
+    let hops = List::from_vec(Vec::from_slice(alloc, hops).expect(rt, "memory"));
+    Told {
         line,
-        query: path_query(alloc, b"r1")?,
+        query: path_query(rt, alloc, b"r1"),
         outcome: Outcome::Answered {
             number: 1,
             answer: Answer::Path { hops, end },
         },
-    })
+    }
 }
 
-/// The report of a run with one feed, one update and one query.
-fn one_path(alloc: Global) -> Result<Vec<u8>, OutOfMemory> {
-    let topology = triangle(alloc)?;
-    let feeds = [ended_feed(alloc)];
-    let history = history(alloc, &[set_ten(Target::To(SECOND, LinkId(0)))])?;
-    let mut all_told = List::new(alloc);
-    all_told.push(told(alloc, 2, &[FIRST, SECOND], PathEnd::At(Target::NoRoute))?)?;
-    let jobs = [JobTold {
-        number: 1,
-        told: all_told,
-    }];
-    report_text(alloc, &topology, &feeds, &history, &jobs)
+/// What is told of one query, which ends where no route is.
+fn one_told(rt: &impl Abort, alloc: Global) -> List<Told> {
+    let mut all = List::new(alloc);
+    let end = PathEnd::At(Target::NoRoute);
+    all.push(told_path(rt, alloc, 2, &[FIRST, SECOND], end))
+        .expect(rt, "memory");
+    all
 }
 
-const ONE_PATH: &[u8] = b"feed 1 r1 updates 1 skipped 0 refused 0 end
+const ONE_PATH: &str = "feed 1 r1 updates 1 skipped 0 refused 0 end
 history 1
 1 feed 1 r1 set 10.0.0.0/8 metric 20 to r2 by a
 job 1
@@ -181,8 +141,14 @@ done
 
 #[test]
 fn prints_one_path(rt: HostRuntime) {
-    let text = one_path(rt.alloc()).expect(&rt, "memory");
-    assert!(rt; text.as_slice() == ONE_PATH);
+    let alloc = rt.alloc();
+    let feeds = [ended_feed(alloc)];
+    let history = history(&rt, alloc, &[set_ten(Target::To(SECOND, LinkId(0)))]);
+    let jobs = [JobTold {
+        number: 1,
+        told: one_told(&rt, alloc),
+    }];
+    compare_report(&rt, alloc, &feeds, &history, &jobs, ONE_PATH);
 }
 
 /// What is told of a feed of r2 with no update and two skipped messages.
@@ -197,60 +163,55 @@ fn feed(feed_no: u32, refused: List<RefusedFrame>, end: Option<FeedEnd>) -> Feed
     }
 }
 
-/// The report of a run without updates and queries.
-fn feeds_alone(alloc: Global, feeds: &[FeedTold]) -> Result<Vec<u8>, OutOfMemory> {
-    let topology = triangle(alloc)?;
-    report_text(alloc, &topology, feeds, &Pages::new(), &[])
-}
-
 /// The report of a run whose only feed, the third, ended so.
-fn compare_end(rt: &impl Abort, alloc: Global, end: FeedEnd, want: &[u8]) {
+fn compare_end(rt: &impl Abort, alloc: Global, end: FeedEnd, want: &str) {
     let feeds = [feed(3, List::new(alloc), Some(end))];
-    let text = feeds_alone(alloc, &feeds).expect(rt, "memory");
-    assert!(rt; text.as_slice() == want);
+    compare_report(rt, alloc, &feeds, &Pages::new(), &[], want);
 }
 
 #[test]
 fn prints_each_end_of_a_feed(rt: HostRuntime) {
     let alloc = rt.alloc();
-    let want = b"feed 3 r2 updates 0 skipped 2 refused 0 end\nhistory 0\ndone\n";
+    let want = "feed 3 r2 updates 0 skipped 2 refused 0 end\nhistory 0\ndone\n";
     compare_end(&rt, alloc, FeedEnd::End, want);
-    let want = b"feed 3 r2 updates 0 skipped 2 refused 0 cutshort 64\nhistory 0\ndone\n";
+    let want = "feed 3 r2 updates 0 skipped 2 refused 0 cutshort 64\nhistory 0\ndone\n";
     compare_end(&rt, alloc, FeedEnd::CutShort { offset: 64 }, want);
     let end = FeedEnd::Lost {
         offset: 0,
         cause: BAD_VERSION,
     };
-    let want = b"feed 3 r2 updates 0 skipped 2 refused 0 lost 0 BadVersion\nhistory 0\ndone\n";
+    let want = "feed 3 r2 updates 0 skipped 2 refused 0 lost 0 BadVersion\nhistory 0\ndone\n";
     compare_end(&rt, alloc, end, want);
     let end = FeedEnd::Lost {
         offset: 52,
         cause: BAD_FRAME_LENGTH,
     };
-    let want = b"feed 3 r2 updates 0 skipped 2 refused 0 lost 52 BadFrameLength\nhistory 0\ndone\n";
+    let want = "feed 3 r2 updates 0 skipped 2 refused 0 lost 52 BadFrameLength\nhistory 0\ndone\n";
     compare_end(&rt, alloc, end, want);
-    let want = b"feed 3 r2 updates 0 skipped 2 refused 0 toolong\nhistory 0\ndone\n";
+    let want = "feed 3 r2 updates 0 skipped 2 refused 0 toolong\nhistory 0\ndone\n";
     compare_end(&rt, alloc, FeedEnd::TooLong, want);
-    let want = b"feed 3 r2 updates 0 skipped 2 refused 0 full\nhistory 0\ndone\n";
+    let want = "feed 3 r2 updates 0 skipped 2 refused 0 full\nhistory 0\ndone\n";
     compare_end(&rt, alloc, FeedEnd::Full, want);
-    let want = b"feed 3 r2 updates 0 skipped 2 refused 0 readfault\nhistory 0\ndone\n";
+    let want = "feed 3 r2 updates 0 skipped 2 refused 0 readfault\nhistory 0\ndone\n";
     compare_end(&rt, alloc, FeedEnd::Faulted, want);
 }
 
 /// A feed with a frame refused for each cause, 1 to 14.
-fn refused_for_each_cause(alloc: Global) -> Result<FeedTold, OutOfMemory> {
+fn feed_with_each_cause(rt: &impl Abort, alloc: Global) -> FeedTold {
     let mut refused = List::new(alloc);
     for cause in 1..15 {
-        refused.push(RefusedFrame {
-            offset: 1_073_741_823,
-            at: 60,
-            cause,
-        })?;
+        refused
+            .push(RefusedFrame {
+                offset: 1_073_741_823,
+                at: 60,
+                cause,
+            })
+            .expect(rt, "memory");
     }
-    Ok(feed(1, refused, Some(FeedEnd::End)))
+    feed(1, refused, Some(FeedEnd::End))
 }
 
-const REFUSED: &[u8] = b"feed 1 r2 updates 0 skipped 2 refused 14 end
+const REFUSED: &str = "feed 1 r2 updates 0 skipped 2 refused 14 end
 refused offset 1073741823 message 60 cause 1 BadLength
 refused offset 1073741823 message 60 cause 2 Short
 refused offset 1073741823 message 60 cause 3 BadAttr
@@ -273,10 +234,10 @@ done
 #[test]
 fn prints_feeds_in_order(rt: HostRuntime) {
     let alloc = rt.alloc();
-    let first = refused_for_each_cause(alloc).expect(&rt, "memory");
+    let first = feed_with_each_cause(&rt, alloc);
     let second = feed(2, List::new(alloc), Some(FeedEnd::End));
-    let text = feeds_alone(alloc, &[first, second]).expect(&rt, "memory");
-    assert!(rt; text.as_slice() == REFUSED);
+    let feeds = [first, second];
+    compare_report(&rt, alloc, &feeds, &Pages::new(), &[], REFUSED);
 }
 
 /// The update that clears 10.0.0.0/8, of one metric or of all.
@@ -288,8 +249,9 @@ fn clear_ten(metric: Option<u32>) -> Op {
 }
 
 /// A history with each target and both kinds of Clear.
-fn all_ops(alloc: Global) -> Result<Pages<Posted>, OutOfMemory> {
+fn all_ops(rt: &impl Abort, alloc: Global) -> Pages<Posted> {
     history(
+        rt,
         alloc,
         &[
             set_ten(Target::NoRoute),
@@ -307,21 +269,24 @@ fn all_ops(alloc: Global) -> Result<Pages<Posted>, OutOfMemory> {
     )
 }
 
-/// A query with an unknown link: `without a,x9 path r1 10.1.2.3`.
-fn unknown_link(alloc: Global) -> Result<Told, OutOfMemory> {
+/// What is told of a query with an unknown link: `without a,x9 path r1 255.255.255.255`.
+fn unknown_link(rt: &impl Abort, alloc: Global) -> Told {
+    let known = Name::from_text(alloc, b"a").expect(rt, "memory");
+    let unknown = Name::from_text(alloc, b"x9").expect(rt, "memory");
+    let router = Name::from_text(alloc, b"r1").expect(rt, "memory");
     let mut without = List::new(alloc);
-    without.push(Name::from_text(alloc, b"a")?)?;
-    without.push(Name::from_text(alloc, b"x9")?)?;
-    let ask = Ask::Path(Name::from_text(alloc, b"r1")?, 0xffff_ffff);
-    Ok(Told {
+    without.push(known).expect(rt, "memory");
+    without.push(unknown).expect(rt, "memory");
+    let ask = Ask::Path(router, 0xffff_ffff);
+    Told {
         line: 2,
         query: Query::new(without, ask),
         outcome: Outcome::Unknown(Unknown::Link(2)),
-    })
+    }
 }
 
 /// What is told of `delta` in line 5: one change.
-fn delta_told(alloc: Global) -> Result<Told, OutOfMemory> {
+fn delta_told(rt: &impl Abort, alloc: Global) -> Told {
     let changes = [Change {
         router: SECOND,
         run: Run {
@@ -331,50 +296,43 @@ fn delta_told(alloc: Global) -> Result<Told, OutOfMemory> {
         before: Target::To(THIRD, LinkId(1)),
         after: Target::NoRoute,
     }];
-    Ok(Told {
+    let changes = Vec::from_slice(alloc, &changes).expect(rt, "memory");
+    Told {
         line: 5,
         query: Query::of(alloc, Ask::Delta),
         outcome: Outcome::Answered {
             number: 11,
-            answer: Answer::Delta(List::from_vec(Vec::from_slice(alloc, &changes)?)),
+            answer: Answer::Delta(List::from_vec(changes)),
         },
-    })
+    }
+}
+
+/// What is told of a query whose router, r9, is unknown.
+fn unknown_router(rt: &impl Abort, alloc: Global) -> Told {
+    Told {
+        line: 1,
+        query: path_query(rt, alloc, b"r9"),
+        outcome: Outcome::Unknown(Unknown::Router(1)),
+    }
 }
 
 /// What is told of five queries: two with an unknown name, one that ends in a loop, one that leaves the network, and
 /// one after what changed.
-fn five_told(alloc: Global) -> Result<List<Told>, OutOfMemory> {
+fn five_told(rt: &impl Abort, alloc: Global) -> List<Told> {
     let mut all = List::new(alloc);
-    all.push(Told {
-        line: 1,
-        query: path_query(alloc, b"r9")?,
-        outcome: Outcome::Unknown(Unknown::Router(1)),
-    })?;
-    all.push(unknown_link(alloc)?)?;
-    all.push(told(alloc, 3, &[FIRST, SECOND, THIRD, FIRST], PathEnd::Loop)?)?;
-    all.push(told(alloc, 4, &[FIRST], PathEnd::At(Target::Exit(1)))?)?;
-    all.push(delta_told(alloc)?)?;
-    Ok(all)
+    all.push(unknown_router(rt, alloc)).expect(rt, "memory");
+    all.push(unknown_link(rt, alloc)).expect(rt, "memory");
+    let hops = [FIRST, SECOND, THIRD, FIRST];
+    all.push(told_path(rt, alloc, 3, &hops, PathEnd::Loop))
+        .expect(rt, "memory");
+    let end = PathEnd::At(Target::Exit(1));
+    all.push(told_path(rt, alloc, 4, &[FIRST], end))
+        .expect(rt, "memory");
+    all.push(delta_told(rt, alloc)).expect(rt, "memory");
+    all
 }
 
-/// A report with a line of each kind of update and of what is told.
-fn all_lines(alloc: Global) -> Result<Vec<u8>, OutOfMemory> {
-    let topology = triangle(alloc)?;
-    let history = all_ops(alloc)?;
-    let jobs = [
-        JobTold {
-            number: 1,
-            told: five_told(alloc)?,
-        },
-        JobTold {
-            number: 2,
-            told: List::new(alloc),
-        },
-    ];
-    report_text(alloc, &topology, &[], &history, &jobs)
-}
-
-const ALL_LINES: &[u8] = b"history 11
+const ALL_LINES: &str = "history 11
 1 feed 1 r1 set 10.0.0.0/8 metric 20 noroute
 2 feed 1 r1 set 10.0.0.0/8 metric 20 dropped blackhole
 3 feed 1 r1 set 10.0.0.0/8 metric 20 dropped unreachable
@@ -405,16 +363,27 @@ done
 
 #[test]
 fn prints_all_lines(rt: HostRuntime) {
-    let text = all_lines(rt.alloc()).expect(&rt, "memory");
-    assert!(rt; text.as_slice() == ALL_LINES);
+    let alloc = rt.alloc();
+    let history = all_ops(&rt, alloc);
+    let jobs = [
+        JobTold {
+            number: 1,
+            told: five_told(&rt, alloc),
+        },
+        JobTold {
+            number: 2,
+            told: List::new(alloc),
+        },
+    ];
+    compare_report(&rt, alloc, &[], &history, &jobs, ALL_LINES);
 }
 
 #[test]
 fn writes_all_by_parts(rt: HostRuntime) {
     let alloc = rt.alloc();
     let mut sink = MemSink::new(alloc, 16, Vec::new(alloc));
-    assert!(rt; write_report(&mut sink, ONE_PATH).is_ok());
-    assert!(rt; sink.written() == ONE_PATH);
+    assert!(rt; write_report(&mut sink, ONE_PATH.as_bytes()).is_ok());
+    assert!(rt; sink.written() == ONE_PATH.as_bytes());
     assert_eq!(rt; sink.faults(), 0);
 }
 
@@ -423,7 +392,7 @@ fn stops_at_a_failed_write(rt: HostRuntime) {
     let alloc = rt.alloc();
     let fails = Vec::from_slice(alloc, &[2]).expect(&rt, "memory");
     let mut sink = MemSink::new(alloc, 16, fails);
-    assert!(rt; matches!(write_report(&mut sink, ONE_PATH), Err(Failed)));
+    assert!(rt; matches!(write_report(&mut sink, ONE_PATH.as_bytes()), Err(Failed)));
     assert!(rt; sink.written() == b"feed 1 r1 update".as_slice());
     assert_eq!(rt; sink.faults(), 1);
 }

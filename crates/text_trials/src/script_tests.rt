@@ -1,4 +1,4 @@
-//! What no clause says: that the scripts of this page are read, and which fault is answered.
+//! Scripts: that those of this page are read, what they say, and which fault is answered.
 
 use crate::two_routers::network;
 use dn_formats::script_cause::{BAD_LINE, TAKE_UNKNOWN, TAKEN_TWICE, TOO_LONG, TOO_MANY_LINES};
@@ -35,7 +35,7 @@ fn is_path(line: &Line, number: u32, from: &[u8], to: u32) -> bool {
     }
 }
 
-/// Scripts and refusals cross threads.
+/// Its bound alone says that scripts may cross threads; none is started.
 fn crosses<T: Send + Sync>(_value: &T) {}
 
 /// The script of a text, where both routers have a feed.
@@ -53,17 +53,24 @@ fn compare_lines(rt: &impl Abort, lines: &[Line]) {
     assert!(rt; is_path(&lines[3], 8, b"r9", 255));
 }
 
+const LINES: &str = "# a note
+
+ take\tr2  7 \r
+take r1 all\r
+ \t \r
+\t#take r9
+path\r\tr1\t10.1.2.3
+path r9 0.0.0.255";
+
 #[test]
 fn reads_lines(rt: HostRuntime) {
-    let text =
-        b"# a note\n\n take\tr2  7 \r\ntake r1 all\r\n \t \r\n\t#take r9\npath\r\tr1\t10.1.2.3\npath r9 0.0.0.255";
-    let script = script_of(&rt, rt.alloc(), text);
+    let script = script_of(&rt, rt.alloc(), LINES.as_bytes());
     crosses(&script);
     compare_lines(&rt, script.lines.as_slice());
 }
 
 /// What a line that was read prints as its query, where nothing is answered.
-fn printed(rt: &impl Abort, alloc: Global, network: &Topology, line: &Line) -> Text {
+fn query_text(rt: &impl Abort, alloc: Global, network: &Topology, line: &Line) -> Text {
     let told = match line {
         Line::Ask { line, query } => Told {
             line: *line,
@@ -76,12 +83,12 @@ fn printed(rt: &impl Abort, alloc: Global, network: &Topology, line: &Line) -> T
 }
 
 /// A text of one line is printed as this query.
-fn compare_query(rt: &impl Abort, alloc: Global, network: &Topology, text: &[u8], want: &[u8]) {
-    let script = read_script(alloc, text, network, &[], &[]).expect(rt, "a script");
+fn compare_query(rt: &impl Abort, alloc: Global, network: &Topology, text: &str, want: &str) {
+    let script = read_script(alloc, text.as_bytes(), network, &[], &[]).expect(rt, "a script");
     let lines = script.lines.as_slice();
     assert_eq!(rt; lines.len(), 1);
-    let found = printed(rt, alloc, network, &lines[0]);
-    assert!(rt; found.as_bytes() == want, "in {text:?}");
+    let found = query_text(rt, alloc, network, &lines[0]);
+    assert_eq!(rt; found.as_bytes(), want.as_bytes(), "in {text:?}");
 }
 
 /// A line that asks each query is printed with its words joined by one space. A link that is named twice stays so.
@@ -89,24 +96,24 @@ fn compare_query(rt: &impl Abort, alloc: Global, network: &Topology, text: &[u8]
 fn reads_and_prints_queries(rt: HostRuntime) {
     let alloc = rt.alloc();
     let net = network(&rt, alloc);
-    let want = b"line 1 path r1 10.1.2.3\nunknown router \n";
-    compare_query(&rt, alloc, &net, b" path\tr1  10.1.2.3 ", want);
-    let want = b"line 1 reach r1 r9\nunknown router \n";
-    compare_query(&rt, alloc, &net, b"reach r1\tr9", want);
-    let want = b"line 1 uses a\nunknown router \n";
-    compare_query(&rt, alloc, &net, b"uses\ta", want);
-    let want = b"line 1 loops\nunknown router \n";
-    compare_query(&rt, alloc, &net, b" loops ", want);
-    let want = b"line 1 blackholes r2\nunknown router \n";
-    compare_query(&rt, alloc, &net, b"blackholes  r2", want);
-    let want = b"line 1 waypoint r1 r2 r9\nunknown router \n";
-    compare_query(&rt, alloc, &net, b"waypoint r1 r2 r9\r", want);
-    let want = b"line 1 delta\nunknown router \n";
-    compare_query(&rt, alloc, &net, b"delta\t", want);
-    let want = b"line 1 without b,b reach r1 r3\nunknown router \n";
-    compare_query(&rt, alloc, &net, b"without b,b\treach  r1 r3", want);
-    let want = b"line 1 without z loops\nunknown router \n";
-    compare_query(&rt, alloc, &net, b"without z loops", want);
+    let want = "line 1 path r1 10.1.2.3\nunknown router \n";
+    compare_query(&rt, alloc, &net, " path\tr1  10.1.2.3 ", want);
+    let want = "line 1 reach r1 r9\nunknown router \n";
+    compare_query(&rt, alloc, &net, "reach r1\tr9", want);
+    let want = "line 1 uses a\nunknown router \n";
+    compare_query(&rt, alloc, &net, "uses\ta", want);
+    let want = "line 1 loops\nunknown router \n";
+    compare_query(&rt, alloc, &net, " loops ", want);
+    let want = "line 1 blackholes r2\nunknown router \n";
+    compare_query(&rt, alloc, &net, "blackholes  r2", want);
+    let want = "line 1 waypoint r1 r2 r9\nunknown router \n";
+    compare_query(&rt, alloc, &net, "waypoint r1 r2 r9\r", want);
+    let want = "line 1 delta\nunknown router \n";
+    compare_query(&rt, alloc, &net, "delta\t", want);
+    let want = "line 1 without b,b reach r1 r3\nunknown router \n";
+    compare_query(&rt, alloc, &net, "without b,b\treach  r1 r3", want);
+    let want = "line 1 without z loops\nunknown router \n";
+    compare_query(&rt, alloc, &net, "without z loops", want);
 }
 
 /// The router from which the only line takes, or the cause of the fault, where the third router and the first have a
@@ -126,10 +133,11 @@ fn compare_taken(
     rt: &impl Abort,
     alloc: Global,
     network: &Topology,
-    text: &[u8],
+    text: &str,
     want: Result<u16, u8>,
 ) {
-    assert!(rt; taken_from(alloc, network, text) == want, "in {text:?}");
+    let found = taken_from(alloc, network, text.as_bytes());
+    assert!(rt; found == want, "in {text:?}");
 }
 
 #[test]
@@ -137,15 +145,15 @@ fn finds_routers_by_name(rt: HostRuntime) {
     let alloc = rt.alloc();
     let text = b"routers = [\"core\", \"core-2\", \"edge\"]\n";
     let net = read_topology(alloc, text).expect(&rt, "a topology");
-    compare_taken(&rt, alloc, &net, b"take core 1", Ok(0));
-    compare_taken(&rt, alloc, &net, b"take edge all", Ok(2));
-    compare_taken(&rt, alloc, &net, b"take core-2 1", Err(TAKE_UNKNOWN));
-    compare_taken(&rt, alloc, &net, b"take cor 1", Err(TAKE_UNKNOWN));
-    compare_taken(&rt, alloc, &net, b"take edge- all", Err(TAKE_UNKNOWN));
+    compare_taken(&rt, alloc, &net, "take core 1", Ok(0));
+    compare_taken(&rt, alloc, &net, "take edge all", Ok(2));
+    compare_taken(&rt, alloc, &net, "take core-2 1", Err(TAKE_UNKNOWN));
+    compare_taken(&rt, alloc, &net, "take cor 1", Err(TAKE_UNKNOWN));
+    compare_taken(&rt, alloc, &net, "take edge- all", Err(TAKE_UNKNOWN));
 }
 
-/// What a script is refused for, both routers having a feed and an earlier script taking from `r2`.
-fn fault_of(alloc: Global, network: &Topology, text: &[u8]) -> Option<(u32, u8)> {
+/// Why a script isn't read, both routers having a feed and an earlier script taking from `r2`. None where it is read.
+fn refusal_of(alloc: Global, network: &Topology, text: &[u8]) -> Option<ScriptRefused> {
     match read_script(
         alloc,
         text,
@@ -153,31 +161,45 @@ fn fault_of(alloc: Global, network: &Topology, text: &[u8]) -> Option<(u32, u8)>
         &[RouterId(0), RouterId(1)],
         &[RouterId(1)],
     ) {
-        Err(ScriptRefused::Fault { line, cause }) => Some((line, cause)),
-        _ => None,
+        Ok(_) => None,
+        Err(refused) => Some(refused),
     }
 }
 
+/// A fault: line, cause.
+fn fault(line: u32, cause: u8) -> Option<ScriptRefused> {
+    Some(ScriptRefused::Fault { line, cause })
+}
+
+/// A text has this fault.
+fn compare_fault(
+    rt: &impl Abort,
+    alloc: Global,
+    network: &Topology,
+    text: &str,
+    want: Option<ScriptRefused>,
+) {
+    let found = refusal_of(alloc, network, text.as_bytes());
+    assert_eq!(rt; found, want, "in {text:?}");
+}
+
 /// Each of these texts alone is refused as a bad line.
-fn compare_bad_lines(rt: &impl Abort, alloc: Global, texts: &[&[u8]]) {
+fn compare_bad_lines(rt: &impl Abort, alloc: Global, texts: &[&str]) {
     let network = network(rt, alloc);
     for text in texts {
-        assert!(rt;
-            fault_of(alloc, &network, text) == Some((1, BAD_LINE)),
-            "in {text:?}"
-        );
+        compare_fault(rt, alloc, &network, text, fault(1, BAD_LINE));
     }
 }
 
 /// A `take` that is none.
 #[test]
 fn refuses_bad_takes(rt: HostRuntime) {
-    let texts: [&[u8]; 5] = [
-        b"take r1 0",
-        b"take r1 01\n",
-        b"take Rx all",
-        b"take r1 all all",
-        b"TAKE r1 all",
+    let texts = [
+        "take r1 0",
+        "take r1 01\n",
+        "take Rx all",
+        "take r1 all all",
+        "TAKE r1 all",
     ];
     compare_bad_lines(&rt, rt.alloc(), &texts);
 }
@@ -185,13 +207,13 @@ fn refuses_bad_takes(rt: HostRuntime) {
 /// A `path` that is none.
 #[test]
 fn refuses_bad_paths(rt: HostRuntime) {
-    let texts: [&[u8]; 6] = [
-        b"path r1 r9",
-        b"path r1",
-        b"path r1 10.1.2",
-        b"path r1 10.1.2.256",
-        b"path r1 10.1.2.03",
-        b"path r1 10.1.2.3.4",
+    let texts = [
+        "path r1 r9",
+        "path r1",
+        "path r1 10.1.2",
+        "path r1 10.1.2.256",
+        "path r1 10.1.2.03",
+        "path r1 10.1.2.3.4",
     ];
     compare_bad_lines(&rt, rt.alloc(), &texts);
 }
@@ -199,20 +221,20 @@ fn refuses_bad_paths(rt: HostRuntime) {
 /// Other queries that are none: a word too few or too many, or a name that is none.
 #[test]
 fn refuses_bad_verbs(rt: HostRuntime) {
-    let texts: [&[u8]; 13] = [
-        b"reach r1",
-        b"reach r1 R",
-        b"reach r1 r2 r2",
-        b"uses",
-        b"uses a,b",
-        b"uses a b",
-        b"loops r1",
-        b"blackholes",
-        b"blackholes r1 r2",
-        b"waypoint r1 r2",
-        b"waypoint r1 r2 r1 r2",
-        b"waypoint r1 r2 W",
-        b"delta x",
+    let texts = [
+        "reach r1",
+        "reach r1 R",
+        "reach r1 r2 r2",
+        "uses",
+        "uses a,b",
+        "uses a b",
+        "loops r1",
+        "blackholes",
+        "blackholes r1 r2",
+        "waypoint r1 r2",
+        "waypoint r1 r2 r1 r2",
+        "waypoint r1 r2 W",
+        "delta x",
     ];
     compare_bad_lines(&rt, rt.alloc(), &texts);
 }
@@ -220,48 +242,38 @@ fn refuses_bad_verbs(rt: HostRuntime) {
 /// A `without` that is none: without a link, with an empty name, twice, before `delta` and before `take`.
 #[test]
 fn refuses_bad_links(rt: HostRuntime) {
-    let texts: [&[u8]; 9] = [
-        b"without a delta",
-        b"without loops",
-        b"without a",
-        b"without ,a loops",
-        b"without a,,b loops",
-        b"without a, loops",
-        b"without a, b loops",
-        b"without a without b loops",
-        b"without a take r1 1",
+    let texts = [
+        "without a delta",
+        "without loops",
+        "without a",
+        "without ,a loops",
+        "without a,,b loops",
+        "without a, loops",
+        "without a, b loops",
+        "without a without b loops",
+        "without a take r1 1",
     ];
     compare_bad_lines(&rt, rt.alloc(), &texts);
-}
-
-fn compare_fault(
-    rt: &impl Abort,
-    alloc: Global,
-    network: &Topology,
-    text: &[u8],
-    want: Option<(u32, u8)>,
-) {
-    assert_eq!(rt; fault_of(alloc, network, text), want);
 }
 
 #[test]
 fn names_the_first_fault(rt: HostRuntime) {
     let alloc = rt.alloc();
     let net = network(&rt, alloc);
-    let want = Some((3, BAD_LINE));
-    compare_fault(&rt, alloc, &net, b"\n\ntake r1 4294967296\n", want);
-    let want = Some((2, BAD_LINE));
-    compare_fault(&rt, alloc, &net, b"delta\nDelta", want);
-    let want = Some((1, TAKE_UNKNOWN));
-    compare_fault(&rt, alloc, &net, b"take r3 all\ntake r1 x", want);
-    let want = Some((2, TAKEN_TWICE));
-    compare_fault(&rt, alloc, &net, b"#\ntake r2 1\n", want);
-    let want = Some((2, BAD_LINE));
-    compare_fault(&rt, alloc, &net, b"take r1 all\nwhat\ntake r3 all", want);
+    let want = fault(3, BAD_LINE);
+    compare_fault(&rt, alloc, &net, "\n\ntake r1 4294967296\n", want);
+    let want = fault(2, BAD_LINE);
+    compare_fault(&rt, alloc, &net, "delta\nDelta", want);
+    let want = fault(1, TAKE_UNKNOWN);
+    compare_fault(&rt, alloc, &net, "take r3 all\ntake r1 x", want);
+    let want = fault(2, TAKEN_TWICE);
+    compare_fault(&rt, alloc, &net, "#\ntake r2 1\n", want);
+    let want = fault(2, BAD_LINE);
+    compare_fault(&rt, alloc, &net, "take r1 all\nwhat\ntake r3 all", want);
 }
 
 /// So many bytes of one kind, and these at their end.
-fn repeated(rt: &impl Abort, alloc: Global, byte: u8, count: usize, last: &[u8]) -> Vec<u8> {
+fn repeat_byte(rt: &impl Abort, alloc: Global, byte: u8, count: usize, last: &[u8]) -> Vec<u8> {
     let mut text = vec![in alloc; byte; count].expect(rt, "memory");
     text.extend_from_slice(last).expect(rt, "memory");
     text
@@ -274,22 +286,24 @@ fn compare_longest(
     network: &Topology,
     text: &mut Vec<u8>,
     byte: u8,
-    want: (u32, u8),
+    want: Option<ScriptRefused>,
 ) {
-    compare_fault(rt, alloc, network, text.as_slice(), None);
+    let found = refusal_of(alloc, network, text.as_slice());
+    assert_eq!(rt; found, None, "before {want:?}");
     text.push(byte).expect(rt, "memory");
-    compare_fault(rt, alloc, network, text.as_slice(), Some(want));
+    let found = refusal_of(alloc, network, text.as_slice());
+    assert_eq!(rt; found, want);
 }
 
 #[test]
 fn keeps_within_bounds(rt: HostRuntime) {
     let alloc = rt.alloc();
     let net = network(&rt, alloc);
-    let mut lines = repeated(&rt, alloc, b'\n', 65_536, b"");
-    let want = (65_537, TOO_MANY_LINES);
+    let mut lines = repeat_byte(&rt, alloc, b'\n', 65_536, b"");
+    let want = fault(65_537, TOO_MANY_LINES);
     compare_longest(&rt, alloc, &net, &mut lines, b'#', want);
-    let mut text = repeated(&rt, alloc, b'#', 16_777_216, b"");
-    compare_longest(&rt, alloc, &net, &mut text, b'\n', (0, TOO_LONG));
-    let mut line = repeated(&rt, alloc, b' ', 1_015, b"take r1 1");
-    compare_longest(&rt, alloc, &net, &mut line, b' ', (1, BAD_LINE));
+    let mut text = repeat_byte(&rt, alloc, b'#', 16_777_216, b"");
+    compare_longest(&rt, alloc, &net, &mut text, b'\n', fault(0, TOO_LONG));
+    let mut line = repeat_byte(&rt, alloc, b' ', 1_015, b"take r1 1");
+    compare_longest(&rt, alloc, &net, &mut line, b' ', fault(1, BAD_LINE));
 }

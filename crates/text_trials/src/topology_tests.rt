@@ -1,4 +1,4 @@
-//! What no clause says: that the texts of this page are read, and that the first of two faults is answered.
+//! Topologies: that the texts of this page are read, what they say, and which of two faults is answered.
 
 use dn_formats::{TopoFault, TopoPart, TopoRefused};
 use dn_model::{LinkId, Name, RouterId, TopoEnd, TopoLink, Topology};
@@ -26,7 +26,7 @@ at = \"r2:1\"
 at = \"r3:1\"
 ";
 
-/// Topologies cross threads.
+/// Its bound alone says that topologies may cross threads; none is started.
 fn crosses<T: Send + Sync>(_value: &T) {}
 
 fn ring(rt: &impl Abort, alloc: Global) -> Topology {
@@ -78,17 +78,17 @@ fn interfaces_are_found(rt: HostRuntime) {
     assert_eq!(rt; port(&topology, RouterId(2), 4), None);
 }
 
-/// The fault of a text, if it has one.
-fn fault_of(alloc: Global, bytes: &[u8]) -> Option<TopoFault> {
+/// Why a text isn't read. None where it is read.
+fn refusal_of(alloc: Global, bytes: &[u8]) -> Option<TopoRefused> {
     match read_topology(alloc, bytes) {
-        Err(TopoRefused::Fault(fault)) => Some(fault),
-        _ => None,
+        Ok(_) => None,
+        Err(refused) => Some(refused),
     }
 }
 
 /// A fault: part, entry, cause.
-fn fault(part: TopoPart, entry: u32, cause: u8) -> Option<TopoFault> {
-    Some(TopoFault { part, entry, cause })
+fn fault(part: TopoPart, entry: u32, cause: u8) -> Option<TopoRefused> {
+    Some(TopoRefused::Fault(TopoFault { part, entry, cause }))
 }
 
 /// A text has this fault.
@@ -100,11 +100,8 @@ fn compare_fault(
     entry: u32,
     cause: u8,
 ) {
-    assert_eq!(rt;
-        fault_of(alloc, text),
-        fault(part, entry, cause),
-        "in {text:?}"
-    );
+    let want = fault(part, entry, cause);
+    assert_eq!(rt; refusal_of(alloc, text), want, "in {text:?}");
 }
 
 #[test]
@@ -140,13 +137,15 @@ fn faults_of_routers(rt: HostRuntime) {
     compare_fault(&rt, alloc, text, routers, 2, 5);
 }
 
+const LINK_A: &str = "routers = [\"r1\", \"r2\"]
+[[link]]
+name = \"a\"
+ends = [\"r1:2\", \"r2:2\"]
+";
+
 /// A text of two routers, r1 and r2, a link `a` between their interfaces 2, and a last entry.
 fn text_after_a(rt: &impl Abort, alloc: Global, last: &[u8]) -> Vec<u8> {
-    let mut text = Vec::from_slice(
-        alloc,
-        b"routers = [\"r1\", \"r2\"]\n[[link]]\nname = \"a\"\nends = [\"r1:2\", \"r2:2\"]\n",
-    )
-    .expect(rt, "memory");
+    let mut text = Vec::from_slice(alloc, LINK_A.as_bytes()).expect(rt, "memory");
     text.extend_from_slice(last).expect(rt, "memory");
     text
 }
@@ -223,12 +222,10 @@ fn longest(rt: &impl Abort, alloc: Global) -> Vec<u8> {
 fn limits(rt: HostRuntime) {
     let alloc = rt.alloc();
     let mut text = longest(&rt, alloc);
-    assert_eq!(rt; fault_of(alloc, text.as_slice()), None);
+    assert_eq!(rt; refusal_of(alloc, text.as_slice()), None);
     text.push(b'\xff').expect(&rt, "memory");
-    assert_eq!(rt;
-        fault_of(alloc, text.as_slice()),
-        fault(TopoPart::Top, 0, 10)
-    );
+    let want = fault(TopoPart::Top, 0, 10);
+    assert_eq!(rt; refusal_of(alloc, text.as_slice()), want);
 }
 
 /// A text of 1,024 routers, and what is none in the place of a further one.
@@ -245,8 +242,6 @@ fn many_routers(rt: &impl Abort, alloc: Global) -> String {
 fn a_router_too_many(rt: HostRuntime) {
     let alloc = rt.alloc();
     let text = many_routers(&rt, alloc);
-    assert_eq!(rt;
-        fault_of(alloc, text.as_bytes()),
-        fault(TopoPart::Routers, 1025, 9)
-    );
+    let want = fault(TopoPart::Routers, 1025, 9);
+    assert_eq!(rt; refusal_of(alloc, text.as_bytes()), want);
 }

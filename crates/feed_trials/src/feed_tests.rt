@@ -2,6 +2,7 @@
 
 ghost use Rattle.std.specs.Prelude.{◌≡◌, ◌<◌, ◌≤◌, ◌^◌, length};
 
+use crate::frames::{BROKEN_LAST, CHANGE_TEN, SET_IPV6, SET_MULTIPATH, SET_TEN, bytes_of};
 use crate::test_network::{FIRST, SECOND, THIRD, triangle};
 use dn_formats::{FeedEnd, FeedTold};
 use dn_io::{MemSource, Source};
@@ -108,51 +109,12 @@ fn compare(rt: &impl Abort, alloc: Global, bytes: &[u8], want: [Seen; 3]) {
 /// The feed's end, after these answers.
 const END: Seen = Seen::Ended(FeedEnd::End);
 
-/// A frame that sets 10.0.0.0/8 with metric 20 by a gateway at interface 2.
-pub const SET_TEN: [u8; 64] = [
-    1, 1, 0, 0x40, 0x3c, 0, 0, 0, 0x18, 0, 1, 5, 0, 0, 0, 0, 0, 0, 0, 0, 2, 8, 0, 0, 0xfe, 0x0b, 0,
-    1, 0, 0, 0, 0, 8, 0, 1, 0, 10, 0, 0, 0, 8, 0, 5, 0, 192, 0, 2, 1, 8, 0, 4, 0, 2, 0, 0, 0, 8, 0,
-    6, 0, 20, 0, 0, 0,
-];
-
-/// A frame that deletes 10.0.0.0/8 with metric 20, and sets it again by a gateway at interface 3.
-const CHANGE_TEN: [u8; 108] = [
-    1, 1, 0, 0x6c, 0x2c, 0, 0, 0, 0x19, 0, 1, 0, 0, 0, 0, 0, 0, 0, 0, 0, 2, 8, 0, 0, 0xfe, 0x0b, 0,
-    1, 0, 0, 0, 0, 8, 0, 1, 0, 10, 0, 0, 0, 8, 0, 6, 0, 20, 0, 0, 0, 0x3c, 0, 0, 0, 0x18, 0, 1, 5,
-    0, 0, 0, 0, 0, 0, 0, 0, 2, 8, 0, 0, 0xfe, 0x0b, 0, 1, 0, 0, 0, 0, 8, 0, 1, 0, 10, 0, 0, 0, 8,
-    0, 5, 0, 192, 0, 2, 1, 8, 0, 4, 0, 3, 0, 0, 0, 8, 0, 6, 0, 20, 0, 0, 0,
-];
-
-/// What follows the header of `SET_TEN` to make a frame of its message and one whose length is too small.
-const BROKEN_LAST: [u8; 16] = [15, 0, 0, 0, 0x18, 0, 0, 0, 0, 0, 0, 0, 0, 0, 0, 0];
-
-/// A frame that sets 10.0.0.0/8 over several next hops.
-const SET_MULTIPATH: [u8; 52] = [
-    1, 1, 0, 0x34, 0x30, 0, 0, 0, 0x18, 0, 1, 5, 0, 0, 0, 0, 0, 0, 0, 0, 2, 8, 0, 0, 0xfe, 0x0b, 0,
-    1, 0, 0, 0, 0, 8, 0, 1, 0, 10, 0, 0, 0, 0x0c, 0, 9, 0, 8, 0, 0, 0, 2, 0, 0, 0,
-];
-
-/// A frame with an IPv6 route.
-const SET_IPV6: [u8; 32] = [
-    1, 1, 0, 0x20, 0x1c, 0, 0, 0, 0x18, 0, 1, 5, 0, 0, 0, 0, 0, 0, 0, 0, 10, 0, 0, 0, 0xfe, 0x0b,
-    0, 1, 0, 0, 0, 0,
-];
-
-/// One piece of a feed after another.
-fn joined(rt: &impl Abort, alloc: Global, pieces: &[&[u8]]) -> Vec<u8> {
-    let mut bytes = Vec::new(alloc);
-    for piece in pieces {
-        bytes.extend_from_slice(piece).expect(rt, "memory");
-    }
-    bytes
-}
-
 /// A frame whose first message is that of `SET_TEN` by a gateway at this interface, and whose second is broken.
 fn broken_frame(rt: &impl Abort, alloc: Global, interface: u8) -> Vec<u8> {
     let mut first = SET_TEN;
     first[3] = 0x50;
     first[52] = interface;
-    joined(rt, alloc, &[&first, &BROKEN_LAST])
+    bytes_of(rt, alloc, &[&first, &BROKEN_LAST])
 }
 
 /// The first frame of a feed comes to these updates.
@@ -199,7 +161,7 @@ fn set_ten(target: Target) -> Op {
 fn a_frame_may_stand_where_the_one_before_stood(rt: HostRuntime) {
     let alloc = rt.alloc();
     let topology = triangle(&rt, alloc);
-    let bytes = joined(
+    let bytes = bytes_of(
         &rt,
         alloc,
         &[&CHANGE_TEN, &SET_TEN, &SET_MULTIPATH, &CHANGE_TEN],
@@ -229,7 +191,7 @@ fn updates_of_a_frame_in_order(rt: HostRuntime) {
 /// one is read.
 fn compare_broken(rt: &impl Abort, alloc: Global, interface: u8, want: Seen) {
     let broken = broken_frame(rt, alloc, interface);
-    let feed = joined(rt, alloc, &[broken.as_slice(), &SET_TEN]);
+    let feed = bytes_of(rt, alloc, &[broken.as_slice(), &SET_TEN]);
     compare(rt, alloc, feed.as_slice(), [want, Seen::Counts(1, 0), END]);
 }
 
@@ -244,7 +206,7 @@ fn a_refused_frame_is_refused_whole(rt: HostRuntime) {
 #[test]
 fn frames_without_updates(rt: HostRuntime) {
     let alloc = rt.alloc();
-    let feed = joined(&rt, alloc, &[&SET_MULTIPATH, &SET_IPV6]);
+    let feed = bytes_of(&rt, alloc, &[&SET_MULTIPATH, &SET_IPV6]);
     let want = [Seen::Refused(0, 0, 9), Seen::Counts(0, 1), END];
     compare(&rt, alloc, feed.as_slice(), want);
     let want = [Seen::Refused(0, 0, 14), Seen::Counts(0, 0), END];
@@ -266,14 +228,14 @@ fn a_feed_ends_at_its_limit(rt: HostRuntime) {
     let long = Seen::Ended(FeedEnd::TooLong);
     compare_limit(&rt, alloc, &SET_TEN, 64, [one, END, END]);
     compare_limit(&rt, alloc, &SET_TEN, 63, [long, long, long]);
-    let twice = joined(&rt, alloc, &[&SET_TEN, &SET_TEN]);
+    let twice = bytes_of(&rt, alloc, &[&SET_TEN, &SET_TEN]);
     compare_limit(&rt, alloc, twice.as_slice(), 64, [one, long, long]);
 }
 
 #[test]
 fn a_fault_comes_after_whole_frames(rt: HostRuntime) {
     let alloc = rt.alloc();
-    let twice = joined(&rt, alloc, &[&SET_TEN, &SET_TEN]);
+    let twice = bytes_of(&rt, alloc, &[&SET_TEN, &SET_TEN]);
     let faulted = Seen::Ended(FeedEnd::Faulted);
     let want = [Seen::Counts(1, 0), faulted, faulted];
     let found = answers_of(&rt, alloc, twice.as_slice(), 100, &[2], 1000);
@@ -297,7 +259,7 @@ fn compare_told(rt: &impl Abort, told: &FeedTold) {
 fn what_is_told_and_given_back(rt: HostRuntime) {
     let alloc = rt.alloc();
     let topology = triangle(&rt, alloc);
-    let feed = joined(
+    let feed = bytes_of(
         &rt,
         alloc,
         &[&CHANGE_TEN, &SET_IPV6, &SET_MULTIPATH, &[2, 7]],

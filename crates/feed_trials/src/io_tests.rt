@@ -20,7 +20,8 @@ enum NotRead {
 
 /// Reads what comes next, at most four bytes, onto the end of `out`, and says how many came.
 fn read_some<S: Source>(source: &mut S, out: &mut Vec<u8>) -> Result<usize, NotRead>
-    ensures all { OnOk result (with_front out.old.items (S.left source.old) ≡ with_front out.new.items (S.left source.new)) }
+    ensures all { OnOk result
+        (with_front out.old.items (S.left source.old) ≡ with_front out.new.items (S.left source.new)) }
     ensures end { IfOk result (λ n. n ≡ 0 → NothingLeft (S.left source.new)) }
     ensures count { OnOk result (S.faults source.new ≡ S.faults source.old) }
     ensures place { S.place source.new ≡ S.place source.old }
@@ -53,7 +54,8 @@ fn read_all<S: Source>(alloc: Global, source: &mut S) -> Result<Option<Vec<u8>>,
 #[tactic(auto, using(dn_io::proofs::CallsLemmas::handed))]
 fn read_file<W: World>(alloc: Global, world: &mut W, name: &str) -> Result<Option<Vec<u8>>, NotRead>
     requires { length (W.calls world.old) < 2 ^ 32 }
-    ensures all { IfOk result (λ found. IfSome found (λ all. IfSome (W.files world.old) (λ files. bytes_of files name.now ≡ Some all.items))) }
+    ensures all { IfOk result (λ found. IfSome found (λ all.
+        IfSome (W.files world.old) (λ files. bytes_of files name.now ≡ Some all.items))) }
     ensures back { NoneOut (W.calls world.old) → NoneOut (W.calls world.new) }
     ensures asked { length (W.calls world.new) ≤ length (W.calls world.old) + 1 }
 {
@@ -78,6 +80,7 @@ fn read_once<S: Source>(source: &mut S, buf: &mut [u8]) -> usize {
     source.read(buf).unwrap_or(99)
 }
 
+/// Its bound alone says that what it takes may cross threads; none is started.
 fn crosses<T: Send + Sync>(_value: &T) {}
 
 fn passes<G: Gate>(gate: &G) {

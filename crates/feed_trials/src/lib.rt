@@ -9,6 +9,8 @@ mod feed_tests;
 #[cfg(test)]
 mod frame_tests;
 #[cfg(test)]
+mod frames;
+#[cfg(test)]
 mod io_tests;
 #[cfg(test)]
 mod made_tests;

@@ -17,8 +17,16 @@ const FIFTH: [u8; 48] = [
 ];
 
 /// The script of every input.
-const SCRIPT: &[u8] =
-    b"take m0 all\ntake m1 all\ntake m2 all\ntake m3 all\ntake m4 all\ntake m5 all\ntake m6 all\ntake m7 all\nloops\n";
+const SCRIPT: &[u8] = b"take m0 all
+take m1 all
+take m2 all
+take m3 all
+take m4 all
+take m5 all
+take m6 all
+take m7 all
+loops
+";
 
 /// Whether the texts of feeds have this one at a place.
 fn has(feeds: &[Text], place: usize, bytes: &[u8]) -> bool {

@@ -3,8 +3,8 @@
 
 ghost use Rattle.std.specs.Prelude.{◌≡◌, ◌<◌, length};
 
-use crate::feed_tests::SET_TEN;
-use crate::test_network::{FIRST, SECOND, THIRD, triangle, turned};
+use crate::frames::SET_TEN;
+use crate::test_network::{FIRST, SECOND, THIRD, one_link, triangle};
 use dn_io::{MemSource, Source};
 use dn_model::{LinkId, Op, Target, Topology};
 use route_feed::{FeedReader, FeedStep};
@@ -41,16 +41,17 @@ fn next_target<S: Source>(
     }
 }
 
-/// Four frames at these interfaces of `r1` set these targets, read in the triangle and in the turned one by turns.
+/// Four frames at these interfaces of `r1` set these targets, read in the triangle and in the network of one link by
+/// turns.
 fn compare_targets(rt: &impl Abort, alloc: Global, interfaces: &[u8], want: [Option<Target>; 4]) {
     let triangle = triangle(rt, alloc);
-    let turned = turned(rt, alloc);
+    let one_link = one_link(rt, alloc);
     let source = MemSource::new(frames_at(rt, alloc, interfaces), 4096, Vec::new(alloc));
     let mut reader = FeedReader::new(alloc, source, FIRST, 1, 1000);
     let first = next_target(rt, alloc, &mut reader, &triangle);
-    let second = next_target(rt, alloc, &mut reader, &turned);
+    let second = next_target(rt, alloc, &mut reader, &one_link);
     let third = next_target(rt, alloc, &mut reader, &triangle);
-    let fourth = next_target(rt, alloc, &mut reader, &turned);
+    let fourth = next_target(rt, alloc, &mut reader, &one_link);
     assert_eq!(rt; [first, second, third, fourth], want);
 }
 

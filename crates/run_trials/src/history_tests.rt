@@ -1,7 +1,7 @@
 //! Jobs over one history, against what was worked out by hand. In which order the entries of different jobs come is
 //! left open, so what each job made is looked at for itself.
 
-ghost use Rattle.std.specs.Prelude.{◌≡◌, ◌<◌, ◌∷◌, [], IsTrue, codes, length, All};
+ghost use Rattle.std.specs.Prelude.{◌≡◌, ◌<◌, ◌∷◌, [], IsTrue, length, All};
 ghost use Rattle.std.specs.Arc.{arc_value};
 ghost use Rattle.dn_model.specs.Entry.{IsEntryOf};
 ghost use Rattle.dn_model.specs.Name.{is_name_text};
@@ -9,88 +9,46 @@ ghost use Rattle.dn_model.specs.declared.topology.Topology.{Topology as Topology
 ghost use Rattle.feed_threads.specs.AllJobs.{AreNumberedApart};
 ghost use Rattle.feed_threads.specs.Jobs.{AreApart, IsFresh};
 
+use crate::whole_run::set_frame;
 use dn_formats::{FeedEnd, Line, Outcome, Script, Told};
 use dn_io::{MemSource, NoGate, Source};
-use dn_model::{
-    Ask, Entry, List, Name, Op, Posted, Prefix, Query, RouterId, Target, TopoEnd, Topology,
-};
+use dn_model::{Ask, Entry, List, Name, Op, Posted, Prefix, Query, RouterId, Target, Topology};
 use feed_threads::{Job, JobDone, JobList, run_history};
 use route_feed::FeedReader;
 use std::alloc::Global;
 use std::process::Abort;
 use std::sync::{Arc, Wait};
 use std::thread::Threads;
+use topology::read_topology;
 use version_lock::{Book, PostRefused};
 use version_store::Store;
 
-/// A name.
-fn name(rt: &impl Abort, alloc: Global, text: &[u8]) -> Name
-    requires { IsTrue (is_name_text text.now) }
-    ensures { result ≡ text.now }
-{
-    Name::from_text(alloc, text).expect(rt, "memory")
-}
+/// Three routers without links, each with an edge at its interface 2.
+const NETWORK: &str = "routers = [\"r1\", \"r2\", \"r3\"]
+[[edge]]
+at = \"r1:2\"
+[[edge]]
+at = \"r2:2\"
+[[edge]]
+at = \"r3:2\"
+";
 
-/// The names of three routers.
-fn routers(rt: &impl Abort, alloc: Global) -> List<Name>
-    ensures { result ≡ codes "r1" ∷ codes "r2" ∷ codes "r3" ∷ [] }
-{
-    let mut names = List::new(alloc);
-    names.push(name(rt, alloc, b"r1")).expect(rt, "memory");
-    names.push(name(rt, alloc, b"r2")).expect(rt, "memory");
-    names.push(name(rt, alloc, b"r3")).expect(rt, "memory");
-    names
-}
-
-/// A router's interface 2.
-fn edge(router: u16) -> TopoEnd
-    ensures { result ≡ record { router = record { 0 = router }; index = 2 } }
-{
-    TopoEnd {
-        router: RouterId(router),
-        index: 2,
-    }
-}
-
-/// An edge at each router's interface 2.
-fn edges(rt: &impl Abort, alloc: Global) -> List<TopoEnd>
-    ensures { result ≡ record { router = record { 0 = 0 }; index = 2 }
-        ∷ record { router = record { 0 = 1 }; index = 2 } ∷ record { router = record { 0 = 2 }; index = 2 } ∷ [] }
-{
-    let mut edges = List::new(alloc);
-    edges.push(edge(0)).expect(rt, "memory");
-    edges.push(edge(1)).expect(rt, "memory");
-    edges.push(edge(2)).expect(rt, "memory");
-    edges
-}
-
-/// Three routers without links, each with an edge.
+/// That network.
 fn network(rt: &impl Abort, alloc: Global) -> Topology
     ensures { length result.routers ≡ 3 }
 {
-    Topology {
-        routers: routers(rt, alloc),
-        links: List::new(alloc),
-        edges: edges(rt, alloc),
-    }
-}
-
-/// A frame that sets 10.`second`.0.0/16 over interface 2, with metric 20 and the gateway 192.0.2.1.
-fn set_frame(second: u8) -> [u8; 64] {
-    [
-        1, 1, 0, 64, 60, 0, 0, 0, 24, 0, 1, 5, 0, 0, 0, 0, 0, 0, 0, 0, 2, 16, 0, 0, 254, 11, 0, 1,
-        0, 0, 0, 0, 8, 0, 1, 0, 10, second, 0, 0, 8, 0, 5, 0, 192, 0, 2, 1, 8, 0, 4, 0, 2, 0, 0, 0,
-        8, 0, 6, 0, 20, 0, 0, 0,
-    ]
+    let network = read_topology(alloc, NETWORK.as_bytes());
+    let network = network.ok().expect(rt, "a topology");
+    assert!(rt; network.router_count() == 3);
+    network
 }
 
 /// The bytes of a feed with so many updates, of the prefixes 10.0.0.0/16, 10.1.0.0/16 and so on.
 fn feed_bytes(rt: &impl Abort, alloc: Global, count: u8) -> Vec<u8> {
     let mut bytes = Vec::new(alloc);
     for second in 0..count {
-        bytes
-            .extend_from_slice(&set_frame(second))
-            .expect(rt, "memory");
+        let frame = set_frame(second, 16, 2);
+        bytes.extend_from_slice(&frame).expect(rt, "memory");
     }
     bytes
 }
@@ -127,7 +85,7 @@ fn take_line(line: u32, router: u16, count: u32) -> Line {
 fn path_line(rt: &impl Abort, alloc: Global, line: u32, router: &[u8]) -> Line
     requires { IsTrue (is_name_text router.now) }
 {
-    let router = name(rt, alloc, router);
+    let router = Name::from_text(alloc, router).expect(rt, "memory");
     Line::Ask {
         line,
         query: Query::of(alloc, Ask::Path(router, 0x0A00_0001)),
@@ -280,22 +238,22 @@ fn feeds_among(rt: &impl Abort, alloc: Global, history: &[Posted], feeds: &[u32]
 fn compare_order(rt: &impl Abort, alloc: Global, store: &Store, feeds: &[u32], want: &[u32]) {
     let history = store.history(alloc).expect(rt, "memory");
     let among = feeds_among(rt, alloc, history.as_slice(), feeds);
-    assert_eq!(rt; among.as_slice(), want);
+    assert_eq!(rt; among.as_slice(), want, "feeds {feeds:?}");
 }
 
 /// There are so many jobs, and the one at this place has the next number and wanted no memory.
 fn compare_job(rt: &impl Abort, dones: &[JobDone<MemSource>], count: usize, at: usize) {
-    assert!(rt; at < count && dones.len() == count);
+    assert!(rt; at < count && dones.len() == count, "job {at} of {count}");
     assert_eq!(rt; dones[at].number as usize, at + 1);
-    assert!(rt; !dones[at].wanted_memory);
+    assert!(rt; !dones[at].wanted_memory, "job {at}");
 }
 
 /// A job's feed came back with so many updates and this end.
 fn compare_end(rt: &impl Abort, done: &JobDone<MemSource>, at: usize, updates: u64, end: FeedEnd) {
-    assert!(rt; at < done.feeds.len());
+    assert!(rt; at < done.feeds.len(), "feed {at}");
     let told = &done.feeds[at].1;
-    assert_eq!(rt; told.updates, updates);
-    assert!(rt; told.end == Some(end));
+    assert_eq!(rt; told.updates, updates, "feed {at}");
+    assert!(rt; told.end == Some(end), "feed {at}");
 }
 
 /// A query was answered after at least `least` and at most `most` entries.
@@ -303,7 +261,10 @@ fn compare_pin(rt: &impl Abort, told: &Told, least: u32, most: u32) {
     let Outcome::Answered { number, .. } = told.outcome else {
         panic!(rt; "an answer");
     };
-    assert!(rt; least <= number && number <= most);
+    assert!(rt;
+        least <= number && number <= most,
+        "{least} to {most}: {number}"
+    );
 }
 
 /// Three queries were told: two with a pin, at which the job had two and three of its six entries while another made up

@@ -4,6 +4,8 @@
 #![tactic(auto)]
 
 #[cfg(test)]
+mod bounded_wait;
+#[cfg(test)]
 mod held_gate;
 #[cfg(test)]
 mod history_tests;

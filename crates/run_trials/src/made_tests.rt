@@ -1,8 +1,9 @@
-//! Whole runs over the generated input, and that its texts say the network and the script that these run over.
+//! The generated input: that its texts say a ring of eight routers and the script that asks for its cycles, what a run
+//! over these texts tells, and that `make` tells of the same cycles.
 
 ghost use Rattle.std.specs.Prelude.{◌≤◌, All};
 
-use crate::whole_run::{Came, add_file, come, come_into, compare, file, texts, whole_sink};
+use crate::whole_run::{WholeRun, add_file, compare, compare_tail, file, run_parts, run_words};
 use dn_formats::Line;
 use dn_io::{MemFile, NoGate};
 use dn_model::{Ask, Name, RouterId, TopoEnd, TopoLink, Topology};
@@ -15,12 +16,7 @@ use std::sync::Wait;
 use std::thread::Threads;
 use topology::read_topology;
 
-/// What `make` of this number comes to, over a world without files.
-fn make<R: Abort + Threads + Wait + Sync>(rt: &R, alloc: Global, number: &str) -> Came {
-    come(rt, alloc, &["deltanet", "make", number], Vec::new(alloc))
-}
-
-/// `make` of this number comes to this status and text.
+/// `make` of this number, over a world without files, comes to this status and text.
 fn compare_made<R: Abort + Threads + Wait + Sync>(
     rt: &R,
     alloc: Global,
@@ -28,8 +24,9 @@ fn compare_made<R: Abort + Threads + Wait + Sync>(
     status: Status,
     text: &str,
 ) {
-    let came = make(rt, alloc, number);
-    compare(rt, &came, status, text);
+    let words = ["deltanet", "make", number];
+    let run = run_words(rt, alloc, &words, Vec::new(alloc));
+    compare(rt, &run, status, text);
 }
 
 #[test]
@@ -39,22 +36,14 @@ fn few_updates_make_no_cycle(rt: HostRuntime) {
     compare_made(&rt, alloc, "1", Status::Done, one);
     let eight = "updates 8\ncycles 0\naddresses 0\n";
     compare_made(&rt, alloc, "8", Status::Done, eight);
-    compare_made(&rt, alloc, "0", Status::BadWords, "error words\n");
-    compare_made(&rt, alloc, "08", Status::BadWords, "error words\n");
 }
 
 #[test]
 fn many_updates_make_the_same_twice(rt: HostRuntime) {
     let alloc = rt.alloc();
-    let first = make(&rt, alloc, "5000");
-    let second = make(&rt, alloc, "5000");
-    assert_eq!(rt; first.written.as_slice(), second.written.as_slice());
-    assert!(rt;
-        first
-            .written
-            .as_slice()
-            .starts_with(b"updates 5000\ncycles ")
-    );
+    let text = "updates 5000\ncycles 0\naddresses 0\n";
+    compare_made(&rt, alloc, "5000", Status::Done, text);
+    compare_made(&rt, alloc, "5000", Status::Done, text);
 }
 
 /// A name of this letter and this digit.
@@ -62,7 +51,8 @@ fn compare_name(rt: &impl Abort, name: &Name, letter: u8, digit: u16) {
     let [first, second] = name.as_bytes() else {
         panic!(rt; "a name of two bytes");
     };
-    assert_eq!(rt; (*first, *second), (letter, b'0' + (digit % 10) as u8));
+    let name = (letter, b'0' + (digit % 10) as u8);
+    assert_eq!(rt; (*first, *second), name, "number {digit}");
 }
 
 /// The router's interface with this index.
@@ -77,9 +67,9 @@ fn end(router: u16, index: u32) -> TopoEnd {
 fn compare_link(rt: &impl Abort, link: &TopoLink, number: u16) {
     compare_name(rt, &link.name, b'l', number);
     assert!(rt; number < 8);
-    assert_eq!(rt; link.first, end(number, 2));
-    assert_eq!(rt; link.second, end((number + 1) % 8, 3));
-    assert!(rt; !link.unnumbered);
+    assert_eq!(rt; link.first, end(number, 2), "link {number}");
+    assert_eq!(rt; link.second, end((number + 1) % 8, 3), "link {number}");
+    assert!(rt; !link.unnumbered, "link {number}");
 }
 
 /// The network is a ring of the routers `m0` to `m7` by the links `l0` to `l7`, with an edge at each router's interface
@@ -94,7 +84,7 @@ fn compare_network(rt: &impl Abort, network: &Topology) {
         assert!(rt; at < routers.len() && at < links.len() && at < edges.len());
         compare_name(rt, &routers[at], b'm', number);
         compare_link(rt, &links[at], number);
-        assert_eq!(rt; edges[at], end(number, 1));
+        assert_eq!(rt; edges[at], end(number, 1), "edge {number}");
     }
 }
 
@@ -109,8 +99,8 @@ fn compare_take(rt: &impl Abort, line: &Line, number: u16) {
         panic!(rt; "a line that takes");
     };
     assert_eq!(rt; *line, u32::from(number) + 1);
-    assert_eq!(rt; *router, RouterId(number));
-    assert_eq!(rt; *count, None);
+    assert_eq!(rt; *router, RouterId(number), "line {line}");
+    assert_eq!(rt; *count, None, "line {line}");
 }
 
 /// This line of a script, of this number, asks for the loops with all links up.
@@ -189,38 +179,69 @@ fn files(rt: &impl Abort, alloc: Global, made: &MadeInput) -> Vec<MemFile>
     files
 }
 
-/// What a run over the texts of the generated input of this many updates comes to.
-fn come_over_texts<R: Abort + Threads + Wait + Sync>(rt: &R, alloc: Global, number: u32) -> Came
+/// Runs the texts of the generated input of this many updates.
+fn run_made<R: Abort + Threads + Wait + Sync>(rt: &R, alloc: Global, number: u32) -> WholeRun
     requires some { 1 ≤ number }
     requires few { number ≤ 1000000 }
 {
     let made = make_input(alloc, number).expect(rt, "memory");
     let files = files(rt, alloc, &made);
-    let words = texts(
-        rt,
-        alloc,
-        &[
-            "deltanet", "run", "topology", "m0=f0", "m1=f1", "m2=f2", "m3=f3", "m4=f4", "m5=f5",
-            "m6=f6", "m7=f7", "@script",
-        ],
-    );
-    come_into(
-        rt,
-        alloc,
-        words.as_slice(),
-        files,
-        whole_sink(alloc),
-        &NoGate,
-    )
+    let parts = [
+        "m0=f0", "m1=f1", "m2=f2", "m3=f3", "m4=f4", "m5=f5", "m6=f6", "m7=f7", "@script",
+    ];
+    run_parts(rt, alloc, &parts, files, &NoGate)
 }
 
 /// The report of a run over the texts of eight updates, one of each router: all but one go on to the next router.
-const EIGHT: &str =
-    "feed 1 m0 updates 1 skipped 0 refused 0 end\nfeed 2 m1 updates 1 skipped 0 refused 0 end\nfeed 3 m2 updates 1 skipped 0 refused 0 end\nfeed 4 m3 updates 1 skipped 0 refused 0 end\nfeed 5 m4 updates 1 skipped 0 refused 0 end\nfeed 6 m5 updates 1 skipped 0 refused 0 end\nfeed 7 m6 updates 1 skipped 0 refused 0 end\nfeed 8 m7 updates 1 skipped 0 refused 0 end\nhistory 8\n1 feed 1 m0 set 0.0.0.0/8 metric 0 to m1 by l0\n2 feed 2 m1 set 158.0.0.0/9 metric 1 to m2 by l1\n3 feed 3 m2 set 60.64.0.0/10 metric 2 to m3 by l2\n4 feed 4 m3 set 218.160.0.0/11 metric 3 to m4 by l3\n5 feed 5 m4 set 120.208.0.0/12 metric 0 local\n6 feed 6 m5 set 23.16.0.0/13 metric 1 to m6 by l5\n7 feed 7 m6 set 181.76.0.0/14 metric 2 to m7 by l6\n8 feed 8 m7 set 83.132.0.0/15 metric 3 to m0 by l7\njob 1\nline 9 at 8 loops\nnone\ndone\n";
+const EIGHT: &str = "feed 1 m0 updates 1 skipped 0 refused 0 end
+feed 2 m1 updates 1 skipped 0 refused 0 end
+feed 3 m2 updates 1 skipped 0 refused 0 end
+feed 4 m3 updates 1 skipped 0 refused 0 end
+feed 5 m4 updates 1 skipped 0 refused 0 end
+feed 6 m5 updates 1 skipped 0 refused 0 end
+feed 7 m6 updates 1 skipped 0 refused 0 end
+feed 8 m7 updates 1 skipped 0 refused 0 end
+history 8
+1 feed 1 m0 set 0.0.0.0/8 metric 0 to m1 by l0
+2 feed 2 m1 set 158.0.0.0/9 metric 1 to m2 by l1
+3 feed 3 m2 set 60.64.0.0/10 metric 2 to m3 by l2
+4 feed 4 m3 set 218.160.0.0/11 metric 3 to m4 by l3
+5 feed 5 m4 set 120.208.0.0/12 metric 0 local
+6 feed 6 m5 set 23.16.0.0/13 metric 1 to m6 by l5
+7 feed 7 m6 set 181.76.0.0/14 metric 2 to m7 by l6
+8 feed 8 m7 set 83.132.0.0/15 metric 3 to m0 by l7
+job 1
+line 9 at 8 loops
+none
+done
+";
 
 #[test]
 fn a_run_over_the_texts_tells_of_the_ring(rt: HostRuntime) {
     let alloc = rt.alloc();
-    let came = come_over_texts(&rt, alloc, 8);
-    compare(&rt, &came, Status::Done, EIGHT);
+    let run = run_made(&rt, alloc, 8);
+    compare(&rt, &run, Status::Done, EIGHT);
+}
+
+/// The end of the report over the texts of 39,729 updates, the least number that makes a cycle. Its least address and
+/// its size were worked out outside the program, by following one address of each atom hop by hop.
+const FIRST_CYCLE: &str = "
+job 1
+line 9 at 39729 loops
+cycle m0 m1 m2 m3 m4 m5 m6 m7 least 65.20.252.0 addresses 256
+done
+";
+
+#[test]
+fn a_run_over_the_texts_tells_of_a_cycle(rt: HostRuntime) {
+    let alloc = rt.alloc();
+    let run = run_made(&rt, alloc, 39729);
+    compare_tail(&rt, &run, Status::Done, FIRST_CYCLE);
+}
+
+/// `make` reads no texts: it runs over a network and a script of its own, and tells the same of the cycle.
+#[test]
+fn make_tells_of_the_same_cycle(rt: HostRuntime) {
+    let text = "updates 39729\ncycles 1\naddresses 256\n";
+    compare_made(&rt, rt.alloc(), "39729", Status::Done, text);
 }

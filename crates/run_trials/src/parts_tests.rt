@@ -2,7 +2,10 @@
 
 ghost use Rattle.std.specs.Prelude.{◌≤◌, All};
 
-use crate::whole_run::{Came, add_file, come, come_into, compare, file, text, texts, whole_sink};
+use crate::whole_run::{
+    WholeRun, add_file, compare, compare_tail, file, run_into, run_parts, text, whole_sink,
+    words_with,
+};
 use dn_io::{MemFile, NoGate};
 use dn_run::Status;
 use std::alloc::Global;
@@ -10,10 +13,11 @@ use std::process::Abort;
 use std::sync::Wait;
 use std::thread::Threads;
 
-/// What a run over two routers, `r1` and `-`, comes to, with these parts after two hyphens. The files are the feeds `a=b` and `f`, which
-/// are empty, and the scripts `r=s`, which asks for the loops, and `bad`, whose first line is none.
-fn come_to<R: Abort + Threads + Wait + Sync>(rt: &R, alloc: Global, parts: [&str; 3]) -> Came {
-    let [first, second, third] = parts;
+/// The topology of the routers `r1` and `-`, the feeds `a=b` and `f`, which are empty, and the scripts `r=s`, which
+/// asks for the loops, and `bad`, whose first line is none.
+fn two_files(rt: &impl Abort, alloc: Global) -> Vec<MemFile>
+    ensures { All (λ file. 1 ≤ file.step) result.items }
+{
     let mut files = Vec::new(alloc);
     add_file(
         rt,
@@ -24,11 +28,10 @@ fn come_to<R: Abort + Threads + Wait + Sync>(rt: &R, alloc: Global, parts: [&str
     add_file(rt, &mut files, file(rt, alloc, "f", &[]));
     add_file(rt, &mut files, file(rt, alloc, "r=s", b"loops\n"));
     add_file(rt, &mut files, file(rt, alloc, "bad", b"bad\n"));
-    let words = ["deltanet", "run", "topology", "--", first, second, third];
-    come(rt, alloc, &words, files)
+    files
 }
 
-/// A run with these parts comes to this status and text.
+/// A run over these files with these parts, which stand after two hyphens, comes to this status and text.
 fn compare_parts<R: Abort + Threads + Wait + Sync>(
     rt: &R,
     alloc: Global,
@@ -36,12 +39,22 @@ fn compare_parts<R: Abort + Threads + Wait + Sync>(
     status: Status,
     text: &str,
 ) {
-    let came = come_to(rt, alloc, parts);
-    compare(rt, &came, status, text);
+    let [first, second, third] = parts;
+    let words = ["--", first, second, third];
+    let run = run_parts(rt, alloc, &words, two_files(rt, alloc), &NoGate);
+    compare(rt, &run, status, text);
 }
 
-const FEEDS_AND_SCRIPT: &str =
-    "feed 1 r1 updates 0 skipped 0 refused 0 end\nfeed 2 - updates 0 skipped 0 refused 0 end\nhistory 0\njob 1\nline 1 at 0 loops\nnone\njob 2\njob 3\ndone\n";
+const FEEDS_AND_SCRIPT: &str = "feed 1 r1 updates 0 skipped 0 refused 0 end
+feed 2 - updates 0 skipped 0 refused 0 end
+history 0
+job 1
+line 1 at 0 loops
+none
+job 2
+job 3
+done
+";
 
 /// Each part has its own file and number, which the line tells where the file isn't there, or its script is refused.
 #[test]
@@ -65,26 +78,15 @@ fn reads_feeds_and_scripts(rt: HostRuntime) {
 
 /// A run with these parts over one router, `r1`, is refused, since the part of this number is bad.
 fn compare_bad<R: Abort + Threads + Wait + Sync>(rt: &R, alloc: Global, parts: &[&str], bad: u32) {
-    let mut words = texts(rt, alloc, &["deltanet", "run", "topology"]);
-    for part in parts {
-        words.push(text(rt, alloc, part)).expect(rt, "memory");
-    }
     let mut files = Vec::new(alloc);
     add_file(
         rt,
         &mut files,
         file(rt, alloc, "topology", b"routers = [\"r1\"]\n"),
     );
-    let came = come_into(
-        rt,
-        alloc,
-        words.as_slice(),
-        files,
-        whole_sink(alloc),
-        &NoGate,
-    );
+    let run = run_parts(rt, alloc, parts, files, &NoGate);
     let line = format!(in alloc; "error part {bad} BadPart\n").expect(rt, "memory");
-    compare(rt, &came, Status::BadWords, line.as_str());
+    compare(rt, &run, Status::BadWords, line.as_str());
 }
 
 #[test]
@@ -127,21 +129,16 @@ fn many_files(rt: &impl Abort, alloc: Global) -> Vec<MemFile>
     files
 }
 
-/// What a run over these files comes to, with these parts.
-fn come_over_many<R: Abort + Threads + Wait + Sync>(rt: &R, alloc: Global, parts: &[&str]) -> Came {
-    let mut words = texts(rt, alloc, &["deltanet", "run", "topology"]);
-    for part in parts {
-        words.push(text(rt, alloc, part)).expect(rt, "memory");
-    }
-    let files = many_files(rt, alloc);
-    come_into(
-        rt,
-        alloc,
-        words.as_slice(),
-        files,
-        whole_sink(alloc),
-        &NoGate,
-    )
+/// A run over these files with these parts comes to this status and text.
+fn compare_many<R: Abort + Threads + Wait + Sync>(
+    rt: &R,
+    alloc: Global,
+    parts: &[&str],
+    status: Status,
+    text: &str,
+) {
+    let run = run_parts(rt, alloc, parts, many_files(rt, alloc), &NoGate);
+    compare(rt, &run, status, text);
 }
 
 /// Sixty-four scripts, of which the first takes the feed of `r0`, and that feed at the fourth place.
@@ -151,30 +148,25 @@ fn takes_sixty_four_scripts(rt: HostRuntime) {
     let mut parts = ["@s"; 66];
     parts[0] = "@t";
     parts[3] = "r0=f";
-    let came = come_over_many(&rt, alloc, &parts[..65]);
-    assert_eq!(rt; came.status, Status::Done);
-    assert!(rt; came.written.as_slice().ends_with(b"job 63\njob 64\ndone\n"));
-    let many = come_over_many(&rt, alloc, &parts);
-    compare(&rt, &many, Status::BadWords, "error part 66 TooMany\n");
+    let files = many_files(&rt, alloc);
+    let run = run_parts(&rt, alloc, &parts[..65], files, &NoGate);
+    compare_tail(&rt, &run, Status::Done, "job 63\njob 64\ndone\n");
+    let many = "error part 66 TooMany\n";
+    compare_many(&rt, alloc, &parts, Status::BadWords, many);
     parts[64] = "@bad";
-    let last = come_over_many(&rt, alloc, &parts[..65]);
-    compare(
-        &rt,
-        &last,
-        Status::BadScript,
-        "error script 65 line 1 1 BadLine\n",
-    );
+    let last = "error script 65 line 1 1 BadLine\n";
+    compare_many(&rt, alloc, &parts[..65], Status::BadScript, last);
 }
 
-/// What a run over the many files comes to with the feeds `f` of so many routers, of which the last is of another file,
-/// and a script at the fourth place, which takes the feed of `r0`.
-fn come_with_feeds<R: Abort + Threads + Wait + Sync>(
+/// Runs over these files the feeds `f` of so many routers, of which the last is of another file, and a script at the
+/// fourth place, which takes the feed of `r0`.
+fn run_feeds<R: Abort + Threads + Wait + Sync>(
     rt: &R,
     alloc: Global,
     count: u32,
     last: &str,
-) -> Came {
-    let mut words = texts(rt, alloc, &["deltanet", "run", "topology"]);
+) -> WholeRun {
+    let mut words = words_with(rt, alloc, &[]);
     for router in 0..count {
         if router == 3 {
             words.push(text(rt, alloc, "@t")).expect(rt, "memory");
@@ -184,25 +176,29 @@ fn come_with_feeds<R: Abort + Threads + Wait + Sync>(
         words.push(part).expect(rt, "memory");
     }
     let files = many_files(rt, alloc);
-    come_into(
-        rt,
-        alloc,
-        words.as_slice(),
-        files,
-        whole_sink(alloc),
-        &NoGate,
-    )
+    run_into(rt, alloc, words, files, whole_sink(alloc), &NoGate)
 }
 
 #[test]
 fn takes_sixty_four_feeds(rt: HostRuntime) {
     let alloc = rt.alloc();
-    let came = come_with_feeds(&rt, alloc, 64, "f");
-    assert_eq!(rt; came.status, Status::Done);
-    assert!(rt; came.written.as_slice().starts_with(b"feed 1 r0 updates 0 "));
-    assert!(rt; came.written.as_slice().ends_with(b"job 63\njob 64\ndone\n"));
-    let missing = come_with_feeds(&rt, alloc, 64, "none");
+    let run = run_feeds(&rt, alloc, 64, "f");
+    assert!(rt; run.written.as_slice().starts_with(b"feed 1 r0 updates 0 "));
+    compare_tail(&rt, &run, Status::Done, "job 63\njob 64\ndone\n");
+    let missing = run_feeds(&rt, alloc, 64, "none");
     compare(&rt, &missing, Status::ReadFault, "error read part 65\n");
-    let many = come_with_feeds(&rt, alloc, 65, "f");
+    let many = run_feeds(&rt, alloc, 65, "f");
     compare(&rt, &many, Status::BadWords, "error part 66 TooMany\n");
+}
+
+/// Parts are counted before their routers are looked up, by which the second feed of `r0` would be refused.
+#[test]
+fn counts_the_feeds_of_one_router(rt: HostRuntime) {
+    let alloc = rt.alloc();
+    let many = "error part 65 TooMany\n";
+    compare_many(&rt, alloc, &["r0=f"; 65], Status::BadWords, many);
+    let mut parts = ["r0=f"; 66];
+    parts[3] = "@s";
+    let many = "error part 66 TooMany\n";
+    compare_many(&rt, alloc, &parts, Status::BadWords, many);
 }

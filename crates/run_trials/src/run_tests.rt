@@ -3,8 +3,8 @@
 ghost use Rattle.std.specs.Prelude.{◌≡◌, ◌≤◌};
 
 use crate::whole_run::{
-    Came, RING, add_file, bytes_of, come_into, compare, file, file_by, frame_of, set_frame, texts,
-    whole_sink,
+    RING, WholeRun, add_file, bytes_of, compare, file, file_by, frame_of, run_into, set_frame,
+    texts, whole_sink,
 };
 use dn_io::{MemFile, MemSink, NoGate};
 use dn_run::Status;
@@ -14,8 +14,14 @@ use std::sync::Wait;
 use std::thread::Threads;
 
 /// The ring, but link `b` uses the end of link `a` at `r1` again.
-const END_TWICE: &str =
-    "routers = [\"r1\", \"r2\", \"r3\"]\n[[link]]\nname = \"a\"\nends = [\"r1:2\", \"r2:2\"]\n[[link]]\nname = \"b\"\nends = [\"r1:2\", \"r3:2\"]\n";
+const END_TWICE: &str = "routers = [\"r1\", \"r2\", \"r3\"]
+[[link]]
+name = \"a\"
+ends = [\"r1:2\", \"r2:2\"]
+[[link]]
+name = \"b\"
+ends = [\"r1:2\", \"r3:2\"]
+";
 
 const TAKE_ALL: &str = "take r1 all\npath r1 10.1.2.3\n";
 
@@ -66,8 +72,8 @@ const CLEAR: [u8; 40] = [
     0, 0, 8, 0, 1, 0, 10, 0, 0, 0,
 ];
 
-/// What a run of these words comes to, over a topology, a script and the feeds `f1`, `f2` and `f3`, into this sink.
-fn come<R: Abort + Threads + Wait + Sync>(
+/// Runs these words over a topology, a script and the feeds `f1`, `f2` and `f3`, into this sink.
+fn run_files_into<R: Abort + Threads + Wait + Sync>(
     rt: &R,
     alloc: Global,
     words: &[&str],
@@ -75,7 +81,7 @@ fn come<R: Abort + Threads + Wait + Sync>(
     script: &str,
     feed: MemFile,
     sink: MemSink,
-) -> Came
+) -> WholeRun
     requires topology { 1 ≤ topology.step }
     requires feed { 1 ≤ feed.step }
     requires sink { sink.plan.faults ≡ 0 }
@@ -87,21 +93,22 @@ fn come<R: Abort + Threads + Wait + Sync>(
     add_file(rt, &mut files, feed);
     add_file(rt, &mut files, file(rt, alloc, "f2", &set_frame(0, 8, 3)));
     add_file(rt, &mut files, file(rt, alloc, "f3", &set_frame(0, 8, 1)));
-    come_into(rt, alloc, words.as_slice(), files, sink, &NoGate)
+    run_into(rt, alloc, words, files, sink, &NoGate)
 }
 
-/// What a run of these words comes to, over these texts and this feed of `r1`.
-fn come_to<R: Abort + Threads + Wait + Sync>(
+/// Runs these words over these texts and this feed `f1`.
+fn run_files<R: Abort + Threads + Wait + Sync>(
     rt: &R,
     alloc: Global,
     words: &[&str],
     topology: &str,
     script: &str,
     feed: &[u8],
-) -> Came {
+) -> WholeRun {
     let topology = file(rt, alloc, "topology", topology.as_bytes());
     let feed = file(rt, alloc, "f1", feed);
-    come(rt, alloc, words, topology, script, feed, whole_sink(alloc))
+    let sink = whole_sink(alloc);
+    run_files_into(rt, alloc, words, topology, script, feed, sink)
 }
 
 /// A run of the usual words, over the ring and this feed of `r1`, into this sink, comes to this status and text.
@@ -117,17 +124,24 @@ fn compare_feed_into<R: Abort + Threads + Wait + Sync>(
     requires sink { sink.plan.faults ≡ 0 }
 {
     let topology = file(rt, alloc, "topology", RING.as_bytes());
-    let came = come(rt, alloc, &USUAL, topology, TAKE_ALL, feed, sink);
-    compare(rt, &came, status, text);
+    let run = run_files_into(rt, alloc, &USUAL, topology, TAKE_ALL, feed, sink);
+    compare(rt, &run, status, text);
 }
 
-const FIRST_PATH: &str =
-    "feed 1 r1 updates 1 skipped 0 refused 0 end\nhistory 1\n1 feed 1 r1 set 10.0.0.0/8 metric 20 to r2 by a\njob 1\nline 2 at 1 path r1 10.1.2.3\nhops r1 r2\nend noroute\ndone\n";
+const FIRST_PATH: &str = "feed 1 r1 updates 1 skipped 0 refused 0 end
+history 1
+1 feed 1 r1 set 10.0.0.0/8 metric 20 to r2 by a
+job 1
+line 2 at 1 path r1 10.1.2.3
+hops r1 r2
+end noroute
+done
+";
 
 #[test]
 fn tells_of_a_path(rt: HostRuntime) {
-    let came = come_to(&rt, rt.alloc(), &USUAL, RING, TAKE_ALL, &set_frame(0, 8, 2));
-    compare(&rt, &came, Status::Done, FIRST_PATH);
+    let run = run_files(&rt, rt.alloc(), &USUAL, RING, TAKE_ALL, &set_frame(0, 8, 2));
+    compare(&rt, &run, Status::Done, FIRST_PATH);
 }
 
 #[test]
@@ -154,8 +168,15 @@ fn stops_where_the_sink_fails(rt: HostRuntime) {
     );
 }
 
-const FAILED_FEED: &str =
-    "feed 1 r1 updates 1 skipped 0 refused 0 readfault\nhistory 1\n1 feed 1 r1 set 10.0.0.0/8 metric 20 to r2 by a\njob 1\nline 2 at 1 path r1 10.1.2.3\nhops r1 r2\nend noroute\ndone\n";
+const FAILED_FEED: &str = "feed 1 r1 updates 1 skipped 0 refused 0 readfault
+history 1
+1 feed 1 r1 set 10.0.0.0/8 metric 20 to r2 by a
+job 1
+line 2 at 1 path r1 10.1.2.3
+hops r1 r2
+end noroute
+done
+";
 
 #[test]
 fn a_feed_that_fails_ends_alone(rt: HostRuntime) {
@@ -176,16 +197,9 @@ fn a_topology_that_fails_is_told(rt: HostRuntime) {
     let alloc = rt.alloc();
     let topology = file_by(&rt, alloc, "topology", RING.as_bytes(), 4096, &[1]);
     let feed = file(&rt, alloc, "f1", &set_frame(0, 8, 2));
-    let came = come(
-        &rt,
-        alloc,
-        &USUAL,
-        topology,
-        TAKE_ALL,
-        feed,
-        whole_sink(alloc),
-    );
-    compare(&rt, &came, Status::ReadFault, "error read topology\n");
+    let sink = whole_sink(alloc);
+    let run = run_files_into(&rt, alloc, &USUAL, topology, TAKE_ALL, feed, sink);
+    compare(&rt, &run, Status::ReadFault, "error read topology\n");
 }
 
 /// All but the last byte.
@@ -196,13 +210,19 @@ fn but_the_last(bytes: &[u8]) -> &[u8] {
     }
 }
 
-const CUT_SHORT: &str =
-    "feed 1 r1 updates 0 skipped 0 refused 0 cutshort 0\nhistory 0\njob 1\nline 2 at 0 path r1 10.1.2.3\nhops r1\nend noroute\ndone\n";
+const CUT_SHORT: &str = "feed 1 r1 updates 0 skipped 0 refused 0 cutshort 0
+history 0
+job 1
+line 2 at 0 path r1 10.1.2.3
+hops r1
+end noroute
+done
+";
 
 #[test]
 fn a_feed_is_cut_short(rt: HostRuntime) {
     let frame = set_frame(0, 8, 2);
-    let came = come_to(
+    let run = run_files(
         &rt,
         rt.alloc(),
         &USUAL,
@@ -210,45 +230,71 @@ fn a_feed_is_cut_short(rt: HostRuntime) {
         TAKE_ALL,
         but_the_last(&frame),
     );
-    compare(&rt, &came, Status::Refusals, CUT_SHORT);
+    compare(&rt, &run, Status::Refusals, CUT_SHORT);
 }
 
 /// Asks the same path before the first take, between the takes, and after the last.
 const SCRIPT_BY_TURNS: &str =
     "path r1 10.1.2.3\ntake r1 1\npath r1 10.1.2.3\ntake r1 all\npath r1 10.1.2.3\n";
 
-const BY_TURNS: &str =
-    "feed 1 r1 updates 3 skipped 0 refused 0 end\nhistory 3\n1 feed 1 r1 set 10.0.0.0/8 metric 20 to r2 by a\n2 feed 1 r1 set 10.1.0.0/16 metric 20 to r3 by c\n3 feed 1 r1 set 10.2.0.0/16 metric 20 to r3 by c\njob 1\nline 1 at 0 path r1 10.1.2.3\nhops r1\nend noroute\nline 3 at 1 path r1 10.1.2.3\nhops r1 r2\nend noroute\nline 5 at 3 path r1 10.1.2.3\nhops r1 r3\nend noroute\ndone\n";
+const BY_TURNS: &str = "feed 1 r1 updates 3 skipped 0 refused 0 end
+history 3
+1 feed 1 r1 set 10.0.0.0/8 metric 20 to r2 by a
+2 feed 1 r1 set 10.1.0.0/16 metric 20 to r3 by c
+3 feed 1 r1 set 10.2.0.0/16 metric 20 to r3 by c
+job 1
+line 1 at 0 path r1 10.1.2.3
+hops r1
+end noroute
+line 3 at 1 path r1 10.1.2.3
+hops r1 r2
+end noroute
+line 5 at 3 path r1 10.1.2.3
+hops r1 r3
+end noroute
+done
+";
 
 #[test]
 fn pins_hold_what_was_taken(rt: HostRuntime) {
     let alloc = rt.alloc();
     let (first, second, third) = (set_frame(0, 8, 2), set_frame(1, 16, 3), set_frame(2, 16, 3));
     let bytes = bytes_of(&rt, alloc, &[&first, &second, &third]);
-    let came = come_to(&rt, alloc, &USUAL, RING, SCRIPT_BY_TURNS, bytes.as_slice());
-    compare(&rt, &came, Status::Done, BY_TURNS);
+    let run = run_files(&rt, alloc, &USUAL, RING, SCRIPT_BY_TURNS, bytes.as_slice());
+    compare(&rt, &run, Status::Done, BY_TURNS);
 }
 
-const TWO_MESSAGES: &str =
-    "feed 1 r1 updates 3 skipped 0 refused 0 end\nhistory 3\n1 feed 1 r1 set 10.0.0.0/8 metric 20 to r2 by a\n2 feed 1 r1 clear 10.0.0.0/8 metric 20\n3 feed 1 r1 set 10.0.0.0/8 metric 20 to r3 by c\njob 1\ndone\n";
+const TWO_MESSAGES: &str = "feed 1 r1 updates 3 skipped 0 refused 0 end
+history 3
+1 feed 1 r1 set 10.0.0.0/8 metric 20 to r2 by a
+2 feed 1 r1 clear 10.0.0.0/8 metric 20
+3 feed 1 r1 set 10.0.0.0/8 metric 20 to r3 by c
+job 1
+done
+";
 
 #[test]
 fn a_frame_of_two_messages(rt: HostRuntime) {
     let alloc = rt.alloc();
     let bytes = bytes_of(&rt, alloc, &[&set_frame(0, 8, 2), &MOVE_TO_3]);
-    let came = come_to(&rt, alloc, &FEED_ALONE, RING, "", bytes.as_slice());
-    compare(&rt, &came, Status::Done, TWO_MESSAGES);
+    let run = run_files(&rt, alloc, &FEED_ALONE, RING, "", bytes.as_slice());
+    compare(&rt, &run, Status::Done, TWO_MESSAGES);
 }
 
-const REFUSED_FRAME: &str =
-    "feed 1 r1 updates 1 skipped 0 refused 1 end\nrefused offset 0 message 60 cause 1 BadLength\nhistory 1\n1 feed 1 r1 set 10.0.0.0/8 metric 20 to r2 by a\njob 1\ndone\n";
+const REFUSED_FRAME: &str = "feed 1 r1 updates 1 skipped 0 refused 1 end
+refused offset 0 message 60 cause 1 BadLength
+history 1
+1 feed 1 r1 set 10.0.0.0/8 metric 20 to r2 by a
+job 1
+done
+";
 
 #[test]
 fn a_refused_frame_changes_nothing(rt: HostRuntime) {
     let alloc = rt.alloc();
     let bytes = bytes_of(&rt, alloc, &[&BAD_LENGTH, &set_frame(0, 8, 2)]);
-    let came = come_to(&rt, alloc, &FEED_ALONE, RING, "", bytes.as_slice());
-    compare(&rt, &came, Status::Refusals, REFUSED_FRAME);
+    let run = run_files(&rt, alloc, &FEED_ALONE, RING, "", bytes.as_slice());
+    compare(&rt, &run, Status::Refusals, REFUSED_FRAME);
 }
 
 /// A run over a feed without updates comes to this status, and tells this of the feed after the word `skipped`.
@@ -262,8 +308,8 @@ fn compare_feed<R: Abort + Threads + Wait + Sync>(
     let text = format!(in alloc;
         "feed 1 r1 updates 0 skipped {told}history 0\njob 1\ndone\n"
     ).expect(rt, "memory");
-    let came = come_to(rt, alloc, &FEED_ALONE, RING, "", bytes);
-    compare(rt, &came, status, text.as_str());
+    let run = run_files(rt, alloc, &FEED_ALONE, RING, "", bytes);
+    compare(rt, &run, status, text.as_str());
 }
 
 #[test]
@@ -295,14 +341,23 @@ fn feeds_of_refused_frames(rt: HostRuntime) {
     compare_feed(&rt, alloc, &HOST_BITS, Status::Refusals, told);
 }
 
-const CLEARED: &str =
-    "feed 1 r1 updates 1 skipped 0 refused 0 end\nhistory 1\n1 feed 1 r1 clear 10.0.0.0/8\njob 1\nline 2 at 1 path r1 10.1.2.3\nhops r1\nend noroute\nline 3 at 1 delta\nnone\ndone\n";
+const CLEARED: &str = "feed 1 r1 updates 1 skipped 0 refused 0 end
+history 1
+1 feed 1 r1 clear 10.0.0.0/8
+job 1
+line 2 at 1 path r1 10.1.2.3
+hops r1
+end noroute
+line 3 at 1 delta
+none
+done
+";
 
 #[test]
 fn a_clear_of_empty_tables(rt: HostRuntime) {
     let script = "take r1 all\npath r1 10.1.2.3\ndelta\n";
-    let came = come_to(&rt, rt.alloc(), &USUAL, RING, script, &CLEAR);
-    compare(&rt, &came, Status::Done, CLEARED);
+    let run = run_files(&rt, rt.alloc(), &USUAL, RING, script, &CLEAR);
+    compare(&rt, &run, Status::Done, CLEARED);
 }
 
 /// A run over a feed of one update prints this update and this change.
@@ -314,10 +369,12 @@ fn compare_change<R: Abort + Threads + Wait + Sync>(
     change: &str,
 ) {
     let text = format!(in alloc;
-        "feed 1 r1 updates 1 skipped 0 refused 0 end\nhistory 1\n1 feed 1 r1 set {update}\njob 1\nline 2 at 1 delta\nr1 {change}\ndone\n"
-    ).expect(rt, "memory");
-    let came = come_to(rt, alloc, &USUAL, RING, "take r1 all\ndelta\n", bytes);
-    compare(rt, &came, Status::Done, text.as_str());
+        "feed 1 r1 updates 1 skipped 0 refused 0 end\nhistory 1\n1 feed 1 r1 set {update}\n\
+         job 1\nline 2 at 1 delta\nr1 {change}\ndone\n"
+    )
+    .expect(rt, "memory");
+    let run = run_files(rt, alloc, &USUAL, RING, "take r1 all\ndelta\n", bytes);
+    compare(rt, &run, Status::Done, text.as_str());
 }
 
 #[test]
@@ -331,8 +388,19 @@ fn what_one_update_changes(rt: HostRuntime) {
     compare_change(&rt, rt.alloc(), &last_address, update, change);
 }
 
-const CLEARED_BOTH: &str =
-    "feed 1 r1 updates 3 skipped 0 refused 0 end\nhistory 3\n1 feed 1 r1 set 10.0.0.0/8 metric 20 to r2 by a\n2 feed 1 r1 set 10.0.0.0/8 metric 5 to r3 by c\n3 feed 1 r1 clear 10.0.0.0/8\njob 1\nline 2 at 2 path r1 10.0.0.1\nhops r1 r3\nend noroute\nline 4 at 3 delta\nr1 10.0.0.0-10.255.255.255 to r3 by c -> noroute\ndone\n";
+const CLEARED_BOTH: &str = "feed 1 r1 updates 3 skipped 0 refused 0 end
+history 3
+1 feed 1 r1 set 10.0.0.0/8 metric 20 to r2 by a
+2 feed 1 r1 set 10.0.0.0/8 metric 5 to r3 by c
+3 feed 1 r1 clear 10.0.0.0/8
+job 1
+line 2 at 2 path r1 10.0.0.1
+hops r1 r3
+end noroute
+line 4 at 3 delta
+r1 10.0.0.0-10.255.255.255 to r3 by c -> noroute
+done
+";
 
 #[test]
 fn a_clear_of_both_metrics_changes_to_no_route(rt: HostRuntime) {
@@ -340,12 +408,23 @@ fn a_clear_of_both_metrics_changes_to_no_route(rt: HostRuntime) {
     let (first, second) = (set_frame(0, 8, 2), frame_of([10, 0, 0, 0], 8, 5, 3));
     let bytes = bytes_of(&rt, alloc, &[&first, &second, &CLEAR]);
     let script = "take r1 2\npath r1 10.0.0.1\ntake r1 all\ndelta\n";
-    let came = come_to(&rt, alloc, &USUAL, RING, script, bytes.as_slice());
-    compare(&rt, &came, Status::Done, CLEARED_BOTH);
+    let run = run_files(&rt, alloc, &USUAL, RING, script, bytes.as_slice());
+    compare(&rt, &run, Status::Done, CLEARED_BOTH);
 }
 
-const THREE_FEEDS: &str =
-    "feed 1 r1 updates 1 skipped 0 refused 0 end\nfeed 2 r2 updates 1 skipped 0 refused 0 end\nfeed 3 r3 updates 1 skipped 0 refused 0 end\nhistory 3\n1 feed 1 r1 set 10.0.0.0/8 metric 20 to r2 by a\n2 feed 2 r2 set 10.0.0.0/8 metric 20 to r3 by b\n3 feed 3 r3 set 10.0.0.0/8 metric 20 exit 1\njob 1\nline 4 at 3 path r1 10.0.0.0\nhops r1 r2 r3\nend exit 1\ndone\n";
+const THREE_FEEDS: &str = "feed 1 r1 updates 1 skipped 0 refused 0 end
+feed 2 r2 updates 1 skipped 0 refused 0 end
+feed 3 r3 updates 1 skipped 0 refused 0 end
+history 3
+1 feed 1 r1 set 10.0.0.0/8 metric 20 to r2 by a
+2 feed 2 r2 set 10.0.0.0/8 metric 20 to r3 by b
+3 feed 3 r3 set 10.0.0.0/8 metric 20 exit 1
+job 1
+line 4 at 3 path r1 10.0.0.0
+hops r1 r2 r3
+end exit 1
+done
+";
 
 #[test]
 fn a_path_over_three_feeds(rt: HostRuntime) {
@@ -353,40 +432,64 @@ fn a_path_over_three_feeds(rt: HostRuntime) {
         "deltanet", "run", "topology", "r1=f1", "@script", "r2=f2", "r3=f3",
     ];
     let script = "take r1 all\ntake r2 all\ntake r3 all\npath r1 10.0.0.0\n";
-    let came = come_to(&rt, rt.alloc(), &words, RING, script, &set_frame(0, 8, 2));
-    compare(&rt, &came, Status::Done, THREE_FEEDS);
+    let run = run_files(&rt, rt.alloc(), &words, RING, script, &set_frame(0, 8, 2));
+    compare(&rt, &run, Status::Done, THREE_FEEDS);
 }
 
-const LOOP_OF_TWO: &str =
-    "feed 1 r1 updates 1 skipped 0 refused 0 end\nfeed 2 r3 updates 1 skipped 0 refused 0 end\nhistory 2\n1 feed 1 r1 set 10.0.0.0/8 metric 20 to r3 by c\n2 feed 2 r3 set 10.0.0.0/8 metric 20 to r1 by c\njob 1\nline 3 at 2 path r1 10.0.0.0\nhops r1 r3 r1 r3\nend loop\ndone\n";
+const LOOP_OF_TWO: &str = "feed 1 r1 updates 1 skipped 0 refused 0 end
+feed 2 r3 updates 1 skipped 0 refused 0 end
+history 2
+1 feed 1 r1 set 10.0.0.0/8 metric 20 to r3 by c
+2 feed 2 r3 set 10.0.0.0/8 metric 20 to r1 by c
+job 1
+line 3 at 2 path r1 10.0.0.0
+hops r1 r3 r1 r3
+end loop
+done
+";
 
 #[test]
 fn a_loop_of_two_of_three(rt: HostRuntime) {
     let words = ["deltanet", "run", "topology", "r1=f1", "r3=f2", "@script"];
     let script = "take r1 all\ntake r3 all\npath r1 10.0.0.0\n";
-    let came = come_to(&rt, rt.alloc(), &words, RING, script, &set_frame(0, 8, 3));
-    compare(&rt, &came, Status::Done, LOOP_OF_TWO);
+    let run = run_files(&rt, rt.alloc(), &words, RING, script, &set_frame(0, 8, 3));
+    compare(&rt, &run, Status::Done, LOOP_OF_TWO);
 }
 
-const TWO_JOBS: &str =
-    "feed 1 r3 updates 1 skipped 0 refused 0 end\nfeed 2 r1 updates 0 skipped 0 refused 0 end\nhistory 1\n1 feed 1 r3 set 10.0.0.0/8 metric 20 exit 1\njob 1\njob 2\ndone\n";
+const TWO_JOBS: &str = "feed 1 r3 updates 1 skipped 0 refused 0 end
+feed 2 r1 updates 0 skipped 0 refused 0 end
+history 1
+1 feed 1 r3 set 10.0.0.0/8 metric 20 exit 1
+job 1
+job 2
+done
+";
 
 #[test]
 fn feeds_that_no_script_takes_are_jobs(rt: HostRuntime) {
     let words = ["deltanet", "run", "topology", "r3=f3", "r1=f1"];
-    let came = come_to(&rt, rt.alloc(), &words, RING, "", &[]);
-    compare(&rt, &came, Status::Done, TWO_JOBS);
+    let run = run_files(&rt, rt.alloc(), &words, RING, "", &[]);
+    compare(&rt, &run, Status::Done, TWO_JOBS);
 }
 
-const UNKNOWN_NAME: &str =
-    "history 0\njob 1\nline 1 path r9 10.0.0.0\nunknown router r9\nline 2 at 0 path r1 10.0.0.0\nhops r1\nend noroute\nline 3 at 0 delta\nnone\ndone\n";
+const UNKNOWN_NAME: &str = "history 0
+job 1
+line 1 path r9 10.0.0.0
+unknown router r9
+line 2 at 0 path r1 10.0.0.0
+hops r1
+end noroute
+line 3 at 0 delta
+none
+done
+";
 
 #[test]
 fn an_unknown_name_makes_no_pin(rt: HostRuntime) {
     let words = ["deltanet", "run", "topology", "@script"];
     let script = "path r9 10.0.0.0\npath r1 10.0.0.0\ndelta\n";
-    let came = come_to(&rt, rt.alloc(), &words, RING, script, &[]);
-    compare(&rt, &came, Status::Done, UNKNOWN_NAME);
+    let run = run_files(&rt, rt.alloc(), &words, RING, script, &[]);
+    compare(&rt, &run, Status::Done, UNKNOWN_NAME);
 }
 
 /// A run of these words over the ring and an empty feed comes to this status and text.
@@ -397,8 +500,8 @@ fn compare_words<R: Abort + Threads + Wait + Sync>(
     status: Status,
     text: &str,
 ) {
-    let came = come_to(rt, alloc, words, RING, TAKE_ALL, &[]);
-    compare(rt, &came, status, text);
+    let run = run_files(rt, alloc, words, RING, TAKE_ALL, &[]);
+    compare(rt, &run, status, text);
 }
 
 /// A run with this part after the feed of `r1` is refused with this text.
@@ -424,8 +527,8 @@ fn compare_topology<R: Abort + Threads + Wait + Sync>(
     topology: &str,
     text: &str,
 ) {
-    let came = come_to(rt, alloc, &USUAL, topology, TAKE_ALL, &[]);
-    compare(rt, &came, Status::BadTopology, text);
+    let run = run_files(rt, alloc, &USUAL, topology, TAKE_ALL, &[]);
+    compare(rt, &run, Status::BadTopology, text);
 }
 
 #[test]
@@ -445,8 +548,8 @@ fn compare_script<R: Abort + Threads + Wait + Sync>(
     text: &str,
 ) {
     let words = ["deltanet", "run", "topology", "@script", "r1=f1"];
-    let came = come_to(rt, alloc, &words, RING, script, &[]);
-    compare(rt, &came, Status::BadScript, text);
+    let run = run_files(rt, alloc, &words, RING, script, &[]);
+    compare(rt, &run, Status::BadScript, text);
 }
 
 #[test]

@@ -4,9 +4,7 @@ ghost use Rattle.std.specs.Prelude.{◌≤◌, All};
 
 use crate::held_gate::HeldGate;
 use crate::read_gate::ReadGate;
-use crate::whole_run::{
-    Came, RING, add_file, come_into, compare, file, set_frame, text, texts, whole_sink,
-};
+use crate::whole_run::{RING, WholeRun, add_file, compare, file, run_parts, set_frame};
 use dn_io::{Gate, MemFile, NoGate};
 use dn_run::Status;
 use std::alloc::Global;
@@ -31,20 +29,15 @@ fn files(rt: &impl Abort, alloc: Global, scripts: Scripts<'_>) -> Vec<MemFile>
     files
 }
 
-/// What a run with these parts comes to, over these scripts, whose jobs a gate may hold.
-fn come<R: Abort + Threads + Wait + Sync, G: Gate>(
+/// Runs these parts over these scripts. A gate may hold the jobs.
+fn run_scripts<R: Abort + Threads + Wait + Sync, G: Gate>(
     rt: &R,
     alloc: Global,
     parts: &[&str],
     scripts: Scripts<'_>,
     gate: &G,
-) -> Came {
-    let mut words = texts(rt, alloc, &["deltanet", "run", "topology"]);
-    for part in parts {
-        words.push(text(rt, alloc, part)).expect(rt, "memory");
-    }
-    let files = files(rt, alloc, scripts);
-    come_into(rt, alloc, words.as_slice(), files, whole_sink(alloc), gate)
+) -> WholeRun {
+    run_parts(rt, alloc, parts, files(rt, alloc, scripts), gate)
 }
 
 /// A run with these parts, over these scripts, comes to this status and text.
@@ -56,13 +49,15 @@ fn compare_run<R: Abort + Threads + Wait + Sync>(
     status: Status,
     text: &str,
 ) {
-    let came = come(rt, alloc, parts, scripts, &NoGate);
-    compare(rt, &came, status, text);
+    let run = run_scripts(rt, alloc, parts, scripts, &NoGate);
+    compare(rt, &run, status, text);
 }
 
 /// What both feeds of two scripts tell.
-const FEEDS: &str =
-    "feed 1 r1 updates 1 skipped 0 refused 0 end\nfeed 2 r2 updates 1 skipped 0 refused 0 end\nhistory 2\n";
+const FEEDS: &str = "feed 1 r1 updates 1 skipped 0 refused 0 end
+feed 2 r2 updates 1 skipped 0 refused 0 end
+history 2
+";
 
 const FROM_R1: &str = "feed 1 r1 set 10.0.0.0/8 metric 20 to r2 by a\n";
 
@@ -77,7 +72,8 @@ fn text_of(rt: &impl Abort, alloc: Global, is_first: bool, pins: [u32; 2]) -> St
     };
     let [first, second] = pins;
     let text = format!(in alloc;
-        "{FEEDS}1 {one}2 {two}job 1\nline 2 at {first} loops\nnone\njob 2\nline 2 at {second} loops\nnone\ndone\n"
+        "{FEEDS}1 {one}2 {two}job 1\nline 2 at {first} loops\nnone\n\
+         job 2\nline 2 at {second} loops\nnone\ndone\n"
     );
     text.expect(rt, "memory")
 }
@@ -100,13 +96,26 @@ fn two_scripts_take_a_feed_each(rt: HostRuntime) {
     let alloc = rt.alloc();
     let scripts = ["take r1 all\nloops\n", "take r2 all\nloops\n"];
     let parts = ["@s1", "r1=f1", "r2=f2", "@s2"];
-    let came = come(&rt, alloc, &parts, scripts, &NoGate);
-    assert_eq!(rt; came.status, Status::Done);
-    assert!(rt; is_allowed(&rt, alloc, came.written.as_slice()));
+    let run = run_scripts(&rt, alloc, &parts, scripts, &NoGate);
+    assert_eq!(rt; run.status, Status::Done);
+    assert!(rt; is_allowed(&rt, alloc, run.written.as_slice()));
 }
 
-const HELD_PIN: &str =
-    "feed 1 r1 updates 1 skipped 0 refused 0 end\nhistory 1\n1 feed 1 r1 set 10.0.0.0/8 metric 20 to r2 by a\njob 1\nline 1 at 0 path r1 10.1.2.3\nhops r1\nend noroute\nline 2 at 1 path r1 10.1.2.3\nhops r1 r2\nend noroute\njob 2\nline 2 at 1 loops\nnone\ndone\n";
+const HELD_PIN: &str = "feed 1 r1 updates 1 skipped 0 refused 0 end
+history 1
+1 feed 1 r1 set 10.0.0.0/8 metric 20 to r2 by a
+job 1
+line 1 at 0 path r1 10.1.2.3
+hops r1
+end noroute
+line 2 at 1 path r1 10.1.2.3
+hops r1 r2
+end noroute
+job 2
+line 2 at 1 loops
+none
+done
+";
 
 /// Job 1 has a pin before the only update, and its answer after another job had applied it, pinned it and was answered.
 /// Its second pin shows the update, of which nobody told it.
@@ -119,13 +128,24 @@ fn held_pin(rt: HostRuntime) {
     ];
     let parts = ["r1=f1", "@s1", "@s2"];
     let gate = HeldGate::new();
-    let came = come(&rt, alloc, &parts, scripts, &gate);
-    assert!(rt; !gate.ran_out(), "a job waited in vain");
-    compare(&rt, &came, Status::Done, HELD_PIN);
+    let run = run_scripts(&rt, alloc, &parts, scripts, &gate);
+    assert!(rt; !gate.wait.ran_out(), "a job waited in vain");
+    compare(&rt, &run, Status::Done, HELD_PIN);
 }
 
-const SHOWN_LATE: &str =
-    "feed 1 r1 updates 1 skipped 0 refused 0 end\nhistory 1\n1 feed 1 r1 set 10.0.0.0/8 metric 20 to r2 by a\njob 1\nline 1 at 0 path r1 10.1.2.3\nhops r1\nend noroute\nline 2 at 0 path r1 10.1.2.3\nhops r1\nend noroute\njob 2\ndone\n";
+const SHOWN_LATE: &str = "feed 1 r1 updates 1 skipped 0 refused 0 end
+history 1
+1 feed 1 r1 set 10.0.0.0/8 metric 20 to r2 by a
+job 1
+line 1 at 0 path r1 10.1.2.3
+hops r1
+end noroute
+line 2 at 0 path r1 10.1.2.3
+hops r1
+end noroute
+job 2
+done
+";
 
 /// A job that reads alone beside the one that applies pins what that one shows. Between the only update and its showing
 /// both of its pins are at 0; a pin at the lock would have the update.
@@ -135,13 +155,25 @@ fn a_reader_pins_what_is_shown(rt: HostRuntime) {
     let scripts = ["path r1 10.1.2.3\npath r1 10.1.2.3\n", "take r1 all\n"];
     let parts = ["r1=f1", "@s1", "@s2"];
     let gate = ReadGate::new();
-    let came = come(&rt, alloc, &parts, scripts, &gate);
-    assert!(rt; !gate.ran_out(), "a job waited in vain");
-    compare(&rt, &came, Status::Done, SHOWN_LATE);
+    let run = run_scripts(&rt, alloc, &parts, scripts, &gate);
+    assert!(rt; !gate.wait.ran_out(), "a job waited in vain");
+    compare(&rt, &run, Status::Done, SHOWN_LATE);
 }
 
-const SCRIPTS_AND_FEED: &str =
-    "feed 1 r1 updates 1 skipped 0 refused 0 end\nfeed 2 r2 updates 0 skipped 0 refused 0 end\nfeed 3 r3 updates 1 skipped 0 refused 0 end\nhistory 2\n1 feed 1 r1 set 10.0.0.0/8 metric 20 to r2 by a\n2 feed 3 r3 set 10.0.0.0/8 metric 20 to r1 by c\njob 1\nline 2 at 1 path r1 10.0.0.0\nhops r1 r2\nend noroute\njob 2\njob 3\ndone\n";
+const SCRIPTS_AND_FEED: &str = "feed 1 r1 updates 1 skipped 0 refused 0 end
+feed 2 r2 updates 0 skipped 0 refused 0 end
+feed 3 r3 updates 1 skipped 0 refused 0 end
+history 2
+1 feed 1 r1 set 10.0.0.0/8 metric 20 to r2 by a
+2 feed 3 r3 set 10.0.0.0/8 metric 20 to r1 by c
+job 1
+line 2 at 1 path r1 10.0.0.0
+hops r1 r2
+end noroute
+job 2
+job 3
+done
+";
 
 /// The second feed, which no script takes, and the second script are empty files.
 #[test]
@@ -178,17 +210,4 @@ fn jobs_are_too_many(rt: HostRuntime) {
     parts[10] = "r1=f1";
     let many = "error jobs TooMany\n";
     compare_run(&rt, alloc, &parts, ["", ""], Status::BadWords, many);
-    let one_more = "error part 66 TooMany\n";
-    let mut parts = ["@s1"; 66];
-    parts[10] = "r1=f1";
-    compare_run(&rt, alloc, &parts, ["", ""], Status::BadWords, one_more);
-}
-
-#[test]
-fn sixty_four_scripts_are_as_many_jobs(rt: HostRuntime) {
-    let alloc = rt.alloc();
-    let parts = ["@s1"; 64];
-    let came = come(&rt, alloc, &parts, ["", ""], &NoGate);
-    assert_eq!(rt; came.status, Status::Done);
-    assert!(rt; came.written.as_slice().ends_with(b"job 63\njob 64\ndone\n"));
 }

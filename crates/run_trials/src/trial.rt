@@ -3,7 +3,7 @@
 ghost use Rattle.std.specs.Prelude.{◌≤◌, All};
 ghost use Rattle.dn_model.specs.Entry.{IsEntryOf, IsTargetOf};
 
-use crate::whole_run::{add_file, file, file_by, frame_of, text, texts};
+use crate::whole_run::{add_file, file, file_by, frame_of, text, words_with};
 use dn_io::MemFile;
 use dn_model::{Entry, Op, Port, Prefix, RouterId, Target, Topology, port};
 use std::alloc::{AllocError, Global};
@@ -219,7 +219,7 @@ fn add_word(rt: &impl Abort, words: &mut Vec<String>, word: Result<String, Alloc
 
 /// The words of a run.
 pub(crate) fn words(rt: &impl Abort, alloc: Global) -> Vec<String> {
-    let mut words = texts(rt, alloc, &["deltanet", "run", "topology"]);
+    let mut words = words_with(rt, alloc, &[]);
     for feed in 1..FEEDS + 1 {
         add_word(rt, &mut words, format!(in alloc; "m{}=f{feed}", feed - 1));
     }

@@ -6,9 +6,10 @@ use crate::slow_gate::SlowGate;
 use crate::trial::{
     FEEDS, TAKEN, UNTAKEN, UPDATES, count_of, entries, files, ring_text, script_text, words,
 };
-use crate::whole_run::{Came, come_into, whole_sink};
+use crate::whole_run::{WholeRun, run_into, whole_sink};
 use dn_formats::{FeedEnd, FeedTold, JobTold, Line, Outcome, Script, Told};
 use dn_model::{Answer, Entry, List, Posted, Query, RouterId, Topology, plain_answer};
+use dn_run::Status;
 use query_lang::read_script;
 use run_report::report_text;
 use std::alloc::{AllocError, Global};
@@ -19,12 +20,12 @@ use std::thread::Threads;
 use topology::read_topology;
 use version_pages::Pages;
 
-/// What a trial's run comes to.
-fn come<R: Abort + Threads + Wait + Sync>(rt: &R, alloc: Global, seed: u32) -> Came {
+/// Runs the trial of a seed.
+fn run_trial<R: Abort + Threads + Wait + Sync>(rt: &R, alloc: Global, seed: u32) -> WholeRun {
     let words = words(rt, alloc);
     let files = files(rt, alloc, seed);
     let gate = SlowGate::new(seed);
-    come_into(rt, alloc, words.as_slice(), files, whole_sink(alloc), &gate)
+    run_into(rt, alloc, words, files, whole_sink(alloc), &gate)
 }
 
 /// The number that a word is, or 0.
@@ -207,7 +208,7 @@ fn feeds_told(alloc: Global) -> Result<Vec<FeedTold>, AllocError> {
 fn compare_report(rt: &impl Abort, alloc: Global, trial: &Trial, jobs: &[JobTold], report: &[u8]) {
     for feed in 1..FEEDS + 1 {
         let count = count_of(trial.chosen.order.as_slice(), feed);
-        assert_eq!(rt; count, UPDATES as usize);
+        assert_eq!(rt; count, UPDATES as usize, "feed {feed}");
     }
     let feeds = feeds_told(alloc).expect(rt, "memory");
     let history = trial.history(rt, alloc);
@@ -247,14 +248,14 @@ fn compare_pin(
     own: &[u32],
 ) {
     let [before, pin] = pins;
-    assert!(rt; before <= pin && pin <= order.len());
+    assert!(rt; before <= pin && pin <= order.len(), "{pin} after {before}");
     let among = among(alloc, &order[..pin], taken).expect(rt, "memory");
-    assert_eq!(rt; among.as_slice(), own);
+    assert_eq!(rt; among.as_slice(), own, "feeds {taken:?} at {pin}");
 }
 
 /// The position of the query at this place.
 fn pin_of(rt: &impl Abort, tolds: &[Told], at: usize) -> usize {
-    assert!(rt; at < tolds.len());
+    assert!(rt; at < tolds.len(), "query {at}");
     let Outcome::Answered { number, .. } = tolds[at].outcome else {
         panic!(rt; "an answer");
     };
@@ -328,10 +329,11 @@ fn compare_jobs(
     }
 }
 
-/// A run with this seed is lawful.
+/// A run with this seed ends well and is lawful.
 fn compare_trial<R: Abort + Threads + Wait + Sync>(rt: &R, alloc: Global, seed: u32) {
-    let came = come(rt, alloc, seed);
-    let report = came.written.as_slice();
+    let run = run_trial(rt, alloc, seed);
+    assert_eq!(rt; run.status, Status::Done, "seed {seed}");
+    let report = run.written.as_slice();
     let trial = trial_of(rt, alloc, seed, report);
     let scripts = scripts(rt, alloc, &trial.topology, seed);
     let jobs = trial.jobs(rt, alloc, scripts.as_slice());

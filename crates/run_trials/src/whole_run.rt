@@ -10,8 +10,23 @@ use std::sync::Wait;
 use std::thread::Threads;
 
 /// Three routers in a ring: each has an edge at its interface 1, and links at 2 and 3.
-pub(crate) const RING: &str =
-    "routers = [\"r1\", \"r2\", \"r3\"]\n[[link]]\nname = \"a\"\nends = [\"r1:2\", \"r2:2\"]\n[[link]]\nname = \"b\"\nends = [\"r2:3\", \"r3:2\"]\n[[link]]\nname = \"c\"\nends = [\"r3:3\", \"r1:3\"]\n[[edge]]\nat = \"r1:1\"\n[[edge]]\nat = \"r2:1\"\n[[edge]]\nat = \"r3:1\"\n";
+pub(crate) const RING: &str = "routers = [\"r1\", \"r2\", \"r3\"]
+[[link]]
+name = \"a\"
+ends = [\"r1:2\", \"r2:2\"]
+[[link]]
+name = \"b\"
+ends = [\"r2:3\", \"r3:2\"]
+[[link]]
+name = \"c\"
+ends = [\"r3:3\", \"r1:3\"]
+[[edge]]
+at = \"r1:1\"
+[[edge]]
+at = \"r2:1\"
+[[edge]]
+at = \"r3:1\"
+";
 
 /// A frame that sets a prefix over interface `oif`, with this metric and the gateway 192.0.2.1.
 pub(crate) fn frame_of(base: [u8; 4], len: u8, metric: u8, oif: u8) -> [u8; 64] {
@@ -94,53 +109,95 @@ pub(crate) fn whole_sink(alloc: Global) -> MemSink
     MemSink::new(alloc, 4096, Vec::new(alloc))
 }
 
-/// What a run came to.
+/// A run that was made: its words, its status and what it wrote.
 #[derive(Drop)]
-pub(crate) struct Came {
+pub(crate) struct WholeRun {
+    pub(crate) words: Vec<String>,
     pub(crate) status: Status,
     pub(crate) written: Vec<u8>,
 }
 
-/// What a run of these words comes to, over these files, into this sink, whose jobs a gate may hold.
-pub(crate) fn come_into<R: Abort + Threads + Wait + Sync, G: Gate>(
+/// Runs these words over these files, into this sink. A gate may hold the jobs.
+pub(crate) fn run_into<R: Abort + Threads + Wait + Sync, G: Gate>(
     rt: &R,
     alloc: Global,
-    words: &[String],
+    words: Vec<String>,
     files: Vec<MemFile>,
     mut sink: MemSink,
     gate: &G,
-) -> Came
+) -> WholeRun
     requires files { All (λ file. 1 ≤ file.step) files.items }
     requires sink { sink.plan.faults ≡ 0 }
 {
     let mut world = MemWorld::new(alloc, files, Vec::new(alloc));
-    let status = run(rt, alloc, words, &mut world, &mut sink, gate);
+    let status = run(rt, alloc, words.as_slice(), &mut world, &mut sink, gate);
     let written = Vec::from_slice(alloc, sink.written()).expect(rt, "memory");
-    Came { status, written }
+    WholeRun {
+        words,
+        status,
+        written,
+    }
 }
 
-/// What a run of these words comes to, over these files.
-pub(crate) fn come<R: Abort + Threads + Wait + Sync>(
+/// Runs these words over these files.
+pub(crate) fn run_words<R: Abort + Threads + Wait + Sync>(
     rt: &R,
     alloc: Global,
     words: &[&str],
     files: Vec<MemFile>,
-) -> Came
+) -> WholeRun
     requires files { All (λ file. 1 ≤ file.step) files.items }
 {
     let words = texts(rt, alloc, words);
-    come_into(
-        rt,
-        alloc,
-        words.as_slice(),
-        files,
-        whole_sink(alloc),
-        &NoGate,
-    )
+    run_into(rt, alloc, words, files, whole_sink(alloc), &NoGate)
+}
+
+/// The words of a run of the file `topology` with these parts.
+pub(crate) fn words_with(rt: &impl Abort, alloc: Global, parts: &[&str]) -> Vec<String> {
+    let mut words = texts(rt, alloc, &["deltanet", "run", "topology"]);
+    for part in parts {
+        words.push(text(rt, alloc, part)).expect(rt, "memory");
+    }
+    words
+}
+
+/// Runs the file `topology` with these parts over these files. A gate may hold the jobs.
+pub(crate) fn run_parts<R: Abort + Threads + Wait + Sync, G: Gate>(
+    rt: &R,
+    alloc: Global,
+    parts: &[&str],
+    files: Vec<MemFile>,
+    gate: &G,
+) -> WholeRun
+    requires files { All (λ file. 1 ≤ file.step) files.items }
+{
+    let words = words_with(rt, alloc, parts);
+    run_into(rt, alloc, words, files, whole_sink(alloc), gate)
 }
 
 /// A run came to this status and wrote this text.
-pub(crate) fn compare(rt: &impl Abort, came: &Came, status: Status, text: &str) {
-    assert_eq!(rt; came.status, status, "{text}");
-    assert_eq!(rt; came.written.as_slice(), text.as_bytes(), "{text}");
+pub(crate) fn compare(rt: &impl Abort, run: &WholeRun, status: Status, text: &str) {
+    assert_eq!(rt; run.status, status, "of {:?}", run.words);
+    assert_eq!(rt;
+        run.written.as_slice(),
+        text.as_bytes(),
+        "of {:?}: {text}",
+        run.words
+    );
+}
+
+/// So many of the last bytes, or all of them.
+fn last_bytes(bytes: &[u8], count: usize) -> &[u8] {
+    if count <= bytes.len() {
+        &bytes[bytes.len() - count..]
+    } else {
+        bytes
+    }
+}
+
+/// A run came to this status and wrote a text with this end.
+pub(crate) fn compare_tail(rt: &impl Abort, run: &WholeRun, status: Status, tail: &str) {
+    assert_eq!(rt; run.status, status, "of {:?}", run.words);
+    let last = last_bytes(run.written.as_slice(), tail.len());
+    assert_eq!(rt; last, tail.as_bytes(), "of {:?}: {tail}", run.words);
 }

@@ -1,6 +1,9 @@
 //! Which words of the command line are read, and as what, by what runs come to.
 
-use crate::whole_run::{Came, RING, add_file, come, compare, file};
+ghost use Rattle.std.specs.Prelude.{◌≤◌, All};
+
+use crate::whole_run::{RING, add_file, compare, file, run_words};
+use dn_io::MemFile;
 use dn_run::Status;
 use std::alloc::Global;
 use std::process::Abort;
@@ -10,10 +13,11 @@ use std::thread::Threads;
 /// Two routers, whose names begin with hyphens, and one whose name has one.
 const HYPHENS: &str = "routers = [\"r-1\", \"-r\", \"--help\"]\n";
 
-/// What a run of these words comes to. The files are `topology`, which has the routers `r-1`, `-r` and `--help`, one
-/// with an empty name, which has the ring, two feeds, `a=b` and `f`, which are empty, and a script, `späth`, which asks
-/// for the loops.
-fn come_to<R: Abort + Threads + Wait + Sync>(rt: &R, alloc: Global, words: &[&str]) -> Came {
+/// The files are `topology`, which has the routers `r-1`, `-r` and `--help`, one with an empty name, which has the
+/// ring, two feeds, `a=b` and `f`, which are empty, and a script, `späth`, which asks for the loops.
+fn files(rt: &impl Abort, alloc: Global) -> Vec<MemFile>
+    ensures { All (λ file. 1 ≤ file.step) result.items }
+{
     let mut files = Vec::new(alloc);
     add_file(
         rt,
@@ -24,10 +28,10 @@ fn come_to<R: Abort + Threads + Wait + Sync>(rt: &R, alloc: Global, words: &[&st
     add_file(rt, &mut files, file(rt, alloc, "a=b", &[]));
     add_file(rt, &mut files, file(rt, alloc, "f", &[]));
     add_file(rt, &mut files, file(rt, alloc, "späth", b"loops\n"));
-    come(rt, alloc, words, files)
+    files
 }
 
-/// A run of these words comes to this status and text.
+/// A run of these words over these files comes to this status and text.
 fn compare_words<R: Abort + Threads + Wait + Sync>(
     rt: &R,
     alloc: Global,
@@ -35,12 +39,18 @@ fn compare_words<R: Abort + Threads + Wait + Sync>(
     status: Status,
     text: &str,
 ) {
-    let came = come_to(rt, alloc, words);
-    compare(rt, &came, status, text);
+    let run = run_words(rt, alloc, words, files(rt, alloc));
+    compare(rt, &run, status, text);
 }
 
-const FEED_AND_SCRIPT: &str =
-    "feed 1 r-1 updates 0 skipped 0 refused 0 end\nhistory 0\njob 1\nline 1 at 0 loops\nnone\njob 2\ndone\n";
+const FEED_AND_SCRIPT: &str = "feed 1 r-1 updates 0 skipped 0 refused 0 end
+history 0
+job 1
+line 1 at 0 loops
+none
+job 2
+done
+";
 
 /// The second run has one part more, which is no feed and no script.
 #[test]
@@ -65,8 +75,27 @@ fn reads_a_run_without_parts(rt: HostRuntime) {
     compare_words(&rt, alloc, &words, Status::ReadFault, missing);
 }
 
-const TWO_FEEDS: &str =
-    "feed 1 -r updates 0 skipped 0 refused 0 end\nfeed 2 --help updates 0 skipped 0 refused 0 end\nhistory 0\njob 1\njob 2\ndone\n";
+const FEED_OF_R1: &str = "feed 1 r1 updates 0 skipped 0 refused 0 end
+history 0
+job 1
+done
+";
+
+/// The file with the empty name alone has the router `r1`.
+#[test]
+fn reads_a_topology_with_an_empty_name(rt: HostRuntime) {
+    let alloc = rt.alloc();
+    let words = ["deltanet", "run", "", "r1=f"];
+    compare_words(&rt, alloc, &words, Status::Done, FEED_OF_R1);
+}
+
+const TWO_FEEDS: &str = "feed 1 -r updates 0 skipped 0 refused 0 end
+feed 2 --help updates 0 skipped 0 refused 0 end
+history 0
+job 1
+job 2
+done
+";
 
 #[test]
 fn takes_plain_words_after_two_hyphens(rt: HostRuntime) {

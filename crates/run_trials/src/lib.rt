@@ -18,6 +18,8 @@ mod query_tests;
 #[cfg(test)]
 mod read_gate;
 #[cfg(test)]
+mod refusal_tests;
+#[cfg(test)]
 mod run_tests;
 #[cfg(test)]
 mod script_tests;

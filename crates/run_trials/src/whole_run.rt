@@ -28,6 +28,12 @@ at = \"r2:1\"
 at = \"r3:1\"
 ";
 
+/// Takes the feed of `r1`, and asks for a path.
+pub(crate) const TAKE_ALL: &str = "take r1 all\npath r1 10.1.2.3\n";
+
+/// The words of a run with a feed of `r1` and a script.
+pub(crate) const USUAL: [&str; 5] = ["deltanet", "run", "topology", "r1=f1", "@script"];
+
 /// A frame that sets a prefix over interface `oif`, with this metric and the gateway 192.0.2.1.
 pub(crate) fn frame_of(base: [u8; 4], len: u8, metric: u8, oif: u8) -> [u8; 64] {
     let [a, b, c, d] = base;
@@ -200,4 +206,43 @@ pub(crate) fn compare_tail(rt: &impl Abort, run: &WholeRun, status: Status, tail
     assert_eq!(rt; run.status, status, "of {:?}", run.words);
     let last = last_bytes(run.written.as_slice(), tail.len());
     assert_eq!(rt; last, tail.as_bytes(), "of {:?}: {tail}", run.words);
+}
+
+/// Runs these words over a topology, a script and the feeds `f1`, `f2` and `f3`, into this sink.
+pub(crate) fn run_files_into<R: Abort + Threads + Wait + Sync>(
+    rt: &R,
+    alloc: Global,
+    words: &[&str],
+    topology: MemFile,
+    script: &str,
+    feed: MemFile,
+    sink: MemSink,
+) -> WholeRun
+    requires topology { 1 ≤ topology.step }
+    requires feed { 1 ≤ feed.step }
+    requires sink { sink.plan.faults ≡ 0 }
+{
+    let words = texts(rt, alloc, words);
+    let mut files = Vec::new(alloc);
+    add_file(rt, &mut files, topology);
+    add_file(rt, &mut files, file(rt, alloc, "script", script.as_bytes()));
+    add_file(rt, &mut files, feed);
+    add_file(rt, &mut files, file(rt, alloc, "f2", &set_frame(0, 8, 3)));
+    add_file(rt, &mut files, file(rt, alloc, "f3", &set_frame(0, 8, 1)));
+    run_into(rt, alloc, words, files, sink, &NoGate)
+}
+
+/// Runs these words over these texts and this feed `f1`.
+pub(crate) fn run_files<R: Abort + Threads + Wait + Sync>(
+    rt: &R,
+    alloc: Global,
+    words: &[&str],
+    topology: &str,
+    script: &str,
+    feed: &[u8],
+) -> WholeRun {
+    let topology = file(rt, alloc, "topology", topology.as_bytes());
+    let feed = file(rt, alloc, "f1", feed);
+    let sink = whole_sink(alloc);
+    run_files_into(rt, alloc, words, topology, script, feed, sink)
 }

@@ -3,11 +3,11 @@ use Rattle.std.proofs.Common.{◌≡◌, ℕ, ◌+◌, ◌<◌, ◌≤◌, ◌^�
 use Rattle.std.specs.List.{insert}
 use Rattle.std.proofs.lemmas.Bool.{eq-eqb}
 use Rattle.std.proofs.lemmas.List.Folds.{list_any_at}
-use Rattle.dn_model.specs.Atoms.{AreAtoms, atom_of, bounds_of, atoms_in, atom_low, atom_past, row_at, row_of, is_boundary, lower_part, upper_part, cut_rows}
-use Rattle.dn_model.specs.declared.atom_row.AtomRow.{AtomRow}
-use Rattle.dn_model.specs.declared.ids.AtomId.{AtomId}
-use Rattle.dn_model.proofs.Covers.{high-at}
-use Rattle.dn_model.proofs.Cuts.{cut-at, length-after-cut}
+use Rattle.atom_map.specs.Atoms.{AreAtoms, atom_of, bounds_of, atoms_in, atom_low, atom_past, row_at, row_of, is_boundary, lower_part, upper_part, cut_rows}
+use Rattle.atom_map.specs.declared.atom_row.AtomRow.{AtomRow}
+use Rattle.base.specs.declared.ids.AtomId.{AtomId}
+use Rattle.base.proofs.Covers.{high-at}
+use Rattle.atom_map.proofs.Cuts.{cut-at, length-after-cut}
 use Rattle.atom_map.specs.Index.{AgreeBelow, IsAtomAt, IsIndexed, IsNoted, IsPartedAt, first_below}
 use Rattle.atom_map.proofs.Begun.{atom-at, below-at, contained, cut-indexed, few-atoms, no-boundary, number-at}
 use Rattle.atom_map.proofs.Meeting.{atoms-met, from-place}

@@ -2,12 +2,12 @@
 use Rattle.std.proofs.Common.{◌≡◌, ℕ, ◌+◌, ◌<◌, ◌≤◌, ◌^◌, ◌∙◌, ⊎_elim, zero, suc, true, false, Some, option_map, Contains, List, [], ◌∷◌, length, get_or, refl, ap, sym, subst, arith, leb, ltb, lit<}
 use Rattle.std.proofs.lemmas.Bool.{cases_Bool, cases_lt, and_parts, leb-true, ne_eqb}
 use Rattle.std.proofs.lemmas.Option.{none-some}
-use Rattle.dn_model.specs.Rows.{is_within, CoverFrom}
-use Rattle.dn_model.specs.Atoms.{AreAtoms, AreBelow, atom_of, atom_low, atom_past, has_address, row_at, row_of, is_boundary, lower_part, upper_part, cut_rows, part_of}
-use Rattle.dn_model.specs.declared.atom_row.AtomRow.{AtomRow}
-use Rattle.dn_model.specs.declared.ids.AtomId.{AtomId}
-use Rattle.dn_model.proofs.Covers.{within-yes, holder-first, holder-rest, holder-at, few-rows}
-use Rattle.dn_model.proofs.Cuts.{boundary-at, boundary-parts, row-after-cut, length-after-cut, atoms-after-cut, part-whole, part-lower, part-upper}
+use Rattle.base.specs.Rows.{is_within, CoverFrom}
+use Rattle.atom_map.specs.Atoms.{AreAtoms, AreBelow, atom_of, atom_low, atom_past, has_address, row_at, row_of, is_boundary, lower_part, upper_part, cut_rows, part_of}
+use Rattle.atom_map.specs.declared.atom_row.AtomRow.{AtomRow}
+use Rattle.base.specs.declared.ids.AtomId.{AtomId}
+use Rattle.base.proofs.Covers.{within-yes, holder-first, holder-rest, holder-at, few-rows}
+use Rattle.atom_map.proofs.Cuts.{boundary-at, boundary-parts, row-after-cut, length-after-cut, atoms-after-cut, part-whole, part-lower, part-upper}
 use Rattle.atom_map.specs.Index.{one_atom, AgreeBelow, Begins, IsIndexed, IsNoted}
 
 -- the one atom

@@ -1,5 +1,7 @@
-pub mod Crossing
 pub mod Answered
 pub mod Begun
+pub mod Crossing
+pub mod Cuts
 pub mod Meeting
+pub mod Meets
 pub mod Placed

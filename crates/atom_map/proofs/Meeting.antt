@@ -2,11 +2,11 @@
 use Rattle.std.proofs.Common.{◌≡◌, ℕ, ◌+◌, ◌<◌, ◌≤◌, ◌^◌, ◌∙◌, ◌⊎◌, ⊎_elim, zero, suc, true, false, cond, List, [], ◌∷◌, ◌++◌, ◌&&◌, length, get_or, map, drop, filter, refl, ap, sym, add-one, append_assoc, arith, drop-cons, ltb}
 use Rattle.std.proofs.lemmas.Bool.{cases_lt, lt-ltb, le-ltb, and_from, and_left, and_right}
 use Rattle.std.proofs.lemmas.List.{append-nil, drop_all}
-use Rattle.dn_model.specs.Rows.{CoverFrom}
-use Rattle.dn_model.specs.Atoms.{AreAtoms, atom_low, atom_past, meets, atoms_in, atom_of}
-use Rattle.dn_model.specs.declared.atom_row.AtomRow.{AtomRow}
-use Rattle.dn_model.specs.declared.ids.AtomId.{AtomId}
-use Rattle.dn_model.proofs.Covers.{low-at, starts-below}
+use Rattle.base.specs.Rows.{CoverFrom}
+use Rattle.atom_map.specs.Atoms.{AreAtoms, atom_low, atom_past, meets, atoms_in, atom_of}
+use Rattle.atom_map.specs.declared.atom_row.AtomRow.{AtomRow}
+use Rattle.base.specs.declared.ids.AtomId.{AtomId}
+use Rattle.base.proofs.Covers.{low-at, starts-below}
 use Rattle.atom_map.specs.Index.{first_below}
 
 abbrev Cover : ℕ → List AtomRow → Type 0

@@ -3,9 +3,9 @@ use Rattle.std.proofs.Common.{◌≡◌, ℕ, ◌+◌, ◌<◌, ◌≤◌, ◌^�
 use Rattle.std.specs.List.{insert}
 use Rattle.std.proofs.lemmas.Bool.{cases_lt}
 use Rattle.std.proofs.lemmas.List.{get_or-drop, get_or-take, get_or_default, length-drop, length-take, take_more, set_at, length-take-le}
-use Rattle.dn_model.specs.Atoms.{AreAtoms, atom_low, atom_past, row_of}
-use Rattle.dn_model.specs.declared.atom_row.AtomRow.{AtomRow}
-use Rattle.dn_model.proofs.Covers.{few-rows, some-row, first-low, halved}
+use Rattle.atom_map.specs.Atoms.{AreAtoms, atom_low, atom_past, row_of}
+use Rattle.atom_map.specs.declared.atom_row.AtomRow.{AtomRow}
+use Rattle.base.proofs.Covers.{few-rows, some-row, first-low, halved}
 use Rattle.atom_map.specs.Index.{IsAtomPlace, IsLeft}
 
 pub some-atom : (rows : List AtomRow) → AreAtoms rows → 0 < length rows

@@ -1,8 +1,8 @@
 -- Atoms, and beside them where the atom of each number begins.
 use Rattle.std.specs.Prelude.{ℕ, List, [], ◌∷◌, ◌++◌, ◌+◌, Some, length, take, drop, ◌≡◌, ◌<◌, ◌≤◌, ◌^◌, nat_lt, slice_index_or, if◌then◌else◌}
-use Rattle.dn_model.specs.Atoms.{AreAtoms, lower_part, row_at, row_of, upper_part}
-use Rattle.dn_model.specs.declared.atom_row.AtomRow.{AtomRow}
-use Rattle.dn_model.specs.declared.ids.AtomId.{AtomId}
+use Rattle.atom_map.specs.Atoms.{AreAtoms, lower_part, row_at, row_of, upper_part}
+use Rattle.atom_map.specs.declared.atom_row.AtomRow.{AtomRow}
+use Rattle.base.specs.declared.ids.AtomId.{AtomId}
 
 -- one atom, number 0, of all addresses
 abbrev pub one_atom : List AtomRow

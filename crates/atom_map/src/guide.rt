@@ -2,7 +2,7 @@
 
 ghost use Rattle.std.specs.Prelude.{◌≤◌};
 
-use dn_model::OutOfMemory;
+use base::OutOfMemory;
 use std::alloc::Global;
 
 /// How many equal blocks the addresses have, and how many equal steps each block.

@@ -1,15 +1,16 @@
 //! Atoms by address and by number.
 
 ghost use Rattle.std.specs.Prelude.{◌≡◌, ◌<◌, ◌≤◌, ◌^◌, Some, OnErr, IfOk, IfSome, Contains, length, map, option_map, take, drop, slice_index_or};
-ghost use Rattle.dn_model.specs.Atoms.{AreAtoms, IsCut, atom_of, atoms_in, bounds_of, row_at, row_of};
-ghost use Rattle.dn_model.specs.declared.atom_row.AtomRow.{AtomRow};
+ghost use Rattle.atom_map.specs.Atoms.{AreAtoms, IsCut, atom_of, atoms_in, bounds_of, row_at, row_of};
+ghost use Rattle.atom_map.specs.declared.atom_row.AtomRow.{AtomRow};
 ghost use Rattle.atom_map.specs.Index.{one_atom, IsAtomAt, IsAtomPlace};
 
+use crate::atom_row::AtomRow;
 use crate::guide::Guide;
 use crate::search::{
     AtomSpot, atoms_below, part, place_from, place_of, places_near, read, spot_from, spot_near,
 };
-use dn_model::{AtomId, AtomRow, List, OutOfMemory};
+use base::{AtomId, List, OutOfMemory};
 use std::alloc::Global;
 use std::marker::Model;
 use version_pages::Pages;
@@ -32,7 +33,7 @@ pub struct AtomMap {
 
 impl Model for AtomMap {
     ghost use Rattle.std.specs.Prelude.{List};
-    ghost use Rattle.dn_model.specs.declared.atom_row.AtomRow.{AtomRow};
+    ghost use Rattle.atom_map.specs.declared.atom_row.AtomRow.{AtomRow};
     ghost use Rattle.atom_map.specs.Index.{IsIndexed};
 
     ghost Value = { List AtomRow };

@@ -1,11 +1,12 @@
 //! Atoms in order: the one of an address, the first ones, and two in the place of one.
 
 ghost use Rattle.std.specs.Prelude.{◌≡◌, ◌<◌, ◌≤◌, ◌^◌, IfOk, IfSome, OnOk, OnErr, length, map, drop, slice_index_or};
-ghost use Rattle.dn_model.specs.Atoms.{AreAtoms, atom_of};
-ghost use Rattle.dn_model.specs.declared.atom_row.AtomRow.{AtomRow};
+ghost use Rattle.atom_map.specs.Atoms.{AreAtoms, atom_of};
+ghost use Rattle.atom_map.specs.declared.atom_row.AtomRow.{AtomRow};
 ghost use Rattle.atom_map.specs.Index.{first_below, AgreeBelow, IsAtomAt, IsAtomPlace, IsNoted, IsPartedAt};
 
-use dn_model::{AtomId, AtomRow, OutOfMemory};
+use crate::atom_row::AtomRow;
+use base::{AtomId, OutOfMemory};
 use std::alloc::Global;
 use version_pages::{Keyed, Pages, count_below_from};
 

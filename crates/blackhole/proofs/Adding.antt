@@ -3,13 +3,13 @@ use Rattle.std.proofs.Common.{◌≡◌, ℕ, suc, ◌+◌, ◌<◌, ◌≤◌, 
 use Rattle.std.specs.List.{list_any}
 use Rattle.std.proofs.lemmas.Bool.{cases_lt}
 use Rattle.std.proofs.lemmas.List.{get_or_default}
-use Rattle.dn_model.specs.Forwarding.{AreForwarding, row_low, row_past}
-use Rattle.dn_model.specs.Holes.{cause_rank}
-use Rattle.dn_model.specs.Runs.{holds}
-use Rattle.dn_model.specs.declared.forwarding_row.ForwardingRow.{ForwardingRow}
-use Rattle.dn_model.specs.declared.ids.RouterId.{RouterId}
-use Rattle.dn_model.specs.declared.target.Target.{Target}
-use Rattle.dn_model.proofs.Covers.{ordered-at}
+use Rattle.base.specs.Forwarding.{AreForwarding, row_low, row_past}
+use Rattle.base.specs.Holes.{cause_rank}
+use Rattle.base.specs.Runs.{holds}
+use Rattle.base.specs.declared.forwarding_row.ForwardingRow.{ForwardingRow}
+use Rattle.base.specs.declared.ids.RouterId.{RouterId}
+use Rattle.base.specs.declared.target.Target.{Target}
+use Rattle.base.proofs.Covers.{ordered-at}
 use Rattle.label_view.specs.Gathered.{Gathered}
 use Rattle.label_view.specs.Places.{AreGatheredTo, IsInRow, begin_of}
 use Rattle.label_view.proofs.InRow.{some_row, gathered-skip, in-row}

@@ -1,15 +1,15 @@
 -- Where a walk ends, hop by hop.
 use Rattle.std.proofs.Common.{◌≡◌, ℕ, zero, suc, ◌<◌, ◌-◌, ◌∙◌, Bool, false, ◌&&◌, refl, ap, sym, arith, sub-one}
 use Rattle.std.proofs.lemmas.Bool.{and_right}
-use Rattle.dn_model.specs.Holes.{ends_by}
-use Rattle.dn_model.specs.Reach.{is_router}
-use Rattle.dn_model.specs.Walk.{walk_end, walk_last}
-use Rattle.dn_model.specs.declared.answer.PathEnd.TheVariants.{At}
-use Rattle.dn_model.specs.declared.ids.LinkId.{LinkId}
-use Rattle.dn_model.specs.declared.ids.RouterId.{RouterId}
-use Rattle.dn_model.specs.declared.target.Target.{Target}
-use Rattle.dn_model.specs.declared.target.Target.TheVariants.{NoRoute, Dropped, Local, Exit, OnLink, To, LinkDown}
-use Rattle.dn_model.proofs.Walks.{on_far-last, walk_end-last, walk_end-to}
+use Rattle.base.specs.Holes.{ends_by}
+use Rattle.base.specs.Reach.{is_router}
+use Rattle.base.specs.Walk.{walk_end, walk_last}
+use Rattle.base.specs.declared.path_end.PathEnd.TheVariants.{At}
+use Rattle.base.specs.declared.ids.LinkId.{LinkId}
+use Rattle.base.specs.declared.ids.RouterId.{RouterId}
+use Rattle.base.specs.declared.target.Target.{Target}
+use Rattle.base.specs.declared.target.Target.TheVariants.{NoRoute, Dropped, Local, Exit, OnLink, To, LinkDown}
+use Rattle.base.proofs.Walks.{on_far-last, walk_end-last, walk_end-to}
 use Rattle.blackhole.specs.Falls.{fall_of, is_fall}
 
 -- whether a walk of so many hops falls at a router by a cause

@@ -1,9 +1,9 @@
 -- Falls in order, by router and cause.
 use Rattle.std.proofs.Common.{◌≡◌, ◌<◌, ◌≤◌, ◌⊎◌, ◌∙◌, inl, inr, ⊎_elim, true, false, ◌&&◌, sym, arith, eqb, ltb}
 use Rattle.std.proofs.lemmas.Bool.{and_from, and_left, and_parts, and_right, cases_eq, cases_order, cond-false, cond-true, eq-eqb, eqb-true, lt-ltb, ltb-true, ltb-false, ne_eqb}
-use Rattle.dn_model.specs.Holes.{cause_rank, is_cause}
-use Rattle.dn_model.specs.declared.ids.RouterId.{RouterId}
-use Rattle.dn_model.specs.declared.target.Target.{Target}
+use Rattle.base.specs.Holes.{cause_rank, is_cause}
+use Rattle.base.specs.declared.ids.RouterId.{RouterId}
+use Rattle.base.specs.declared.target.Target.{Target}
 use Rattle.std.proofs.Common.{Some}
 use Rattle.blackhole.specs.Falls.{is_before, is_fall, is_same}
 

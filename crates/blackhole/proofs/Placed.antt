@@ -4,9 +4,9 @@ use Rattle.std.specs.List.{insert}
 use Rattle.std.proofs.lemmas.Bool.{cases_eq, cases_lt, cases_order}
 use Rattle.std.proofs.lemmas.List.{get_or-set_other, get_or-set_same, get_or_default, length-set}
 use Rattle.std.proofs.lemmas.List.Edits.{get_or-insert_above, get_or-insert_at, get_or-insert_below, length-insert}
-use Rattle.dn_model.specs.Holes.{cause_rank}
-use Rattle.dn_model.specs.declared.ids.RouterId.{RouterId}
-use Rattle.dn_model.specs.declared.target.Target.{Target}
+use Rattle.base.specs.Holes.{cause_rank}
+use Rattle.base.specs.declared.ids.RouterId.{RouterId}
+use Rattle.base.specs.declared.target.Target.{Target}
 use Rattle.blackhole.specs.Gathering.{HasFall}
 use Rattle.blackhole.specs.declared.fall.Fall.{Fall}
 use Rattle.blackhole.proofs.Adding.{IsAdded}

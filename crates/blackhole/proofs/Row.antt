@@ -2,12 +2,12 @@
 use Rattle.std.proofs.Common.{◌≡◌, ℕ, ◌+◌, ◌<◌, ◌≤◌, ◌∙◌, ⊎_elim, Bool, true, false, Some, List, [], length, get_or, set, refl, ap, sym, subst, arith}
 use Rattle.std.specs.List.{insert, list_any}
 use Rattle.std.proofs.lemmas.Bool.{cases_Bool, cases_eq, cases_lt}
-use Rattle.dn_model.specs.Forwarding.{AreForwarding}
-use Rattle.dn_model.specs.Holes.{cause_rank, is_cause}
-use Rattle.dn_model.specs.Runs.{holds}
-use Rattle.dn_model.specs.declared.forwarding_row.ForwardingRow.{ForwardingRow}
-use Rattle.dn_model.specs.declared.ids.RouterId.{RouterId}
-use Rattle.dn_model.specs.declared.target.Target.{Target}
+use Rattle.base.specs.Forwarding.{AreForwarding}
+use Rattle.base.specs.Holes.{cause_rank, is_cause}
+use Rattle.base.specs.Runs.{holds}
+use Rattle.base.specs.declared.forwarding_row.ForwardingRow.{ForwardingRow}
+use Rattle.base.specs.declared.ids.RouterId.{RouterId}
+use Rattle.base.specs.declared.target.Target.{Target}
 use Rattle.label_view.specs.Gathered.{Gathered}
 use Rattle.label_view.specs.Places.{AreGatheredTo, IsInRow}
 use Rattle.blackhole.specs.Falls.{is_before, is_fall, is_same}

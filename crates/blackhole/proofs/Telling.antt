@@ -3,15 +3,15 @@ use Rattle.std.proofs.Common.{◌≡◌, ℕ, zero, suc, ◌+◌, ◌<◌, ◌�
 use Rattle.std.proofs.Math.Seq.{get_or-append_seam}
 use Rattle.std.proofs.lemmas.Bool.{cases_lt}
 use Rattle.std.proofs.lemmas.List.{get_or_append_left, get_or_default, length_push}
-use Rattle.dn_model.specs.Forwarding.{AreForwarding, row_low, row_past}
-use Rattle.dn_model.specs.Holes.{AreHoles, AreInOrder, ComesBefore, IsHole, cause_rank, falls, is_cause}
-use Rattle.dn_model.specs.Rows.{CoverFrom}
-use Rattle.dn_model.specs.Runs.{AreApart, AreRuns}
-use Rattle.dn_model.specs.declared.answer.Hole.{Hole}
-use Rattle.dn_model.specs.declared.forwarding_row.ForwardingRow.{ForwardingRow}
-use Rattle.dn_model.specs.declared.ids.RouterId.{RouterId}
-use Rattle.dn_model.specs.declared.target.Target.{Target}
-use Rattle.dn_model.specs.declared.target.Target.TheVariants.{NoRoute}
+use Rattle.base.specs.Forwarding.{AreForwarding, row_low, row_past}
+use Rattle.base.specs.Holes.{AreHoles, AreInOrder, ComesBefore, IsHole, cause_rank, falls, is_cause}
+use Rattle.base.specs.Rows.{CoverFrom}
+use Rattle.base.specs.Runs.{AreApart, AreRuns}
+use Rattle.base.specs.declared.hole.Hole.{Hole}
+use Rattle.base.specs.declared.forwarding_row.ForwardingRow.{ForwardingRow}
+use Rattle.base.specs.declared.ids.RouterId.{RouterId}
+use Rattle.base.specs.declared.target.Target.{Target}
+use Rattle.base.specs.declared.target.Target.TheVariants.{NoRoute}
 use Rattle.label_view.specs.Places.{begin_of}
 use Rattle.label_view.proofs.InRow.{gathered-all}
 use Rattle.blackhole.specs.Gathering.{AreFalls, AreHolesOf, HasFall, IsFall, IsHoleOf}

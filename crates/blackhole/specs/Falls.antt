@@ -1,9 +1,9 @@
 -- Where walks end without a way on.
 use Rattle.std.specs.Prelude.{Bool, false, Option, None, Some, ◌&&◌, ◌==◌, nat_lt, if◌then◌else◌}
-use Rattle.dn_model.specs.Holes.{cause_rank, is_cause}
-use Rattle.dn_model.specs.Reach.{is_router}
-use Rattle.dn_model.specs.declared.ids.RouterId.{RouterId}
-use Rattle.dn_model.specs.declared.target.Target.{Target}
+use Rattle.base.specs.Holes.{cause_rank, is_cause}
+use Rattle.base.specs.Reach.{is_router}
+use Rattle.base.specs.declared.ids.RouterId.{RouterId}
+use Rattle.base.specs.declared.target.Target.{Target}
 
 -- a walk's last router with what it does, if that is a cause
 abbrev pub fall_of : RouterId → Target → Option (RouterId × Target)

@@ -1,11 +1,11 @@
 -- What falls where, gathered from the rows before a place.
 use Rattle.std.specs.Prelude.{ℕ, Bool, true, List, [], Option, ◌≡◌, ◌<◌, length, slice_index_or}
-use Rattle.dn_model.specs.Holes.{cause_rank, is_cause}
-use Rattle.dn_model.specs.Runs.{AreApart}
-use Rattle.dn_model.specs.declared.answer.Hole.{Hole}
-use Rattle.dn_model.specs.declared.forwarding_row.ForwardingRow.{ForwardingRow}
-use Rattle.dn_model.specs.declared.ids.RouterId.{RouterId}
-use Rattle.dn_model.specs.declared.target.Target.{Target}
+use Rattle.base.specs.Holes.{cause_rank, is_cause}
+use Rattle.base.specs.Runs.{AreApart}
+use Rattle.base.specs.declared.hole.Hole.{Hole}
+use Rattle.base.specs.declared.forwarding_row.ForwardingRow.{ForwardingRow}
+use Rattle.base.specs.declared.ids.RouterId.{RouterId}
+use Rattle.base.specs.declared.target.Target.{Target}
 use Rattle.label_view.specs.Places.{AreGatheredTo, IsInRow, begin_of}
 use Rattle.blackhole.specs.Falls.{is_before, is_fall, is_same}
 use Rattle.blackhole.specs.declared.fall.Fall.{Fall}

@@ -1,6 +1,6 @@
 //! Addresses that fall at one place.
 
-use dn_model::{RouterId, Target};
+use base::{RouterId, Target};
 use label_view::runs::RunList;
 
 /// The addresses whose walks end at a router without a way on, by one cause.

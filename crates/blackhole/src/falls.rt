@@ -1,16 +1,16 @@
 //! What falls where, gathered while rows go by.
 
 ghost use Rattle.std.specs.Prelude.{◌≡◌, ℕ, Bool, true, false, ◌+◌, ◌<◌, ◌≤◌, IfSome, OnOk, Some, length, slice_index_or, vec_len};
-ghost use Rattle.dn_model.specs.Forwarding.{AreForwarding};
-ghost use Rattle.dn_model.specs.Holes.{cause_rank, is_cause};
-ghost use Rattle.dn_model.specs.declared.ids.RouterId.{RouterId as RouterIs};
-ghost use Rattle.dn_model.specs.declared.target.Target.{Target as TargetIs};
+ghost use Rattle.base.specs.Forwarding.{AreForwarding};
+ghost use Rattle.base.specs.Holes.{cause_rank, is_cause};
+ghost use Rattle.base.specs.declared.ids.RouterId.{RouterId as RouterIs};
+ghost use Rattle.base.specs.declared.target.Target.{Target as TargetIs};
 ghost use Rattle.label_view.specs.Places.{begin_of};
 ghost use Rattle.blackhole.specs.Gathering.{AreFalls, AreOrdered, TellsRow, is_fall_at, is_fall_before};
 ghost use Rattle.blackhole.specs.declared.fall.Fall.{Fall as FallIs};
 
 use crate::fall::Fall;
-use dn_model::{DropKind, OutOfMemory, RouterId, Target};
+use base::{DropKind, OutOfMemory, RouterId, Target};
 use label_view::LabelView;
 use label_view::runs::RunList;
 use std::alloc::Global;

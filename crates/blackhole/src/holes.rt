@@ -1,14 +1,14 @@
 //! All black holes of a router's walks.
 
 ghost use Rattle.std.specs.Prelude.{◌≡◌, ◌+◌, ◌*◌, ◌<◌, ◌≤◌, IfOk, length};
-ghost use Rattle.dn_model.specs.Forwarding.{does};
-ghost use Rattle.dn_model.specs.Holes.{AreHoles};
+ghost use Rattle.base.specs.Forwarding.{does};
+ghost use Rattle.base.specs.Holes.{AreHoles};
 ghost use Rattle.blackhole.specs.Gathering.{AreHolesOf};
 
 use crate::fall::Fall;
 use crate::falls::add_row;
 use crate::row_fall::row_fall;
-use dn_model::{Hole, List, OutOfMemory, RouterId};
+use base::{Hole, List, OutOfMemory, RouterId};
 use label_view::LabelView;
 use std::alloc::Global;
 use std::sync::ledger::Ledger;

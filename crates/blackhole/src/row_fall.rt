@@ -1,14 +1,14 @@
 //! Where the addresses of one row end without a way on.
 
 ghost use Rattle.std.specs.Prelude.{◌≡◌, ℕ, true, ◌+◌, ◌<◌, ◌≤◌, IfSome, length};
-ghost use Rattle.dn_model.specs.Forwarding.{does};
-ghost use Rattle.dn_model.specs.Holes.{falls, is_cause};
-ghost use Rattle.dn_model.specs.declared.ids.RouterId.{RouterId as RouterIs};
-ghost use Rattle.dn_model.specs.declared.target.Target.{Target as TargetIs};
+ghost use Rattle.base.specs.Forwarding.{does};
+ghost use Rattle.base.specs.Holes.{falls, is_cause};
+ghost use Rattle.base.specs.declared.ids.RouterId.{RouterId as RouterIs};
+ghost use Rattle.base.specs.declared.target.Target.{Target as TargetIs};
 ghost use Rattle.label_view.specs.Places.{IsInRow};
 ghost use Rattle.blackhole.specs.Falls.{fall_of, is_fall};
 
-use dn_model::{RouterId, Target};
+use base::{RouterId, Target};
 use label_view::LabelView;
 use std::sync::ledger::Ledger;
 use step_count::Steps;

@@ -4,8 +4,8 @@ ghost use Rattle.std.specs.Prelude.{◌≡◌, ◌≤◌, []};
 ghost use Rattle.delta_graph.specs.Pushed.{IsPushed};
 
 use crate::network::{FIRST, crosses};
+use base::{Change, RouterId, Run, Target};
 use delta_graph::Delta;
-use dn_model::{Change, RouterId, Run, Target};
 use std::alloc::Global;
 use std::process::Abort;
 

@@ -5,7 +5,7 @@ ghost use Rattle.std.specs.Prelude.{◌≡◌, ◌∷◌, []};
 use crate::network::{FIRST, LAST, PAST, SECOND, THIRD, TO_FIRST, TO_SECOND, row};
 use crate::one_thread::holes_alone;
 use crate::same::compare_hole;
-use dn_model::{DropKind, ForwardingRow, LinkId, List, Run, Target};
+use base::{DropKind, ForwardingRow, LinkId, List, Run, Target};
 use label_view::ListView;
 use std::alloc::Global;
 use std::process::Abort;

@@ -6,8 +6,8 @@ use crate::network::{
     FIRST, LAST, PAST, SECOND, THIRD, TO_FIRST, TO_SECOND, TO_THIRD, crosses, row,
 };
 use crate::same::compare_cycle;
+use base::{Change, LinkId, List, RouterId, Run, Target};
 use delta_graph::Delta;
-use dn_model::{Change, LinkId, List, RouterId, Run, Target};
 use label_view::{LabelView, ListView};
 use loop_keeper::KeptLoops;
 use std::alloc::Global;

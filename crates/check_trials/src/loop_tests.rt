@@ -5,7 +5,7 @@ use crate::network::{
 };
 use crate::one_thread::{cycles_alone, loops_alone};
 use crate::same::compare_cycle;
-use dn_model::{List, RouterId, Target};
+use base::{List, RouterId, Target};
 use label_view::ListView;
 use std::alloc::Global;
 use std::process::Abort;

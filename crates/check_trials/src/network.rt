@@ -2,7 +2,7 @@
 
 ghost use Rattle.std.specs.Prelude.{◌≡◌};
 
-use dn_model::{ForwardingRow, LinkId, List, RouterId, Target};
+use base::{ForwardingRow, LinkId, List, RouterId, Target};
 use label_view::{LabelView, ListView};
 use std::alloc::Global;
 use std::process::Abort;

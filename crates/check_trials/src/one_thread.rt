@@ -2,7 +2,7 @@
 
 ghost use Rattle.std.specs.Prelude.{◌≡◌, ◌<◌, length};
 
-use dn_model::{Cycle, Hole, LinkId, List, PathEnd, RouterId, Run};
+use base::{Cycle, Hole, LinkId, List, PathEnd, RouterId, Run};
 use label_view::LabelView;
 use std::alloc::Global;
 use std::marker::Brand;

@@ -1,6 +1,6 @@
 //! Answers beside what they are to be.
 
-use dn_model::{Cycle, Hole, RouterId, Run, Target};
+use base::{Cycle, Hole, RouterId, Run, Target};
 use std::process::Abort;
 
 /// The hole at a place is this one.

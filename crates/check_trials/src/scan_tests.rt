@@ -2,12 +2,12 @@
 //! processors there are; where 256 divides their number, one more range has none.
 
 ghost use Rattle.std.specs.Prelude.{◌≡◌, ◌≤◌, ◌<◌};
-ghost use Rattle.dn_model.specs.Forwarding.{IsForwarding};
+ghost use Rattle.base.specs.Forwarding.{IsForwarding};
 
 use crate::network::{FIRST, LAST, PAST, SECOND, TO_FIRST, TO_SECOND, row};
 use crate::one_thread::{holes_alone, loops_alone, reach_alone};
 use crate::same::{compare_cycle, compare_cycles, compare_hole, compare_holes};
-use dn_model::{DropKind, ForwardingRow, List, RouterId, Run, Target};
+use base::{DropKind, ForwardingRow, List, RouterId, Run, Target};
 use label_view::ListView;
 use std::alloc::Global;
 use std::process::Abort;

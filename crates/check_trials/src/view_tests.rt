@@ -1,7 +1,7 @@
 //! A view of no router and one row.
 
 use crate::network::{FIRST, LAST, PAST, crosses, row, target_at};
-use dn_model::List;
+use base::List;
 use label_view::{LabelView, ListView};
 use std::alloc::Global;
 use std::process::Abort;

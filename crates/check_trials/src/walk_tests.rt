@@ -4,7 +4,7 @@ ghost use Rattle.std.specs.Prelude.{◌≡◌, ◌<◌};
 
 use crate::network::{FIRST, LAST, SECOND, there_and_back};
 use crate::one_thread::{path_alone, reach_alone, uses_alone};
-use dn_model::{LinkId, PathEnd, RouterId, Run, Target};
+use base::{LinkId, PathEnd, RouterId, Run, Target};
 use label_view::ListView;
 use std::alloc::Global;
 use std::process::Abort;

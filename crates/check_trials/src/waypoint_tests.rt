@@ -4,7 +4,7 @@ ghost use Rattle.std.specs.Prelude.{◌≡◌};
 
 use crate::network::{FIRST, LAST, SECOND, there_and_back};
 use crate::one_thread::waypoint_alone;
-use dn_model::{RouterId, Run};
+use base::{RouterId, Run};
 use label_view::ListView;
 use std::alloc::Global;
 use std::process::Abort;

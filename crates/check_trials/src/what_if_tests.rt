@@ -1,7 +1,7 @@
 //! A view of two routers with links down.
 
 use crate::network::{FIRST, LAST, PAST, SECOND, crosses, row, target_at};
-use dn_model::{LinkId, List, Target};
+use base::{LinkId, List, Target};
 use label_view::{LabelView, ListView};
 use std::alloc::Global;
 use std::process::Abort;

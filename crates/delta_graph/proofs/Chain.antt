@@ -2,10 +2,10 @@
 use Rattle.std.proofs.Common.{◌≡◌, ℕ, ◌+◌, ◌<◌, ◌∙◌, false, cond, Some, None, List, [], ◌∷◌, ◌++◌, refl, ap, sym, subst, inl, inr, ⊎_elim}
 use Rattle.std.proofs.lemmas.Bool.{false_from_ne_true}
 use Rattle.std.proofs.lemmas.Option.{none-some}
-use Rattle.dn_model.specs.Delta.{AreChanges, IsApart, IsApartFromFirst, change_at, is_change_at, targets_of}
-use Rattle.dn_model.specs.declared.change.Change.{Change}
-use Rattle.dn_model.specs.declared.ids.RouterId.{RouterId}
-use Rattle.dn_model.proofs.DeltaOnce.{first-is, not-first}
+use Rattle.base.specs.Delta.{AreChanges, IsApart, IsApartFromFirst, change_at, is_change_at, targets_of}
+use Rattle.base.specs.declared.change.Change.{Change}
+use Rattle.base.specs.declared.ids.RouterId.{RouterId}
+use Rattle.base.proofs.DeltaOnce.{first-is, not-first}
 use Rattle.delta_graph.specs.Joined.{EndsApart, IsApartFromLast}
 
 first-kept : (c : Change) (front back : List Change) → IsApartFromFirst c (front ++ back) → IsApartFromFirst c front

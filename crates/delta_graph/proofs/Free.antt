@@ -2,11 +2,11 @@
 use Rattle.std.proofs.Common.{◌≡◌, ℕ, ◌<◌, ◌≤◌, ◌∙◌, true, false, cond, Option, Some, List, [], ap, sym, subst, ⊎_elim, arith, leb}
 use Rattle.std.specs.Option.{IsSome}
 use Rattle.std.proofs.lemmas.Bool.{and_parts, cases_Bool, false≢true, leb-true}
-use Rattle.dn_model.specs.Delta.{change_at, is_change_at, targets_of}
-use Rattle.dn_model.specs.declared.change.Change.{Change}
-use Rattle.dn_model.specs.declared.ids.RouterId.{RouterId}
-use Rattle.dn_model.specs.declared.target.Target.{Target}
-use Rattle.dn_model.proofs.DeltaOnce.{elsewhere, over, under}
+use Rattle.base.specs.Delta.{change_at, is_change_at, targets_of}
+use Rattle.base.specs.declared.change.Change.{Change}
+use Rattle.base.specs.declared.ids.RouterId.{RouterId}
+use Rattle.base.specs.declared.target.Target.{Target}
+use Rattle.base.proofs.DeltaOnce.{elsewhere, over, under}
 use Rattle.delta_graph.specs.Pushed.{IsPushed, MeetNone, MeetsNone}
 use Rattle.delta_graph.proofs.Joints.{IsAt, is-at}
 

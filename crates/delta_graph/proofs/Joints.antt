@@ -3,12 +3,12 @@ use Rattle.std.proofs.Common.{◌≡◌, ℕ, ◌+◌, ◌<◌, ◌≤◌, ◌^�
 use Rattle.std.proofs.Math.Seq.{drop-cons}
 use Rattle.std.proofs.lemmas.Bool.{and_parts, both_ways, cases_Bool, cases_lt, eqb-true, false_from_ne_true, leb-true}
 use Rattle.std.proofs.lemmas.List.{take-append-drop}
-use Rattle.dn_model.specs.Delta.{AreChanges, GoesOn, IsApartFromFirst, IsChange, change_at, is_change_at, targets_of}
-use Rattle.dn_model.specs.Runs.{holds}
-use Rattle.dn_model.specs.declared.change.Change.{Change}
-use Rattle.dn_model.specs.declared.ids.RouterId.{RouterId}
-use Rattle.dn_model.specs.declared.target.Target.{Target}
-use Rattle.dn_model.proofs.DeltaOnce.{not-first, within}
+use Rattle.base.specs.Delta.{AreChanges, GoesOn, IsApartFromFirst, IsChange, change_at, is_change_at, targets_of}
+use Rattle.base.specs.Runs.{holds}
+use Rattle.base.specs.declared.change.Change.{Change}
+use Rattle.base.specs.declared.ids.RouterId.{RouterId}
+use Rattle.base.specs.declared.target.Target.{Target}
+use Rattle.base.proofs.DeltaOnce.{not-first, within}
 use Rattle.delta_graph.specs.Joined.{EndsApart, JoinsLeft, JoinsRight}
 use Rattle.delta_graph.proofs.Chain.{back-part, ends-apart, ends-start, first-end}
 

@@ -3,11 +3,11 @@ use Rattle.std.proofs.lemmas.List.{drop_more}
 use Rattle.std.proofs.Common.{◌≡◌, ℕ, ◌+◌, ◌<◌, length, drop, get_or, ◌∙◌, true, false, cond, Option, Some, None, List, [], ◌∷◌, refl, ap, sym, subst, inr, ⊎_elim}
 use Rattle.std.specs.Option.{IsSome}
 use Rattle.std.proofs.lemmas.Bool.{cases_Bool, false≢true, and_parts, leb-true}
-use Rattle.dn_model.specs.Delta.{AreChanges, change_at, is_change_at, targets_of}
-use Rattle.dn_model.specs.declared.change.Change.{Change}
-use Rattle.dn_model.specs.declared.ids.RouterId.{RouterId}
-use Rattle.dn_model.specs.declared.target.Target.{Target}
-use Rattle.dn_model.proofs.DeltaOnce.{first-is, none-later, not-first, within}
+use Rattle.base.specs.Delta.{AreChanges, change_at, is_change_at, targets_of}
+use Rattle.base.specs.declared.change.Change.{Change}
+use Rattle.base.specs.declared.ids.RouterId.{RouterId}
+use Rattle.base.specs.declared.target.Target.{Target}
+use Rattle.base.proofs.DeltaOnce.{first-is, none-later, not-first, within}
 use Rattle.delta_graph.specs.Pushed.{AreMerged, IsPushed, MeetNone, MeetsNone, or_else}
 use Rattle.delta_graph.proofs.Joints.{IsAt, is-at}
 

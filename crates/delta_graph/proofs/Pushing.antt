@@ -3,12 +3,12 @@ use Rattle.std.proofs.Common.{◌≡◌, ℕ, ◌-◌, ◌<◌, ◌≤◌, ◌�
 use Rattle.std.proofs.Math.Seq.{drop-cons, take-suc}
 use Rattle.std.proofs.lemmas.Bool.{and_from, both_ways, cases_Bool, cases_lt, cases_order, le-leb}
 use Rattle.std.proofs.lemmas.List.{drop_all, get_or_default, take-append-drop}
-use Rattle.dn_model.specs.Delta.{AreChanges, GoesBefore, IsApart, IsApartFromFirst, IsChange, change_at, is_change_at, targets_of}
-use Rattle.dn_model.specs.Runs.{holds}
-use Rattle.dn_model.specs.declared.change.Change.{Change}
-use Rattle.dn_model.specs.declared.ids.RouterId.{RouterId}
-use Rattle.dn_model.specs.declared.target.Target.{Target}
-use Rattle.dn_model.proofs.DeltaOnce.{first-is, not-first, within}
+use Rattle.base.specs.Delta.{AreChanges, GoesBefore, IsApart, IsApartFromFirst, IsChange, change_at, is_change_at, targets_of}
+use Rattle.base.specs.Runs.{holds}
+use Rattle.base.specs.declared.change.Change.{Change}
+use Rattle.base.specs.declared.ids.RouterId.{RouterId}
+use Rattle.base.specs.declared.target.Target.{Target}
+use Rattle.base.proofs.DeltaOnce.{first-is, not-first, within}
 use Rattle.delta_graph.specs.Joined.{EndsApart, JoinsLeft, JoinsRight}
 use Rattle.delta_graph.specs.Pushed.{IsPushed, MeetsNone}
 use Rattle.delta_graph.proofs.Chain.{back-part, ends-push, ends-start, front-part, glue, none-at, none-front, same-front}

@@ -1,8 +1,8 @@
 -- A change that is joined to what stands before and after its place among others.
 use Rattle.std.specs.Prelude.{ℕ, true, false, List, [], ◌∷◌, take, drop, length, ◌≡◌, ◌+◌, ◌≤◌}
-use Rattle.dn_model.specs.Delta.{IsApart, IsApartFromFirst, IsChange, change_at, is_change_at}
-use Rattle.dn_model.specs.declared.change.Change.{Change}
-use Rattle.dn_model.specs.declared.ids.RouterId.{RouterId}
+use Rattle.base.specs.Delta.{IsApart, IsApartFromFirst, IsChange, change_at, is_change_at}
+use Rattle.base.specs.declared.change.Change.{Change}
+use Rattle.base.specs.declared.ids.RouterId.{RouterId}
 
 abbrev pub IsApartFromLast : Change → List Change → Change → Type 0
 IsApartFromLast f [] c = IsApart f c

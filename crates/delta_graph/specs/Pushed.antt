@@ -1,11 +1,11 @@
 -- What a push and a merge make of changes.
 use Rattle.std.specs.Prelude.{ℕ, List, Option, None, Some, IsSome, IsTrue, filter, map, ◌≡◌, ◌==◌, if◌then◌else◌}
-use Rattle.dn_model.specs.Delta.{AreChanges, change_at, is_change_at}
-use Rattle.dn_model.specs.Runs.{holds}
-use Rattle.dn_model.specs.declared.change.Change.{Change}
-use Rattle.dn_model.specs.declared.ids.RouterId.{RouterId}
-use Rattle.dn_model.specs.declared.run.Run.{Run}
-use Rattle.dn_model.specs.declared.target.Target.{Target}
+use Rattle.base.specs.Delta.{AreChanges, change_at, is_change_at}
+use Rattle.base.specs.Runs.{holds}
+use Rattle.base.specs.declared.change.Change.{Change}
+use Rattle.base.specs.declared.ids.RouterId.{RouterId}
+use Rattle.base.specs.declared.run.Run.{Run}
+use Rattle.base.specs.declared.target.Target.{Target}
 
 -- no kept run of the change's router meets its run
 abbrev pub MeetsNone : List Change → Change → Type 0

@@ -1,12 +1,12 @@
 //! The changes of an update.
 
 ghost use Rattle.std.specs.Prelude.{◌≡◌, ◌-◌, ◌<◌, ◌≤◌, [], OnOk, OnErr, IfOk, length, slice_index_or};
-ghost use Rattle.dn_model.specs.Delta.{AreChanges, GoesBefore, IsChange};
+ghost use Rattle.base.specs.Delta.{AreChanges, GoesBefore, IsChange};
 ghost use Rattle.delta_graph.specs.Joined.{JoinsLeft, JoinsRight};
 ghost use Rattle.delta_graph.specs.Pushed.{MeetsNone, IsPushed, MeetNone, AreMerged, runs_of};
 
 use crate::join::{goes_before, goes_on, joined, replace};
-use dn_model::{Change, List, OutOfMemory, RouterId, Run};
+use base::{Change, List, OutOfMemory, RouterId, Run};
 use std::alloc::Global;
 use std::marker::Model;
 
@@ -19,8 +19,8 @@ pub struct Delta {
 
 impl Model for Delta {
     ghost use Rattle.std.specs.Prelude.{List};
-    ghost use Rattle.dn_model.specs.declared.change.Change.{Change};
-    ghost use Rattle.dn_model.specs.Delta.{AreChanges};
+    ghost use Rattle.base.specs.declared.change.Change.{Change};
+    ghost use Rattle.base.specs.Delta.{AreChanges};
 
     ghost Value = { List Change };
 

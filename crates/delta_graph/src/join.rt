@@ -1,9 +1,9 @@
 //! Two changes beside each other, and the places that a change has among others.
 
 ghost use Rattle.std.specs.Prelude.{◌≡◌, ◌+◌, ◌-◌, ◌<◌, ◌≤◌, ◌∷◌, ◌++◌, IsTrue, IsFalse, OnOk, OnErr, length, take, drop};
-ghost use Rattle.dn_model.specs.Delta.{GoesBefore, GoesOn};
+ghost use Rattle.base.specs.Delta.{GoesBefore, GoesOn};
 
-use dn_model::{Change, OutOfMemory, Run};
+use base::{Change, OutOfMemory, Run};
 
 /// Whether a change goes before another: by router, then address.
 pub fn goes_before(first: &Change, second: &Change) -> bool

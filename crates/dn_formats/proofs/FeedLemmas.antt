@@ -6,7 +6,7 @@ use Rattle.std.specs.Prelude.{if◌then◌else◌}
 use Rattle.dn_formats.specs.Attributes.{padded}
 use Rattle.dn_formats.specs.Payload.{IsPayload, Ruling, Refuses, Skips, said, said_after, ruling_of, nothing_more, message_length}
 use Rattle.dn_formats.specs.Steps.{FrameStep}
-use Rattle.dn_model.specs.declared.ids.RouterId.{RouterId}
+use Rattle.base.specs.declared.ids.RouterId.{RouterId}
 use Rattle.dn_formats.specs.declared.payload.Payload.{Payload}
 use Rattle.dn_model.specs.declared.topology.Topology.{Topology}
 use Rattle.dn_formats.specs.declared.told.FeedEnd.{FeedEnd}

@@ -3,6 +3,7 @@ pub mod Digits
 pub mod FeedLemmas
 pub mod FramesLemmas
 pub mod LawfulLemmas
+pub mod MainTables
 pub mod RoomLemmas
 pub mod TopologyLinksSound
 pub mod TopologySound

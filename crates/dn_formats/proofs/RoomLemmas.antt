@@ -11,7 +11,7 @@ use Rattle.dn_formats.specs.Message.{op_of}
 use Rattle.dn_formats.specs.Payload.{IsPayload, Ruling, Refuses, Skips, said, said_after, ruling_of, nothing_more, message_length, route_of}
 use Rattle.dn_formats.specs.Steps.{Accepted}
 use Rattle.dn_model.specs.declared.entry.Op.{Op}
-use Rattle.dn_model.specs.declared.ids.RouterId.{RouterId}
+use Rattle.base.specs.declared.ids.RouterId.{RouterId}
 use Rattle.dn_formats.specs.declared.payload.Payload.{Payload}
 use Rattle.dn_formats.specs.declared.payload.Refused.{Refused as Refusal}
 use Rattle.dn_model.specs.declared.topology.Topology.{Topology}

@@ -1,5 +1,5 @@
 -- The links and the edges of a document without a fault are those of a sound topology.
-use Rattle.std.proofs.Common.{◌≡◌, ℕ, ◌+◌, ◌<◌, ◌≤◌, Bool, true, false, not, ◌&&◌, ◌||◌, ◌==◌, nat_le, nat_lt, codes, List, [], ◌∷◌, ◌++◌, length, drop, map, Option, Some, None, is_none, option_and_then, position, cond, refl, sym, ap, ◌∙◌, arith, lit≤, Result, Ok, Err, append_assoc, length-append}
+use Rattle.std.proofs.Common.{◌≡◌, ℕ, ◌+◌, ◌<◌, ◌≤◌, Bool, true, false, not, ◌&&◌, ◌||◌, ◌==◌, nat_le, nat_lt, List, [], ◌∷◌, ◌++◌, length, drop, map, Option, Some, None, is_none, option_and_then, position, cond, refl, sym, ap, ◌∙◌, arith, lit≤, Result, Ok, Err, append_assoc, length-append}
 use Rattle.std.proofs.lemmas.Bool.{and_parts, and_from, or_parts, not-false, le-leb, lt-ltb, leb-false, true≢false, and_left}
 use Rattle.std.proofs.lemmas.Option.{same_Some}
 use Rattle.std.proofs.lemmas.List.{append-nil, map-append}
@@ -12,12 +12,15 @@ use Rattle.dn_model.specs.declared.topology.TopoEnd.{TopoEnd}
 use Rattle.dn_model.specs.declared.topology.TopoLink.{TopoLink}
 use Rattle.dn_formats.specs.declared.topology_fault.TopoFault.{TopoFault}
 use Rattle.dn_formats.specs.declared.topology_fault.TopoPart.TheVariants.{Routers, Link, Edge}
-use Rattle.dn_formats.specs.declared.topology_cause.TheConstants.{TOO_LONG}
-use Rattle.dn_model.specs.Name.{is_name_text}
-use Rattle.dn_model.specs.Topology.{same_text, same_end, all_differ, all_ends, is_end_of, is_link_of, is_sound_topology}
+use Rattle.dn_formats.specs.TopologyCauses.{too_long}
+use Rattle.base.specs.Name.{is_name_text}
+use Rattle.base.specs.Name.{same_text}
+use Rattle.dn_model.specs.Topology.{Parts, device_in, same_end, all_ends, is_end_of, is_link_of, are_tables, is_sound_topology}
+use Rattle.base.specs.Lists.{all_differ}
 use Rattle.dn_formats.specs.EndText.{read_end, end_at}
 use Rattle.dn_formats.specs.Decimal.{is_decimal, decimal_value, number_within}
-use Rattle.dn_formats.specs.TopologyText.{passes, standing, faults_along, has_text, has_end, link_from, link_of_table, both_ends, ends_of_table, ends_of_entry, link_of_entry, name_of_entry, end_of_entry, name_in, ends_in, unnumbered_in, at_in, link_table, links_said, edge_table, edges_said, router_table, routers_said, Parts, parts_of, faults_of, unless_faulty, entries_at, topology_of, top_fault, top_causes, said_by, document_of}
+use Rattle.dn_formats.specs.TopologyText.{passes, standing, faults_along, has_text, has_end, link_from, link_of_table, both_ends, ends_of_table, ends_of_entry, link_of_entry, name_of_entry, end_of_entry, name_in, ends_in, unnumbered_in, at_in, link_table, links_said, edge_table, edges_said, router_table, routers_said, main_tables, Sections, sections_of, parts_said, list_faults, parts_of, faults_of, unless_faulty, topology_of, top_fault, top_causes, said_by, document_of}
+use Rattle.dn_formats.proofs.MainTables.{main_device, main_tables-sound}
 use Rattle.dn_formats.proofs.TopologySound.{AreRouters, routers_sound, NoneStands, none_stands, map_empty, front_empty, back_empty, all_differ-push}
 
 -- ---- ends
@@ -111,22 +114,30 @@ pub record AreLinks (routers : List (List ℕ)) (es : List Data) : Type 0 where
   pub sound : list_all (is_link_of (length routers)) (links_said routers es) ≡ true
   pub named : filter_map name_of_entry es ≡ map (λ l. l.name) (links_said routers es)
   pub names : all_differ same_text (map (λ l. l.name) (links_said routers es)) ≡ true
-  pub ends : all_differ same_end (all_ends (links_said routers es)) ≡ true
+  pub ends : all_differ (same_end (main_tables routers)) (all_ends (links_said routers es)) ≡ true
+
+-- ends at two devices aren't the same interface
+ends_apart : (routers : List (List ℕ)) (a b : TopoEnd) → (a.router.0 == b.router.0) ≡ false → same_end (main_tables routers) a b ≡ false
+ends_apart routers a b apart =
+    let devices : ((device_in (main_tables routers) a.router).0 == (device_in (main_tables routers) b.router).0) ≡ false =
+    rw (main_device routers a.router, main_device routers b.router) apart in
+    and_left _ _ devices
 
 -- one more link whose ends are new and differ
-pub ends_push : (ls : List TopoLink) (l : TopoLink) → all_differ same_end (all_ends ls) ≡ true → (l.first.router.0 == l.second.router.0) ≡ false
-    → (has_end (all_ends ls) l.first || has_end (all_ends ls) l.second) ≡ false → all_differ same_end (all_ends (ls ++ l ∷ [])) ≡ true
-ends_push ls l differ apart fresh =
-    let parts = or_parts (has_end (all_ends ls) l.first) (has_end (all_ends ls) l.second) fresh in
-    let other : same_end l.first l.second ≡ false = and_left _ _ apart in
-    let seconds : list_any (λ y. same_end y l.second) (all_ends ls ++ l.first ∷ []) ≡ false =
-    rw (list_any-append (λ y. same_end y l.second) (all_ends ls) (l.first ∷ []), parts.1, other) in
+pub ends_push : (routers : List (List ℕ)) (ls : List TopoLink) (l : TopoLink) → all_differ (same_end (main_tables routers)) (all_ends ls) ≡ true → (l.first.router.0 == l.second.router.0) ≡ false
+    → (has_end (main_tables routers) (all_ends ls) l.first || has_end (main_tables routers) (all_ends ls) l.second) ≡ false → all_differ (same_end (main_tables routers)) (all_ends (ls ++ l ∷ [])) ≡ true
+ends_push routers ls l differ apart fresh =
+    let same : TopoEnd → TopoEnd → Bool = same_end (main_tables routers) in
+    let parts = or_parts (has_end (main_tables routers) (all_ends ls) l.first) (has_end (main_tables routers) (all_ends ls) l.second) fresh in
+    let other : same l.first l.second ≡ false = ends_apart routers l.first l.second apart in
+    let seconds : list_any (λ y. same y l.second) (all_ends ls ++ l.first ∷ []) ≡ false =
+    rw (list_any-append (λ y. same y l.second) (all_ends ls) (l.first ∷ []), parts.1, other) in
     rw (all_ends-push ls l)
-    (all_differ-push same_end (all_ends ls ++ l.first ∷ []) l.second (all_differ-push same_end (all_ends ls) l.first differ parts.0) seconds)
+    (all_differ-push same (all_ends ls ++ l.first ∷ []) l.second (all_differ-push same (all_ends ls) l.first differ parts.0) seconds)
 
 link_push : (routers : List (List ℕ)) (es : List Data) (x : Data) (l : TopoLink) → link_of_entry routers x ≡ Some l → AreLinks routers es → nat_le 4096 (length es) ≡ false
     → passes (λ n. not (is_name_text n)) (name_of_entry x) ≡ false → passes (has_text (filter_map name_of_entry es)) (name_of_entry x) ≡ false
-    → (l.first.router.0 == l.second.router.0) ≡ false → (has_end (all_ends (links_said routers es)) l.first || has_end (all_ends (links_said routers es)) l.second) ≡ false
+    → (l.first.router.0 == l.second.router.0) ≡ false → (has_end (main_tables routers) (all_ends (links_said routers es)) l.first || has_end (main_tables routers) (all_ends (links_said routers es)) l.second) ≡ false
     → AreLinks routers (es ++ x ∷ [])
 link_push routers es x l is sound few named fresh apart ends =
     let said : links_said routers (es ++ x ∷ []) ≡ links_said routers es ++ l ∷ [] = filter_map-append (link_of_entry routers) es (x ∷ []) ∙ rw is in
@@ -146,21 +157,21 @@ link_push routers es x l is sound few named fresh apart ends =
       sound = rw (said, list_all-append (is_link_of (length routers)) (links_said routers es) (l ∷ []), sound.sound) (and_from _ _ good refl);
       named = rw (said, more_named, entries_named, sound.named);
       names = rw (said, more_named) (all_differ-push same_text (map (λ (k : TopoLink). k.name) (links_said routers es)) l.name sound.names (rw (← sound.named) new_name));
-      ends = rw said (ends_push (links_said routers es) l sound.ends apart ends);
+      ends = rw said (ends_push routers (links_said routers es) l sound.ends apart ends);
     }
 
 -- an entry at which no row of its table stands
 link_step : (routers : List (List ℕ)) (es : List Data) (x : Data) (l : Option TopoLink) → link_of_entry routers x ≡ l → AreLinks routers es → nat_le 4096 (length es) ≡ false
     → passes (λ n. not (is_name_text n)) (name_of_entry x) ≡ false → passes (has_text (filter_map name_of_entry es)) (name_of_entry x) ≡ false
     → is_none l ≡ false → passes (λ both. both.0.router.0 == both.1.router.0) (ends_of_entry routers x) ≡ false
-    → passes (λ both. has_end (all_ends (links_said routers es)) both.0 || has_end (all_ends (links_said routers es)) both.1) (ends_of_entry routers x) ≡ false → AreLinks routers (es ++ x ∷ [])
+    → passes (λ both. has_end (main_tables routers) (all_ends (links_said routers es)) both.0 || has_end (main_tables routers) (all_ends (links_said routers es)) both.1) (ends_of_entry routers x) ≡ false → AreLinks routers (es ++ x ∷ [])
 link_step routers es x None is sound few named fresh there apart ends = absurd (true≢false there)
 link_step routers es x (Some l) is sound few named fresh there apart ends =
     let ends_are : ends_of_entry routers x ≡ Some (l.first, l.second) = (link_of_entry-parts routers x l is).ends in
     let taken = all_ends (links_said routers es) in
     link_push routers es x l is sound few named fresh
     (ap (passes (λ both. both.0.router.0 == both.1.router.0)) (sym ends_are) ∙ apart)
-    (ap (passes (λ both. has_end taken both.0 || has_end taken both.1)) (sym ends_are) ∙ ends)
+    (ap (passes (λ both. has_end (main_tables routers) taken both.0 || has_end (main_tables routers) taken both.1)) (sym ends_are) ∙ ends)
 
 pub link_next : (routers : List (List ℕ)) (es : List Data) (x : Data) → AreLinks routers es → NoneStands (link_table routers es) x → AreLinks routers (es ++ x ∷ [])
 link_next routers es x sound rows =
@@ -181,10 +192,10 @@ pub record AreEdges (routers : List (List ℕ)) (links : List TopoLink) (es : Li
   pub few : length es ≤ 16384
   pub as_many : length (edges_said routers es) ≡ length es
   pub sound : list_all (is_end_of (length routers)) (edges_said routers es) ≡ true
-  pub ends : all_differ same_end (all_ends links ++ edges_said routers es) ≡ true
+  pub ends : all_differ (same_end (main_tables routers)) (all_ends links ++ edges_said routers es) ≡ true
 
 edge_step : (routers : List (List ℕ)) (links : List TopoLink) (es : List Data) (x : Data) (e : Option TopoEnd) → end_of_entry routers x ≡ e → AreEdges routers links es → nat_le 16384 (length es) ≡ false
-    → is_none e ≡ false → passes (has_end (all_ends links ++ edges_said routers es)) e ≡ false → AreEdges routers links (es ++ x ∷ [])
+    → is_none e ≡ false → passes (has_end (main_tables routers) (all_ends links ++ edges_said routers es)) e ≡ false → AreEdges routers links (es ++ x ∷ [])
 edge_step routers links es x None is sound few there fresh = absurd (true≢false there)
 edge_step routers links es x (Some e) is sound few there fresh =
     let said : edges_said routers (es ++ x ∷ []) ≡ edges_said routers es ++ e ∷ [] = filter_map-append (end_of_entry routers) es (x ∷ []) ∙ rw is in
@@ -195,7 +206,7 @@ edge_step routers links es x (Some e) is sound few there fresh =
       few = rw (length-append es (x ∷ [])) (omega arith);
       as_many = rw (said, length-append (edges_said routers es) (e ∷ []), length-append es (x ∷ []), sound.as_many);
       sound = rw (said, list_all-append (is_end_of (length routers)) (edges_said routers es) (e ∷ []), sound.sound) (and_from _ _ good refl);
-      ends = rw (said, ← append_assoc) (all_differ-push same_end (all_ends links ++ edges_said routers es) e sound.ends fresh);
+      ends = rw (said, ← append_assoc) (all_differ-push (same_end (main_tables routers)) (all_ends links ++ edges_said routers es) e sound.ends fresh);
     }
 
 pub edge_next : (routers : List (List ℕ)) (links : List TopoLink) (es : List Data) (x : Data) → AreEdges routers links es → NoneStands (edge_table routers links es) x → AreEdges routers links (es ++ x ∷ [])
@@ -213,43 +224,46 @@ edges_sound routers links es (x ∷ more) sound none =
 -- ---- the whole
 
 -- lists of entries without a fault say a sound topology
-pub entries_sound : (routers links edges : List Data) → faults_along Routers router_table [] routers ≡ []
-    → faults_along Link (link_table (routers_said routers)) [] links ≡ []
-    → faults_along Edge (edge_table (routers_said routers) (links_said (routers_said routers) links)) [] edges ≡ []
-    → is_sound_topology (routers_said routers) (links_said (routers_said routers) links) (edges_said (routers_said routers) edges) ≡ true
-entries_sound routers links edges no_router no_link no_edge =
-    let names : List (List ℕ) = routers_said routers in
-    let first : AreRouters routers = routers_sound [] routers (record { few = lit≤ tt; as_many = refl; names = refl; differ = refl }) no_router in
-    let second : AreLinks names links = links_sound names [] links (record { few = lit≤ tt; as_many = refl; sound = refl; named = refl; names = refl; ends = refl }) no_link in
-    let third : AreEdges names (links_said names links) edges =
-    edges_sound names (links_said names links) [] edges
-    (record { few = lit≤ tt; as_many = refl; sound = refl; ends = rw (append-nil (all_ends (links_said names links))) second.ends }) no_edge in
+pub entries_sound : (lists : Sections) → faults_along Routers router_table [] lists.routers ≡ []
+    → faults_along Link (link_table (routers_said lists.routers)) [] lists.links ≡ []
+    → faults_along Edge (edge_table (routers_said lists.routers) (links_said (routers_said lists.routers) lists.links)) [] lists.edges ≡ []
+    → is_sound_topology (parts_said lists) ≡ true
+entries_sound lists no_router no_link no_edge =
+    let names : List (List ℕ) = routers_said lists.routers in
+    let links : List TopoLink = links_said names lists.links in
+    let first : AreRouters lists.routers = routers_sound [] lists.routers (record { few = lit≤ tt; as_many = refl; names = refl; differ = refl }) no_router in
+    let second : AreLinks names lists.links = links_sound names [] lists.links (record { few = lit≤ tt; as_many = refl; sound = refl; named = refl; names = refl; ends = refl }) no_link in
+    let third : AreEdges names links lists.edges =
+    edges_sound names links [] lists.edges
+    (record { few = lit≤ tt; as_many = refl; sound = refl; ends = rw (append-nil (all_ends links)) second.ends }) no_edge in
     let few_routers : nat_le (length names) 1024 ≡ true = le-leb _ _ (rw first.as_many first.few) in
-    let few_links : nat_le (length (links_said names links)) 4096 ≡ true = le-leb _ _ (rw second.as_many second.few) in
-    let few_edges : nat_le (length (edges_said names edges)) 16384 ≡ true = le-leb _ _ (rw third.as_many third.few) in
-    and_from _ _ (and_from _ _ (and_from _ _ (and_from _ _ (and_from _ _ (and_from _ _ (and_from _ _ (and_from _ _ few_routers few_links) few_edges) first.names) first.differ) second.sound) second.names) third.sound) third.ends
+    let few_links : nat_le (length links) 4096 ≡ true = le-leb _ _ (rw second.as_many second.few) in
+    let few_edges : nat_le (length (edges_said names lists.edges)) 16384 ≡ true = le-leb _ _ (rw third.as_many third.few) in
+    let tables : are_tables (length names) (main_tables names) ≡ true = main_tables-sound names in
+    and_from _ _ (and_from _ _ (and_from _ _ (and_from _ _ (and_from _ _ (and_from _ _ (and_from _ _ (and_from _ _ (and_from _ _ tables few_routers) few_links) few_edges) first.names) first.differ) second.sound) second.names) third.sound) third.ends
 
-pub document_sound : (doc : Members) → faults_of doc ≡ [] → is_sound_topology (parts_of doc).routers (parts_of doc).links (parts_of doc).edges ≡ true
+-- the same of one list of all their faults
+pub lists_sound : (lists : Sections) → list_faults lists ≡ [] → is_sound_topology (parts_said lists) ≡ true
+lists_sound lists none =
+    let names : List (List ℕ) = routers_said lists.routers in
+    let first : List TopoFault = faults_along Routers router_table [] lists.routers in
+    let second : List TopoFault = faults_along Link (link_table names) [] lists.links in
+    let third : List TopoFault = faults_along Edge (edge_table names (links_said names lists.links)) [] lists.edges in
+    let both : first ++ second ≡ [] = front_empty (first ++ second) third none in
+    entries_sound lists (front_empty first second both) (back_empty first second both) (back_empty (first ++ second) third none)
+
+pub document_sound : (doc : Members) → faults_of doc ≡ [] → is_sound_topology (parts_of doc) ≡ true
 document_sound doc none =
-    let routers : List Data = entries_at (codes "routers") doc in
-    let links : List Data = entries_at (codes "link") doc in
-    let edges : List Data = entries_at (codes "edge") doc in
-    let names : List (List ℕ) = routers_said routers in
-    let first : List TopoFault = faults_along Routers router_table [] routers in
-    let second : List TopoFault = faults_along Link (link_table names) [] links in
-    let third : List TopoFault = faults_along Edge (edge_table names (links_said names links)) [] edges in
-    let lists : first ++ second ++ third ≡ [] = back_empty (map top_fault (standing top_causes doc)) (first ++ second ++ third) none in
-    let both : first ++ second ≡ [] = front_empty (first ++ second) third lists in
-    entries_sound routers links edges (front_empty first second both) (back_empty first second both) (back_empty (first ++ second) third lists)
+    lists_sound (sections_of doc) (back_empty (map top_fault (standing top_causes doc)) (list_faults (sections_of doc)) none)
 
 unless_faulty_sound : (doc : Members) (faults : List TopoFault) (p : Parts) → faults_of doc ≡ faults → unless_faulty faults (parts_of doc) ≡ Ok p
-    → is_sound_topology p.routers p.links p.edges ≡ true
+    → is_sound_topology p ≡ true
 unless_faulty_sound doc [] p none e =
     let said : parts_of doc ≡ p = cc in
     rw (← said) (document_sound doc none)
 unless_faulty_sound doc (f ∷ more) p some e = cc
 
-said_sound : (doc : Option Members) (p : Parts) → said_by doc ≡ Ok p → is_sound_topology p.routers p.links p.edges ≡ true
+said_sound : (doc : Option Members) (p : Parts) → said_by doc ≡ Ok p → is_sound_topology p ≡ true
 said_sound None p e = cc
 said_sound (Some doc) p e = unless_faulty_sound doc (faults_of doc) p refl e
 
@@ -258,5 +272,5 @@ past_test true fault r p e = cc
 past_test false fault r p e = e
 
 -- what a text says of a network is a sound topology
-pub topology_of-sound : (bytes : List ℕ) (p : Parts) → topology_of bytes ≡ Ok p → is_sound_topology p.routers p.links p.edges ≡ true
-topology_of-sound bytes p e = said_sound (document_of bytes) p (past_test (nat_lt 16777216 (length bytes)) (top_fault TOO_LONG) (said_by (document_of bytes)) p e)
+pub topology_of-sound : (bytes : List ℕ) (p : Parts) → topology_of bytes ≡ Ok p → is_sound_topology p ≡ true
+topology_of-sound bytes p e = said_sound (document_of bytes) p (past_test (nat_lt 16777216 (length bytes)) (top_fault too_long) (said_by (document_of bytes)) p e)

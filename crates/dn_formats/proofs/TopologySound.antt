@@ -7,8 +7,9 @@ use Rattle.std.proofs.lemmas.List.Folds.{list_all-append, list_any-append}
 use Rattle.std.specs.List.{list_any, list_all}
 use Rattle.toml.specs.Data.{Data, as_str}
 use Rattle.dn_formats.specs.declared.topology_fault.TopoPart.TheVariants.{Routers}
-use Rattle.dn_model.specs.Name.{is_name_text}
-use Rattle.dn_model.specs.Topology.{same_text, all_differ}
+use Rattle.base.specs.Name.{is_name_text}
+use Rattle.base.specs.Name.{same_text}
+use Rattle.base.specs.Lists.{all_differ}
 use Rattle.dn_formats.specs.TopologyText.{passes, standing, faults_along, has_text, router_table, routers_said}
 
 -- ---- lists without a fault

@@ -5,17 +5,17 @@ use Rattle.dn_model.specs.Lookup.{link_of}
 use Rattle.dn_model.specs.Query.{Question, names_of, text_of_name}
 use Rattle.dn_model.specs.declared.answer.Answer.{Answer}
 use Rattle.dn_model.specs.declared.answer.Answer.TheVariants as answer
-use Rattle.dn_model.specs.declared.answer.Cycle.{Cycle}
-use Rattle.dn_model.specs.declared.answer.Hole.{Hole}
-use Rattle.dn_model.specs.declared.answer.PathEnd.{PathEnd}
-use Rattle.dn_model.specs.declared.answer.PathEnd.TheVariants.{At, Loop}
-use Rattle.dn_model.specs.declared.change.Change.{Change}
-use Rattle.dn_model.specs.declared.ids.RouterId.{RouterId}
+use Rattle.base.specs.declared.cycle.Cycle.{Cycle}
+use Rattle.base.specs.declared.hole.Hole.{Hole}
+use Rattle.base.specs.declared.path_end.PathEnd.{PathEnd}
+use Rattle.base.specs.declared.path_end.PathEnd.TheVariants.{At, Loop}
+use Rattle.base.specs.declared.change.Change.{Change}
+use Rattle.base.specs.declared.ids.RouterId.{RouterId}
 use Rattle.dn_model.specs.declared.query.Ask.{Ask}
 use Rattle.dn_model.specs.declared.query.Ask.TheVariants.{Path, Reach, Uses, Loops, Blackholes, Waypoint, Delta}
 use Rattle.dn_model.specs.declared.query.Unknown.{Unknown}
 use Rattle.dn_model.specs.declared.query.Unknown.TheVariants.{Router, Link}
-use Rattle.dn_model.specs.declared.run.Run.{Run}
+use Rattle.base.specs.declared.run.Run.{Run}
 use Rattle.dn_model.specs.declared.topology.TopoLink.{TopoLink}
 use Rattle.dn_model.specs.declared.topology.Topology.{Topology}
 use Rattle.dn_formats.specs.Texts.{line, address_text, run_text, name_of_router, target_text}

@@ -2,7 +2,7 @@
 use Rattle.std.specs.Prelude.{ℕ, List, take, drop, ◌==◌, ◌+◌, position, Option, None, Some, option_and_then}
 use Rattle.dn_model.specs.declared.topology.TopoEnd.{TopoEnd}
 use Rattle.dn_formats.specs.Decimal.{number_within}
-use Rattle.dn_model.specs.Topology.{same_text}
+use Rattle.base.specs.Name.{same_text}
 
 -- the end of this router, by its place, and this interface
 abbrev pub end_at : Option ℕ → Option ℕ → Option TopoEnd

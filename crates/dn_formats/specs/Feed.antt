@@ -7,14 +7,14 @@ use Rattle.dn_formats.specs.Frames.{Frame, Frames, FrameRest, NoRest, CutFrame, 
 use Rattle.dn_formats.specs.Message.{op_of}
 use Rattle.dn_formats.specs.Payload.{IsPayload}
 use Rattle.dn_formats.specs.Steps.{FrameStep, Accepted, Refused}
-use Rattle.dn_model.specs.declared.ids.RouterId.{RouterId}
+use Rattle.base.specs.declared.ids.RouterId.{RouterId}
 use Rattle.dn_model.specs.declared.entry.Op.{Op}
 use Rattle.dn_formats.specs.declared.payload.Item.{Item}
 use Rattle.dn_formats.specs.declared.payload.ItemKind.{ItemKind}
 use Rattle.dn_formats.specs.declared.payload.ItemKind.TheVariants.{Route, Skipped}
 use Rattle.dn_formats.specs.declared.payload.Payload.{Payload}
 use Rattle.dn_formats.specs.declared.payload.Refused.{Refused as Refusal}
-use Rattle.dn_formats.specs.declared.frame_cause.TheConstants.{UNKNOWN_INTERFACE, FRAME_TYPE, BAD_VERSION, BAD_FRAME_LENGTH}
+use Rattle.dn_formats.specs.FrameCauses.{unknown_interface, frame_type, bad_version, bad_frame_length}
 use Rattle.dn_model.specs.declared.topology.Topology.{Topology}
 use Rattle.dn_formats.specs.declared.told.FeedEnd.{FeedEnd}
 use Rattle.dn_formats.specs.declared.told.FeedEnd.TheVariants.{End, CutShort, Lost, TooLong}
@@ -28,7 +28,7 @@ op_said t r (Skipped skip) = None
 
 -- A message is refused at its place where it is a route without an update: its interface isn't the router's.
 abbrev pub refusal_unless : ℕ → Option Op → Option Refusal
-refusal_unless at None = Some (record { at = at; cause = UNKNOWN_INTERFACE })
+refusal_unless at None = Some (record { at = at; cause = unknown_interface })
 refusal_unless at (Some op) = None
 
 abbrev pub refusal_said : Topology → RouterId → ℕ → ItemKind → Option Refusal
@@ -79,7 +79,7 @@ pub record IsNetlinkStep (t : Topology) (r : RouterId) (offset : ℕ) (frame : F
 -- a frame of another kind is refused, whatever it holds
 pub record IsOtherStep (offset : ℕ) (frame : Frame) (step : FrameStep) : Type 0 where
   pub other : frame.kind ≢ 1
-  pub refused : step ≡ Refused (record { offset = offset; at = 0; cause = FRAME_TYPE })
+  pub refused : step ≡ Refused (record { offset = offset; at = 0; cause = frame_type })
 
 -- what the frame at this offset of this router's feed comes to
 abbrev pub IsStep : Topology → RouterId → ℕ → Frame → FrameStep → Type 0
@@ -95,8 +95,8 @@ AreSteps t r offset (f ∷ fs) (s ∷ ss) = IsStep t r offset f s × AreSteps t 
 -- How a feed ends whose rest, at this offset, is of this kind. One that goes on past its limit is too long, unless
 -- the framing was lost before.
 abbrev pub ending : FrameRest → ℕ → Bool → FeedEnd
-ending BadVersion offset is_longer = Lost offset BAD_VERSION
-ending BadFrameLength offset is_longer = Lost offset BAD_FRAME_LENGTH
+ending BadVersion offset is_longer = Lost offset bad_version
+ending BadFrameLength offset is_longer = Lost offset bad_frame_length
 ending NoRest offset is_longer = if is_longer then TooLong else End
 ending CutFrame offset is_longer = if is_longer then TooLong else CutShort offset
 

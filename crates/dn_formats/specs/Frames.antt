@@ -2,7 +2,7 @@
 use Rattle.std.specs.Prelude.{◌≡◌, ℕ, ◌+◌, ◌<◌, ◌≤◌, ◌==◌, nat_lt, if◌then◌else◌, List, [], ◌∷◌, ◌++◌, length, All, Option, Some, None}
 use Rattle.std.specs.List.{flat_map}
 use Rattle.std.specs.Int.{w16, to_be_bytes, from_be_bytes}
-use Rattle.dn_formats.specs.declared.frame_cause.TheConstants.{BAD_VERSION, BAD_FRAME_LENGTH}
+use Rattle.dn_formats.specs.FrameCauses.{bad_version, bad_frame_length}
 
 -- a frame: the kind of its payload (0 none, 1 netlink, 2 protobuf), and the payload
 pub record Frame : Type 0 where
@@ -47,8 +47,8 @@ rest_kind (version ∷ bytes) = if version == 1 then rest_after_version bytes el
 abbrev pub lost_cause : FrameRest → Option ℕ
 lost_cause NoRest = None
 lost_cause CutFrame = None
-lost_cause BadVersion = Some BAD_VERSION
-lost_cause BadFrameLength = Some BAD_FRAME_LENGTH
+lost_cause BadVersion = Some bad_version
+lost_cause BadFrameLength = Some bad_frame_length
 
 -- the texts of frames, one after another
 abbrev pub frames_text : List Frame → List ℕ

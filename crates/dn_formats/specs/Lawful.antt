@@ -6,7 +6,7 @@ use Rattle.dn_model.specs.Answer.{IsAnswer}
 use Rattle.dn_model.specs.Entry.{is_of_feed}
 use Rattle.dn_model.specs.Query.{Question, unknown_of}
 use Rattle.dn_formats.specs.Steps.{FrameStep, updates, FeedRead, kept_of, entries_of}
-use Rattle.dn_model.specs.declared.ids.RouterId.{RouterId}
+use Rattle.base.specs.declared.ids.RouterId.{RouterId}
 use Rattle.dn_model.specs.declared.topology.Topology.{Topology}
 use Rattle.dn_model.specs.declared.entry.Entry.{Entry}
 use Rattle.dn_model.specs.declared.entry.Op.{Op}

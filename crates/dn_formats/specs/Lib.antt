@@ -4,14 +4,17 @@ pub mod Causes
 pub mod Decimal
 pub mod EndText
 pub mod Feed
+pub mod FrameCauses
 pub mod Frames
 pub mod Lawful
 pub mod Message
 pub mod Payload
 pub mod QueryWords
 pub mod Report
+pub mod ScriptCauses
 pub mod ScriptText
 pub mod Steps
 pub mod Texts
+pub mod TopologyCauses
 pub mod TopologyText
 pub mod Words

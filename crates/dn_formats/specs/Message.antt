@@ -2,16 +2,16 @@
 -- are little-endian, as the sender's are; an address is in network byte order.
 use Rattle.std.specs.Prelude.{ℕ, ◌+◌, ◌<◌, ◌^◌, ◌==◌, Bool, true, false, if◌then◌else◌, List, [], ◌∷◌, ◌++◌, length, Option, None, Some, IfSome, unwrap_or, ◌||◌}
 use Rattle.std.specs.Int.{w32, to_be_bytes, to_le_bytes}
-use Rattle.dn_model.specs.Cidr.{Cidr}
+use Rattle.base.specs.Cidr.{Cidr}
 use Rattle.dn_model.specs.Lookup.{port_of}
-use Rattle.dn_model.specs.declared.ids.RouterId.{RouterId}
+use Rattle.base.specs.declared.ids.RouterId.{RouterId}
 use Rattle.dn_model.specs.declared.ports.Port.{Port}
 use Rattle.dn_model.specs.declared.ports.Port.TheVariants.{Link, Edge}
 use Rattle.dn_model.specs.declared.topology.Topology.{Topology}
-use Rattle.dn_model.specs.declared.target.Target.{Target}
-use Rattle.dn_model.specs.declared.target.Target.TheVariants as target
-use Rattle.dn_model.specs.declared.target.Target.TheVariants.{Exit, OnLink, To}
-use Rattle.dn_model.specs.declared.target.DropKind.TheVariants as drop
+use Rattle.base.specs.declared.target.Target.{Target}
+use Rattle.base.specs.declared.target.Target.TheVariants as target
+use Rattle.base.specs.declared.target.Target.TheVariants.{Exit, OnLink, To}
+use Rattle.base.specs.declared.target.DropKind.TheVariants as drop
 use Rattle.dn_model.specs.declared.entry.Op.{Op}
 use Rattle.dn_model.specs.declared.entry.Op.TheVariants.{Set, Clear}
 use Rattle.dn_formats.specs.declared.raw_route.RouteKind.{RouteKind}

@@ -5,10 +5,10 @@
 use Rattle.std.specs.Prelude.{◌≡◌, ℕ, zero, suc, ◌+◌, ◌-◌, ◌%◌, ◌^◌, ◌==◌, nat_lt, Bool, true, false, ◌&&◌, ◌||◌, not, if◌then◌else◌, List, [], ◌∷◌, length, take, drop, slice_index, Option, None, Some, is_none, unwrap_or, IsSome}
 use Rattle.std.specs.List.{list_any}
 use Rattle.std.specs.Int.{w16, w32, from_le_bytes}
-use Rattle.dn_model.specs.Cidr.{Cidr, IsCidr}
+use Rattle.base.specs.Cidr.{Cidr, IsCidr}
 use Rattle.dn_formats.specs.Attributes.{Attribute, padded, attributes_of, has, number_of, address_of, is_bad, rta_dst, rta_oif, rta_gateway, rta_priority, rta_multipath, rta_table, rta_via, rta_newdst, rta_encap_type, rta_encap, rta_nh_id}
 use Rattle.dn_formats.specs.Message.{NumberFits}
-use Rattle.dn_formats.specs.declared.frame_cause.TheConstants.{BAD_LENGTH, SHORT, BAD_ATTR, BAD_PREFIX_LENGTH, SOURCE_OR_TOS, NO_DESTINATION, HOST_BITS, ROUTE_TYPE, MULTIPATH, ENCAP, NEXT_HOP_ID, NO_INTERFACE}
+use Rattle.dn_formats.specs.FrameCauses as causes
 use Rattle.dn_formats.specs.declared.payload.Payload.{Payload}
 use Rattle.dn_formats.specs.declared.payload.Item.{Item}
 use Rattle.dn_formats.specs.declared.payload.ItemKind.{ItemKind}
@@ -125,28 +125,28 @@ pub data Ruling : Type 0 where
 -- The first row that holds of a message decides; a message of which none holds says its route.
 abbrev pub message_rows : List (Ruling × (List ℕ → Bool))
 message_rows = (
-  Refuses BAD_LENGTH,
+  Refuses causes.bad_length,
   λ m. nat_lt (length m) 16 || nat_lt (message_length m) 16
       || nat_lt (length m) (message_length m),
 )
     ∷ (Skips OtherType, λ m. not (is_set m || is_deletion m))
-    ∷ (Refuses SHORT, λ m. nat_lt (message_length m) 28)
+    ∷ (Refuses causes.short, λ m. nat_lt (message_length m) 28)
     ∷ (Skips OtherFamily, λ m. not (family m == 2))
-    ∷ (Refuses BAD_ATTR, λ m. list_any (is_bad (is_set m)) (attributes m))
+    ∷ (Refuses causes.bad_attr, λ m. list_any (is_bad (is_set m)) (attributes m))
     ∷ (Skips OtherTable, λ m. not (is_main (table_of m)))
-    ∷ (Refuses BAD_PREFIX_LENGTH, λ m. nat_lt 32 (prefix_length m))
-    ∷ (Refuses SOURCE_OR_TOS, λ m. not (source_length m == 0) || not (service_type m == 0))
-    ∷ (Refuses NO_DESTINATION, λ m. nat_lt 0 (prefix_length m) && is_none (destination m))
-    ∷ (Refuses HOST_BITS, λ m. not ((prefix_of m).base % 2 ^ (32 - prefix_length m) == 0))
-    ∷ (Refuses ROUTE_TYPE, λ m. is_set m && is_none (kind_of (route_type m)))
-    ∷ (Refuses MULTIPATH, λ m. is_set m && has rta_multipath (attributes m))
+    ∷ (Refuses causes.bad_prefix_length, λ m. nat_lt 32 (prefix_length m))
+    ∷ (Refuses causes.source_or_tos, λ m. not (source_length m == 0) || not (service_type m == 0))
+    ∷ (Refuses causes.no_destination, λ m. nat_lt 0 (prefix_length m) && is_none (destination m))
+    ∷ (Refuses causes.host_bits, λ m. not ((prefix_of m).base % 2 ^ (32 - prefix_length m) == 0))
+    ∷ (Refuses causes.route_type, λ m. is_set m && is_none (kind_of (route_type m)))
+    ∷ (Refuses causes.multipath, λ m. is_set m && has rta_multipath (attributes m))
     ∷ (
-      Refuses ENCAP,
+      Refuses causes.encap,
       λ m. is_set m
           && (has rta_newdst (attributes m) || has rta_encap_type (attributes m) || has rta_encap (attributes m)),
     )
-    ∷ (Refuses NEXT_HOP_ID, λ m. is_set m && has rta_nh_id (attributes m))
-    ∷ (Refuses NO_INTERFACE, λ m. is_set m && route_type m == 1 && is_none (interface m))
+    ∷ (Refuses causes.next_hop_id, λ m. is_set m && has rta_nh_id (attributes m))
+    ∷ (Refuses causes.no_interface, λ m. is_set m && route_type m == 1 && is_none (interface m))
     ∷ []
 
 abbrev pub first_ruling : {A : Type 0} → List (Ruling × (A → Bool)) → A → Option Ruling

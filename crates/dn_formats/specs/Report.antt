@@ -1,13 +1,17 @@
 -- The report, as a text made of what is told: feeds, history, jobs; and the line that stands in its place.
-use Rattle.std.specs.Prelude.{ℕ, List, [], ◌∷◌, ◌++◌, Option, None, Some, length, codes, decimal, ◌+◌}
+use Rattle.std.specs.Prelude.{ℕ, Bool, true, false, List, [], ◌∷◌, ◌++◌, Option, None, Some, length, codes, decimal, ◌+◌}
 use Rattle.std.specs.List.{flat_map}
 use Rattle.dn_model.specs.declared.topology.Topology.{Topology}
 use Rattle.dn_model.specs.declared.entry.Op.{Op}
-use Rattle.dn_model.specs.declared.entry.Op.TheVariants.{Set, Clear}
+use Rattle.dn_model.specs.declared.entry.Op.TheVariants.{Set, SetBy, Clear, Object, NoObject}
 use Rattle.dn_model.specs.declared.entry.Entry.{Entry}
+use Rattle.dn_model.specs.declared.entry.Entry.TheVariants.{Route, Link}
 use Rattle.dn_formats.specs.AnswerText.{told_lines}
-use Rattle.dn_formats.specs.Causes.{name_of_cause, cause_text, topology_causes, script_causes}
-use Rattle.dn_formats.specs.Texts.{line, prefix_text, target_text, name_of_router}
+use Rattle.dn_formats.specs.Causes.{name_of_cause}
+use Rattle.dn_formats.specs.FrameCauses.{cause_text}
+use Rattle.dn_formats.specs.ScriptCauses.{script_causes}
+use Rattle.dn_formats.specs.TopologyCauses.{topology_causes}
+use Rattle.dn_formats.specs.Texts.{line, prefix_text, target_text, name_of_router, name_of_link}
 use Rattle.dn_formats.specs.declared.told.RefusedFrame.{RefusedFrame}
 use Rattle.dn_formats.specs.declared.told.FeedEnd.{FeedEnd}
 use Rattle.dn_formats.specs.declared.told.FeedEnd.TheVariants.{End, CutShort, Lost, TooLong, Full, Faulted}
@@ -24,6 +28,10 @@ op_text t (Set p m target) =
     codes "set " ++ prefix_text p ++ codes " metric " ++ decimal m ++ codes " " ++ target_text t target
 op_text t (Clear p (Some m)) = codes "clear " ++ prefix_text p ++ codes " metric " ++ decimal m
 op_text t (Clear p None) = codes "clear " ++ prefix_text p
+op_text t (SetBy p m id) =
+    codes "set " ++ prefix_text p ++ codes " metric " ++ decimal m ++ codes " by object " ++ decimal id
+op_text t (Object id target) = codes "object " ++ decimal id ++ codes " " ++ target_text t target
+op_text t (NoObject id) = codes "noobject " ++ decimal id
 
 abbrev pub end_text : Option FeedEnd → List ℕ
 end_text None = []
@@ -50,10 +58,19 @@ feed_line t f =
 abbrev pub feed_lines : Topology → FeedTold → List ℕ
 feed_lines t f = feed_line t f ++ flat_map refused_line f.refused
 
+-- what a link does: it goes down or comes up
+abbrev pub link_state_text : Bool → List ℕ
+link_state_text true = codes "down "
+link_state_text false = codes "up "
+
+-- an entry: which feed's update of which router it is, or which job's line of which link
+abbrev pub entry_text : Topology → Entry → List ℕ
+entry_text t (Route r feed op) =
+    codes " feed " ++ decimal feed ++ codes " " ++ name_of_router t r ++ codes " " ++ op_text t op
+entry_text t (Link job l down) = codes " job " ++ decimal job ++ codes " " ++ link_state_text down ++ name_of_link t l
+
 abbrev pub entry_line : Topology → ℕ → Entry → List ℕ
-entry_line t i e =
-    line (decimal i ++ codes " feed " ++ decimal e.feed_no ++ codes " " ++ name_of_router t e.router ++ codes " "
-    ++ op_text t e.op)
+entry_line t i e = line (decimal i ++ entry_text t e)
 
 -- the entries, the first of which is at position i
 abbrev pub entry_lines : Topology → ℕ → List Entry → List ℕ

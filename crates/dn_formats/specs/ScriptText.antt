@@ -5,10 +5,10 @@ use Rattle.std.specs.Option.{option_map, option_to_list}
 use Rattle.std.specs.Str.{bytes_eq}
 use Rattle.dn_formats.specs.Decimal.{number_within}
 use Rattle.dn_formats.specs.QueryWords.{query_of}
-use Rattle.dn_formats.specs.declared.script_cause.TheConstants.{BAD_LINE, TAKE_UNKNOWN, TAKEN_TWICE, TOO_MANY_LINES, TOO_LONG}
-use Rattle.dn_model.specs.Name.{is_name_text}
+use Rattle.dn_formats.specs.ScriptCauses.{bad_line, take_unknown, taken_twice, too_many_lines, too_long}
+use Rattle.base.specs.Name.{is_name_text}
 use Rattle.dn_model.specs.Query.{Question}
-use Rattle.dn_model.specs.declared.ids.RouterId.{RouterId}
+use Rattle.base.specs.declared.ids.RouterId.{RouterId}
 use Rattle.dn_formats.specs.declared.script.Line.{Line}
 use Rattle.dn_formats.specs.declared.script.Line.TheVariants as line
 
@@ -71,30 +71,30 @@ same_router r s = s.0 == r.0
 
 -- the router to take from must have a feed, and no earlier script may take it
 abbrev pub take_from : ℕ → List RouterId → Option ℕ → Option RouterId → Result (Option Line) ℕ
-take_from n taken count None = Err TAKE_UNKNOWN
+take_from n taken count None = Err take_unknown
 take_from n taken count (Some r) =
-    if list_any (same_router r) taken then Err TAKEN_TWICE else Ok (Some (line.Take n r count))
+    if list_any (same_router r) taken then Err taken_twice else Ok (Some (line.Take n r count))
 
 abbrev pub take_count : List (List ℕ) → List RouterId → List RouterId → ℕ → List ℕ → Option (Option ℕ)
     → Result (Option Line) ℕ
-take_count routers feeds taken n name None = Err BAD_LINE
+take_count routers feeds taken n name None = Err bad_line
 take_count routers feeds taken n name (Some count) =
-    if is_name_text name then take_from n taken count (find (is_named routers name) feeds) else Err BAD_LINE
+    if is_name_text name then take_from n taken count (find (is_named routers name) feeds) else Err bad_line
 
 -- `take R N` and `take R all`
 abbrev pub take_meaning : List (List ℕ) → List RouterId → List RouterId → ℕ → Option (List ℕ × List ℕ)
     → Result (Option Line) ℕ
-take_meaning routers feeds taken n None = Err BAD_LINE
+take_meaning routers feeds taken n None = Err bad_line
 take_meaning routers feeds taken n (Some operands) = take_count routers feeds taken n operands.0 (count_of operands.1)
 
 -- a line that asks a query
 abbrev pub ask_meaning : ℕ → Option Question → Result (Option Line) ℕ
-ask_meaning n None = Err BAD_LINE
+ask_meaning n None = Err bad_line
 ask_meaning n (Some query) = Ok (Some (line.Ask n query))
 
 -- what a line's words mean that doesn't pass
 abbrev pub command_meaning : List (List ℕ) → List RouterId → List RouterId → ℕ → List (List ℕ) → Result (Option Line) ℕ
-command_meaning routers feeds taken n [] = Err BAD_LINE
+command_meaning routers feeds taken n [] = Err bad_line
 command_meaning routers feeds taken n (verb ∷ operands) =
     if bytes_eq verb (codes "take") then take_meaning routers feeds taken n (two_of operands)
     else ask_meaning n (query_of verb operands)
@@ -103,7 +103,7 @@ command_meaning routers feeds taken n (verb ∷ operands) =
 abbrev pub line_meaning : List (List ℕ) → List RouterId → List RouterId → ℕ → List ℕ → Result (Option Line) ℕ
 line_meaning routers feeds taken n text =
     if passes (words_of text) then Ok None
-    else if nat_lt 1024 (length text) then Err BAD_LINE
+    else if nat_lt 1024 (length text) then Err bad_line
     else command_meaning routers feeds taken n (words_of text)
 
 abbrev pub at_line : ℕ → Result (Option Line) ℕ → Result (Option Line) ScriptFault
@@ -112,7 +112,7 @@ at_line n (Ok l) = Ok l
 
 -- what line n means within the whole: line 65,537 is refused whatever it says
 abbrev pub numbered : ℕ → Result (Option Line) ℕ → Result (Option Line) ScriptFault
-numbered n meaning = if nat_lt 65536 n then Err (record { line = n; cause = TOO_MANY_LINES }) else at_line n meaning
+numbered n meaning = if nat_lt 65536 n then Err (record { line = n; cause = too_many_lines }) else at_line n meaning
 
 -- a line before the lines after it; the first fault counts
 abbrev pub with_line : Result (Option Line) ScriptFault → Result (List Line) ScriptFault
@@ -130,5 +130,5 @@ lines_meaning meaning n (l ∷ ls) = with_line (numbered n (meaning n l)) (lines
 -- take
 abbrev pub script_of : List (List ℕ) → List RouterId → List RouterId → List ℕ → Result (List Line) ScriptFault
 script_of routers feeds taken bytes =
-    if nat_lt 16777216 (length bytes) then Err (record { line = 0; cause = TOO_LONG })
+    if nat_lt 16777216 (length bytes) then Err (record { line = 0; cause = too_long })
     else lines_meaning (line_meaning routers feeds taken) 1 (lines_of bytes)

@@ -1,9 +1,10 @@
 -- What each frame of a feed comes to, and what is told of a feed.
 use Rattle.std.specs.Prelude.{ℕ, List, [], ◌∷◌, map, sum, take, Some}
 use Rattle.std.specs.List.{flat_map}
-use Rattle.dn_model.specs.declared.ids.RouterId.{RouterId}
+use Rattle.base.specs.declared.ids.RouterId.{RouterId}
 use Rattle.dn_model.specs.declared.entry.Op.{Op}
 use Rattle.dn_model.specs.declared.entry.Entry.{Entry}
+use Rattle.dn_model.specs.declared.entry.Entry.TheVariants.{Route}
 use Rattle.dn_formats.specs.declared.told.RefusedFrame.{RefusedFrame}
 use Rattle.dn_formats.specs.declared.told.FeedEnd.{FeedEnd}
 use Rattle.dn_formats.specs.declared.told.FeedTold.{FeedTold}
@@ -61,7 +62,7 @@ told_of f = record {
 
 -- updates of a router's feed as entries of the history
 abbrev pub entries_by : ℕ → RouterId → List Op → List Entry
-entries_by feed_no router ops = map (λ op. record { router = router; feed_no = feed_no; op = op }) ops
+entries_by feed_no router ops = map (λ op. Route router feed_no op) ops
 
 abbrev pub entries_of : FeedRead → List Op → List Entry
 entries_of f ops = entries_by f.feed_no f.router ops

@@ -1,14 +1,14 @@
 -- How addresses, prefixes, runs and targets are written.
 use Rattle.std.specs.Prelude.{ℕ, List, [], ◌∷◌, ◌++◌, map, codes, decimal, slice_get, unwrap_or, ◌/◌, ◌%◌, ◌^◌}
-use Rattle.dn_model.specs.Cidr.{Cidr}
-use Rattle.dn_model.specs.declared.ids.RouterId.{RouterId}
-use Rattle.dn_model.specs.declared.ids.LinkId.{LinkId}
-use Rattle.dn_model.specs.declared.run.Run.{Run}
+use Rattle.base.specs.Cidr.{Cidr}
+use Rattle.base.specs.declared.ids.RouterId.{RouterId}
+use Rattle.base.specs.declared.ids.LinkId.{LinkId}
+use Rattle.base.specs.declared.run.Run.{Run}
 use Rattle.dn_model.specs.declared.topology.Topology.{Topology}
-use Rattle.dn_model.specs.declared.target.DropKind.{DropKind}
-use Rattle.dn_model.specs.declared.target.DropKind.TheVariants.{Blackhole, Unreachable, Prohibit}
-use Rattle.dn_model.specs.declared.target.Target.{Target}
-use Rattle.dn_model.specs.declared.target.Target.TheVariants.{NoRoute, Dropped, Local, Exit, OnLink, To, LinkDown}
+use Rattle.base.specs.declared.target.DropKind.{DropKind}
+use Rattle.base.specs.declared.target.DropKind.TheVariants.{Blackhole, Unreachable, Prohibit}
+use Rattle.base.specs.declared.target.Target.{Target}
+use Rattle.base.specs.declared.target.Target.TheVariants.{NoRoute, Dropped, Local, Exit, OnLink, To, LinkDown}
 
 -- a line: its text and a line feed
 abbrev pub line : List ℕ → List ℕ

@@ -6,7 +6,9 @@ use Rattle.std.specs.Option.{option_map_or}
 use Rattle.std.specs.Str.{is_utf8}
 use Rattle.toml.specs.Data.{Data, Items, no_items, item, Members, no_members, member, get_member, as_str, as_bool, as_array, as_table}
 use Rattle.toml.specs.Parse.{parse_document}
-use Rattle.dn_formats.specs.declared.topology_cause.TheConstants.{NOT_TOML, UNKNOWN_KEY, MISSING_KEY, BAD_NAME, TWICE_NAMED, BAD_END, END_TWICE, SELF_LINK, TOO_MANY, TOO_LONG}
+use Rattle.dn_formats.specs.TopologyCauses.{not_toml, unknown_key, missing_key, bad_name, twice_named, bad_end, end_twice, self_link, too_many, too_long}
+use Rattle.dn_model.specs.declared.topology.Replace.TheVariants.{Key}
+use Rattle.dn_model.specs.declared.topology.RouterTable.{RouterTable}
 use Rattle.dn_model.specs.declared.topology.TopoEnd.{TopoEnd}
 use Rattle.dn_model.specs.declared.topology.TopoLink.{TopoLink}
 use Rattle.dn_model.specs.declared.topology.Topology.{Topology}
@@ -15,18 +17,11 @@ use Rattle.dn_formats.specs.declared.topology_fault.TopoPart.{TopoPart}
 use Rattle.dn_formats.specs.declared.topology_fault.TopoPart.TheVariants.{Top, Routers, Link, Edge}
 use Rattle.dn_formats.specs.declared.topology_fault.TopoRefused.{TopoRefused}
 use Rattle.dn_formats.specs.declared.topology_fault.TopoRefused.TheVariants.{Fault, OutOfMemory}
-use Rattle.dn_model.specs.Name.{is_name_text}
-use Rattle.dn_model.specs.Topology.{same_text, same_end, all_ends}
+use Rattle.base.specs.Name.{is_name_text}
+use Rattle.base.specs.Name.{same_text}
+use Rattle.dn_model.specs.Tables.{parts}
+use Rattle.dn_model.specs.Topology.{Parts, same_end, all_ends}
 use Rattle.dn_formats.specs.EndText.{read_end}
-
--- what a topology consists of
-pub record Parts : Type 0 where
-  pub routers : List (List ℕ)
-  pub links : List TopoLink
-  pub edges : List TopoEnd
-
-abbrev pub parts : Topology → Parts
-parts t = record { routers = t.routers; links = t.links; edges = t.edges }
 
 -- ---- values of a document
 
@@ -133,20 +128,32 @@ link_of_entry routers d = option_and_then (link_of_table routers) (as_table d)
 abbrev pub end_of_entry : List (List ℕ) → Data → Option TopoEnd
 end_of_entry routers d = option_and_then (read_end routers) (option_and_then at_in (as_table d))
 
+-- ---- the routers' tables
+
+-- the main table of each device, of which the first is this router; a route that is set replaces the one of its key
+abbrev pub main_tables_from : ℕ → List (List ℕ) → List RouterTable
+main_tables_from first [] = []
+main_tables_from first (name ∷ names) =
+    record { device = record { 0 = first }; number = 254; replace = Key } ∷ main_tables_from (first + 1) names
+
+abbrev pub main_tables : List (List ℕ) → List RouterTable
+main_tables routers = main_tables_from 0 routers
+
 -- ---- the tables of causes: each row has a cause, and where it stands
 
 abbrev pub has_text : List (List ℕ) → List ℕ → Bool
 has_text texts name = list_any (λ text. same_text text name) texts
 
-abbrev pub has_end : List TopoEnd → TopoEnd → Bool
-has_end ends end = list_any (λ other. same_end other end) ends
+-- whether one of these ends is the same interface
+abbrev pub has_end : List RouterTable → List TopoEnd → TopoEnd → Bool
+has_end tables ends end = list_any (λ other. same_end tables other end) ends
 
 -- at the top
 abbrev pub top_causes : List (ℕ × (Members → Bool))
 top_causes =
-    (UNKNOWN_KEY, has_key_besides is_top_key)
+    (unknown_key, has_key_besides is_top_key)
     ∷ (
-      MISSING_KEY,
+      missing_key,
       λ doc. is_none (list_at (codes "routers") doc) || is_none (list_or_none_at (codes "link") doc)
           || is_none (list_or_none_at (codes "edge") doc),
     )
@@ -155,39 +162,43 @@ top_causes =
 -- at an entry of `routers`, which so many entries and these names stand before
 abbrev pub router_causes : ℕ → List (List ℕ) → List (ℕ × (Data → Bool))
 router_causes count names =
-    (TOO_MANY, λ entry. nat_le 1024 count)
-    ∷ (MISSING_KEY, λ entry. is_none (as_str entry))
-    ∷ (BAD_NAME, λ entry. passes (λ name. not (is_name_text name)) (as_str entry))
-    ∷ (TWICE_NAMED, λ entry. passes (has_text names) (as_str entry))
+    (too_many, λ entry. nat_le 1024 count)
+    ∷ (missing_key, λ entry. is_none (as_str entry))
+    ∷ (bad_name, λ entry. passes (λ name. not (is_name_text name)) (as_str entry))
+    ∷ (twice_named, λ entry. passes (has_text names) (as_str entry))
     ∷ []
 
 -- at an entry of `link`, which so many entries, these names and these ends stand before
 abbrev pub link_causes : List (List ℕ) → ℕ → List (List ℕ) → List TopoEnd → List (ℕ × (Data → Bool))
 link_causes routers count names ends =
-    (TOO_MANY, λ entry. nat_le 4096 count)
-    ∷ (MISSING_KEY, λ entry. is_none (as_table entry))
-    ∷ (UNKNOWN_KEY, λ entry. passes (has_key_besides is_link_key) (as_table entry))
+    (too_many, λ entry. nat_le 4096 count)
+    ∷ (missing_key, λ entry. is_none (as_table entry))
+    ∷ (unknown_key, λ entry. passes (has_key_besides is_link_key) (as_table entry))
     ∷ (
-      MISSING_KEY,
+      missing_key,
       λ entry. passes (λ ms. is_none (name_in ms) || is_none (ends_in ms)
           || is_none (unnumbered_in ms)) (as_table entry),
     )
-    ∷ (BAD_NAME, λ entry. passes (λ name. not (is_name_text name)) (name_of_entry entry))
-    ∷ (TWICE_NAMED, λ entry. passes (has_text names) (name_of_entry entry))
-    ∷ (BAD_END, λ entry. is_none (ends_of_entry routers entry))
-    ∷ (SELF_LINK, λ entry. passes (λ both. both.0.router.0 == both.1.router.0) (ends_of_entry routers entry))
-    ∷ (END_TWICE, λ entry. passes (λ both. has_end ends both.0 || has_end ends both.1) (ends_of_entry routers entry))
+    ∷ (bad_name, λ entry. passes (λ name. not (is_name_text name)) (name_of_entry entry))
+    ∷ (twice_named, λ entry. passes (has_text names) (name_of_entry entry))
+    ∷ (bad_end, λ entry. is_none (ends_of_entry routers entry))
+    ∷ (self_link, λ entry. passes (λ both. both.0.router.0 == both.1.router.0) (ends_of_entry routers entry))
+    ∷ (
+      end_twice,
+      λ entry. passes (λ both. has_end (main_tables routers) ends both.0
+          || has_end (main_tables routers) ends both.1) (ends_of_entry routers entry),
+    )
     ∷ []
 
 -- at an entry of `edge`, which so many entries and these ends (those of the links too) stand before
 abbrev pub edge_causes : List (List ℕ) → ℕ → List TopoEnd → List (ℕ × (Data → Bool))
 edge_causes routers count ends =
-    (TOO_MANY, λ entry. nat_le 16384 count)
-    ∷ (MISSING_KEY, λ entry. is_none (as_table entry))
-    ∷ (UNKNOWN_KEY, λ entry. passes (has_key_besides is_edge_key) (as_table entry))
-    ∷ (MISSING_KEY, λ entry. passes (λ ms. is_none (at_in ms)) (as_table entry))
-    ∷ (BAD_END, λ entry. is_none (end_of_entry routers entry))
-    ∷ (END_TWICE, λ entry. passes (has_end ends) (end_of_entry routers entry))
+    (too_many, λ entry. nat_le 16384 count)
+    ∷ (missing_key, λ entry. is_none (as_table entry))
+    ∷ (unknown_key, λ entry. passes (has_key_besides is_edge_key) (as_table entry))
+    ∷ (missing_key, λ entry. passes (λ ms. is_none (at_in ms)) (as_table entry))
+    ∷ (bad_end, λ entry. is_none (end_of_entry routers entry))
+    ∷ (end_twice, λ entry. passes (has_end (main_tables routers) ends) (end_of_entry routers entry))
     ∷ []
 
 -- the causes that stand at a value, in the table's order
@@ -224,29 +235,45 @@ link_table routers earlier =
 abbrev pub edge_table : List (List ℕ) → List TopoLink → List Data → List (ℕ × (Data → Bool))
 edge_table routers links earlier = edge_causes routers (length earlier) (all_ends links ++ edges_said routers earlier)
 
--- what the entries of the three lists say, and their faults: those of the routers, then the links, then the edges
-abbrev pub parts_said : List Data → List Data → List Data → Parts
-parts_said routers links edges =
-    record { routers = routers_said routers; links = links_said (routers_said routers) links; edges = edges_said (routers_said routers) edges }
+-- the lists of entries of a document
+pub record Sections : Type 0 where
+  pub routers : List Data
+  pub links : List Data
+  pub edges : List Data
 
-abbrev pub list_faults : List Data → List Data → List Data → List TopoFault
-list_faults routers links edges =
-    faults_along Routers router_table [] routers ++ faults_along Link (link_table (routers_said routers)) [] links
-    ++ faults_along Edge (edge_table (routers_said routers) (links_said (routers_said routers) links)) [] edges
+-- what they say: each router is a device, with its main table
+abbrev pub parts_said : Sections → Parts
+parts_said lists = record {
+  routers = routers_said lists.routers;
+  tables = main_tables (routers_said lists.routers);
+  links = links_said (routers_said lists.routers) lists.links;
+  edges = edges_said (routers_said lists.routers) lists.edges;
+}
+
+-- their faults: those of the routers, then the links, then the edges
+abbrev pub list_faults : Sections → List TopoFault
+list_faults lists =
+    faults_along Routers router_table [] lists.routers
+    ++ faults_along Link (link_table (routers_said lists.routers)) [] lists.links
+    ++ faults_along Edge (edge_table (routers_said lists.routers) (parts_said lists).links) [] lists.edges
+
+abbrev pub sections_of : Members → Sections
+sections_of doc = record {
+  routers = entries_at (codes "routers") doc;
+  links = entries_at (codes "link") doc;
+  edges = entries_at (codes "edge") doc;
+}
 
 -- what a document says
 abbrev pub parts_of : Members → Parts
-parts_of doc =
-    parts_said (entries_at (codes "routers") doc) (entries_at (codes "link") doc) (entries_at (codes "edge") doc)
+parts_of doc = parts_said (sections_of doc)
 
 abbrev pub top_fault : ℕ → TopoFault
 top_fault cause = record { part = Top; entry = 0; cause = cause }
 
 -- its faults: at the top, then in the lists
 abbrev pub faults_of : Members → List TopoFault
-faults_of doc =
-    map top_fault (standing top_causes doc)
-    ++ list_faults (entries_at (codes "routers") doc) (entries_at (codes "link") doc) (entries_at (codes "edge") doc)
+faults_of doc = map top_fault (standing top_causes doc) ++ list_faults (sections_of doc)
 
 -- the first fault, or else what was said
 abbrev pub unless_faulty : {A : Type 0} → List TopoFault → A → Result A TopoFault
@@ -258,12 +285,12 @@ abbrev pub document_of : List ℕ → Option Members
 document_of bytes = if is_utf8 bytes then parse_document bytes else None
 
 abbrev pub said_by : Option Members → Result Parts TopoFault
-said_by None = Err (top_fault NOT_TOML)
+said_by None = Err (top_fault not_toml)
 said_by (Some doc) = unless_faulty (faults_of doc) (parts_of doc)
 
 -- what bytes say of a network
 abbrev pub topology_of : List ℕ → Result Parts TopoFault
-topology_of bytes = if nat_lt 16777216 (length bytes) then Err (top_fault TOO_LONG) else said_by (document_of bytes)
+topology_of bytes = if nat_lt 16777216 (length bytes) then Err (top_fault too_long) else said_by (document_of bytes)
 
 -- a text of this topology
 abbrev pub IsTopologyText : List ℕ → Topology → Type 0

@@ -3,7 +3,7 @@ use Rattle.std.specs.Prelude.{ℕ, Bool, List, [], ◌∷◌, ◌++◌, ◌+◌,
 use Rattle.std.specs.List.{before_first, after_first, filter_map, cons_option}
 use Rattle.dn_formats.specs.declared.error_line.ErrorLine.{ErrorLine}
 use Rattle.dn_formats.specs.declared.error_line.ErrorLine.TheVariants.{BadPart, TooManyParts}
-use Rattle.dn_model.specs.Name.{is_name_text}
+use Rattle.base.specs.Name.{is_name_text}
 use Rattle.dn_formats.specs.ScriptText.{has_bytes}
 
 -- a feed: the name of its router, and its file

@@ -1,17 +1,20 @@
-//! Laws of what is read: a payload and a feed have one reading; and where no history is full it takes all of a feed. Each
-//! function is a law: it does nothing, and its contract says it.
+//! Laws of what is read: a payload and a feed have one reading; where no history is full it takes all of a feed; and each cause
+//! has its number. Each function is a law: it does nothing, and its contract says it.
 
-ghost use Rattle.std.specs.Prelude.{◌≡◌, ℕ, List};
+ghost use Rattle.std.specs.Prelude.{◌≡◌, ℕ, List, [], ◌∷◌};
 ghost use Rattle.dn_formats.specs.Payload.{IsPayload};
 ghost use Rattle.dn_formats.specs.Feed.{IsReading, IsFaultedReading};
 ghost use Rattle.dn_formats.specs.Lawful.{IsKept, kept_by, taken};
 ghost use Rattle.dn_formats.specs.Steps.{FrameStep, FeedRead, updates};
+ghost use Rattle.dn_formats.specs.declared.frame_cause.TheConstants as frame;
+ghost use Rattle.dn_formats.specs.declared.script_cause.TheConstants as script;
+ghost use Rattle.dn_formats.specs.declared.topology_cause.TheConstants as topology;
 ghost use Rattle.dn_formats.specs.declared.script.Line.{Line};
 ghost use Rattle.dn_formats.specs.declared.told.FeedEnd.{FeedEnd};
 ghost use Rattle.dn_formats.specs.declared.told.FeedEnd.TheVariants.{Full};
 ghost use Rattle.dn_formats.specs.declared.payload.Payload.{Payload};
 ghost use Rattle.dn_model.specs.declared.entry.Entry.{Entry};
-ghost use Rattle.dn_model.specs.declared.ids.RouterId.{RouterId};
+ghost use Rattle.base.specs.declared.ids.RouterId.{RouterId};
 ghost use Rattle.dn_model.specs.declared.topology.Topology.{Topology};
 
 /// The bytes of a payload say one thing.
@@ -35,4 +38,20 @@ pub fn failed_feeds_have_one_reading()
 pub fn feeds_are_kept_whole()
     ensures { (limit : ℕ) (history : List Entry) (f : FeedRead) (lines : List Line)
         → IsKept limit history f → (f.end ≡ Full → ⊥) → kept_by lines f ≡ updates (taken lines f) }
+{}
+
+/// Each cause has its number: those of frames 1 to 16, of topologies 1 to 10, of scripts 1 to 5.
+pub fn causes_have_their_numbers()
+    ensures frames { frame.BAD_LENGTH ∷ frame.SHORT ∷ frame.BAD_ATTR ∷ frame.BAD_PREFIX_LENGTH ∷ frame.SOURCE_OR_TOS ∷
+        frame.NO_DESTINATION ∷ frame.HOST_BITS ∷ frame.ROUTE_TYPE ∷ frame.MULTIPATH ∷ frame.ENCAP ∷
+        frame.NEXT_HOP_ID ∷ frame.NO_INTERFACE ∷ frame.UNKNOWN_INTERFACE ∷ frame.FRAME_TYPE ∷
+        frame.BAD_VERSION ∷ frame.BAD_FRAME_LENGTH ∷ []
+        ≡ 1 ∷ 2 ∷ 3 ∷ 4 ∷ 5 ∷ 6 ∷ 7 ∷ 8 ∷ 9 ∷ 10 ∷ 11 ∷ 12 ∷ 13 ∷ 14 ∷ 15 ∷ 16 ∷ [] }
+    ensures topologies { topology.NOT_TOML ∷ topology.UNKNOWN_KEY ∷ topology.MISSING_KEY ∷ topology.BAD_NAME ∷
+        topology.TWICE_NAMED ∷ topology.BAD_END ∷ topology.END_TWICE ∷ topology.SELF_LINK ∷
+        topology.TOO_MANY ∷ topology.TOO_LONG ∷ []
+        ≡ 1 ∷ 2 ∷ 3 ∷ 4 ∷ 5 ∷ 6 ∷ 7 ∷ 8 ∷ 9 ∷ 10 ∷ [] }
+    ensures scripts { script.BAD_LINE ∷ script.TAKE_UNKNOWN ∷ script.TAKEN_TWICE ∷ script.TOO_MANY_LINES ∷
+        script.TOO_LONG ∷ []
+        ≡ 1 ∷ 2 ∷ 3 ∷ 4 ∷ 5 ∷ [] }
 {}

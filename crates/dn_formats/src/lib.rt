@@ -21,7 +21,10 @@ mod topology_fault;
 
 pub use decimal::read_number;
 pub use error_line::ErrorLine;
-pub use laws::{failed_feeds_have_one_reading, feeds_have_one_reading, payloads_are_unique};
+pub use laws::{
+    causes_have_their_numbers, failed_feeds_have_one_reading, feeds_have_one_reading,
+    payloads_are_unique,
+};
 pub use payload::{Item, ItemKind, Payload, Refused, Skip};
 pub use print::{
     print_address, print_prefix, print_run, print_target, push_address, push_bytes, push_decimal,

@@ -1,7 +1,8 @@
 //! The causes for which a text is no script: their numbers and names.
 
 ghost use Rattle.std.specs.Prelude.{◌≡◌};
-ghost use Rattle.dn_formats.specs.Causes.{name_of_cause, script_causes};
+ghost use Rattle.dn_formats.specs.Causes.{name_of_cause};
+ghost use Rattle.dn_formats.specs.ScriptCauses.{script_causes};
 
 /// A line is none of a script's, or it does something and has more than 1,024 bytes.
 pub const BAD_LINE: u8 = 1;

@@ -1,54 +1,12 @@
 -- The route of an address: what it is, and that the order of the table doesn't matter.
-use Rattle.std.proofs.Common.{◌≡◌, ℕ, zero, suc, ◌<◌, ◌⊎◌, ◌∙◌, ◌&&◌, ◌||◌, Bool, true, false, cond, Option, Some, None, List, [], ◌∷◌, length, get_or, filter, fold, refl, ap, sym, subst, inl, inr, ⊎_elim, arith, eqb, ltb}
+use Rattle.std.proofs.Common.{◌≡◌, ℕ, ◌&&◌, ◌||◌, Bool, true, false, Option, Some, None, List, [], ◌∷◌, filter, fold, refl, sym, subst, ⊎_elim, arith, eqb, ltb}
 use Rattle.std.specs.List.{Contains}
 use Rattle.std.proofs.lemmas.Bool.{false_from_ne_true, cond_both}
 use Rattle.std.proofs.lemmas.Bool.Decides.{nat_tests}
-use Rattle.dn_model.specs.Cidr.{covers}
+use Rattle.base.specs.Cidr.{covers}
 use Rattle.dn_model.specs.declared.entry.Route.{Route}
 use Rattle.dn_model.specs.Table.{goes_before, better, best, IsBest}
-
--- ---- elements
-
-pub contains-here : {X : Type 0} (x : X) (xs : List X) → Contains (x ∷ xs) x
-contains-here x xs = (0, omega arith, refl)
-
-pub contains-there : {X : Type 0} (x r : X) (xs : List X) → Contains xs r → Contains (x ∷ xs) r
-contains-there x r xs h = (suc h.0, (let l : h.0 < length xs = h.1 in omega arith), h.2)
-
-contains-at : {X : Type 0} (x r : X) (xs : List X) (k : ℕ) → k < length (x ∷ xs) → get_or (x ∷ xs) k r ≡ r → (x ≡ r) ⊎ Contains xs r
-contains-at x r xs zero l e = inl e
-contains-at x r xs (suc k) l e = inr (k, omega arith, e)
-
-pub contains-cases : {X : Type 0} (x r : X) (xs : List X) → Contains (x ∷ xs) r → (x ≡ r) ⊎ Contains xs r
-contains-cases x r xs h = contains-at x r xs h.0 h.1 h.2
-
-pub contains-none : {X : Type 0} (r : X) → Contains [] r → ⊥
-contains-none r h = let l : h.0 < 0 = h.1 in omega arith
-
-pub contains-filter : {X : Type 0} (p : X → Bool) (r : X) (xs : List X) → Contains xs r → p r ≡ true → Contains (filter p xs) r
-contains-filter {X} p r [] h e = absurd (contains-none r h)
-contains-filter {X} p r (x ∷ xs) h e = ⊎_elim
-    (λ (same : x ≡ r).
-    let here : p x ≡ true = ap p same ∙ e in
-    let P : X → Type 0 = λ y. Contains (cond (p x) (x ∷ filter p xs) (filter p xs)) y in
-    let Q : Bool → Type 0 = λ b. Contains (cond b (x ∷ filter p xs) (filter p xs)) x in
-    subst P same (subst Q (sym here) (contains-here x (filter p xs))))
-    (λ (rest : Contains xs r).
-    let P : List X → Type 0 = λ ys. Contains ys r in
-    cond_both (p x) (x ∷ filter p xs) (filter p xs) P (λ t. contains-there x r (filter p xs) (contains-filter p r xs rest e)) (λ f. contains-filter p r xs rest e))
-    (contains-cases x r xs h)
-
-pub filter-contains : {X : Type 0} (p : X → Bool) (r : X) (xs : List X) → Contains (filter p xs) r → Contains xs r × (p r ≡ true)
-filter-contains {X} p r [] h = absurd (contains-none r h)
-filter-contains {X} p r (x ∷ xs) h =
-    let P : List X → Type 0 = λ ys. Contains ys r → Contains (x ∷ xs) r × (p r ≡ true) in
-    cond_both (p x) (x ∷ filter p xs) (filter p xs) P
-    (λ t k. ⊎_elim
-    (λ (same : x ≡ r). (let Q : X → Type 0 = λ y. Contains (x ∷ xs) y in subst Q same (contains-here x xs), ap p (sym same) ∙ t))
-    (λ (rest : Contains (filter p xs) r). (contains-there x r xs (filter-contains p r xs rest).0, (filter-contains p r xs rest).1))
-    (contains-cases x r (filter p xs) k))
-    (λ f k. (contains-there x r xs (filter-contains p r xs k).0, (filter-contains p r xs k).1))
-    h
+use Rattle.base.proofs.Elements.{contains-here, contains-there, contains-cases, contains-none, contains-filter, filter-contains}
 
 -- ---- the one that goes before all others
 

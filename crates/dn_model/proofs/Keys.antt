@@ -1,22 +1,27 @@
 -- Tables have each key once, so the order of a table doesn't matter.
-use Rattle.std.proofs.Common.{◌≡◌, ℕ, ◌+◌, ◌-◌, ◌*◌, ◌/◌, ◌%◌, ◌^◌, ◌<◌, ◌≤◌, ◌⊎◌, ◌∙◌, ◌&&◌, ◌||◌, not, Bool, true, false, Option, Some, None, List, [], ◌∷◌, ◌++◌, filter, fold, map, refl, ap, sym, subst, ⊎_elim, arith, eqb, ltb, leb}
+use Rattle.std.proofs.Common.{◌≡◌, ℕ, ◌+◌, ◌-◌, ◌*◌, ◌/◌, ◌%◌, ◌^◌, ◌<◌, ◌≤◌, ◌⊎◌, ◌∙◌, ◌&&◌, ◌||◌, not, Bool, true, false, Option, Some, None, List, [], ◌∷◌, ◌++◌, filter, fold, refl, ap, sym, subst, ⊎_elim, arith, eqb, ltb, leb}
 use Rattle.std.specs.List.{list_any, Contains}
 use Rattle.std.specs.List.Sorted.{IsPermutation}
-use Rattle.std.proofs.lemmas.Bool.{cases_lt, cases_order, both_ways, and_parts, and_from, or_parts, or_from, or_left, or_right, not-true, not_from_false, eq-eqb, leb-true, ltb-true, cond_both}
+use Rattle.std.proofs.lemmas.Bool.{cases_lt, cases_order, both_ways, and_parts, and_from, or_parts, or_from, or_left, or_right, not-true, not_from_false, eq-eqb, leb-true, ltb-true, cond_both, and_left, false_from_ne_true}
 use Rattle.std.proofs.lemmas.Bool.Decides.{nat_tests}
 use Rattle.std.proofs.lemmas.List.Folds.{list_any-append}
 use Rattle.std.proofs.lemmas.List.Sorted.{Contains-permutation, IsPermutation-sym}
 use Rattle.std.proofs.Math.Nat.{mul-le-mul_left}
-use Rattle.dn_model.specs.Cidr.{Cidr, IsCidr, covers, size}
-use Rattle.dn_model.specs.Topology.{all_differ}
-use Rattle.dn_model.specs.declared.ids.RouterId.{RouterId}
+use Rattle.base.specs.Cidr.{Cidr, IsCidr, covers, size}
+use Rattle.base.specs.Lists.{all_differ}
+use Rattle.base.specs.declared.ids.RouterId.{RouterId}
 use Rattle.dn_model.specs.declared.entry.Entry.{Entry}
 use Rattle.dn_model.specs.declared.entry.Op.{Op}
-use Rattle.dn_model.specs.declared.entry.Op.TheVariants.{Set, Clear}
+use Rattle.dn_model.specs.declared.entry.Op.TheVariants as ops
+use Rattle.dn_model.specs.declared.table_op.TableOp.{TableOp}
+use Rattle.dn_model.specs.declared.table_op.TableOp.TheVariants.{Put, Clear}
+use Rattle.dn_model.specs.declared.way.Way.TheVariants.{Straight, By}
+use Rattle.dn_model.specs.Tables.{replaces_prefix}
 use Rattle.dn_model.specs.declared.entry.Route.{Route}
 use Rattle.dn_model.specs.declared.topology.Topology.{Topology}
-use Rattle.dn_model.specs.Table.{goes_before, best, is_of_prefix, has_key, same_key, after_op, ops_on, table, HasKeysOnce, IsBest}
-use Rattle.dn_model.proofs.Best.{best-is, contains-cases, contains-none}
+use Rattle.dn_model.specs.Table.{goes_before, best, is_of_prefix, has_key, is_by, is_replaced, same_key, after_op, after_table_op, ops_on, table, HasKeysOnce, IsBest}
+use Rattle.dn_model.proofs.Best.{best-is}
+use Rattle.base.proofs.Elements.{contains-cases, contains-none}
 
 -- ---- tests that no two elements pass
 
@@ -28,7 +33,7 @@ any-filter {X} q p (x ∷ xs) h =
     let P : List X → Type 0 = λ ys. list_any q ys ≡ false in
     cond_both (p x) (x ∷ filter p xs) (filter p xs) P (λ t. or_from (q x) (list_any q (filter p xs)) parts.0 rest) (λ f. rest)
 
-differ-filter : {X : Type 0} (same : X → X → Bool) (p : X → Bool) (xs : List X) → all_differ same xs ≡ true → all_differ same (filter p xs) ≡ true
+pub differ-filter : {X : Type 0} (same : X → X → Bool) (p : X → Bool) (xs : List X) → all_differ same xs ≡ true → all_differ same (filter p xs) ≡ true
 differ-filter {X} same p [] h = refl
 differ-filter {X} same p (x ∷ xs) h =
     let parts : (not (list_any (same x) xs) ≡ true) × (all_differ same xs ≡ true) = and_parts (not (list_any (same x) xs)) (all_differ same xs) h in
@@ -37,7 +42,7 @@ differ-filter {X} same p (x ∷ xs) h =
     let P : List X → Type 0 = λ ys. all_differ same ys ≡ true in
     cond_both (p x) (x ∷ filter p xs) (filter p xs) P (λ t. and_from (not (list_any (same x) (filter p xs))) (all_differ same (filter p xs)) (not_from_false (list_any (same x) (filter p xs)) none) rest) (λ f. rest)
 
-differ-push : {X : Type 0} (same : X → X → Bool) (xs : List X) (y : X) → all_differ same xs ≡ true → list_any (λ x. same x y) xs ≡ false → all_differ same (xs ++ y ∷ []) ≡ true
+pub differ-push : {X : Type 0} (same : X → X → Bool) (xs : List X) (y : X) → all_differ same xs ≡ true → list_any (λ x. same x y) xs ≡ false → all_differ same (xs ++ y ∷ []) ≡ true
 differ-push {X} same [] y h k = refl
 differ-push {X} same (x ∷ xs) y h k =
     let parts : (not (list_any (same x) xs) ≡ true) × (all_differ same xs ≡ true) = and_parts (not (list_any (same x) xs)) (all_differ same xs) h in
@@ -49,7 +54,7 @@ differ-push {X} same (x ∷ xs) y h k =
 
 -- ---- keys
 
-eqb-turned : (m n : ℕ) → eqb m n ≡ eqb n m
+pub eqb-turned : (m n : ℕ) → eqb m n ≡ eqb n m
 eqb-turned m n = grind (arith, nat_tests)
 
 pub key-turned : (x y : Route) → same_key x y ≡ same_key y x
@@ -61,30 +66,44 @@ key-turned x y =
     ∙ ap (λ (b : Bool). (eqb x.prefix.base y.prefix.base && b) && eqb y.metric x.metric) len
     ∙ ap (λ (b : Bool). (eqb x.prefix.base y.prefix.base && eqb x.prefix.len y.prefix.len) && b) metric
 
+-- what is replaced by a key, or by the prefix alone, has it
+key-replaced : (alone : Bool) (y x : Route) → is_replaced alone y.prefix y.metric x ≡ false → has_key y.prefix y.metric x ≡ false
+key-replaced true y x h =
+    let none : is_of_prefix y.prefix x ≡ false = false_from_ne_true (is_of_prefix y.prefix x) (λ t. both_ways (is_replaced true y.prefix y.metric x) h (and_from (is_of_prefix y.prefix x) true t refl)) in
+    and_left (is_of_prefix y.prefix x) (eqb x.metric y.metric) none
+key-replaced false y x h = h
+
 -- of the routes that are left none has the key of the new one
-key-gone : (y : Route) (xs : List Route) → list_any (λ x. same_key x y) (filter (λ r. not (has_key y.prefix y.metric r)) xs) ≡ false
-key-gone y [] = refl
-key-gone y (x ∷ xs) =
-    let left : List Route = filter (λ r. not (has_key y.prefix y.metric r)) xs in
+key-gone : (alone : Bool) (y : Route) (xs : List Route) → list_any (λ x. same_key x y) (filter (λ r. not (is_replaced alone y.prefix y.metric r)) xs) ≡ false
+key-gone alone y [] = refl
+key-gone alone y (x ∷ xs) =
+    let left : List Route = filter (λ r. not (is_replaced alone y.prefix y.metric r)) xs in
     let P : List Route → Type 0 = λ ys. list_any (λ z. same_key z y) ys ≡ false in
-    cond_both (not (has_key y.prefix y.metric x)) (x ∷ left) left P
-    (λ t. or_from (same_key x y) (list_any (λ z. same_key z y) left) (key-turned x y ∙ not-true (has_key y.prefix y.metric x) t) (key-gone y xs))
-    (λ f. key-gone y xs)
+    cond_both (not (is_replaced alone y.prefix y.metric x)) (x ∷ left) left P
+    (λ t. or_from (same_key x y) (list_any (λ z. same_key z y) left) (key-turned x y ∙ key-replaced alone y x (not-true (is_replaced alone y.prefix y.metric x) t)) (key-gone alone y xs))
+    (λ f. key-gone alone y xs)
 
-pub keys-after : (routes : List Route) (op : Op) → all_differ same_key routes ≡ true → all_differ same_key (after_op routes op) ≡ true
-keys-after routes (Set p m t) h =
-    let y : Route = record { prefix = p; metric = m; target = t } in
-    differ-push same_key (filter (λ r. not (has_key p m r)) routes) y (differ-filter same_key (λ r. not (has_key p m r)) routes h) (key-gone y routes)
-keys-after routes (Clear p None) h = differ-filter same_key (λ r. not (is_of_prefix p r)) routes h
-keys-after routes (Clear p (Some m)) h = differ-filter same_key (λ r. not (has_key p m r)) routes h
+pub keys-put : (alone : Bool) (routes : List Route) (op : TableOp) → all_differ same_key routes ≡ true → all_differ same_key (after_table_op alone routes op) ≡ true
+keys-put alone routes (Put p m w) h =
+    let y : Route = record { prefix = p; metric = m; way = w } in
+    differ-push same_key (filter (λ r. not (is_replaced alone p m r)) routes) y (differ-filter same_key (λ r. not (is_replaced alone p m r)) routes h) (key-gone alone y routes)
+keys-put alone routes (Clear p None) h = differ-filter same_key (λ r. not (is_of_prefix p r)) routes h
+keys-put alone routes (Clear p (Some m)) h = differ-filter same_key (λ r. not (has_key p m r)) routes h
 
-keys-fold : (routes : List Route) (ops : List Op) → all_differ same_key routes ≡ true → all_differ same_key (fold after_op routes ops) ≡ true
-keys-fold routes [] h = h
-keys-fold routes (op ∷ ops) h = keys-fold (after_op routes op) ops (keys-after routes op h)
+pub keys-after : (alone : Bool) (routes : List Route) (op : Op) → all_differ same_key routes ≡ true → all_differ same_key (after_op alone routes op) ≡ true
+keys-after alone routes (ops.Set p m t) h = keys-put alone routes (Put p m (Straight t)) h
+keys-after alone routes (ops.SetBy p m id) h = keys-put alone routes (Put p m (By id)) h
+keys-after alone routes (ops.Clear p m) h = keys-put alone routes (Clear p m) h
+keys-after alone routes (ops.Object id t) h = h
+keys-after alone routes (ops.NoObject id) h = differ-filter same_key (λ r. not (is_by id r.way)) routes h
+
+keys-fold : (alone : Bool) (routes : List Route) (all : List Op) → all_differ same_key routes ≡ true → all_differ same_key (fold (after_op alone) routes all) ≡ true
+keys-fold alone routes [] h = h
+keys-fold alone routes (op ∷ all) h = keys-fold alone (after_op alone routes op) all (keys-after alone routes op h)
 
 -- a table has each key once
 pub table-keys : (t : Topology) (history : List Entry) (r : RouterId) → HasKeysOnce (table t history r)
-table-keys t history r = keys-fold [] (ops_on r history) refl
+table-keys t history r = keys-fold (replaces_prefix t r) [] (ops_on t r history) refl
 
 -- ---- one route for each key
 

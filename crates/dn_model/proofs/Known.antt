@@ -1,15 +1,15 @@
 -- The names of a query that the topology has.
-use Rattle.std.proofs.Common.{◌≡◌, ℕ, suc, ◌+◌, ◌<◌, ◌^◌, ◌∙◌, true, false, cond, Option, Some, None, List, [], ◌∷◌, ◌++◌, length, is_some, refl, ap, sym, subst, ⊎_elim, arith, IsSome}
+use Rattle.std.proofs.Common.{◌≡◌, ℕ, suc, ◌+◌, ◌<◌, ◌^◌, ◌∙◌, true, false, cond, Option, Some, None, List, [], ◌∷◌, ◌++◌, length, refl, ap, sym, subst, ⊎_elim, arith, IsSome}
 use Rattle.std.specs.List.{Contains}
 use Rattle.std.proofs.lemmas.Bool.{cases_Bool}
 use Rattle.std.proofs.lemmas.List.{length-append}
 use Rattle.std.proofs.lemmas.Option.{none-some}
 use Rattle.dn_model.specs.Lookup.{router_of, link_of}
-use Rattle.dn_model.specs.Query.{Question, IsQuestion, NameAsked, RouterName, LinkName, names_asked, names_of, link_names, is_known, unknown_at, first_unknown, unknown_of}
+use Rattle.dn_model.specs.Query.{Question, IsQuestion, NameAsked, RouterName, LinkName, names_asked, link_names, is_known, unknown_at, first_unknown, unknown_of}
 use Rattle.dn_model.specs.declared.query.Ask.{Ask}
 use Rattle.dn_model.specs.declared.query.Unknown.{Unknown}
 use Rattle.dn_model.specs.declared.topology.Topology.{Topology}
-use Rattle.dn_model.proofs.Best.{contains-cases, contains-none}
+use Rattle.base.proofs.Elements.{contains-cases, contains-none}
 
 -- the first of two, where it is there, else the second
 abbrev pub or_first : Option Unknown → Option Unknown → Option Unknown
@@ -56,7 +56,7 @@ none-asked : (a b : Option Unknown) → or_first a b ≡ None → b ≡ None
 none-asked None b h = h
 none-asked (Some u) b h = absurd (none-some u (sym h))
 
-asked-known : (t : Topology) (q : Question) (ask : Ask) (n : NameAsked) → unknown_of t q ≡ None → q.ask ≡ ask → Contains (names_asked ask) n → is_known t n ≡ true
+pub asked-known : (t : Topology) (q : Question) (ask : Ask) (n : NameAsked) → unknown_of t q ≡ None → q.ask ≡ ask → Contains (names_asked ask) n → is_known t n ≡ true
 asked-known t q ask n h e i =
     let none : first_unknown t (length q.without + 1) (names_asked q.ask) ≡ None = none-asked (first_unknown t 1 (link_names q.without)) (first_unknown t (length q.without + 1) (names_asked q.ask)) (sym (unknown-parts t q) ∙ h) in
     let P : Ask → Type 0 = λ x. first_unknown t (length q.without + 1) (names_asked x) ≡ None in
@@ -68,6 +68,10 @@ router-known t q ask n h e i = asked-known t q ask (RouterName n) h e i
 
 pub link-known : (t : Topology) (q : Question) (ask : Ask) (n : List ℕ) → unknown_of t q ≡ None → q.ask ≡ ask → Contains (names_asked ask) (LinkName n) → IsSome (link_of t n)
 link-known t q ask n h e i = asked-known t q ask (LinkName n) h e i
+
+-- the same of one of the names in what is asked
+pub known-of : (t : Topology) (ask asked : Ask) (n : NameAsked) → ((m : NameAsked) → Contains (names_asked ask) m → is_known t m ≡ true) → ask ≡ asked → Contains (names_asked asked) n → is_known t n ≡ true
+known-of t ask asked n h e i = h n (subst (λ x. Contains (names_asked x) n) (sym e) i)
 
 -- how many names a query has
 pub few-names : (q : Question) → IsQuestion q → length q.without + length (names_asked q.ask) < 2 ^ 32

@@ -6,14 +6,14 @@ use Rattle.std.specs.List.{list_any, list_all}
 use borrow.Author.Tests.{ltb-true}
 use Rattle.std.specs.Map.{lookup}
 use Rattle.std.specs.Option.{option_or}
-use Rattle.dn_model.specs.declared.ids.RouterId.{RouterId}
-use Rattle.dn_model.specs.declared.ids.LinkId.{LinkId}
+use Rattle.base.specs.declared.ids.RouterId.{RouterId}
+use Rattle.base.specs.declared.ids.LinkId.{LinkId}
 use Rattle.dn_model.specs.declared.topology.TopoEnd.{TopoEnd}
 use Rattle.dn_model.specs.declared.topology.TopoLink.{TopoLink}
 use Rattle.dn_model.specs.declared.topology.Topology.{Topology}
 use Rattle.dn_model.specs.declared.ports.Port.{Port}
 use Rattle.dn_model.specs.declared.ports.Port.TheVariants.{Link, Edge}
-use Rattle.dn_model.specs.Name.{is_name_text}
+use Rattle.base.specs.Name.{is_name_text}
 use Rattle.dn_model.specs.Topology.{is_link_of, is_end_of, same_end}
 use Rattle.dn_model.specs.Lookup.{ports_of_link, ports_of_links, port_of, IsPortWithin}
 
@@ -81,11 +81,11 @@ port_within t r index =
     let edges : List (TopoEnd × Port) = map (λ e. (e, Edge)) t.edges in
     let sound : list_all (is_link_of (length t.routers)) t.links ≡ true = (and_parts _ _ (and_parts _ _ (and_parts _ _ (and_parts _ _ t.sound).0).0).0).1 in
     same_within t (port_of t r index)
-    (rw (lookup-append (same_end at) ends edges)
-    (within_option {A = Port} (IsWithin (length t.routers) (length t.links)) (lookup (same_end at) ends) (lookup (same_end at) edges)
-    (within_links (length t.routers) (length t.links) (same_end at) 0 t.links (omega arith) sound) (within_edges (length t.routers) (length t.links) (same_end at) t.edges)))
+    (rw (lookup-append (same_end t.tables at) ends edges)
+    (within_option {A = Port} (IsWithin (length t.routers) (length t.links)) (lookup (same_end t.tables at) ends) (lookup (same_end t.tables at) edges)
+    (within_links (length t.routers) (length t.links) (same_end t.tables at) 0 t.links (omega arith) sound) (within_edges (length t.routers) (length t.links) (same_end t.tables at) t.edges)))
 
 -- an interface is an end of a link or else an edge
 pub port_of-parts : (t : Topology) (r : RouterId) (index : ℕ)
-    → port_of t r index ≡ option_or (lookup (same_end (record { router = r; index = index })) (ports_of_links 0 t.links)) (lookup (same_end (record { router = r; index = index })) (map (λ e. (e, Edge)) t.edges))
-port_of-parts t r index = lookup-append (same_end (record { router = r; index = index })) (ports_of_links 0 t.links) (map (λ e. (e, Edge)) t.edges)
+    → port_of t r index ≡ option_or (lookup (same_end t.tables (record { router = r; index = index })) (ports_of_links 0 t.links)) (lookup (same_end t.tables (record { router = r; index = index })) (map (λ e. (e, Edge)) t.edges))
+port_of-parts t r index = lookup-append (same_end t.tables (record { router = r; index = index })) (ports_of_links 0 t.links) (map (λ e. (e, Edge)) t.edges)

@@ -1,16 +1,16 @@
 -- Two lists with the same routes, in which no two have one key, are each the other in another order.
-use Rattle.std.proofs.Common.{◌≡◌, ◌∙◌, Bool, true, false, cond, not, Some, List, [], ◌∷◌, filter, refl, ap, sym, subst, ⊎_elim, eqb, ◌&&◌}
+use Rattle.std.proofs.Common.{◌≡◌, ◌∙◌, Bool, true, false, cond, not, Some, List, [], ◌∷◌, filter, refl, ap, sym, subst, ⊎_elim, eqb}
 use Rattle.std.specs.List.{Contains, list_any}
 use Rattle.std.specs.List.Sorted.{IsPermutation}
 use Rattle.std.proofs.lemmas.Bool.{and_from, and_parts, both_ways, cases_Bool, eq-eqb, false_from_ne_true, not-true, not_from_false, or_left, or_right}
 use Rattle.std.proofs.lemmas.List.Sorted.{IsPermutation-cons, IsPermutation-middle, IsPermutation-refl, IsPermutation-trans}
-use Rattle.dn_model.specs.Table.{HasKeysOnce, has_key, is_of_prefix, same_key}
-use Rattle.dn_model.specs.Topology.{all_differ}
-use Rattle.dn_model.specs.declared.entry.Op.TheVariants.{Clear}
+use Rattle.dn_model.specs.Table.{HasKeysOnce, is_of_prefix, same_key}
+use Rattle.base.specs.Lists.{all_differ}
+use Rattle.dn_model.specs.declared.table_op.TableOp.TheVariants.{Clear}
 use Rattle.dn_model.specs.declared.entry.Route.{Route}
-use Rattle.dn_model.proofs.Best.{contains-cases, contains-filter, contains-here, contains-none, contains-there, filter-contains}
-use Rattle.dn_model.proofs.Filtered.{filter-whole}
-use Rattle.dn_model.proofs.Keys.{key-once, keys-after}
+use Rattle.base.proofs.Elements.{contains-cases, contains-filter, contains-here, contains-none, contains-there, filter-contains}
+use Rattle.base.proofs.Filtered.{filter-whole}
+use Rattle.dn_model.proofs.Keys.{key-once, keys-put}
 use Rattle.dn_model.proofs.SameRoutes.{SameRoutes}
 
 own-key : (x : Route) → same_key x x ≡ true
@@ -62,5 +62,5 @@ permutation-same (x ∷ xs) ys h k same =
           (λ (j : Contains xs r). j)
           (contains-cases x r xs (same.back r found.0));
     } in
-    let more : IsPermutation xs left = permutation-same xs left parts.1 (keys-after ys (Clear x.prefix (Some x.metric)) k) rest in
+    let more : IsPermutation xs left = permutation-same xs left parts.1 (keys-put false ys (Clear x.prefix (Some x.metric)) k) rest in
     IsPermutation-trans (x ∷ xs) (x ∷ left) ys (IsPermutation-cons x xs left more) (fronted x ys k (same.there x (contains-here x xs)))

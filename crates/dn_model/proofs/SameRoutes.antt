@@ -4,17 +4,23 @@ use Rattle.std.specs.List.{Contains}
 use Rattle.std.specs.List.Sorted.{IsPermutation}
 use Rattle.std.proofs.lemmas.Bool.{or_from, and_right, and_left, cases_lt, le-ltb, ne_eqb, cases_eq}
 use Rattle.std.proofs.lemmas.List.Elements.{Contains-push_cases, Contains-append_left, Contains-append_right}
-use Rattle.std.proofs.lemmas.List.Sorted.{Contains-permutation, IsPermutation-refl, IsPermutation-sym}
-use Rattle.dn_model.specs.Cidr.{covers}
-use Rattle.dn_model.specs.declared.ids.RouterId.{RouterId}
+use Rattle.std.proofs.lemmas.List.Sorted.{Contains-permutation, IsPermutation-sym}
+use Rattle.base.specs.Cidr.{covers}
+use Rattle.base.specs.declared.ids.RouterId.{RouterId}
 use Rattle.dn_model.specs.declared.entry.Entry.{Entry}
 use Rattle.dn_model.specs.declared.entry.Op.{Op}
-use Rattle.dn_model.specs.declared.entry.Op.TheVariants.{Set, Clear}
+use Rattle.dn_model.specs.declared.entry.Op.TheVariants as ops
+use Rattle.dn_model.specs.declared.table_op.TableOp.{TableOp}
+use Rattle.dn_model.specs.declared.table_op.TableOp.TheVariants.{Put, Clear}
+use Rattle.dn_model.specs.declared.way.Way.TheVariants.{Straight, By}
+use Rattle.dn_model.specs.Entry.{op_on}
+use Rattle.dn_model.specs.Tables.{replaces_prefix}
 use Rattle.dn_model.specs.declared.entry.Route.{Route}
 use Rattle.dn_model.specs.declared.topology.Topology.{Topology}
 use Rattle.dn_model.specs.Routes.{IsTable}
-use Rattle.dn_model.specs.Table.{is_of_prefix, has_key, after_op, table, best, does_after, target_in, target_or_none, IsBest}
-use Rattle.dn_model.proofs.Best.{best-is, contains-filter, filter-contains, contains-here}
+use Rattle.dn_model.specs.Table.{is_of_prefix, has_key, is_by, is_replaced, after_op, after_table_op, objects, table, best, target_after, target_in, target_or_none, IsBest}
+use Rattle.dn_model.proofs.Best.{best-is}
+use Rattle.base.proofs.Elements.{contains-filter, filter-contains, contains-here}
 use Rattle.dn_model.proofs.Keys.{best-once}
 use Rattle.dn_model.proofs.Tables.{table-push_own, table-push_other}
 
@@ -50,39 +56,43 @@ pushed xs ys x h r i = ⊎_elim
     (λ (same : x ≡ r). let P : Route → Type 0 = λ y. Contains (ys ++ x ∷ []) y in subst P same (Contains-append_right ys (x ∷ []) x (contains-here x [])))
     (Contains-push_cases xs x r i)
 
-after-there : (xs ys : List Route) (op : Op) → ((r : Route) → Contains xs r → Contains ys r) → (r : Route) → Contains (after_op xs op) r → Contains (after_op ys op) r
-after-there xs ys (Set p m t) h = pushed (filter (λ r. not (has_key p m r)) xs) (filter (λ r. not (has_key p m r)) ys) (record { prefix = p; metric = m; target = t }) (filtered (λ r. not (has_key p m r)) xs ys h)
-after-there xs ys (Clear p None) h = filtered (λ r. not (is_of_prefix p r)) xs ys h
-after-there xs ys (Clear p (Some m)) h = filtered (λ r. not (has_key p m r)) xs ys h
+put-there : (alone : Bool) (xs ys : List Route) (op : TableOp) → ((r : Route) → Contains xs r → Contains ys r) → (r : Route) → Contains (after_table_op alone xs op) r → Contains (after_table_op alone ys op) r
+put-there alone xs ys (Put p m w) h = pushed (filter (λ r. not (is_replaced alone p m r)) xs) (filter (λ r. not (is_replaced alone p m r)) ys) (record { prefix = p; metric = m; way = w }) (filtered (λ r. not (is_replaced alone p m r)) xs ys h)
+put-there alone xs ys (Clear p None) h = filtered (λ r. not (is_of_prefix p r)) xs ys h
+put-there alone xs ys (Clear p (Some m)) h = filtered (λ r. not (has_key p m r)) xs ys h
+
+after-there : (alone : Bool) (xs ys : List Route) (op : Op) → ((r : Route) → Contains xs r → Contains ys r) → (r : Route) → Contains (after_op alone xs op) r → Contains (after_op alone ys op) r
+after-there alone xs ys (ops.Set p m t) h = put-there alone xs ys (Put p m (Straight t)) h
+after-there alone xs ys (ops.SetBy p m id) h = put-there alone xs ys (Put p m (By id)) h
+after-there alone xs ys (ops.Clear p m) h = put-there alone xs ys (Clear p m) h
+after-there alone xs ys (ops.Object id t) h = h
+after-there alone xs ys (ops.NoObject id) h = filtered (λ r. not (is_by id r.way)) xs ys h
 
 -- an update makes the same of the same routes
-pub same-after : (xs ys : List Route) (op : Op) → SameRoutes xs ys → SameRoutes (after_op xs op) (after_op ys op)
-same-after xs ys op h = record {
-  there = after-there xs ys op h.there;
-  back = after-there ys xs op h.back;
+pub same-after : (alone : Bool) (xs ys : List Route) (op : Op) → SameRoutes xs ys → SameRoutes (after_op alone xs op) (after_op alone ys op)
+same-after alone xs ys op h = record {
+  there = after-there alone xs ys op h.there;
+  back = after-there alone ys xs op h.back;
 }
 
 -- what has a router's routes after a history, and is then updated as one more entry says, has its routes after that
 -- entry too
-pub same-own : (t : Topology) (history : List Entry) (e : Entry) (r : RouterId) (now new : List Route) → e.router.0 ≡ r.0 → SameRoutes now (table t history r) → IsPermutation new (after_op now e.op) → SameRoutes new (table t (history ++ e ∷ []) r)
-same-own t history e r now new is h moved =
-    let after : SameRoutes new (after_op (table t history r) e.op) = same-trans new (after_op now e.op) (after_op (table t history r) e.op) (same-permutation new (after_op now e.op) moved) (same-after now (table t history r) e.op h) in
-    subst (λ rs. SameRoutes new rs) (sym (table-push_own t history e r is)) after
+pub same-own : (t : Topology) (history : List Entry) (e : Entry) (r : RouterId) (op : Op) (now new : List Route) → op_on t r e ≡ Some op → SameRoutes now (table t history r) → IsPermutation new (after_op (replaces_prefix t r) now op) → SameRoutes new (table t (history ++ e ∷ []) r)
+same-own t history e r op now new is h moved =
+    let alone : Bool = replaces_prefix t r in
+    let after : SameRoutes new (after_op alone (table t history r) op) = same-trans new (after_op alone now op) (after_op alone (table t history r) op) (same-permutation new (after_op alone now op) moved) (same-after alone now (table t history r) op h) in
+    subst (λ rs. SameRoutes new rs) (sym (table-push_own t history e r op is)) after
 
--- the same where it is updated exactly as the entry says, order included
-pub same-own_exact : (t : Topology) (history : List Entry) (e : Entry) (r : RouterId) (now new : List Route) → e.router.0 ≡ r.0 → SameRoutes now (table t history r) → new ≡ after_op now e.op → SameRoutes new (table t (history ++ e ∷ []) r)
-same-own_exact t history e r now new is h moved = same-own t history e r now new is h (subst (λ rs. IsPermutation new rs) moved (IsPermutation-refl new))
-
--- of another router's entry it keeps them
-pub same-other : (t : Topology) (history : List Entry) (e : Entry) (r : RouterId) (now : List Route) → e.router.0 ≢ r.0 → SameRoutes now (table t history r) → SameRoutes now (table t (history ++ e ∷ []) r)
+-- of an entry that is no update to the router it keeps them
+pub same-other : (t : Topology) (history : List Entry) (e : Entry) (r : RouterId) (now : List Route) → op_on t r e ≡ None → SameRoutes now (table t history r) → SameRoutes now (table t (history ++ e ∷ []) r)
 same-other t history e r now other h = subst (λ rs. SameRoutes now rs) (sym (table-push_other t history e r other)) h
 
 -- the same routes have the same route of each address
 pub same-best : (xs ys : List Route) (a : ℕ) → IsTable xs → SameRoutes xs ys → best xs a ≡ best ys a
 same-best xs ys a sound h = best-once xs ys a h.there h.back sound.prefixes sound.keys (best xs a) (best ys a) (best-is xs a) (best-is ys a)
 
-pub same-target : (t : Topology) (xs : List Route) (history : List Entry) (r : RouterId) (a : ℕ) → IsTable xs → SameRoutes xs (table t history r) → target_in xs a ≡ does_after t history r a
-same-target t xs history r a sound h = ap target_or_none (same-best xs (table t history r) a sound h)
+pub same-target : (t : Topology) (xs : List Route) (history : List Entry) (r : RouterId) (a : ℕ) → IsTable xs → SameRoutes xs (table t history r) → target_in (objects t history r) xs a ≡ target_after t history r a
+same-target t xs history r a sound h = ap (target_or_none (objects t history r)) (same-best xs (table t history r) a sound h)
 
 -- a route that goes before all others is the route of the address
 pub only-best : (xs : List Route) (a : ℕ) (o : Option Route) → IsTable xs → IsBest xs a o → o ≡ best xs a

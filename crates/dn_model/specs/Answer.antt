@@ -1,16 +1,17 @@
 -- The answer to a query over a history: what following the addresses hop by hop gives, or what the last entry changed.
-use Rattle.std.specs.Prelude.{ℕ, List, [], ◌∷◌, ◌≡◌, ◌+◌, ◌<◌, Bool, Option, None, Some, IsSomeAnd, length, slice_get}
+use Rattle.std.specs.Prelude.{ℕ, List, ◌≡◌, Bool, IsSomeAnd, length, slice_get}
 use Rattle.std.specs.List.{filter_map}
-use Rattle.dn_model.specs.Cycles.{AreCycles}
-use Rattle.dn_model.specs.Delta.{IsDeltaOf}
-use Rattle.dn_model.specs.Holes.{AreHoles}
+use Rattle.base.specs.Cycles.{AreCycles}
+use Rattle.dn_model.specs.LastDelta.{IsDeltaOf}
+use Rattle.base.specs.Holes.{AreHoles}
 use Rattle.dn_model.specs.Lookup.{router_of, link_of}
 use Rattle.dn_model.specs.Query.{Question}
-use Rattle.dn_model.specs.Reach.{reaches, misses, goes_over}
-use Rattle.dn_model.specs.Runs.{AreRuns}
-use Rattle.dn_model.specs.Walk.{at_address, next, walk, walk_end}
-use Rattle.dn_model.specs.declared.ids.RouterId.{RouterId}
-use Rattle.dn_model.specs.declared.ids.LinkId.{LinkId}
+use Rattle.base.specs.Reach.{reaches, misses, goes_over}
+use Rattle.base.specs.Runs.{AreRuns}
+use Rattle.base.specs.Walk.{at_address, walk, walk_end}
+use Rattle.dn_model.specs.Next.{next}
+use Rattle.base.specs.declared.ids.RouterId.{RouterId}
+use Rattle.base.specs.declared.ids.LinkId.{LinkId}
 use Rattle.dn_model.specs.declared.topology.Topology.{Topology}
 use Rattle.dn_model.specs.declared.topology.TopoLink.{TopoLink}
 use Rattle.dn_model.specs.declared.entry.Entry.{Entry}
@@ -18,7 +19,7 @@ use Rattle.dn_model.specs.declared.query.Ask.{Ask}
 use Rattle.dn_model.specs.declared.query.Ask.TheVariants as ask
 use Rattle.dn_model.specs.declared.answer.Answer.{Answer}
 use Rattle.dn_model.specs.declared.answer.Answer.TheVariants.{Path, Runs, Uses, Loops, Holes, Delta}
-use Rattle.dn_model.specs.declared.target.Target.{Target}
+use Rattle.base.specs.declared.target.Target.{Target}
 
 -- the links with these names
 abbrev pub links_of : Topology → List (List ℕ) → List LinkId
@@ -87,7 +88,7 @@ IsAnswerOf t does (ask.Waypoint n m w) answer =
     IsRunsAnswer (misses (length t.routers) does r s v) answer)))
 IsAnswerOf t does ask.Delta answer = ⊥
 
--- the answer to what is asked over a history, with these links down
+-- the answer to what is asked over a history, with these links down besides those that are down after it
 abbrev pub IsAnswerTo : Topology → List Entry → List LinkId → Ask → Answer → Type 0
 IsAnswerTo t history down ask.Delta answer = IsDeltaAnswer t history answer
 IsAnswerTo t history down (ask.Path n a) answer = IsAnswerOf t (next t history down) (ask.Path n a) answer

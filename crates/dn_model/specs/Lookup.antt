@@ -1,14 +1,15 @@
 -- How names and interfaces are looked up in a topology.
 use Rattle.std.specs.Prelude.{ℕ, List, [], ◌∷◌, ◌++◌, ◌+◌, ◌<◌, length, map, position, Option, option_map}
 use Rattle.std.specs.Map.{lookup}
-use Rattle.dn_model.specs.declared.ids.RouterId.{RouterId}
-use Rattle.dn_model.specs.declared.ids.LinkId.{LinkId}
+use Rattle.base.specs.declared.ids.RouterId.{RouterId}
+use Rattle.base.specs.declared.ids.LinkId.{LinkId}
 use Rattle.dn_model.specs.declared.topology.TopoEnd.{TopoEnd}
 use Rattle.dn_model.specs.declared.topology.TopoLink.{TopoLink}
 use Rattle.dn_model.specs.declared.topology.Topology.{Topology}
 use Rattle.dn_model.specs.declared.ports.Port.{Port}
 use Rattle.dn_model.specs.declared.ports.Port.TheVariants.{Link, Edge}
-use Rattle.dn_model.specs.Topology.{same_text, same_end}
+use Rattle.base.specs.Name.{same_text}
+use Rattle.dn_model.specs.Topology.{same_end}
 
 -- the router of a name: the first place in the list that has it
 abbrev pub router_of : Topology → List ℕ → Option RouterId
@@ -34,7 +35,7 @@ ports_of t = ports_of_links 0 t.links ++ map (λ e. (e, Edge)) t.edges
 
 -- what is at a router's interface of this number
 abbrev pub port_of : Topology → RouterId → ℕ → Option Port
-port_of t r index = lookup (same_end (record { router = r; index = index })) (ports_of t)
+port_of t r index = lookup (same_end t.tables (record { router = r; index = index })) (ports_of t)
 
 -- the router and the link at a port are in the topology
 abbrev pub IsPortWithin : Topology → Port → Type 0

@@ -1,6 +1,6 @@
 -- Routing tables up to the order of their routes.
 use Rattle.std.specs.Prelude.{List, Contains}
-use Rattle.dn_model.specs.Cidr.{IsCidr}
+use Rattle.base.specs.Cidr.{IsCidr}
 use Rattle.dn_model.specs.Table.{HasKeysOnce}
 use Rattle.dn_model.specs.declared.entry.Route.{Route}
 

@@ -1,13 +1,11 @@
 -- Sets of rules, of which each stands for a route that covers one and the same addresses: there a length fixes the
 -- prefix, so length and metric are the key (the rules of Delta-net, NSDI 2017).
-use Rattle.std.specs.Prelude.{ℕ, Bool, List, [], ◌∷◌, ◌++◌, Option, None, Some, filter, not, nat_lt, Contains, IsTrue, IsFalse, ◌≡◌, ◌&&◌, ◌||◌, ◌==◌}
-use Rattle.dn_model.specs.Cidr.{covers}
-use Rattle.dn_model.specs.Topology.{all_differ}
-use Rattle.dn_model.specs.declared.entry.Op.{Op}
-use Rattle.dn_model.specs.declared.entry.Op.TheVariants.{Set, Clear}
+use Rattle.std.specs.Prelude.{ℕ, Bool, true, false, List, [], ◌∷◌, ◌++◌, Option, None, Some, filter, not, nat_lt, Contains, IsTrue, IsFalse, ◌≡◌, ◌&&◌, ◌||◌, ◌==◌}
+use Rattle.base.specs.Cidr.{covers}
+use Rattle.base.specs.Lists.{all_differ}
+use Rattle.dn_model.specs.declared.table_op.TableOp.{TableOp}
+use Rattle.dn_model.specs.declared.table_op.TableOp.TheVariants.{Put, Clear}
 use Rattle.dn_model.specs.declared.entry.Route.{Route}
-use Rattle.dn_model.specs.declared.target.Target.{Target}
-use Rattle.dn_model.specs.declared.target.Target.TheVariants.{NoRoute}
 use Rattle.dn_model.specs.declared.rule.Rule.{Rule}
 
 -- whether a rule has this key
@@ -31,11 +29,16 @@ abbrev pub cleared_rules : List Rule → ℕ → Option ℕ → List Rule
 cleared_rules rules l None = without_length rules l
 cleared_rules rules l (Some m) = without_rule rules l m
 
--- what an update makes of the rules where its prefix covers: Set puts its rule in the place of the one with its key;
--- Clear takes away the rule with its key, or without a metric all rules of its length
-abbrev pub after_rule_op : List Rule → Op → List Rule
-after_rule_op rules (Set p m t) = with_rule rules (record { len = p.len; metric = m; target = t })
-after_rule_op rules (Clear p m) = cleared_rules rules p.len m
+-- a rule in the place of the one with its key, or, alone, of all of its length
+abbrev pub placed_rule : Bool → List Rule → Rule → List Rule
+placed_rule false rules rule = with_rule rules rule
+placed_rule true rules rule = without_length rules rule.len ++ rule ∷ []
+
+-- what an update makes of the rules where its prefix covers: Put puts its rule in the place of the one with its key, or,
+-- alone, of all of its length; Clear takes away the rule with its key, or without a metric all rules of its length
+abbrev pub after_rule_op : Bool → List Rule → TableOp → List Rule
+after_rule_op alone rules (Put p m w) = placed_rule alone rules (record { len = p.len; metric = m; way = w })
+after_rule_op alone rules (Clear p m) = cleared_rules rules p.len m
 
 -- whether a rule goes before another: the longer prefix, and of equal lengths the lesser metric
 abbrev pub rule_before : Rule → Rule → Bool
@@ -50,13 +53,9 @@ abbrev pub IsTop : List Rule → Option Rule → Type 0
 IsTop rules None = rules ≡ []
 IsTop rules (Some top) = Contains rules top × ((r : Rule) → Contains rules r → IsFalse (rule_before r top))
 
-abbrev pub target_of : Option Rule → Target
-target_of None = NoRoute
-target_of (Some r) = r.target
-
 -- the rule of a route
 abbrev pub rule_of : Route → Rule
-rule_of x = record { len = x.prefix.len; metric = x.metric; target = x.target }
+rule_of x = record { len = x.prefix.len; metric = x.metric; way = x.way }
 
 -- a route that covers an address, and whose rule this is
 pub record Covers (routes : List Route) (a : ℕ) (rule : Rule) : Type 0 where

@@ -1,12 +1,12 @@
 -- What is asked of each address, as tests.
 use Rattle.std.specs.Prelude.{ℕ, Bool}
-use Rattle.dn_model.specs.Cycles.{goes_round}
-use Rattle.dn_model.specs.Holes.{falls}
-use Rattle.dn_model.specs.Reach.{reaches, misses, goes_over}
-use Rattle.dn_model.specs.declared.ids.RouterId.{RouterId}
+use Rattle.base.specs.Cycles.{goes_round}
+use Rattle.base.specs.Holes.{falls}
+use Rattle.base.specs.Reach.{reaches, misses, goes_over}
+use Rattle.base.specs.declared.ids.RouterId.{RouterId}
 use Rattle.dn_model.specs.declared.plain_test.Test.{Test}
 use Rattle.dn_model.specs.declared.plain_test.Test.TheVariants.{Reaches, Misses, GoesOver, Falls, GoesRound}
-use Rattle.dn_model.specs.declared.target.Target.{Target}
+use Rattle.base.specs.declared.target.Target.{Target}
 
 -- whether an address passes a test, in a network of so many routers, of which each does this with each address
 abbrev pub passes : ℕ → (RouterId → ℕ → Target) → Test → ℕ → Bool

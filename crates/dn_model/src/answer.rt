@@ -1,39 +1,6 @@
 //! Answers.
 
-use crate::change::Change;
-use crate::ids::RouterId;
-use crate::list::List;
-use crate::run::Run;
-use crate::target::Target;
-
-/// How a walk ends.
-#[derive(Clone, Copy, Debug, PartialEq, Eq)]
-pub enum PathEnd {
-    /// At the last router, which does this with the address; it is no `To`.
-    At(Target),
-    /// As many hops as the topology has routers were made, so some router stands twice in the walk.
-    Loop,
-}
-
-/// A cycle of routers, each of which sends some addresses on to the next and the last one back to the first.
-#[derive(Drop)]
-pub struct Cycle {
-    /// The routers; the first one is the first of them in the topology's order.
-    pub routers: List<RouterId>,
-    /// The least address that goes round.
-    pub least: u32,
-    /// How many addresses go round: 1 to 2^32.
-    pub addresses: u64,
-}
-
-/// Where walks end without a way on: the last router, the cause (`NoRoute`, `Dropped` or `LinkDown`), and the runs of
-/// the addresses that end there by it.
-#[derive(Drop)]
-pub struct Hole {
-    pub router: RouterId,
-    pub cause: Target,
-    pub runs: List<Run>,
-}
+use base::{Change, Cycle, Hole, List, PathEnd, RouterId, Run};
 
 /// The answer to a query. Runs are in order, and no two of one list touch.
 #[derive(Drop)]

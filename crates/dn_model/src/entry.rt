@@ -1,21 +1,28 @@
-//! Updates of routing tables, and the history of a run.
+//! Updates of routing tables, next-hop objects and links, and the history of a run.
 
 ghost use Rattle.std.specs.Prelude.{◌≡◌};
-ghost use Rattle.dn_model.specs.Entry.{op_on, prefix_of_op};
+ghost use Rattle.dn_model.specs.Entry.{object_op, op_on};
 
-use crate::ids::RouterId;
-use crate::prefix::Prefix;
-use crate::target::Target;
+use crate::devices::device_of;
+use crate::topology::Topology;
+use crate::way::Way;
+use base::{Keyed, LinkId, Prefix, RouterId, Target};
 
-/// One route update.
+/// One update of a router, as its feed gives it.
 #[derive(Clone, Copy, Debug, PartialEq, Eq)]
 pub enum Op {
-    /// Sets the route of this prefix and metric, in place of the one that has them. The target of one that a
-    /// feed gives is neither `NoRoute` nor `LinkDown`; no definition asks that.
+    /// Sets the route of this prefix and metric, in place of the one that has them; on a router that replaces by prefix in
+    /// place of all routes of the prefix.
     Set {
         prefix: Prefix,
         metric: u32,
         target: Target,
+    },
+    /// The same of a route by a next-hop object of the router's device.
+    SetBy {
+        prefix: Prefix,
+        metric: u32,
+        id: u32,
     },
     /// Removes the route of this prefix and metric; without a metric all routes of the prefix. One that isn't
     /// there changes nothing.
@@ -23,14 +30,32 @@ pub enum Op {
         prefix: Prefix,
         metric: Option<u32>,
     },
+    /// Sets a next-hop object of a device: what routes by it do.
+    Object {
+        id: u32,
+        target: Target,
+    },
+    /// Removes a next-hop object of a device, and all routes of the device and its VRFs by it.
+    NoObject {
+        id: u32,
+    },
 }
 
-/// An update of one router's table, with the number of the feed that it came from. Feeds count from 1.
+/// An entry of the history.
 #[derive(Clone, Copy, Debug, PartialEq, Eq)]
-pub struct Entry {
-    pub router: RouterId,
-    pub feed_no: u32,
-    pub op: Op,
+pub enum Entry {
+    /// An update of one router, with the number of the feed that it came from. Feeds count from 1.
+    Route {
+        router: RouterId,
+        feed_no: u32,
+        op: Op,
+    },
+    /// A link goes down or comes up, by a line of this job. Jobs count from 1.
+    Link {
+        job: u32,
+        link: LinkId,
+        down: bool,
+    },
 }
 
 /// An entry of the history with the seat that posted it. Seats count from 0.
@@ -45,29 +70,51 @@ pub struct Posted {
 pub struct Route {
     pub prefix: Prefix,
     pub metric: u32,
-    pub target: Target,
+    pub way: Way,
+}
+
+/// No list of entries is searched: each has the key 0.
+impl Keyed for Posted {
+    ghost use Rattle.std.proofs.Common.{rules};
+
+    ghost key_of = { λ _. 0 };
+
+    ghost clones = { Prim.search rules };
+
+    fn key(&self) -> u64 {
+        0
+    }
 }
 
 impl Op {
-    /// The prefix of the routes that the update sets or clears.
-    pub fn prefix(&self) -> Prefix
-        ensures { result ≡ prefix_of_op self.now }
+    /// Of an update of a device, what it is to its VRFs: an object that is set or goes away.
+    fn of_object(self) -> Option<Op>
+        ensures { result ≡ object_op self }
     {
         match self {
-            Op::Set { prefix, .. } | Op::Clear { prefix, .. } => *prefix,
+            Op::Object { .. } | Op::NoObject { .. } => Some(self),
+            Op::Set { .. } | Op::SetBy { .. } | Op::Clear { .. } => None,
         }
     }
 }
 
 impl Entry {
-    /// What the entry does to a router's table; None exactly where it is another router's.
-    pub fn op_on(&self, router: RouterId) -> Option<Op>
-        ensures { result ≡ op_on router self.now }
+    /// What the entry does to a router: an update of its own, or one of its device's objects; None where it is
+    /// neither.
+    pub fn op_on(&self, t: &Topology, to: RouterId) -> Option<Op>
+        ensures { result ≡ op_on t.now to self.now }
     {
-        if self.router.0 == router.0 {
-            Some(self.op)
-        } else {
-            None
+        match *self {
+            Entry::Route { router, op, .. } => {
+                if router.0 == to.0 {
+                    Some(op)
+                } else if router.0 == device_of(t, to).0 {
+                    op.of_object()
+                } else {
+                    None
+                }
+            }
+            Entry::Link { .. } => None,
         }
     }
 }

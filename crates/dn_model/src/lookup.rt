@@ -3,13 +3,14 @@
 ghost use Rattle.std.specs.Prelude.{◌≡◌, ◌<◌, ◌≤◌, IfSome, length, map, position};
 ghost use Rattle.std.specs.List.{list_any};
 ghost use Rattle.std.specs.Map.{lookup};
-ghost use Rattle.dn_model.specs.Topology.{same_text, same_end};
+ghost use Rattle.base.specs.Name.{same_text};
+ghost use Rattle.dn_model.specs.Topology.{same_end};
 ghost use Rattle.dn_model.specs.Lookup.{router_of, link_of, ports_of_link, ports_of_links, port_of, IsPortWithin};
 
-use crate::ids::{LinkId, RouterId};
-use crate::name::Name;
+use crate::devices::device_of;
 use crate::ports::Port;
 use crate::topology::{TopoEnd, TopoLink, Topology};
+use base::{LinkId, Name, RouterId};
 
 /// The first place in a list of routers that has this name.
 fn place_of_router(routers: &[Name], name: &Name) -> Option<usize>
@@ -53,20 +54,20 @@ pub fn link(topology: &Topology, name: &Name) -> Option<LinkId>
     }
 }
 
-/// Whether two interfaces are the same.
-fn is_same_end(first: TopoEnd, second: TopoEnd) -> bool
-    ensures { result ≡ same_end first second }
+/// Whether two interfaces are the same: those of a device and its VRFs are the device's.
+fn is_same_end(t: &Topology, first: TopoEnd, second: TopoEnd) -> bool
+    ensures { result ≡ same_end t.now.tables first second }
 {
-    first.router.0 == second.router.0 && first.index == second.index
+    device_of(t, first.router).0 == device_of(t, second.router).0 && first.index == second.index
 }
 
 /// What a link puts at an interface, if it is one of its ends.
-fn port_of_link(link: &TopoLink, id: LinkId, at: TopoEnd) -> Option<Port>
-    ensures { result ≡ lookup (same_end at) (ports_of_link id link.now) }
+fn port_of_link(t: &Topology, link: &TopoLink, id: LinkId, at: TopoEnd) -> Option<Port>
+    ensures { result ≡ lookup (same_end t.now.tables at) (ports_of_link id link.now) }
 {
-    let far = if is_same_end(at, link.first) {
+    let far = if is_same_end(t, at, link.first) {
         link.second.router
-    } else if is_same_end(at, link.second) {
+    } else if is_same_end(t, at, link.second) {
         link.first.router
     } else {
         return None;
@@ -79,12 +80,12 @@ fn port_of_link(link: &TopoLink, id: LinkId, at: TopoEnd) -> Option<Port>
 }
 
 /// What the links put at an interface.
-fn port_among_links(links: &[TopoLink], at: TopoEnd) -> Option<Port>
+fn port_among_links(t: &Topology, links: &[TopoLink], at: TopoEnd) -> Option<Port>
     requires { length links.now ≤ 4096 }
-    ensures { result ≡ lookup (same_end at) (ports_of_links 0 links.now) }
+    ensures { result ≡ lookup (same_end t.now.tables at) (ports_of_links 0 links.now) }
 {
     for (i, link) in links.iter().enumerate() {
-        let found = port_of_link(link, LinkId(i as u16), at);
+        let found = port_of_link(t, link, LinkId(i as u16), at);
         if found.is_some() {
             return found;
         }
@@ -93,17 +94,17 @@ fn port_among_links(links: &[TopoLink], at: TopoEnd) -> Option<Port>
 }
 
 /// Whether one of the edges is this interface.
-fn is_among_edges(edges: &[TopoEnd], at: TopoEnd) -> bool
-    ensures { result ≡ list_any (same_end at) edges.now }
+fn is_among_edges(t: &Topology, edges: &[TopoEnd], at: TopoEnd) -> bool
+    ensures { result ≡ list_any (same_end t.now.tables at) edges.now }
 {
-    edges.iter().any(|edge| is_same_end(at, *edge))
+    edges.iter().any(|edge| is_same_end(t, at, *edge))
 }
 
 /// What the edges put at an interface.
-fn port_among_edges(edges: &[TopoEnd], at: TopoEnd) -> Option<Port>
-    ensures { result ≡ lookup (same_end at) (map (λ e. (e, Port.Edge)) edges.now) }
+fn port_among_edges(t: &Topology, edges: &[TopoEnd], at: TopoEnd) -> Option<Port>
+    ensures { result ≡ lookup (same_end t.now.tables at) (map (λ e. (e, Port.Edge)) edges.now) }
 {
-    if is_among_edges(edges, at) {
+    if is_among_edges(t, edges, at) {
         Some(Port::Edge)
     } else {
         None
@@ -114,9 +115,9 @@ fn port_among_edges(edges: &[TopoEnd], at: TopoEnd) -> Option<Port>
 fn what_is_at(topology: &Topology, at: TopoEnd) -> Option<Port>
     ensures { result ≡ port_of topology.now at.router at.index }
 {
-    match port_among_links(topology.links.as_slice(), at) {
+    match port_among_links(topology, topology.links.as_slice(), at) {
         Some(port) => Some(port),
-        None => port_among_edges(topology.edges.as_slice(), at),
+        None => port_among_edges(topology, topology.edges.as_slice(), at),
     }
 }
 

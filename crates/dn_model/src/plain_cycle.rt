@@ -1,22 +1,17 @@
 //! Cycles of one address.
 
-ghost use Rattle.std.specs.Prelude.{◌≡◌, ◌∷◌, ◌<◌, ◌&&◌, IfOk, All, nat_lt, not, false, length};
+ghost use Rattle.std.specs.Prelude.{◌≡◌, ◌∷◌, ◌<◌, ◌&&◌, IfOk, nat_lt, not, false};
 ghost use Rattle.std.specs.List.{list_all, list_any};
-ghost use Rattle.dn_model.specs.Cycles.{go_round, goes_round};
-ghost use Rattle.dn_model.specs.CyclesFrom.{IsCycleFrom};
-ghost use Rattle.dn_model.specs.Entry.{IsEntryOf};
-ghost use Rattle.dn_model.specs.Reach.{is_router};
-ghost use Rattle.dn_model.specs.Topology.{all_differ};
-ghost use Rattle.dn_model.specs.Walk.{at_address, next, on_far};
+ghost use Rattle.base.specs.Cycles.{go_round, goes_round};
+ghost use Rattle.base.specs.CyclesFrom.{IsCycleFrom};
+ghost use Rattle.base.specs.Reach.{is_router};
+ghost use Rattle.base.specs.Lists.{all_differ};
+ghost use Rattle.base.specs.Walk.{at_address, on_far};
+ghost use Rattle.dn_model.specs.Network.{IsClosed, does_in, routers_in};
 
-use crate::entry::Entry;
-use crate::ids::{LinkId, RouterId};
-use crate::list::List;
-use crate::memory::OutOfMemory;
-use crate::plain::plain_next;
+use crate::network::Network;
 use crate::plain_test::is_among;
-use crate::target::Target;
-use crate::topology::Topology;
+use base::{List, OutOfMemory, RouterId, Target};
 use std::alloc::Global;
 
 /// Whether a router stands before all of these in the topology's order.
@@ -56,48 +51,32 @@ fn is_to(target: Target, router: RouterId) -> bool
 }
 
 /// Whether `first` and each of the other routers sends an address on to the next, and the last one to `first`.
-fn do_go_round(
-    alloc: Global,
-    t: &Topology,
-    entries: &[Entry],
-    down: &[LinkId],
-    first: RouterId,
-    others: &[RouterId],
-    a: u32,
-) -> Result<bool, OutOfMemory>
-    ensures { IfOk result (λ is.
-        is ≡ go_round (at_address (next t.now entries.now down.now) a) first (first ∷ others.now)) }
+fn do_go_round(net: &Network, first: RouterId, others: &[RouterId], a: u32) -> bool
+    ensures { result ≡ go_round (at_address (does_in net.now) a) first (first ∷ others.now) }
 {
     let mut last = first;
     for router in others {
-        let target = plain_next(alloc, entries, down, a, last)?;
+        let target = net.target(last, a);
         if !is_to(target, *router) {
-            return Ok(false);
+            return false;
         }
         last = *router;
     }
-    let target = plain_next(alloc, entries, down, a, last)?;
-    Ok(is_to(target, first))
+    let target = net.target(last, a);
+    is_to(target, first)
 }
 
-/// Whether an address goes round the cycle of these routers after a history, where the links `down` are down.
-pub(crate) fn is_cycle_of(
-    alloc: Global,
-    t: &Topology,
-    entries: &[Entry],
-    down: &[LinkId],
-    routers: &[RouterId],
-    a: u32,
-) -> Result<bool, OutOfMemory>
-    ensures { IfOk result (λ is. is ≡ goes_round (next t.now entries.now down.now) routers.now a) }
+/// Whether an address goes round the cycle of these routers.
+pub(crate) fn is_cycle_of(net: &Network, routers: &[RouterId], a: u32) -> bool
+    ensures { result ≡ goes_round (does_in net.now) routers.now a }
 {
     let [first, others @ ..] = routers else {
-        return Ok(false);
+        return false;
     };
     if !is_first_of(*first, others) || !do_differ(routers) {
-        return Ok(false);
+        return false;
     }
-    do_go_round(alloc, t, entries, down, *first, others, a)
+    do_go_round(net, *first, others, a)
 }
 
 /// Whether a walk that came along these routers goes on to one that may stand in a cycle of which `first` is the first
@@ -108,26 +87,24 @@ fn is_new_after(first: RouterId, routers: &[RouterId], far: RouterId) -> bool
     first.0 < far.0 && !is_among(routers, far)
 }
 
-/// The cycle that an address goes round after a history, where the links `down` are down, and of which `first` is the
+/// The cycle that an address goes round, and of which `first` is the
 /// first router in the topology's order; None where there is none.
 pub(crate) fn cycle_from(
     alloc: Global,
-    t: &Topology,
-    entries: &[Entry],
-    down: &[LinkId],
+    net: &Network,
     first: RouterId,
     a: u32,
 ) -> Result<Option<List<RouterId>>, OutOfMemory>
-    requires entries { All (IsEntryOf t.now) entries.now }
-    requires first { first.0 < length t.now.routers }
-    ensures { IfOk result (λ cycle. IsCycleFrom (at_address (next t.now entries.now down.now) a) first cycle) }
+    requires closed { IsClosed net.now }
+    requires first { first.0 < routers_in net.now }
+    ensures { IfOk result (λ cycle. IsCycleFrom (at_address (does_in net.now) a) first cycle) }
 {
     let mut routers = Vec::new(alloc);
     routers.push(first)?;
     let mut last = first;
-    let mut left = t.routers.len();
+    let mut left = net.router_count();
     while left > 0 {
-        let Target::To(far, _) = plain_next(alloc, entries, down, a, last)? else {
+        let Target::To(far, _) = net.target(last, a) else {
             return Ok(None);
         };
         if far.0 == first.0 {

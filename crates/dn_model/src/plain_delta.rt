@@ -1,22 +1,18 @@
 //! The plain evaluator of `delta`: per router, the targets before and after the last update on the elementary
 //! intervals between the ends of its routes' prefixes, from the last interval of the last router down.
 
-ghost use Rattle.std.specs.Prelude.{◌≡◌, ◌+◌, ◌-◌, ◌<◌, ◌≤◌, ◌^◌, ◌∷◌, ℕ, IsTrue, IsFalse, IfOk, OnOk, All};
-ghost use Rattle.dn_model.specs.Delta.{AreChanges, GoesOn, IsChange, IsDeltaOf, less_last};
-ghost use Rattle.dn_model.specs.DeltaFrom.{CoversAlike, BeginFrom, IsJoined, IsPutFirst, TellsPart, IsDeltaFrom};
+ghost use Rattle.std.specs.Prelude.{◌≡◌, ◌+◌, ◌-◌, ◌<◌, ◌≤◌, ◌^◌, ◌∷◌, ℕ, IsTrue, IsFalse, IfOk, OnOk, All, List as ListIs};
+ghost use Rattle.base.specs.Delta.{AreChanges, GoesOn, IsChange, IsDelta};
+ghost use Rattle.dn_model.specs.LastDelta.{IsDeltaOf, less_last};
+ghost use Rattle.base.specs.DeltaFrom.{CoversAlike, BeginFrom, IsJoined, IsPutFirst, TellsPart, IsDeltaFrom};
 ghost use Rattle.dn_model.specs.Entry.{IsEntryOf};
-ghost use Rattle.dn_model.specs.Table.{does_after, target_in};
+ghost use Rattle.dn_model.specs.Network.{does_in, routers_in};
+ghost use Rattle.dn_model.specs.Table.{Object, target_in};
 
-use crate::change::Change;
 use crate::entry::{Entry, Route};
-use crate::ids::RouterId;
-use crate::list::List;
-use crate::memory::OutOfMemory;
-use crate::plain::{plain_routes, target_of_routes};
-use crate::prefix::Prefix;
-use crate::run::Run;
-use crate::target::Target;
+use crate::network::Network;
 use crate::topology::Topology;
+use base::{Change, List, OutOfMemory, Prefix, RouterId, Run, Target};
 use std::alloc::Global;
 
 /// The end of a prefix that is the last below `past`, if it is above `low`; else `low`. A prefix has two ends: its
@@ -43,7 +39,8 @@ pub(crate) fn last_end(routes: &[Route], low: u64, past: u64) -> u64
     requires { low < past }
     ensures low { low ≤ result }
     ensures below { result < past }
-    ensures alike { (a : ℕ) → result ≤ a → a < past → target_in routes.now a ≡ target_in routes.now (past - 1) }
+    ensures alike { (objects : ListIs Object) → (a : ℕ) → result ≤ a → a < past →
+        target_in objects routes.now a ≡ target_in objects routes.now (past - 1) }
 {
     let mut last = low;
     for route in routes {
@@ -116,7 +113,8 @@ fn tell_run(
     requires order { run.lo ≤ run.hi }
     requires form { AreChanges changes.old.items }
     requires begin { BeginFrom router.0 (run.hi + 1) changes.old.items }
-    ensures { OnOk result (TellsPart router.0 run.lo (run.hi + 1) (λ _. before) (λ _. after) changes.old.items changes.new.items) }
+    ensures { OnOk result
+        (TellsPart router.0 run.lo (run.hi + 1) (λ _. before) (λ _. after) changes.old.items changes.new.items) }
 {
     if is_same(before, after) {
         return Ok(());
@@ -132,13 +130,13 @@ fn tell_run(
     )
 }
 
-/// Puts the change of a router's last elementary interval below `past` before others, by its routes before and after,
-/// and gives where the interval begins.
+/// Puts the change of a router's last elementary interval below `past` before others, by what it did before and does
+/// after, and gives where the interval begins.
 fn tell_interval(
     changes: &mut Vec<Change>,
     router: RouterId,
-    before: &[Route],
-    after: &[Route],
+    before: &Network,
+    after: &Network,
     past: u64,
 ) -> Result<u64, OutOfMemory>
     requires some { 0 < past }
@@ -146,10 +144,12 @@ fn tell_interval(
     requires form { AreChanges changes.old.items }
     requires begin { BeginFrom router.0 past changes.old.items }
     ensures lower { IfOk result (λ low. low < past) }
-    ensures told { IfOk result (λ low. TellsPart router.0 low past (target_in before.now) (target_in after.now) changes.old.items changes.new.items) }
+    ensures told { IfOk result (λ low.
+        TellsPart router.0 low past (does_in before.now router) (does_in after.now router)
+        changes.old.items changes.new.items) }
 {
-    let low = last_end(before, 0, past);
-    let low = last_end(after, low, past);
+    let low = before.end_below(router, 0, past);
+    let low = after.end_below(router, low, past);
     let last = (past - 1) as u32;
     let run = Run {
         lo: low as u32,
@@ -159,10 +159,45 @@ fn tell_interval(
         changes,
         router,
         run,
-        target_of_routes(before, last),
-        target_of_routes(after, last),
+        before.target(router, last),
+        after.target(router, last),
     )?;
     Ok(low)
+}
+
+/// Puts the changes of a router before those of the routers after it.
+fn tell_router(
+    changes: &mut Vec<Change>,
+    router: RouterId,
+    before: &Network,
+    after: &Network,
+) -> Result<(), OutOfMemory>
+    requires { IsDeltaFrom (does_in before.now) (does_in after.now) (router.0 + 1) 0 changes.old.items }
+    ensures { OnOk result (IsDeltaFrom (does_in before.now) (does_in after.now) router.0 0 changes.new.items) }
+{
+    let mut past: u64 = 1 << 32;
+    while past > 0 {
+        past = tell_interval(changes, router, before, after, past)?;
+    }
+    Ok(())
+}
+
+/// Where what the routers of a network do differs between two moments.
+fn changes_between(
+    alloc: Global,
+    before: &Network,
+    after: &Network,
+) -> Result<List<Change>, OutOfMemory>
+    requires { routers_in before.now ≡ routers_in after.now }
+    ensures { IfOk result (IsDelta (does_in before.now) (does_in after.now)) }
+{
+    let mut changes = Vec::new(alloc);
+    let mut left = after.router_count();
+    while left > 0 {
+        left -= 1;
+        tell_router(&mut changes, RouterId(left), before, after)?;
+    }
+    Ok(List::from_vec(changes))
 }
 
 /// The updates but for the last one.
@@ -170,26 +205,6 @@ fn all_but_last(entries: &[Entry]) -> &[Entry]
     ensures { result.now ≡ less_last entries.now }
 {
     &entries[..entries.len().saturating_sub(1)]
-}
-
-/// Puts the changes of a router before those of the routers after it.
-fn tell_router(
-    alloc: Global,
-    t: &Topology,
-    changes: &mut Vec<Change>,
-    router: RouterId,
-    entries: &[Entry],
-) -> Result<(), OutOfMemory>
-    requires { IsDeltaFrom (does_after t.now (less_last entries.now)) (does_after t.now entries.now) (router.0 + 1) 0 changes.old.items }
-    ensures { OnOk result (IsDeltaFrom (does_after t.now (less_last entries.now)) (does_after t.now entries.now) router.0 0 changes.new.items) }
-{
-    let before = plain_routes(alloc, all_but_last(entries), router)?;
-    let after = plain_routes(alloc, entries, router)?;
-    let mut past: u64 = 1 << 32;
-    while past > 0 {
-        past = tell_interval(changes, router, before.as_slice(), after.as_slice(), past)?;
-    }
-    Ok(())
 }
 
 /// What the last update of a history changed.
@@ -201,11 +216,7 @@ pub fn plain_delta(
     requires { All (IsEntryOf t.now) entries.now }
     ensures { IfOk result (λ changes. IsDeltaOf t.now entries.now changes) }
 {
-    let mut changes = Vec::new(alloc);
-    let mut left = t.router_count() as u16;
-    while left > 0 {
-        left -= 1;
-        tell_router(alloc, t, &mut changes, RouterId(left), entries)?;
-    }
-    Ok(List::from_vec(changes))
+    let before = Network::after(alloc, t, all_but_last(entries), &[])?;
+    let after = Network::after(alloc, t, entries, &[])?;
+    changes_between(alloc, &before, &after)
 }

@@ -1,29 +1,23 @@
 //! The plain evaluator of `blackholes`: where the walks of the elementary intervals between the ends of all routers'
 //! prefixes fall, and for each such last router and cause the runs of all addresses that fall there.
 
-ghost use Rattle.std.specs.Prelude.{◌≡◌, ◌<◌, ◌≤◌, ◌^◌, ℕ, IfOk, OnOk, IsTrue, IsSome, All, false, length, slice_index_or};
+ghost use Rattle.std.specs.Prelude.{◌≡◌, ◌<◌, ◌≤◌, ◌^◌, ℕ, IfOk, OnOk, IsTrue, IsSome, false, length, slice_index_or};
 ghost use Rattle.std.specs.List.{list_any};
 ghost use Rattle.dn_model.specs.Answer.{IsAnswerOf};
-ghost use Rattle.dn_model.specs.Entry.{IsEntryOf};
-ghost use Rattle.dn_model.specs.Holes.{is_cause, falls, AreHoles, AreInOrder};
-ghost use Rattle.dn_model.specs.HolesFrom.{is_hole_of, is_before, fall_of, fall_at, IsPutAmong, AreSomeHoles, TellsHole, AreHolesFrom};
+ghost use Rattle.base.specs.Holes.{is_cause, falls, AreHoles, AreInOrder};
+ghost use Rattle.base.specs.HolesFrom.{is_hole_of, is_before, fall_of, fall_at, IsPutAmong, AreSomeHoles, TellsHole, AreHolesFrom};
 ghost use Rattle.dn_model.specs.Lookup.{router_of};
-ghost use Rattle.dn_model.specs.Walk.{next};
+ghost use Rattle.dn_model.specs.Network.{does_in, routers_in};
 ghost use Rattle.dn_model.specs.declared.query.Ask.TheVariants.{Blackholes};
 
-use crate::answer::{Answer, Hole, PathEnd};
-use crate::entry::Entry;
-use crate::ids::{LinkId, RouterId};
-use crate::list::List;
-use crate::memory::OutOfMemory;
-use crate::name::Name;
-use crate::plain::plain_walk;
+use crate::answer::Answer;
+use crate::network::Network;
 use crate::plain_intervals::interval_below;
 use crate::plain_reach::known_router;
 use crate::plain_runs::plain_runs;
 use crate::plain_test::{Test, is_a_cause, last_of, rank_of};
-use crate::target::Target;
 use crate::topology::Topology;
+use base::{Hole, List, Name, OutOfMemory, PathEnd, RouterId, Target};
 use std::alloc::Global;
 
 /// Whether a hole comes before another: by router, then cause.
@@ -85,15 +79,13 @@ fn fall_by_end(last: RouterId, end: PathEnd) -> Option<(RouterId, Target)>
 /// Where the walk of an address from a router falls, and by which cause.
 fn plain_fall(
     alloc: Global,
-    t: &Topology,
-    entries: &[Entry],
-    down: &[LinkId],
+    net: &Network,
     first: RouterId,
     a: u32,
 ) -> Result<Option<(RouterId, Target)>, OutOfMemory>
-    ensures { IfOk result (λ fall. fall ≡ fall_at (length t.now.routers) (next t.now entries.now down.now) first a) }
+    ensures { IfOk result (λ fall. fall ≡ fall_at (routers_in net.now) (does_in net.now) first a) }
 {
-    let (routers, end) = plain_walk(alloc, t, entries, down, first, a)?;
+    let (routers, end) = net.walk(alloc, first, a)?;
     match last_of(routers.as_slice()) {
         Some(last) => Ok(fall_by_end(last, end)),
         None => Ok(None),
@@ -103,25 +95,22 @@ fn plain_fall(
 /// Puts the hole in which an address falls, if it does, among others.
 fn tell_hole(
     alloc: Global,
-    t: &Topology,
-    entries: &[Entry],
-    down: &[LinkId],
+    net: &Network,
     first: RouterId,
     holes: &mut Vec<Hole>,
     a: u32,
 ) -> Result<(), OutOfMemory>
-    requires entries { All (IsEntryOf t.now) entries.now }
-    requires form { AreSomeHoles (length t.now.routers) (next t.now entries.now down.now) first holes.old.items }
+    requires form { AreSomeHoles (routers_in net.now) (does_in net.now) first holes.old.items }
     ensures { OnOk result (
-        TellsHole (length t.now.routers) (next t.now entries.now down.now) first a holes.old.items holes.new.items) }
+        TellsHole (routers_in net.now) (does_in net.now) first a holes.old.items holes.new.items) }
 {
-    let Some((last, cause)) = plain_fall(alloc, t, entries, down, first, a)? else {
+    let Some((last, cause)) = plain_fall(alloc, net, first, a)? else {
         return Ok(());
     };
     if has_hole(holes.as_slice(), last, cause) {
         return Ok(());
     }
-    let runs = plain_runs(alloc, t, entries, down, &Test::Falls(first, last, cause))?;
+    let runs = plain_runs(alloc, net, &Test::Falls(first, last, cause))?;
     let hole = Hole {
         router: last,
         cause,
@@ -134,58 +123,47 @@ fn tell_hole(
 /// Puts the hole of the last elementary interval below `past` among others, and gives where the interval begins.
 fn tell_interval(
     alloc: Global,
-    t: &Topology,
-    entries: &[Entry],
-    down: &[LinkId],
+    net: &Network,
     first: RouterId,
     holes: &mut Vec<Hole>,
     past: u64,
 ) -> Result<u64, OutOfMemory>
     requires some { 0 < past }
     requires below { past ≤ 2 ^ 32 }
-    requires entries { All (IsEntryOf t.now) entries.now }
-    requires holes { AreHolesFrom (length t.now.routers) (next t.now entries.now down.now) first past holes.old.items }
+    requires holes { AreHolesFrom (routers_in net.now) (does_in net.now) first past holes.old.items }
     ensures lower { IfOk result (λ low. low < past) }
     ensures told { IfOk result (λ low.
-        AreHolesFrom (length t.now.routers) (next t.now entries.now down.now) first low holes.new.items) }
+        AreHolesFrom (routers_in net.now) (does_in net.now) first low holes.new.items) }
 {
-    let low = interval_below(alloc, t, entries, past)?;
-    tell_hole(alloc, t, entries, down, first, holes, (past - 1) as u32)?;
+    let low = interval_below(net, past);
+    tell_hole(alloc, net, first, holes, (past - 1) as u32)?;
     Ok(low)
 }
 
 /// The black holes of a router's walks.
-fn holes_of(
-    alloc: Global,
-    t: &Topology,
-    entries: &[Entry],
-    down: &[LinkId],
-    first: RouterId,
-) -> Result<List<Hole>, OutOfMemory>
-    requires { All (IsEntryOf t.now) entries.now }
-    ensures { IfOk result (λ holes. AreHoles (length t.now.routers) (next t.now entries.now down.now) first holes) }
+fn holes_of(alloc: Global, net: &Network, first: RouterId) -> Result<List<Hole>, OutOfMemory>
+    ensures { IfOk result (λ holes. AreHoles (routers_in net.now) (does_in net.now) first holes) }
 {
     let mut holes = Vec::new(alloc);
     let mut past: u64 = 1 << 32;
     while past > 0 {
-        past = tell_interval(alloc, t, entries, down, first, &mut holes, past)?;
+        past = tell_interval(alloc, net, first, &mut holes, past)?;
     }
     Ok(List::from_vec(holes))
 }
 
-/// The black holes of the walks from the router of this name after a history, where the links `down` are down.
+/// The black holes of the walks from the router of this name.
 pub(crate) fn plain_holes(
     alloc: Global,
     t: &Topology,
-    entries: &[Entry],
-    down: &[LinkId],
+    net: &Network,
     name: &Name,
 ) -> Result<Answer, OutOfMemory>
+    requires count { routers_in net.now ≡ length t.now.routers }
     requires name { IsSome (router_of t.now name.now) }
-    requires entries { All (IsEntryOf t.now) entries.now }
-    ensures { IfOk result (λ answer. IsAnswerOf t.now (next t.now entries.now down.now) (Blackholes name.now) answer) }
+    ensures { IfOk result (λ answer. IsAnswerOf t.now (does_in net.now) (Blackholes name.now) answer) }
 {
     let first = known_router(t, name);
-    let holes = holes_of(alloc, t, entries, down, first)?;
+    let holes = holes_of(alloc, net, first)?;
     Ok(Answer::Holes(holes))
 }

@@ -1,27 +1,21 @@
 //! The plain evaluator of `loops`: the cycles of the elementary intervals between the ends of all routers' prefixes,
 //! and for each the runs of all addresses that go round it.
 
-ghost use Rattle.std.specs.Prelude.{◌≡◌, ◌<◌, ◌≤◌, ◌^◌, ◌+◌, ℕ, IfOk, OnOk, IsTrue, IsFalse, All, Contains, false, length, slice_index_or};
-ghost use Rattle.dn_model.specs.Answer.{IsAnswerOf};
-ghost use Rattle.dn_model.specs.Cycles.{AreCycles, AreInOrder, HasCycle, first_router};
-ghost use Rattle.dn_model.specs.CyclesFrom.{is_before, IsCycleOf, IsPutAmong, AreSomeCycles, TellsCycle, TellsCycles, AreCyclesFrom};
-ghost use Rattle.dn_model.specs.Entry.{IsEntryOf};
-ghost use Rattle.dn_model.specs.Runs.{AreApart, addresses_in};
-ghost use Rattle.dn_model.specs.Walk.{next};
-ghost use Rattle.dn_model.specs.declared.answer.Cycle.{Cycle as CycleIs};
-ghost use Rattle.dn_model.specs.declared.query.Ask.TheVariants.{Loops};
+ghost use Rattle.std.specs.Prelude.{◌≡◌, ◌<◌, ◌≤◌, ◌^◌, ◌+◌, ℕ, IfOk, OnOk, IsTrue, IsFalse, Contains, false, length, slice_index_or};
+ghost use Rattle.dn_model.specs.Answer.{IsLoopsAnswer};
+ghost use Rattle.base.specs.Cycles.{AreCycles, AreInOrder, HasCycle, first_router};
+ghost use Rattle.base.specs.CyclesFrom.{is_before, IsCycleOf, IsPutAmong, AreSomeCycles, TellsCycle, TellsCycles, AreCyclesFrom};
+ghost use Rattle.base.specs.Runs.{AreApart, addresses_in};
+ghost use Rattle.dn_model.specs.Network.{IsClosed, does_in, routers_in};
+ghost use Rattle.base.specs.declared.cycle.Cycle.{Cycle as CycleIs};
 
-use crate::answer::{Answer, Cycle};
-use crate::entry::Entry;
-use crate::ids::{LinkId, RouterId};
-use crate::list::List;
-use crate::memory::OutOfMemory;
+use crate::answer::Answer;
+use crate::network::Network;
 use crate::plain_cycle::cycle_from;
 use crate::plain_intervals::interval_below;
 use crate::plain_runs::plain_runs;
 use crate::plain_test::Test;
-use crate::run::Run;
-use crate::topology::Topology;
+use base::{Cycle, List, OutOfMemory, RouterId, Run};
 use std::alloc::Global;
 
 /// The number of the first of these routers.
@@ -105,19 +99,16 @@ fn count_of(runs: &[Run]) -> u64
     count
 }
 
-/// The cycle of these routers after a history, where the links `down` are down; None if no address goes round it.
+/// The cycle of these routers; None if no address goes round it.
 fn cycle_of(
     alloc: Global,
-    t: &Topology,
-    entries: &[Entry],
-    down: &[LinkId],
+    net: &Network,
     routers: List<RouterId>,
 ) -> Result<Option<Cycle>, OutOfMemory>
-    requires { All (IsEntryOf t.now) entries.now }
-    ensures { IfOk result (λ cycle. IsCycleOf (next t.now entries.now down.now) routers cycle) }
+    ensures { IfOk result (λ cycle. IsCycleOf (does_in net.now) routers cycle) }
 {
     let test = Test::GoesRound(routers);
-    let runs = plain_runs(alloc, t, entries, down, &test)?;
+    let runs = plain_runs(alloc, net, &test)?;
     let Test::GoesRound(routers) = test else {
         unreachable!()
     };
@@ -134,20 +125,17 @@ fn cycle_of(
 /// Puts the cycle of these routers among others, if addresses go round it and it isn't there.
 fn tell_cycle(
     alloc: Global,
-    t: &Topology,
-    entries: &[Entry],
-    down: &[LinkId],
+    net: &Network,
     cycles: &mut Vec<Cycle>,
     routers: List<RouterId>,
 ) -> Result<(), OutOfMemory>
-    requires entries { All (IsEntryOf t.now) entries.now }
-    requires form { AreSomeCycles (next t.now entries.now down.now) cycles.old.items }
-    ensures { OnOk result (TellsCycle (next t.now entries.now down.now) routers cycles.old.items cycles.new.items) }
+    requires form { AreSomeCycles (does_in net.now) cycles.old.items }
+    ensures { OnOk result (TellsCycle (does_in net.now) routers cycles.old.items cycles.new.items) }
 {
     if has_cycle(cycles.as_slice(), routers.as_slice()) {
         return Ok(());
     }
-    let Some(cycle) = cycle_of(alloc, t, entries, down, routers)? else {
+    let Some(cycle) = cycle_of(alloc, net, routers)? else {
         return Ok(());
     };
     put_cycle(cycles, cycle)?;
@@ -157,44 +145,40 @@ fn tell_cycle(
 /// Puts the cycle that an address goes round, and of which a router is the first, among others, if there is one.
 fn tell_first(
     alloc: Global,
-    t: &Topology,
-    entries: &[Entry],
-    down: &[LinkId],
+    net: &Network,
     cycles: &mut Vec<Cycle>,
     first: RouterId,
     a: u32,
 ) -> Result<(), OutOfMemory>
-    requires entries { All (IsEntryOf t.now) entries.now }
-    requires first { first.0 < length t.now.routers }
-    requires form { AreSomeCycles (next t.now entries.now down.now) cycles.old.items }
+    requires closed { IsClosed net.now }
+    requires first { first.0 < routers_in net.now }
+    requires form { AreSomeCycles (does_in net.now) cycles.old.items }
     ensures { OnOk result (
-        TellsCycles (next t.now entries.now down.now) first.0 (first.0 + 1) a cycles.old.items cycles.new.items) }
+        TellsCycles (does_in net.now) first.0 (first.0 + 1) a cycles.old.items cycles.new.items) }
 {
-    let Some(routers) = cycle_from(alloc, t, entries, down, first, a)? else {
+    let Some(routers) = cycle_from(alloc, net, first, a)? else {
         return Ok(());
     };
-    tell_cycle(alloc, t, entries, down, cycles, routers)?;
+    tell_cycle(alloc, net, cycles, routers)?;
     Ok(())
 }
 
 /// Puts the cycles that an address goes round among others.
 fn tell_address(
     alloc: Global,
-    t: &Topology,
-    entries: &[Entry],
-    down: &[LinkId],
+    net: &Network,
     cycles: &mut Vec<Cycle>,
     a: u32,
 ) -> Result<(), OutOfMemory>
-    requires entries { All (IsEntryOf t.now) entries.now }
-    requires form { AreSomeCycles (next t.now entries.now down.now) cycles.old.items }
+    requires closed { IsClosed net.now }
+    requires form { AreSomeCycles (does_in net.now) cycles.old.items }
     ensures { OnOk result (
-        TellsCycles (next t.now entries.now down.now) 0 (length t.now.routers) a cycles.old.items cycles.new.items) }
+        TellsCycles (does_in net.now) 0 (routers_in net.now) a cycles.old.items cycles.new.items) }
 {
-    let mut left = t.router_count() as u16;
+    let mut left = net.router_count();
     while left > 0 {
         left -= 1;
-        tell_first(alloc, t, entries, down, cycles, RouterId(left), a)?;
+        tell_first(alloc, net, cycles, RouterId(left), a)?;
     }
     Ok(())
 }
@@ -202,52 +186,40 @@ fn tell_address(
 /// Puts the cycles of the last elementary interval below `past` among others, and gives where the interval begins.
 fn tell_interval(
     alloc: Global,
-    t: &Topology,
-    entries: &[Entry],
-    down: &[LinkId],
+    net: &Network,
     cycles: &mut Vec<Cycle>,
     past: u64,
 ) -> Result<u64, OutOfMemory>
+    requires closed { IsClosed net.now }
     requires some { 0 < past }
     requires below { past ≤ 2 ^ 32 }
-    requires entries { All (IsEntryOf t.now) entries.now }
-    requires cycles { AreCyclesFrom (next t.now entries.now down.now) past cycles.old.items }
+    requires cycles { AreCyclesFrom (does_in net.now) past cycles.old.items }
     ensures lower { IfOk result (λ low. low < past) }
-    ensures told { IfOk result (λ low. AreCyclesFrom (next t.now entries.now down.now) low cycles.new.items) }
+    ensures told { IfOk result (λ low. AreCyclesFrom (does_in net.now) low cycles.new.items) }
 {
-    let low = interval_below(alloc, t, entries, past)?;
-    tell_address(alloc, t, entries, down, cycles, (past - 1) as u32)?;
+    let low = interval_below(net, past);
+    tell_address(alloc, net, cycles, (past - 1) as u32)?;
     Ok(low)
 }
 
 /// The cycles of all addresses.
-fn loops_of(
-    alloc: Global,
-    t: &Topology,
-    entries: &[Entry],
-    down: &[LinkId],
-) -> Result<List<Cycle>, OutOfMemory>
-    requires { All (IsEntryOf t.now) entries.now }
-    ensures { IfOk result (λ cycles. AreCycles (next t.now entries.now down.now) cycles) }
+fn loops_of(alloc: Global, net: &Network) -> Result<List<Cycle>, OutOfMemory>
+    requires { IsClosed net.now }
+    ensures { IfOk result (λ cycles. AreCycles (does_in net.now) cycles) }
 {
     let mut cycles = Vec::new(alloc);
     let mut past: u64 = 1 << 32;
     while past > 0 {
-        past = tell_interval(alloc, t, entries, down, &mut cycles, past)?;
+        past = tell_interval(alloc, net, &mut cycles, past)?;
     }
     Ok(List::from_vec(cycles))
 }
 
-/// The cycles in which addresses go round after a history, where the links `down` are down.
-pub(crate) fn plain_loops(
-    alloc: Global,
-    t: &Topology,
-    entries: &[Entry],
-    down: &[LinkId],
-) -> Result<Answer, OutOfMemory>
-    requires { All (IsEntryOf t.now) entries.now }
-    ensures { IfOk result (λ answer. IsAnswerOf t.now (next t.now entries.now down.now) Loops answer) }
+/// The cycles in which addresses go round.
+pub(crate) fn plain_loops(alloc: Global, net: &Network) -> Result<Answer, OutOfMemory>
+    requires { IsClosed net.now }
+    ensures { IfOk result (λ answer. IsLoopsAnswer (does_in net.now) answer) }
 {
-    let cycles = loops_of(alloc, t, entries, down)?;
+    let cycles = loops_of(alloc, net)?;
     Ok(Answer::Loops(cycles))
 }

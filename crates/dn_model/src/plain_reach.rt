@@ -1,21 +1,18 @@
 //! The plain evaluator of the queries that ask for runs of addresses: `reach`, `uses` and `waypoint`.
 
-ghost use Rattle.std.specs.Prelude.{◌≡◌, ◌<◌, IfOk, All, IsSome, Some, length};
+ghost use Rattle.std.specs.Prelude.{◌≡◌, ◌<◌, IfOk, IsSome, Some, length};
 ghost use Rattle.dn_model.specs.Answer.{IsAnswerOf};
-ghost use Rattle.dn_model.specs.Entry.{IsEntryOf};
 ghost use Rattle.dn_model.specs.Lookup.{router_of, link_of};
-ghost use Rattle.dn_model.specs.Walk.{next};
+ghost use Rattle.dn_model.specs.Network.{does_in, routers_in};
 ghost use Rattle.dn_model.specs.declared.query.Ask.TheVariants.{Reach, Uses, Waypoint};
 
 use crate::answer::Answer;
-use crate::entry::Entry;
-use crate::ids::{LinkId, RouterId};
 use crate::lookup::{link, router};
-use crate::memory::OutOfMemory;
-use crate::name::Name;
+use crate::network::Network;
 use crate::plain_runs::plain_runs;
 use crate::plain_test::Test;
 use crate::topology::Topology;
+use base::{LinkId, Name, OutOfMemory, RouterId};
 use std::alloc::Global;
 
 /// The router of a name that the topology has.
@@ -45,19 +42,18 @@ fn known_link(t: &Topology, name: &Name) -> LinkId
 pub(crate) fn plain_reach(
     alloc: Global,
     t: &Topology,
-    entries: &[Entry],
-    down: &[LinkId],
+    net: &Network,
     from: &Name,
     to: &Name,
 ) -> Result<Answer, OutOfMemory>
+    requires count { routers_in net.now ≡ length t.now.routers }
     requires from { IsSome (router_of t.now from.now) }
     requires to { IsSome (router_of t.now to.now) }
-    requires entries { All (IsEntryOf t.now) entries.now }
     ensures { IfOk result (λ answer.
-        IsAnswerOf t.now (next t.now entries.now down.now) (Reach from.now to.now) answer) }
+        IsAnswerOf t.now (does_in net.now) (Reach from.now to.now) answer) }
 {
     let test = Test::Reaches(known_router(t, from), known_router(t, to));
-    let runs = plain_runs(alloc, t, entries, down, &test)?;
+    let runs = plain_runs(alloc, net, &test)?;
     Ok(Answer::Runs(runs))
 }
 
@@ -65,20 +61,18 @@ pub(crate) fn plain_reach(
 pub(crate) fn plain_uses(
     alloc: Global,
     t: &Topology,
-    entries: &[Entry],
-    down: &[LinkId],
+    net: &Network,
     name: &Name,
 ) -> Result<Answer, OutOfMemory>
     requires name { IsSome (link_of t.now name.now) }
-    requires entries { All (IsEntryOf t.now) entries.now }
-    ensures { IfOk result (λ answer. IsAnswerOf t.now (next t.now entries.now down.now) (Uses name.now) answer) }
+    ensures { IfOk result (λ answer. IsAnswerOf t.now (does_in net.now) (Uses name.now) answer) }
 {
     let over = known_link(t, name);
     let link = &t.links.as_slice()[over.0 as usize];
     let test = Test::GoesOver(link.first.router, over);
-    let first = plain_runs(alloc, t, entries, down, &test)?;
+    let first = plain_runs(alloc, net, &test)?;
     let test = Test::GoesOver(link.second.router, over);
-    let second = plain_runs(alloc, t, entries, down, &test)?;
+    let second = plain_runs(alloc, net, &test)?;
     Ok(Answer::Uses(first, second))
 }
 
@@ -86,24 +80,23 @@ pub(crate) fn plain_uses(
 pub(crate) fn plain_waypoint(
     alloc: Global,
     t: &Topology,
-    entries: &[Entry],
-    down: &[LinkId],
+    net: &Network,
     from: &Name,
     to: &Name,
     through: &Name,
 ) -> Result<Answer, OutOfMemory>
+    requires count { routers_in net.now ≡ length t.now.routers }
     requires from { IsSome (router_of t.now from.now) }
     requires to { IsSome (router_of t.now to.now) }
     requires through { IsSome (router_of t.now through.now) }
-    requires entries { All (IsEntryOf t.now) entries.now }
     ensures { IfOk result (λ answer.
-        IsAnswerOf t.now (next t.now entries.now down.now) (Waypoint from.now to.now through.now) answer) }
+        IsAnswerOf t.now (does_in net.now) (Waypoint from.now to.now through.now) answer) }
 {
     let test = Test::Misses(
         known_router(t, from),
         known_router(t, to),
         known_router(t, through),
     );
-    let runs = plain_runs(alloc, t, entries, down, &test)?;
+    let runs = plain_runs(alloc, net, &test)?;
     Ok(Answer::Runs(runs))
 }

@@ -2,20 +2,14 @@
 
 ghost use Rattle.std.specs.Prelude.{◌≡◌, ◌-◌, ◌&&◌, IfOk, length, slice_get};
 ghost use Rattle.std.specs.List.{list_any};
-ghost use Rattle.dn_model.specs.Holes.{cause_rank, is_cause, ends_by, falls};
-ghost use Rattle.dn_model.specs.Reach.{is_router, comes_before, is_over, reaches, misses, goes_over};
+ghost use Rattle.base.specs.Holes.{cause_rank, is_cause, ends_by, falls};
+ghost use Rattle.base.specs.Reach.{is_router, comes_before, is_over, reaches, misses, goes_over};
 ghost use Rattle.dn_model.specs.Test.{passes};
-ghost use Rattle.dn_model.specs.Walk.{next};
+ghost use Rattle.dn_model.specs.Network.{does_in, routers_in};
 
-use crate::answer::PathEnd;
-use crate::entry::Entry;
-use crate::ids::{LinkId, RouterId};
-use crate::list::List;
-use crate::memory::OutOfMemory;
-use crate::plain::{plain_next, plain_walk};
+use crate::network::Network;
 use crate::plain_cycle::is_cycle_of;
-use crate::target::{DropKind, Target};
-use crate::topology::Topology;
+use base::{DropKind, LinkId, List, OutOfMemory, PathEnd, RouterId, Target};
 use std::alloc::Global;
 
 /// A test of an address.
@@ -107,34 +101,30 @@ fn is_end_by(cause: Target, end: PathEnd) -> bool
 /// Whether the walk of an address comes from a router to another.
 fn comes_to(
     alloc: Global,
-    t: &Topology,
-    entries: &[Entry],
-    down: &[LinkId],
+    net: &Network,
     first: RouterId,
     to: RouterId,
     a: u32,
 ) -> Result<bool, OutOfMemory>
     ensures { IfOk result (λ comes.
-        comes ≡ reaches (length t.now.routers) (next t.now entries.now down.now) first to a) }
+        comes ≡ reaches (routers_in net.now) (does_in net.now) first to a) }
 {
-    let (routers, _end) = plain_walk(alloc, t, entries, down, first, a)?;
+    let (routers, _end) = net.walk(alloc, first, a)?;
     Ok(is_among(routers.as_slice(), to))
 }
 
 /// Whether the walk of an address comes from a router to another without having met the waypoint.
 fn misses_waypoint(
     alloc: Global,
-    t: &Topology,
-    entries: &[Entry],
-    down: &[LinkId],
+    net: &Network,
     routers: (RouterId, RouterId, RouterId),
     a: u32,
 ) -> Result<bool, OutOfMemory>
     ensures { IfOk result (λ comes.
-        comes ≡ misses (length t.now.routers) (next t.now entries.now down.now) routers.0 routers.1 routers.2 a) }
+        comes ≡ misses (routers_in net.now) (does_in net.now) routers.0 routers.1 routers.2 a) }
 {
     let (first, to, through) = routers;
-    let (routers, _end) = plain_walk(alloc, t, entries, down, first, a)?;
+    let (routers, _end) = net.walk(alloc, first, a)?;
     Ok(is_before_waypoint(routers.as_slice(), to, through))
 }
 
@@ -155,69 +145,35 @@ fn is_fall(router: RouterId, end: PathEnd, last: RouterId, cause: Target) -> boo
 /// Whether the walk of an address from a router ends at the last router by the cause.
 fn falls_at(
     alloc: Global,
-    t: &Topology,
-    entries: &[Entry],
-    down: &[LinkId],
+    net: &Network,
     hole: (RouterId, RouterId, Target),
     a: u32,
 ) -> Result<bool, OutOfMemory>
     ensures { IfOk result (λ is.
-        is ≡ falls (length t.now.routers) (next t.now entries.now down.now) hole.0 hole.1 hole.2 a) }
+        is ≡ falls (routers_in net.now) (does_in net.now) hole.0 hole.1 hole.2 a) }
 {
     let (first, last, cause) = hole;
-    let (routers, end) = plain_walk(alloc, t, entries, down, first, a)?;
+    let (routers, end) = net.walk(alloc, first, a)?;
     match last_of(routers.as_slice()) {
         Some(router) => Ok(is_fall(router, end, last, cause)),
         None => Ok(false),
     }
 }
 
-/// Whether a router sends an address over a link.
-fn is_sent(
-    alloc: Global,
-    t: &Topology,
-    entries: &[Entry],
-    down: &[LinkId],
-    router: RouterId,
-    link: LinkId,
-    a: u32,
-) -> Result<bool, OutOfMemory>
-    ensures { IfOk result (λ is. is ≡ goes_over (next t.now entries.now down.now) router link a) }
-{
-    let target = plain_next(alloc, entries, down, a, router)?;
-    Ok(is_sent_over(link, target))
-}
-
-/// Whether an address passes a test after a history, where the links `down` are down.
+/// Whether an address passes a test.
 pub(crate) fn is_passed(
     alloc: Global,
-    t: &Topology,
-    entries: &[Entry],
-    down: &[LinkId],
+    net: &Network,
     test: &Test,
     a: u32,
 ) -> Result<bool, OutOfMemory>
-    ensures { IfOk result (λ is. is ≡ passes (length t.now.routers) (next t.now entries.now down.now) test.now a) }
+    ensures { IfOk result (λ is. is ≡ passes (routers_in net.now) (does_in net.now) test.now a) }
 {
     match test {
-        Test::Reaches(first, to) => comes_to(alloc, t, entries, down, *first, *to, a),
-        Test::Misses(first, to, through) => misses_waypoint(
-            alloc,
-            t,
-            entries,
-            down,
-            (*first, *to, *through),
-            a,
-        ),
-        Test::GoesOver(router, link) => is_sent(alloc, t, entries, down, *router, *link, a),
-        Test::Falls(first, last, cause) => falls_at(
-            alloc,
-            t,
-            entries,
-            down,
-            (*first, *last, *cause),
-            a,
-        ),
-        Test::GoesRound(routers) => is_cycle_of(alloc, t, entries, down, routers.as_slice(), a),
+        Test::Reaches(first, to) => comes_to(alloc, net, *first, *to, a),
+        Test::Misses(first, to, through) => misses_waypoint(alloc, net, (*first, *to, *through), a),
+        Test::GoesOver(router, link) => Ok(is_sent_over(*link, net.target(*router, a))),
+        Test::Falls(first, last, cause) => falls_at(alloc, net, (*first, *last, *cause), a),
+        Test::GoesRound(routers) => Ok(is_cycle_of(net, routers.as_slice(), a)),
     }
 }

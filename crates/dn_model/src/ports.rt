@@ -1,6 +1,6 @@
 //! What stands at the interfaces of routers.
 
-use crate::ids::{LinkId, RouterId};
+use base::{LinkId, RouterId};
 
 /// What is at an interface of a router.
 #[derive(Clone, Copy, Debug, PartialEq, Eq)]

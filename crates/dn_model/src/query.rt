@@ -3,9 +3,7 @@
 ghost use Rattle.std.specs.Prelude.{◌≡◌, [], IfOk};
 ghost use Rattle.dn_model.specs.Query.{IsQuestion};
 
-use crate::list::List;
-use crate::memory::OutOfMemory;
-use crate::name::Name;
+use base::{List, Name, OutOfMemory};
 use std::alloc::Global;
 use std::marker::Model;
 

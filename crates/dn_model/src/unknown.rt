@@ -4,9 +4,9 @@ ghost use Rattle.std.specs.Prelude.{◌≡◌, ◌∷◌, [], ◌≤◌, ◌<◌
 ghost use Rattle.dn_model.specs.Query.{RouterName, first_unknown, link_names, names_asked, unknown_of};
 
 use crate::lookup::{link, router};
-use crate::name::Name;
 use crate::query::{Ask, Query, Unknown};
 use crate::topology::Topology;
+use base::Name;
 
 /// The first of these names that is no link's, by its place; the first name has the place 1.
 fn unknown_link(topology: &Topology, names: &[Name]) -> Option<Unknown>

@@ -7,13 +7,13 @@ use Rattle.std.proofs.lemmas.Bool.Decides.{nat_tests}
 use Rattle.std.proofs.lemmas.List.Folds.{list_any-append}
 use Rattle.dn_formats.specs.ScriptText.{ScriptFault, ask_meaning, at_line, command_meaning, count_of, is_named, line_meaning, lines_meaning, lines_of, numbered, passes, script_of, take_count, take_from, take_meaning, two_of, with_line, words_of}
 use Rattle.dn_formats.specs.QueryWords.{query_of}
-use Rattle.dn_formats.specs.declared.script_cause.TheConstants.{TAKEN_TWICE, TOO_LONG}
+use Rattle.dn_formats.specs.ScriptCauses.{taken_twice, too_long}
 use Rattle.dn_formats.specs.Lawful.{takes}
 use Rattle.dn_formats.specs.declared.script.Line.{Line}
 use Rattle.dn_formats.specs.declared.script.Line.TheVariants.{Take, Ask}
-use Rattle.dn_model.specs.Name.{is_name_text}
+use Rattle.base.specs.Name.{is_name_text}
 use Rattle.dn_model.specs.Query.{Question}
-use Rattle.dn_model.specs.declared.ids.RouterId.{RouterId}
+use Rattle.base.specs.declared.ids.RouterId.{RouterId}
 use Rattle.dn_run.specs.Jobs.{TakeApart}
 use Rattle.dn_run.specs.Run.{taken_by_line, takes_router}
 use Rattle.dn_run.specs.Stops.{AreTaken, TakeNoneOf}
@@ -40,7 +40,7 @@ from-clear : (n : ℕ) (taken : List RouterId) (count : Option ℕ) (r : Option 
 from-clear n taken count None = tt
 from-clear n taken count (Some q) = by-among (among taken q) refl
   where
-    by-among : (b : Bool) → among taken q ≡ b → MayBe taken (if b then Err TAKEN_TWICE else Ok (Some (Take n q count)))
+    by-among : (b : Bool) → among taken q ≡ b → MayBe taken (if b then Err taken_twice else Ok (Some (Take n q count)))
     by-among true is = tt
     by-among false is = λ r same. let equal : q.0 ≡ r.0 = grind (arith, nat_tests, same) in subst (λ (k : ℕ). list_any (λ p. p.0 == k) taken ≡ false) equal is
 
@@ -99,7 +99,7 @@ module _ (routers : List (List ℕ)) (feeds taken : List RouterId) where
   script-clear : (bytes : List ℕ) → MayAll (script_of routers feeds taken bytes)
   script-clear bytes = by-length (nat_lt 16777216 (length bytes))
     where
-      by-length : (b : Bool) → MayAll (if b then Err (record { line = 0; cause = TOO_LONG }) else lines_meaning (line_meaning routers feeds taken) 1 (lines_of bytes))
+      by-length : (b : Bool) → MayAll (if b then Err (record { line = 0; cause = too_long }) else lines_meaning (line_meaning routers feeds taken) 1 (lines_of bytes))
       by-length true = tt
       by-length false = lines-clear 1 (lines_of bytes)
 

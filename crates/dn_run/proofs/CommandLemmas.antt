@@ -3,7 +3,7 @@ use Rattle.std.proofs.Common.{◌≡◌, ℕ, Result, Ok, Err, IfOk, List, [], O
 use Rattle.dn_io.specs.Calls.{Call}
 use Rattle.dn_io.specs.Files.{Files}
 use Rattle.dn_formats.specs.declared.error_line.ErrorLine.TheVariants as errors
-use Rattle.dn_model.specs.declared.memory.OutOfMemory.{OutOfMemory}
+use Rattle.base.specs.declared.memory.OutOfMemory.{OutOfMemory}
 use Rattle.dn_run.specs.CommandLine.{CommandWords, Make, Run, RunWords, command_of}
 use Rattle.dn_run.specs.Ending.{Ending, ending_of}
 use Rattle.dn_run.specs.Made.{IsMade}

@@ -10,7 +10,7 @@ use Rattle.std.proofs.lemmas.List.Sorted.{IsPermutation-append_right, IsPermutat
 use Rattle.dn_formats.specs.Lawful.{Job, feed_jobs, jobs_of, script_jobs, takes, takes_feed, untaken_feeds}
 use Rattle.dn_formats.specs.Steps.{FeedRead}
 use Rattle.dn_formats.specs.declared.script.Line.{Line}
-use Rattle.dn_model.specs.declared.ids.RouterId.{RouterId}
+use Rattle.base.specs.declared.ids.RouterId.{RouterId}
 use Rattle.route_feed.specs.FeedReader.{Reader}
 use Rattle.feed_threads.specs.Jobs.{Task}
 use Rattle.dn_run.specs.Deal.{left_by_lines, left_over, own_tasks, readers_of, script_tasks, takes_reader, tasks_of}

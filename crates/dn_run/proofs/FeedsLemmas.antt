@@ -6,9 +6,9 @@ use Rattle.std.proofs.lemmas.List.{append-nil, map-append, length-append, length
 use Rattle.std.proofs.lemmas.List.Elements.{All-cons, All-nil, All-head, All-tail, All-push}
 use Rattle.dn_io.specs.Calls.{Call, CallState, Out, Refused, call_of, back_with, with_out, with_state, state_at, names_of, some_failed}
 use Rattle.dn_io.specs.Files.{Files, bytes_of}
-use Rattle.dn_model.specs.Topology.{all_differ}
+use Rattle.base.specs.Lists.{all_differ}
 use Rattle.dn_formats.specs.Words.{FeedWords}
-use Rattle.dn_model.specs.declared.ids.RouterId.{RouterId}
+use Rattle.base.specs.declared.ids.RouterId.{RouterId}
 use Rattle.dn_formats.specs.declared.script.Line.{Line}
 use Rattle.dn_model.specs.declared.topology.Topology.{Topology}
 use Rattle.dn_formats.specs.declared.error_line.ErrorLine.TheVariants as errors
@@ -18,7 +18,7 @@ use Rattle.dn_run.specs.Jobs.{AreFewJobs, AreNumbered, IsFresh, routers_of_reade
 use Rattle.dn_run.specs.Limits.{feed_limit}
 use Rattle.dn_run.specs.Run.{FromFeeds, IsLine, IsUnread, IsUntouched, IsRunOf, feed_files}
 use Rattle.dn_run.specs.Stage.{is_fault}
-use Rattle.dn_model.specs.declared.memory.OutOfMemory.{OutOfMemory}
+use Rattle.base.specs.declared.memory.OutOfMemory.{OutOfMemory}
 use Rattle.dn_run.specs.declared.ruling.Ruling.{Ruling}
 use Rattle.dn_run.specs.declared.status.Verdict.TheVariants.{ReadFault}
 use Rattle.route_feed.specs.FeedReader.{Reader, told_so_far}

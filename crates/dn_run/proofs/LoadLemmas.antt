@@ -6,9 +6,9 @@ use Rattle.dn_io.specs.Calls.{Call, Back}
 use Rattle.dn_io.specs.Files.{Files, bytes_of}
 use Rattle.dn_formats.specs.TopologyText.{topology_of, top_fault}
 use Rattle.dn_formats.specs.ScriptText.{script_of}
-use Rattle.dn_formats.specs.declared.script_cause.TheConstants as script_cause
-use Rattle.dn_formats.specs.declared.topology_cause.TheConstants.{TOO_LONG}
-use Rattle.dn_model.specs.declared.ids.RouterId.{RouterId}
+use Rattle.dn_formats.specs.ScriptCauses as script_cause
+use Rattle.dn_formats.specs.TopologyCauses.{too_long}
+use Rattle.base.specs.declared.ids.RouterId.{RouterId}
 use Rattle.dn_formats.specs.declared.script.Script.{Script}
 use Rattle.dn_model.specs.declared.topology.Topology.{Topology}
 use Rattle.dn_run.specs.Loaded.{SaysTopology, SaysScript, Loads, LoadsTopology, LoadsScript}
@@ -37,10 +37,10 @@ length-take-most (suc n) [] = omega arith
 length-take-most (suc n) (x ∷ xs) = omega (arith, length-take-most n xs)
 
 topology-cut : (bytes : List ℕ) → topology_of (take (16777216 + 1) bytes) ≡ topology_of bytes
-topology-cut bytes = cut-same topology_of (Err (top_fault TOO_LONG)) 16777216 bytes (λ b e. rw e refl)
+topology-cut bytes = cut-same topology_of (Err (top_fault too_long)) 16777216 bytes (λ b e. rw e refl)
 
 script-cut : (t : Topology) (routers taken : List RouterId) (bytes : List ℕ) → script_of t.routers routers taken (take (16777216 + 1) bytes) ≡ script_of t.routers routers taken bytes
-script-cut t routers taken bytes = cut-same (script_of t.routers routers taken) (Err (record { line = 0; cause = script_cause.TOO_LONG })) 16777216 bytes (λ b e. rw e refl)
+script-cut t routers taken bytes = cut-same (script_of t.routers routers taken) (Err (record { line = 0; cause = script_cause.too_long })) 16777216 bytes (λ b e. rw e refl)
 
 says-topology : (bytes : List ℕ) (x : Loaded Topology) → SaysTopology (take (16777216 + 1) bytes) x → SaysTopology bytes x
 says-topology bytes (Read t) says = sym (topology-cut bytes) ∙ says

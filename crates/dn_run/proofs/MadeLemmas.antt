@@ -5,7 +5,7 @@ use Rattle.std.proofs.lemmas.List.Elements.{All-cons, All-head, All-nil, All-tai
 use Rattle.dn_formats.specs.Feed.{IsReading}
 use Rattle.dn_formats.specs.Lawful.{IsLawful, IsOutcome, Job, Tells, TellsAll, feed_jobs, jobs_of, takes_feed, untaken_feeds}
 use Rattle.dn_formats.specs.Steps.{FeedRead}
-use Rattle.dn_formats.specs.TopologyText.{parts}
+use Rattle.dn_model.specs.Tables.{parts}
 use Rattle.dn_formats.specs.declared.script.Line.{Line}
 use Rattle.dn_formats.specs.declared.script.Line.TheVariants.{Ask}
 use Rattle.dn_formats.specs.declared.told.FeedEnd.{FeedEnd}
@@ -19,14 +19,14 @@ use Rattle.dn_io.specs.Memory.{SureSourceView}
 use Rattle.dn_model.specs.Answer.{IsLoopsAnswer}
 use Rattle.dn_model.specs.Entry.{entries}
 use Rattle.dn_model.specs.Query.{Question}
-use Rattle.dn_model.specs.Walk.{next}
+use Rattle.dn_model.specs.Next.{next}
 use Rattle.dn_model.specs.declared.answer.Answer.{Answer}
 use Rattle.dn_model.specs.declared.answer.Answer.TheVariants as answers
-use Rattle.dn_model.specs.declared.answer.Cycle.{Cycle}
+use Rattle.base.specs.declared.cycle.Cycle.{Cycle}
 use Rattle.dn_model.specs.declared.entry.Entry.{Entry}
 use Rattle.dn_model.specs.declared.entry.Posted.{Posted}
-use Rattle.dn_model.specs.declared.ids.RouterId.{RouterId}
-use Rattle.dn_model.specs.declared.target.Target.{Target}
+use Rattle.base.specs.declared.ids.RouterId.{RouterId}
+use Rattle.base.specs.declared.target.Target.{Target}
 use Rattle.dn_model.specs.declared.topology.Topology.{Topology}
 use Rattle.feed_threads.specs.Feeds.{CountsBy, StandsBy}
 use Rattle.made_input.specs.Network.{made_routers}

@@ -8,18 +8,18 @@ use Rattle.dn_formats.specs.Feed.{IsReading, ending}
 use Rattle.dn_formats.specs.Frames.{FrameRest, NoRest, CutFrame, BadVersion, BadFrameLength, frames_text, rest_kind}
 use Rattle.dn_formats.specs.Lawful.{HoldsWhatWasTaken, IsKept, IsLawful, IsWhole, asked, entries_of_job, front_of, is_from, is_from_some, kept_by}
 use Rattle.dn_formats.specs.Steps.{FeedRead, entries_of, kept_of, updates}
-use Rattle.dn_formats.specs.TopologyText.{Parts, parts}
+use Rattle.dn_model.specs.Tables.{parts}
 use Rattle.dn_formats.specs.declared.script.Line.{Line}
 use Rattle.dn_formats.specs.declared.told.FeedEnd.TheVariants as ends
 use Rattle.dn_formats.proofs.FeedLemmas.{reading_once}
 use Rattle.dn_formats.proofs.LawfulLemmas.{whole}
-use Rattle.dn_model.specs.Cycles.{AreCycles}
-use Rattle.dn_model.specs.Topology.{is_sound_topology}
-use Rattle.dn_model.specs.Walk.{next}
-use Rattle.dn_model.specs.declared.answer.Cycle.{Cycle}
+use Rattle.base.specs.Cycles.{AreCycles}
+use Rattle.dn_model.specs.Topology.{Parts, is_sound_topology}
+use Rattle.dn_model.specs.Next.{next}
+use Rattle.base.specs.declared.cycle.Cycle.{Cycle}
 use Rattle.dn_model.specs.declared.entry.Entry.{Entry}
 use Rattle.dn_model.specs.declared.topology.Topology.{Topology}
-use Rattle.dn_model.proofs.AnswersOnce.{cycles-once}
+use Rattle.base.proofs.AnswersOnce.{cycles-once}
 use Rattle.made_input.specs.Updates.{made_feed}
 use Rattle.dn_run.specs.Limits.{feed_limit, history_limit}
 use Rattle.dn_run.proofs.MadeLemmas.{all-pass}
@@ -31,10 +31,10 @@ true-prop : (b : Bool) (x y : IsTrue b) → x ≡ y
 true-prop b x y = So-prop b x y
 
 abbrev IsSound : Parts → Type 0
-IsSound p = IsTrue (is_sound_topology p.routers p.links p.edges)
+IsSound p = IsTrue (is_sound_topology p)
 
 abbrev made-of : (p : Parts) → IsSound p → Topology
-made-of p s = record { routers = p.routers; links = p.links; edges = p.edges; sound = s }
+made-of p s = record { routers = p.routers; tables = p.tables; links = p.links; edges = p.edges; sound = s }
 
 same-made : (p q : Parts) (s : IsSound p) (s' : IsSound q) → p ≡ q → made-of p s ≡ made-of q s'
 same-made p q s s' e = subst (λ (r : Parts). (z : IsSound r) → made-of p s ≡ made-of r z) e (λ z. ap (made-of p) (true-prop _ s z)) s'

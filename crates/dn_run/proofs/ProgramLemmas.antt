@@ -9,7 +9,7 @@ use Rattle.dn_run.specs.Ending.{Ending, Ruled, Stopped, IfRuled, OrStops, ending
 use Rattle.dn_run.specs.Opened.{text_limit, FailsWhereTold, IsReadUpTo, MayCallOne, OnBytes}
 use Rattle.dn_run.specs.Run.{IsLine, OnFile}
 use Rattle.dn_run.specs.Stage.{Stage, is_fault, may_end_early}
-use Rattle.dn_model.specs.declared.memory.OutOfMemory.{OutOfMemory}
+use Rattle.base.specs.declared.memory.OutOfMemory.{OutOfMemory}
 use Rattle.dn_run.specs.declared.ruling.Ruling.{Ruling}
 use Rattle.dn_run.specs.declared.status.Verdict.{Verdict}
 use Rattle.dn_run.proofs.AskedLemmas.{are-cons, are-early}

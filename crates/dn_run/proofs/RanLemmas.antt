@@ -19,7 +19,7 @@ use Rattle.feed_threads.specs.Feeds.{CountsBy, StandsBy}
 use Rattle.dn_run.specs.Limits.{feed_limit}
 use Rattle.dn_run.specs.Run.{IsReadOf, IsReadOfBytes, IsToldOf, AreReadOf, IsReadToEnd, IsRunOf, verdict_of, is_faulted, some_faulted, all_well}
 use Rattle.dn_run.specs.Stage.{is_fault}
-use Rattle.dn_model.specs.declared.memory.OutOfMemory.{OutOfMemory}
+use Rattle.base.specs.declared.memory.OutOfMemory.{OutOfMemory}
 use Rattle.dn_run.specs.declared.jobs.JobsDone.{JobsDone}
 use Rattle.dn_run.specs.declared.ruling.Ruling.{Ruling}
 use Rattle.dn_run.specs.declared.status.Verdict.TheVariants.{Done, Refusals, ReadFault}

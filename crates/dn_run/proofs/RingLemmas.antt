@@ -4,7 +4,7 @@ use Rattle.std.proofs.lemmas.Bool.Decides.{nat_tests}
 use Rattle.std.specs.List.{range_with_len}
 use Rattle.std.proofs.lemmas.List.FromFn.{map-range_with_len_more}
 use Rattle.dn_formats.proofs.Decimals.{decimal_of_one}
-use Rattle.dn_model.specs.Name.{is_byte_of_name, is_name_text}
+use Rattle.base.specs.Name.{is_byte_of_name, is_name_text}
 use Rattle.dn_model.specs.Topology.{is_sound_topology}
 use Rattle.dn_run.specs.Made.{made_network, numbered}
 
@@ -26,7 +26,7 @@ digit_text letter d lt = decimal_of_one d (letter ∷ []) lt
 digit-is : (d : ℕ) → d < 10 → decimal d ≡ (48 + d) ∷ []
 digit-is d lt = sym (decimal_of_one d [] lt)
 
-pub ring_sound : IsTrue (is_sound_topology made_network.routers made_network.links made_network.edges)
+pub ring_sound : IsTrue (is_sound_topology made_network)
 ring_sound =
     rw (
       digit-is 0 (omega arith),

@@ -4,9 +4,11 @@ use Rattle.std.specs.Bool.{MatchBool}
 use Rattle.dn_io.specs.Calls.{Call, CallState, Back, call_of, state_failed}
 use Rattle.dn_io.specs.Files.{Files}
 use Rattle.dn_formats.specs.ScriptText.{ScriptFault, script_of}
-use Rattle.dn_formats.specs.TopologyText.{Parts, topology_of, parts}
+use Rattle.dn_formats.specs.TopologyText.{topology_of}
+use Rattle.dn_model.specs.Topology.{Parts}
+use Rattle.dn_model.specs.Tables.{parts}
 use Rattle.dn_formats.specs.Words.{FeedWords, PartsSaid}
-use Rattle.dn_model.specs.declared.ids.RouterId.{RouterId}
+use Rattle.base.specs.declared.ids.RouterId.{RouterId}
 use Rattle.dn_formats.specs.declared.script.Line.{Line}
 use Rattle.dn_formats.specs.declared.script.Script.{Script}
 use Rattle.dn_model.specs.declared.topology.Topology.{Topology}

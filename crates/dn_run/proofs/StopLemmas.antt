@@ -6,7 +6,7 @@ use Rattle.dn_io.specs.Calls.{Call, Back}
 use Rattle.dn_io.specs.Files.{Files}
 use Rattle.dn_formats.specs.ScriptText.{script_of}
 use Rattle.dn_formats.specs.Words.{FeedWords, PartsSaid, parts_of}
-use Rattle.dn_model.specs.declared.ids.RouterId.{RouterId}
+use Rattle.base.specs.declared.ids.RouterId.{RouterId}
 use Rattle.dn_model.specs.declared.topology.Topology.{Topology}
 use Rattle.dn_formats.specs.declared.script.Line.{Line as script_line}
 use Rattle.dn_formats.specs.declared.script.Script.{Script}

@@ -8,7 +8,7 @@ use Rattle.std.proofs.lemmas.Grind.{flat_map-append}
 use Rattle.dn_formats.specs.ScriptText.{command_meaning, count_of, is_named, line_meaning, lines_meaning, lines_of, numbered, script_of, take_count, take_from, take_meaning, two_of, with_line, words_of}
 use Rattle.dn_formats.specs.declared.script.Line.{Line}
 use Rattle.dn_formats.specs.declared.script.Script.{Script}
-use Rattle.dn_model.specs.declared.ids.RouterId.{RouterId}
+use Rattle.base.specs.declared.ids.RouterId.{RouterId}
 use Rattle.dn_run.specs.Jobs.{scripts_of}
 use Rattle.dn_run.specs.Run.{taken_by_line, taken_by_scripts}
 use Rattle.dn_run.specs.Stops.{AreTaken}

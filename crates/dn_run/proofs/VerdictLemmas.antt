@@ -15,7 +15,7 @@ use Rattle.dn_formats.specs.Words.{FeedWords, PartsSaid, parts_of}
 use Rattle.dn_formats.proofs.FeedLemmas.{reading_once, faulted_once}
 use Rattle.dn_formats.proofs.LawfulLemmas.{whole}
 use Rattle.dn_model.specs.declared.entry.Entry.{Entry}
-use Rattle.dn_model.specs.declared.ids.RouterId.{RouterId}
+use Rattle.base.specs.declared.ids.RouterId.{RouterId}
 use Rattle.dn_model.specs.declared.topology.Topology.{Topology}
 use Rattle.dn_formats.specs.declared.error_line.ErrorLine.{ErrorLine}
 use Rattle.dn_formats.specs.declared.error_line.ErrorLine.TheVariants as errors

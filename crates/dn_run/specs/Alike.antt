@@ -1,7 +1,7 @@
 -- When two runs end alike.
 use Rattle.std.specs.Prelude.{ℕ, List, ◌≡◌, ◌⊎◌}
 use Rattle.dn_formats.specs.declared.script.Line.{Line}
-use Rattle.dn_model.specs.declared.ids.RouterId.{RouterId}
+use Rattle.base.specs.declared.ids.RouterId.{RouterId}
 use Rattle.dn_model.specs.declared.topology.Topology.{Topology}
 use Rattle.dn_run.specs.Run.{IsRunOf, OpenedFeed}
 use Rattle.dn_run.specs.declared.status.Verdict.{Verdict}

@@ -1,7 +1,7 @@
 -- How a run ends, before anything is written.
 use Rattle.std.specs.Prelude.{ℕ, List, [], ◌≡◌, ◌⊎◌, Result, Ok, Err}
 use Rattle.dn_io.specs.Calls.{Call}
-use Rattle.dn_model.specs.declared.memory.OutOfMemory.{OutOfMemory}
+use Rattle.base.specs.declared.memory.OutOfMemory.{OutOfMemory}
 use Rattle.dn_run.specs.declared.ruling.Ruling.{Ruling}
 use Rattle.dn_run.specs.declared.status.Verdict.{Verdict}
 

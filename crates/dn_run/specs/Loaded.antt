@@ -2,9 +2,10 @@
 use Rattle.std.specs.Prelude.{◌≡◌, ℕ, List, [], ◌∷◌, ◌++◌, Option, Ok, Err, false}
 use Rattle.dn_io.specs.Calls.{Call, Back, call_of}
 use Rattle.dn_io.specs.Files.{Files}
-use Rattle.dn_formats.specs.TopologyText.{topology_of, parts}
+use Rattle.dn_formats.specs.TopologyText.{topology_of}
+use Rattle.dn_model.specs.Tables.{parts}
 use Rattle.dn_formats.specs.ScriptText.{ScriptFault, script_of}
-use Rattle.dn_model.specs.declared.ids.RouterId.{RouterId}
+use Rattle.base.specs.declared.ids.RouterId.{RouterId}
 use Rattle.dn_formats.specs.declared.script.Script.{Script}
 use Rattle.dn_formats.specs.declared.error_line.ErrorLine.TheVariants as errors
 use Rattle.dn_model.specs.declared.topology.Topology.{Topology}

@@ -5,17 +5,20 @@ use Rattle.std.specs.List.{AllZip, range_with_len}
 use Rattle.dn_formats.specs.Feed.{IsReading}
 use Rattle.dn_formats.specs.Lawful.{IsLawful, Job}
 use Rattle.dn_formats.specs.Steps.{FeedRead}
-use Rattle.dn_formats.specs.TopologyText.{Parts, parts}
+use Rattle.dn_model.specs.Topology.{Parts}
+use Rattle.dn_model.specs.Tables.{parts}
 use Rattle.dn_formats.specs.declared.script.Line.{Line}
 use Rattle.dn_formats.specs.declared.script.Line.TheVariants.{Take, Ask}
 use Rattle.dn_formats.specs.declared.told.JobTold.{JobTold}
 use Rattle.dn_formats.specs.declared.told.Outcome.TheVariants.{Answered}
 use Rattle.dn_model.specs.Query.{Question}
 use Rattle.dn_model.specs.declared.answer.Answer.TheVariants as answers
-use Rattle.dn_model.specs.declared.answer.Cycle.{Cycle}
+use Rattle.base.specs.declared.cycle.Cycle.{Cycle}
 use Rattle.dn_model.specs.declared.entry.Entry.{Entry}
-use Rattle.dn_model.specs.declared.ids.RouterId.{RouterId}
+use Rattle.base.specs.declared.ids.RouterId.{RouterId}
 use Rattle.dn_model.specs.declared.query.Ask.TheVariants as asks
+use Rattle.dn_model.specs.declared.topology.Replace.TheVariants.{Key}
+use Rattle.dn_model.specs.declared.topology.RouterTable.{RouterTable}
 use Rattle.dn_model.specs.declared.topology.TopoEnd.{TopoEnd}
 use Rattle.dn_model.specs.declared.topology.TopoLink.{TopoLink}
 use Rattle.dn_model.specs.declared.topology.Topology.{Topology}
@@ -49,10 +52,15 @@ made_link i = record {
   unnumbered = false;
 }
 
+-- each router is a device, with its main table
+abbrev pub made_table : ℕ → RouterTable
+made_table i = record { device = made_router i; number = 254; replace = Key }
+
 -- the ring, with an edge at the interface 1 of each router
 abbrev pub made_network : Parts
 made_network = record {
   routers = map (numbered (codes "m")) router_numbers;
+  tables = map made_table router_numbers;
   links = map made_link router_numbers;
   edges = map (made_end 1) router_numbers;
 }

@@ -7,14 +7,15 @@ use Rattle.dn_io.specs.Told.{with_end, NothingLeft}
 use Rattle.dn_io.specs.Files.{Files}
 use Rattle.dn_io.specs.Calls.{Call, CallState, Out, Refused, Back, state_failed}
 use Rattle.dn_formats.specs.Words.{FeedWords, PartsSaid, parts_of, unless_faulty}
-use Rattle.dn_formats.specs.TopologyText.{topology_of, parts}
+use Rattle.dn_formats.specs.TopologyText.{topology_of}
+use Rattle.dn_model.specs.Tables.{parts}
 use Rattle.dn_model.specs.Lookup.{router_of}
 use Rattle.dn_formats.specs.ScriptText.{script_of}
 use Rattle.dn_formats.specs.Feed.{IsReading, IsFaultedReading}
 use Rattle.dn_formats.specs.Steps.{FeedRead, told_of}
 use Rattle.dn_formats.specs.Lawful.{IsLawful, takes, jobs_of}
 use Rattle.dn_formats.specs.Report.{report, error_text}
-use Rattle.dn_model.specs.declared.ids.RouterId.{RouterId}
+use Rattle.base.specs.declared.ids.RouterId.{RouterId}
 use Rattle.dn_model.specs.declared.topology.Topology.{Topology}
 use Rattle.dn_model.specs.declared.entry.Entry.{Entry}
 use Rattle.dn_formats.specs.declared.script.Line.{Line}

@@ -7,8 +7,8 @@ use Rattle.dn_io.specs.Files.{Files}
 use Rattle.dn_formats.specs.Words.{FeedWords}
 use Rattle.dn_formats.specs.declared.error_line.ErrorLine.{ErrorLine}
 use Rattle.dn_formats.specs.declared.script.Line.{Line as script_line}
-use Rattle.dn_model.specs.Topology.{all_differ}
-use Rattle.dn_model.specs.declared.ids.RouterId.{RouterId}
+use Rattle.base.specs.Lists.{all_differ}
+use Rattle.base.specs.declared.ids.RouterId.{RouterId}
 use Rattle.dn_model.specs.declared.topology.Topology.{Topology}
 use Rattle.dn_run.specs.CommandLine.{RunWords}
 use Rattle.dn_run.specs.Ending.{Ending, Stopped}

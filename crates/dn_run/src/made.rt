@@ -1,7 +1,7 @@
 //! The run over the generated input.
 
 ghost use Rattle.std.specs.Prelude.{◌≡◌, ◌∷◌, [], ℕ, List, IfOk};
-ghost use Rattle.dn_model.specs.declared.answer.Cycle.{Cycle};
+ghost use Rattle.base.specs.declared.cycle.Cycle.{Cycle};
 ghost use Rattle.dn_run.specs.Made.{IsMade, IsMadeRun, TellsCycles, told_cycles};
 ghost use Rattle.dn_run.specs.MadeReaders.{made_readers, reader_of};
 ghost use Rattle.dn_run.specs.WordsRefused.{CanBeMade};

@@ -4,7 +4,7 @@ ghost use Rattle.std.specs.Prelude.{◌≡◌, ◌<◌, ◌≤◌, [], ℕ, leng
 ghost use Rattle.std.specs.Arc.{arc_value};
 ghost use Rattle.std.specs.String.{string_bytes};
 ghost use Rattle.dn_io.specs.Calls.{names_of};
-ghost use Rattle.dn_model.specs.Topology.{all_differ};
+ghost use Rattle.base.specs.Lists.{all_differ};
 ghost use Rattle.dn_run.specs.Ending.{ending_of};
 ghost use Rattle.dn_run.specs.Jobs.{AreFewJobs, TakeApart, scripts_of, same_router};
 ghost use Rattle.dn_run.specs.PartsRead.{feed_texts};

@@ -1,12 +1,15 @@
 //! The network and the script of the generated input, as values.
 
 ghost use Rattle.std.specs.Prelude.{◌≡◌, ◌<◌, ◌∷◌, [], IsTrue, IfOk, codes, map};
-ghost use Rattle.dn_model.specs.Name.{is_byte_of_name};
-ghost use Rattle.dn_formats.specs.TopologyText.{parts};
-ghost use Rattle.dn_run.specs.Made.{made_end, made_link, made_lines, made_network, made_take, numbered, router_numbers};
+ghost use Rattle.base.specs.Name.{is_byte_of_name};
+ghost use Rattle.dn_model.specs.Tables.{parts};
+ghost use Rattle.dn_run.specs.Made.{made_end, made_link, made_lines, made_network, made_table, made_take, numbered, router_numbers};
 
 use dn_formats::{Line, Script};
-use dn_model::{Ask, List, Name, OutOfMemory, Query, RouterId, TopoEnd, TopoLink, Topology};
+use dn_model::{
+    Ask, List, Name, OutOfMemory, Query, Replace, RouterId, RouterTable, TopoEnd, TopoLink,
+    Topology,
+};
 use std::alloc::Global;
 
 /// How many routers the ring has.
@@ -32,6 +35,29 @@ fn routers(alloc: Global) -> Result<List<Name>, OutOfMemory>
         names.push(name(alloc, b'm', i)?)?;
     }
     Ok(names)
+}
+
+/// The table of a router, which is a device: its main one.
+fn table(router: u16) -> RouterTable
+    ensures { result ≡ made_table router }
+{
+    RouterTable {
+        device: RouterId(router),
+        number: 254,
+        replace: Replace::Key,
+    }
+}
+
+/// The tables of the routers.
+#[tactic(auto, using(std::proofs::lemmas::Grind::common_steps, crate::proofs::RingLemmas::row_none, crate::proofs::RingLemmas::row_more))]
+fn tables(alloc: Global) -> Result<List<RouterTable>, OutOfMemory>
+    ensures { IfOk result (λ tables. tables ≡ map made_table router_numbers) }
+{
+    let mut tables = List::new(alloc);
+    for i in 0..ROUTERS {
+        tables.push(table(i))?;
+    }
+    Ok(tables)
 }
 
 /// An interface of a router.
@@ -86,10 +112,12 @@ pub fn made_topology(alloc: Global) -> Result<Topology, OutOfMemory>
     ensures { IfOk result (λ t. parts t ≡ made_network) }
 {
     let routers = routers(alloc)?;
+    let tables = tables(alloc)?;
     let links = links(alloc)?;
     let edges = edges(alloc)?;
     Ok(Topology {
         routers,
+        tables,
         links,
         edges,
     })

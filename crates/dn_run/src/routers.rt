@@ -3,7 +3,7 @@
 ghost use Rattle.std.specs.Prelude.{◌≡◌, ◌<◌, ◌==◌, ◌∷◌, [], map, length, All, Ok, Some, IsTrue, IfOk, IfErr, false};
 ghost use Rattle.std.specs.List.{list_any};
 ghost use Rattle.dn_model.specs.Lookup.{router_of};
-ghost use Rattle.dn_model.specs.Topology.{all_differ};
+ghost use Rattle.base.specs.Lists.{all_differ};
 ghost use Rattle.dn_run.specs.Jobs.{same_router};
 ghost use Rattle.dn_run.specs.PartsRead.{feed_texts};
 ghost use Rattle.dn_run.specs.RoutersFound.{AreRoutersRefused};

@@ -1,5 +1,8 @@
 //! How a run ends.
 
+ghost use Rattle.std.specs.Prelude.{◌≡◌};
+ghost use Rattle.dn_run.specs.Exit.{exit_number};
+
 /// What a run comes to, before its text is written.
 #[derive(Clone, Copy, Debug, PartialEq, Eq)]
 pub enum Verdict {
@@ -17,7 +20,7 @@ pub enum Verdict {
     ReadFault,
 }
 
-/// The exit status of a run, by its number as `u8`.
+/// The exit status of a run.
 #[derive(Clone, Copy, Debug, PartialEq, Eq)]
 pub enum Status {
     /// All was accepted, each feed was read to its end, no frame was refused, and the report was written whole.
@@ -36,4 +39,13 @@ pub enum Status {
     WriteFault = 6,
     /// Memory was wanted; nothing was written.
     OutOfMemory = 7,
+}
+
+impl Status {
+    /// The number that the program exits with.
+    pub fn number(self) -> u8
+        ensures { result ≡ exit_number self }
+    {
+        self as u8
+    }
 }

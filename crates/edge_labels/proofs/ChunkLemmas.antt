@@ -9,7 +9,7 @@ use Rattle.std.proofs.lemmas.List.Edits.{get_or-insert_above, get_or-insert_at, 
 use Rattle.std.proofs.lemmas.List.FromFn.{get_or-map-range_with_len, length-map-range_with_len}
 use Rattle.std.proofs.lemmas.Nat.{div-mul-add, mod-mul-add}
 use Rattle.version_pages.specs.Changes.{Changes}
-use Rattle.dn_model.specs.declared.target.Target.{Target}
+use Rattle.base.specs.declared.target.Target.{Target}
 use Rattle.edge_labels.specs.declared.code_chunk.CodeChunk.{CodeChunk}
 use Rattle.edge_labels.specs.declared.codes.Edge.{Edge}
 use Rattle.edge_labels.specs.ChunkRows.{AreChunkRows, AreLaid, code_in, codes_in, IsWritten, labels_in, lane_at, no_codes, repeated, stride_of}

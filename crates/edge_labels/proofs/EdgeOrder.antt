@@ -10,7 +10,7 @@ use Rattle.std.proofs.lemmas.Bool.{false_from_ne_true, false≢true}
 use Rattle.std.proofs.lemmas.Bool.Decides.{nat_tests}
 use Rattle.std.proofs.lemmas.Cmp.{tied_itself}
 use Rattle.std.proofs.lemmas.List.{get_or_append_left, get_or_push, length_push}
-use Rattle.dn_model.specs.declared.target.Target.TheVariants.{NoRoute}
+use Rattle.base.specs.declared.target.Target.TheVariants.{NoRoute}
 use Rattle.edge_labels.specs.Codes.{code_in, edge_at, IsCoded, IsIndexed}
 use Rattle.edge_labels.specs.declared.codes.Edge.{Edge}
 use Rattle.edge_labels.specs.contracts.codes.EdgeOrd.TheImpl.{cmp-value}

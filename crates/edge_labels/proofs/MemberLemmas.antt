@@ -8,7 +8,7 @@ use Rattle.std.proofs.lemmas.List.Elements.{filter-append, filter_agree}
 use Rattle.std.proofs.lemmas.List.FromFn.{length-range_with_len, get_or-range_with_len}
 use Rattle.std.proofs.lemmas.List.Kept.{IsStrictlyIncreasing-filter}
 use Rattle.std.proofs.lemmas.List.Sums.{length-filter, sum_by-append}
-use Rattle.dn_model.specs.declared.ids.AtomId.{AtomId}
+use Rattle.base.specs.declared.ids.AtomId.{AtomId}
 use Rattle.edge_labels.specs.declared.chunk.Chunk.{Chunk}
 use Rattle.edge_labels.specs.Atoms.{has_atom, numbers}
 use Rattle.edge_labels.specs.Bits.{chunk_bit, count_below, empty_chunk, has_bit, members, numbers_from}

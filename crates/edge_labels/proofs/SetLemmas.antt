@@ -3,7 +3,7 @@ use Rattle.std.proofs.Common.{◌≡◌, ℕ, ◌+◌, ◌<◌, ◌≤◌, ◌�
 use Rattle.std.specs.List.Sorted.{IsStrictlyIncreasing}
 use Rattle.std.proofs.lemmas.Bool.Decides.{nat_tests}
 use Rattle.std.proofs.lemmas.List.{drop_all, drop_more}
-use Rattle.dn_model.specs.declared.ids.AtomId.{AtomId}
+use Rattle.base.specs.declared.ids.AtomId.{AtomId}
 use Rattle.edge_labels.specs.declared.chunk.Chunk.{Chunk}
 use Rattle.edge_labels.specs.Atoms.{numbers, has_atom, AreAtoms}
 use Rattle.edge_labels.specs.Bits.{has_bit, members}

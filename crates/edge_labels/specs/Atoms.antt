@@ -2,7 +2,7 @@
 use Rattle.std.specs.Prelude.{ℕ, Bool, List, map, ◌≡◌, ◌==◌}
 use Rattle.std.specs.List.{list_any}
 use Rattle.std.specs.List.Sorted.{IsStrictlyIncreasing}
-use Rattle.dn_model.specs.declared.ids.AtomId.{AtomId}
+use Rattle.base.specs.declared.ids.AtomId.{AtomId}
 
 -- the numbers of atoms
 abbrev pub numbers : List AtomId → List ℕ

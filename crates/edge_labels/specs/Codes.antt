@@ -2,7 +2,7 @@
 use Rattle.std.specs.Prelude.{ℕ, List, Option, Some, length, slice_index_or, ◌≡◌, ◌+◌, ◌<◌, ◌≤◌}
 use Rattle.std.specs.BTreeMap.{is_at}
 use Rattle.std.specs.Map.{lookup}
-use Rattle.dn_model.specs.declared.target.Target.TheVariants.{NoRoute}
+use Rattle.base.specs.declared.target.Target.TheVariants.{NoRoute}
 use Rattle.edge_labels.specs.declared.codes.Edge.{Edge}
 use Rattle.edge_labels.specs.contracts.codes.EdgeOrd.TheImpl.{cmp-value}
 

@@ -2,8 +2,8 @@
 -- (Delta-net, NSDI 2017). Here each target of a router has a label, that of no route and of dropped packets too.
 use Rattle.std.specs.Prelude.{ℕ, List, [], ◌∷◌, ◌+◌, ◌-◌, ◌++◌, drop, insert, length, map, replicate, slice_index_or, slice_set, take, IsTrue, ◌≡◌, ◌<◌, ◌↔◌}
 use Rattle.std.specs.List.Sorted.{IsStrictlyIncreasing}
-use Rattle.dn_model.specs.declared.target.Target.{Target}
-use Rattle.dn_model.specs.declared.target.Target.TheVariants.{NoRoute}
+use Rattle.base.specs.declared.target.Target.{Target}
+use Rattle.base.specs.declared.target.Target.TheVariants.{NoRoute}
 use Rattle.edge_labels.specs.Atoms.{has_atom}
 
 -- How many routers there are, and for each atom the targets by router: either by the atom's number, from 0, or by its place

@@ -2,8 +2,8 @@
 -- kept too, for each code the set of the atoms that have it.
 use Rattle.std.specs.Prelude.{ℕ, List, [], length, map, take, drop, nat_lt, slice_index, slice_index_or, ◌≡◌, ◌==◌, ◌&&◌, ◌||◌, not, ◌+◌, ◌*◌, ◌<◌, ◌≤◌, ◌^◌}
 use Rattle.std.specs.List.{list_any, range_with_len}
-use Rattle.dn_model.specs.declared.target.Target.{Target}
-use Rattle.dn_model.specs.declared.target.Target.TheVariants.{NoRoute}
+use Rattle.base.specs.declared.target.Target.{Target}
+use Rattle.base.specs.declared.target.Target.TheVariants.{NoRoute}
 use Rattle.edge_labels.specs.declared.codes.Edge.{Edge}
 use Rattle.edge_labels.specs.Atoms.{has_atom}
 use Rattle.edge_labels.specs.Codes.{edge_at}

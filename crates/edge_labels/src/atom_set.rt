@@ -7,7 +7,7 @@ ghost use Rattle.edge_labels.specs.Bits.{holds};
 
 use crate::bits::{add_bit, clear_bit, combine, count, list_bits};
 use crate::chunk::{Chunk, Operation};
-use dn_model::{AtomId, List, OutOfMemory};
+use base::{AtomId, List, OutOfMemory};
 use std::alloc::{AllocError, Global};
 use std::marker::Model;
 use version_pages::{Keyed, Pages};
@@ -151,7 +151,11 @@ impl Clone for AtomSet {
 
 /// No list of sets is searched: each has the key 0.
 impl Keyed for AtomSet {
+    ghost use Rattle.std.proofs.Common.{rules};
+
     ghost key_of = { λ _. 0 };
+
+    ghost clones = { Prim.search rules };
 
     fn key(&self) -> u64 {
         0

@@ -5,7 +5,7 @@ ghost use Rattle.edge_labels.specs.Atoms.{numbers};
 ghost use Rattle.edge_labels.specs.Bits.{empty_chunk, has_bit, holds, members, numbers_from};
 
 use crate::chunk::{Chunk, Operation};
-use dn_model::{AtomId, OutOfMemory};
+use base::{AtomId, OutOfMemory};
 use std::alloc::Global;
 use version_pages::Pages;
 

@@ -14,7 +14,11 @@ pub struct Chunk {
 
 /// No list of chunks is searched: each has the key 0.
 impl Keyed for Chunk {
+    ghost use Rattle.std.proofs.Common.{rules};
+
     ghost key_of = { λ _. 0 };
+
+    ghost clones = { Prim.search rules };
 
     fn key(&self) -> u64 {
         0

@@ -6,7 +6,7 @@ ghost use Rattle.std.specs.Prelude.{◌≡◌, ◌+◌, ◌*◌, ◌/◌, ◌%�
 ghost use Rattle.edge_labels.specs.ChunkRows.{AreWritten, IsColumnWritten, IsWritten, lane_at, no_codes, repeated, stride_of};
 
 use crate::code_chunk::CodeChunk;
-use dn_model::{OutOfMemory, RouterId};
+use base::{OutOfMemory, RouterId};
 use std::alloc::Global;
 use version_pages::Pages;
 

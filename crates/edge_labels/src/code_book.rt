@@ -8,7 +8,7 @@ ghost use Rattle.edge_labels.specs.contracts.codes.EdgeOrd.TheImpl.{cmp-value};
 ghost use Rattle.edge_labels.specs.Codes.{code_in, edge_at, IsCoded};
 
 use crate::codes::Edge;
-use dn_model::OutOfMemory;
+use base::OutOfMemory;
 use std::alloc::Global;
 use std::collections::BTreeMap;
 use std::marker::Model;

@@ -5,7 +5,7 @@ ghost use Rattle.edge_labels.specs.Rows.{AreFirst};
 
 use crate::code_book::CodeBook;
 use crate::codes::Edge;
-use dn_model::{AtomId, OutOfMemory, RouterId, Target};
+use base::{AtomId, OutOfMemory, RouterId, Target};
 use std::alloc::Global;
 use version_pages::Pages;
 

@@ -1,6 +1,6 @@
 //! Codes of what routers do.
 
-use dn_model::Target;
+use base::Target;
 use version_pages::Keyed;
 
 /// A router, by its place in the topology's list, and something that it does: an edge of the network, or a way to drop
@@ -13,7 +13,11 @@ pub struct Edge {
 
 /// No list of edges is searched: each has the key 0.
 impl Keyed for Edge {
+    ghost use Rattle.std.proofs.Common.{rules};
+
     ghost key_of = { λ _. 0 };
+
+    ghost clones = { Prim.search rules };
 
     fn key(&self) -> u64 {
         0

@@ -11,7 +11,7 @@ use crate::code_rows::{
 };
 use crate::codes::Edge;
 use crate::sets::{join, join_row, leave, reach, set_of, swap};
-use dn_model::{AtomId, OutOfMemory, RouterId, Target};
+use base::{AtomId, OutOfMemory, RouterId, Target};
 use std::alloc::Global;
 use std::marker::Model;
 use version_pages::Pages;

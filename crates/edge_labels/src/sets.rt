@@ -4,7 +4,7 @@ ghost use Rattle.std.specs.Prelude.{◌≡◌, ◌+◌, ◌<◌, ◌≤◌, ℕ,
 ghost use Rattle.edge_labels.specs.Rows.{AreJoined, AreLeft, AreReached, AreRowJoined};
 
 use crate::atom_set::AtomSet;
-use dn_model::{AtomId, OutOfMemory};
+use base::{AtomId, OutOfMemory};
 use std::alloc::Global;
 use version_pages::Pages;
 

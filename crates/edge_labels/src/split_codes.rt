@@ -9,7 +9,7 @@ use crate::chunk_rows::{
 };
 use crate::code_chunk::CodeChunk;
 use crate::code_rows::read;
-use dn_model::OutOfMemory;
+use base::OutOfMemory;
 use std::alloc::Global;
 use std::marker::Model;
 use version_pages::Pages;

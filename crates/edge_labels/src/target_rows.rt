@@ -8,7 +8,7 @@ use crate::code_book::CodeBook;
 use crate::code_rows::{FirstRow, first_row};
 use crate::codes::Edge;
 use crate::split_codes::SplitCodes;
-use dn_model::{OutOfMemory, RouterId, Target};
+use base::{OutOfMemory, RouterId, Target};
 use std::alloc::Global;
 use std::marker::Model;
 

@@ -2,7 +2,7 @@
 use Rattle.std.proofs.Common.{◌≡◌, ◌<◌, ◌∷◌, ◌++◌, [], List, length, sym, ◌∙◌, subst}
 use Rattle.std.proofs.lemmas.List.Elements.{All-nil, All-push}
 use Rattle.dn_model.specs.Entry.{IsEntryOf}
-use Rattle.dn_model.specs.Version.{Kept, KeptStandsFor}
+use Rattle.net_engine.specs.Version.{Kept, KeptStandsFor}
 use Rattle.dn_model.specs.declared.entry.Entry.{Entry}
 use Rattle.dn_model.specs.declared.topology.Topology.{Topology}
 use Rattle.engine_trials.specs.Past.{IsCourse}

@@ -2,7 +2,7 @@
 use Rattle.std.specs.Prelude.{List, [], ◌∷◌, ◌++◌, length, ◌≡◌, ◌<◌}
 use Rattle.std.specs.List.{All}
 use Rattle.dn_model.specs.Entry.{IsEntryOf}
-use Rattle.dn_model.specs.Version.{Kept, KeptStandsFor}
+use Rattle.net_engine.specs.Version.{Kept, KeptStandsFor}
 use Rattle.dn_model.specs.declared.entry.Entry.{Entry}
 use Rattle.dn_model.specs.declared.topology.Topology.{Topology}
 

@@ -5,7 +5,8 @@ ghost use Rattle.std.specs.Arc.{arc_value};
 ghost use Rattle.dn_model.specs.Answer.{IsAnswer};
 ghost use Rattle.dn_model.specs.Entry.{IsEntryOf};
 ghost use Rattle.dn_model.specs.Query.{unknown_of};
-ghost use Rattle.dn_model.specs.Version.{KeptStandsFor};
+ghost use Rattle.net_engine.specs.Followed.{IsFollowed};
+ghost use Rattle.net_engine.specs.Version.{KeptStandsFor};
 ghost use Rattle.dn_model.specs.declared.entry.Entry.{Entry as EntryIs};
 ghost use Rattle.engine_trials.specs.Past.{more};
 
@@ -66,6 +67,7 @@ fn advance_version<L: Ledger>(
     blank: Blank,
 ) -> Result<(Version, Delta), OutOfMemory>
     requires entry { IsEntryOf version.topology entry.now }
+    requires followed { IsFollowed entry.now }
     requires name { blank.name ≡ L.name }
     requires parts { blank.parts ≡ L.parts }
     requires some { 0 < blank.parts }
@@ -85,6 +87,7 @@ fn apply_version<L: Ledger>(
     blank: Blank,
 ) -> Result<(Version, Delta), OutOfMemory>
     requires entry { IsEntryOf version.now.topology entry.now }
+    requires followed { IsFollowed entry.now }
     requires name { blank.name ≡ L.name }
     requires parts { blank.parts ≡ L.parts }
     requires some { 0 < blank.parts }
@@ -148,26 +151,19 @@ impl Course {
     /// The history with an update more, made in the version's own place, and what that changed. It fails for want of
     /// memory alone.
     pub fn advance(self, alloc: Global, entry: &Entry) -> Result<(Course, Delta), OutOfMemory>
-        requires { IsEntryOf self.topology entry.now }
+        requires entry { IsEntryOf self.topology entry.now }
+        requires followed { IsFollowed entry.now }
         ensures { IfOk result (λ made. made.0 ≡ more self entry.now) }
     {
         let Course {
             topology,
             version,
-            mut entries,
+            entries: past,
         } = self;
-        // part by part, since the borrow checker's plan for a list of entries wants a value of `Op`
-        let Entry {
-            router,
-            feed_no,
-            op,
-        } = *entry;
         let (version, delta) = advance_version::<Brand>(alloc, version, entry, Blank::new(1))?;
-        entries.push(Entry {
-            router,
-            feed_no,
-            op,
-        })?;
+        // a list of its own, since the borrow checker's plan for one that is taken apart wants a value of `Op`
+        let mut entries = Vec::from_slice(alloc, past.as_slice())?;
+        entries.push(*entry)?;
         Ok((
             Course {
                 topology,
@@ -181,7 +177,8 @@ impl Course {
     /// The history with an update more, whose version is made beside this one, and what that changed. It fails for want
     /// of memory alone.
     pub fn apply(&self, alloc: Global, entry: &Entry) -> Result<(Course, Delta), OutOfMemory>
-        requires { IsEntryOf self.now.topology entry.now }
+        requires entry { IsEntryOf self.now.topology entry.now }
+        requires followed { IsFollowed entry.now }
         ensures { IfOk result (λ made. made.0 ≡ more self.now entry.now) }
     {
         let topology = Arc::try_clone(&self.topology)?;

@@ -1,7 +1,7 @@
 //! What a trial met.
 
 use answer_equality::is_same_answer;
-use dn_model::{Answer, Ask, Entry, Hole, Op, PathEnd, Query, Target};
+use dn_model::{Answer, Ask, Entry, Hole, Op, PathEnd, Prefix, Query, RouterId, Target};
 use label_view::LabelView;
 
 /// What a trial met: how often, and the most atoms that a version had. Numbers that would pass 2^64 - 1 stay there.
@@ -105,63 +105,100 @@ fn reach_runs(answer: &Answer) -> usize {
     }
 }
 
-/// Whether an update sets a route.
-fn is_set(entry: &Entry) -> bool {
-    matches!(entry.op, Op::Set { .. })
-}
-
-/// Whether the first update sets a route of another prefix of the same length at the same router as the second.
-fn is_beside(first: &Entry, second: &Entry) -> bool {
-    let (old, new) = (first.op.prefix(), second.op.prefix());
-    is_set(first)
-        && first.router == second.router
-        && old.len() == new.len()
-        && old.base() != new.base()
-}
-
-/// Whether two updates are of the same prefix at the same router.
-fn is_at_same(first: &Entry, second: &Entry) -> bool {
-    first.router == second.router && first.op.prefix() == second.op.prefix()
-}
-
-/// Whether two updates set a route of the same prefix at the same router, with different metrics.
-fn is_of_other_metric(first: &Entry, second: &Entry) -> bool {
-    match (first.op, second.op) {
-        (Op::Set { metric, .. }, Op::Set { metric: of, .. }) => {
-            metric != of && is_at_same(first, second)
-        }
-        _ => false,
+/// What an update of a router does; None of a link.
+fn op_of(entry: &Entry) -> Option<Op> {
+    match entry {
+        Entry::Route { op, .. } => Some(*op),
+        Entry::Link { .. } => None,
     }
 }
 
-/// Whether the first update, a clearing, takes a route that the second one set.
-fn takes(clearing: &Entry, set: &Entry) -> bool {
-    match (clearing.op, set.op) {
-        (Op::Clear { metric: None, .. }, Op::Set { .. }) => is_at_same(clearing, set),
-        (
+/// The prefix whose routes an update sets or clears.
+fn prefix_of(op: &Op) -> Option<Prefix> {
+    match op {
+        Op::Set { prefix, .. } | Op::Clear { prefix, .. } => Some(*prefix),
+        _ => None,
+    }
+}
+
+/// The router whose routes of a prefix an update sets or clears, and the prefix.
+fn place_of(entry: &Entry) -> Option<(RouterId, Prefix)> {
+    let Entry::Route { router, op, .. } = entry else {
+        return None;
+    };
+    let prefix = prefix_of(op)?;
+    Some((*router, prefix))
+}
+
+/// The metric and the target of a route that an update sets.
+fn set_by(entry: &Entry) -> Option<(u32, Target)> {
+    match op_of(entry) {
+        Some(Op::Set { metric, target, .. }) => Some((metric, target)),
+        _ => None,
+    }
+}
+
+/// Whether an update clears a route of this metric, where it is one of its prefix.
+fn clears(entry: &Entry, metric: u32) -> bool {
+    match op_of(entry) {
+        Some(Op::Clear { metric: None, .. }) => true,
+        Some(
             Op::Clear {
                 metric: Some(of),
                 ..
             },
-            Op::Set { metric, .. },
-        ) => metric == of && is_at_same(clearing, set),
+        ) => of == metric,
         _ => false,
     }
 }
 
+/// Whether the first update sets a route of another prefix of the same length at the same router as the second.
+fn is_beside(first: &Entry, second: &Entry) -> bool {
+    let Some((router, old)) = place_of(first) else {
+        return false;
+    };
+    let Some((other, new)) = place_of(second) else {
+        return false;
+    };
+    set_by(first).is_some() && router == other && old.len() == new.len() && old.base() != new.base()
+}
+
+/// Whether two updates are of the same prefix at the same router.
+fn is_at_same(first: &Entry, second: &Entry) -> bool {
+    let Some(place) = place_of(first) else {
+        return false;
+    };
+    place_of(second) == Some(place)
+}
+
+/// Whether two updates set a route of the same prefix at the same router, with different metrics.
+fn is_of_other_metric(first: &Entry, second: &Entry) -> bool {
+    let Some((metric, _)) = set_by(first) else {
+        return false;
+    };
+    let Some((of, _)) = set_by(second) else {
+        return false;
+    };
+    metric != of && is_at_same(first, second)
+}
+
+/// Whether the first update, a clearing, takes a route that the second one set.
+fn takes(clearing: &Entry, set: &Entry) -> bool {
+    let Some((metric, _)) = set_by(set) else {
+        return false;
+    };
+    clears(clearing, metric) && is_at_same(clearing, set)
+}
+
 /// Whether two updates set a route of the same prefix and metric at the same router, with different targets.
 fn replaces(new: &Entry, old: &Entry) -> bool {
-    match (new.op, old.op) {
-        (
-            Op::Set { metric, target, .. },
-            Op::Set {
-                metric: of,
-                target: was,
-                ..
-            },
-        ) => metric == of && target != was && is_at_same(new, old),
-        _ => false,
-    }
+    let Some((metric, target)) = set_by(new) else {
+        return false;
+    };
+    let Some((of, was)) = set_by(old) else {
+        return false;
+    };
+    metric == of && target != was && is_at_same(new, old)
 }
 
 /// Whether the first update ends a route that the second one set: takes it, or replaces it by one with another target.
@@ -270,15 +307,16 @@ impl Found {
     /// Notes an update after others.
     pub fn note_update(&mut self, before: &[Entry], entry: &Entry) {
         let is_of_route = is_of_route(before, entry);
-        match entry.op {
-            Op::Clear { .. } => self.clears = more_if(self.clears, is_of_route),
-            Op::Set { .. } => {
+        match op_of(entry) {
+            Some(Op::Clear { .. }) => self.clears = more_if(self.clears, is_of_route),
+            Some(Op::Set { .. }) => {
                 let is_equal = before.iter().any(|old| is_beside(old, entry));
                 let is_other = before.iter().any(|old| is_of_other_metric(old, entry));
                 self.replaced = more_if(self.replaced, is_of_route);
                 self.equal_lengths = more_if(self.equal_lengths, is_equal);
                 self.metrics = more_if(self.metrics, is_other);
             }
+            _ => {}
         }
     }
 

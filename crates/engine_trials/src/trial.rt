@@ -2,6 +2,7 @@
 
 ghost use Rattle.std.specs.Prelude.{◌<◌, length};
 ghost use Rattle.dn_model.specs.Entry.{IsEntryOf};
+ghost use Rattle.net_engine.specs.Followed.{IsFollowed};
 
 use crate::course::Course;
 use crate::draw::{Draw, Spot};
@@ -178,7 +179,8 @@ fn ask(
 
 /// An update of a history's network.
 fn next_entry(course: &Course, spot: &Spot, draw: &mut Draw) -> Entry
-    ensures { IsEntryOf course.now.topology result }
+    ensures own { IsEntryOf course.now.topology result }
+    ensures followed { IsFollowed result }
 {
     drawn_entry(course.topology(), spot, draw)
 }
@@ -190,7 +192,8 @@ fn advance_or_apply(
     entry: &Entry,
     draw: &mut Draw,
 ) -> Result<(Course, Delta), OutOfMemory>
-    requires { IsEntryOf course.topology entry.now }
+    requires own { IsEntryOf course.topology entry.now }
+    requires followed { IsFollowed entry.now }
 {
     if draw.below(4) > 0 {
         return course.advance(alloc, entry);

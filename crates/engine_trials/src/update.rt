@@ -2,6 +2,7 @@
 
 ghost use Rattle.std.specs.Prelude.{◌<◌, length};
 ghost use Rattle.dn_model.specs.Entry.{IsEntryOf, IsOpOf, IsTargetOf};
+ghost use Rattle.net_engine.specs.Followed.{IsFollowed, IsFollowedOp};
 
 use crate::draw::{Draw, Spot, drawn_prefix};
 use dn_model::{DropKind, Entry, Op, Port, Prefix, RouterId, Target, Topology, port};
@@ -36,7 +37,8 @@ fn drawn_target(topology: &Topology, router: RouterId, draw: &mut Draw) -> Targe
 /// What an update of a router does to the routes of a prefix: of six, four set one, one clears all, and one clears that
 /// of a metric.
 fn drawn_op(topology: &Topology, router: RouterId, prefix: Prefix, draw: &mut Draw) -> Op
-    ensures { IsOpOf topology.now result }
+    ensures own { IsOpOf topology.now router result }
+    ensures followed { IsFollowedOp result }
 {
     let metric = 10 * draw.below(3);
     match draw.below(6) {
@@ -59,11 +61,12 @@ fn drawn_op(topology: &Topology, router: RouterId, prefix: Prefix, draw: &mut Dr
 /// An update of one of the topology's routers.
 pub fn drawn_entry(topology: &Topology, spot: &Spot, draw: &mut Draw) -> Entry
     requires { 0 < length topology.now.routers }
-    ensures { IsEntryOf topology.now result }
+    ensures own { IsEntryOf topology.now result }
+    ensures followed { IsFollowed result }
 {
     let router = RouterId(draw.below(topology.router_count()) as u16);
     let prefix = drawn_prefix(spot, draw);
-    Entry {
+    Entry::Route {
         router,
         feed_no: 1,
         op: drawn_op(topology, router, prefix, draw),

@@ -2,6 +2,7 @@
 
 ghost use Rattle.std.specs.Prelude.{◌<◌, length};
 ghost use Rattle.dn_model.specs.Entry.{IsEntryOf};
+ghost use Rattle.net_engine.specs.Followed.{IsFollowed};
 ghost use Rattle.dn_model.specs.declared.topology.Topology.{Topology as TopologyIs};
 
 use crate::course::Course;
@@ -51,7 +52,8 @@ fn clear(prefix: Prefix, metric: Option<u32>) -> Update {
 
 /// An update of this router.
 fn entry_at(router: RouterId, update: Update) -> Entry
-    ensures { (t : TopologyIs) → router.0 < length t.routers → IsEntryOf t result }
+    ensures own { (t : TopologyIs) → router.0 < length t.routers → IsEntryOf t result }
+    ensures followed { IsFollowed result }
 {
     let prefix = update.prefix;
     let op = match update.exit {
@@ -65,7 +67,7 @@ fn entry_at(router: RouterId, update: Update) -> Entry
             metric: update.metric,
         },
     };
-    Entry {
+    Entry::Route {
         router,
         feed_no: 1,
         op,
@@ -129,7 +131,8 @@ fn new_course(rt: &impl Abort, alloc: Global, routers: u16) -> Course {
 
 /// An update of one of a network's routers.
 fn entry_in(rt: &impl Abort, topology: &Topology, router: RouterId, update: Update) -> Entry
-    ensures { IsEntryOf topology.now result }
+    ensures own { IsEntryOf topology.now result }
+    ensures followed { IsFollowed result }
 {
     assert!(rt; u32::from(router.0) < topology.router_count());
     entry_at(router, update)
@@ -186,27 +189,39 @@ fn told_at(changes: &[Change], a: u32) -> Option<(Target, Target)> {
 /// The first router does what the plain evaluator says of these routes, and the second has none.
 fn compare(rt: &impl Abort, version: &Version, routes: &[Route]) {
     for a in ADDRESSES {
-        let plain = plain_target(routes, &[], a);
+        let plain = plain_target(routes, &[], &[], a);
         assert_eq!(rt; by_rows(rt, version, FIRST, a), plain, "at {a}");
         assert_eq!(rt; by_rows(rt, version, SECOND, a), Target::NoRoute);
     }
 }
 
 /// A version is the one after these updates, all of the first router.
-fn compare_after(rt: &impl Abort, alloc: Global, version: &Version, entries: &[Entry]) {
-    let routes = plain_routes(alloc, entries, FIRST).expect(rt, "memory");
+fn compare_after(
+    rt: &impl Abort,
+    alloc: Global,
+    version: &Version,
+    topology: &Topology,
+    entries: &[Entry],
+) {
+    let routes = plain_routes(alloc, topology, entries, FIRST).expect(rt, "memory");
     compare(rt, version, routes.as_slice());
 }
 
-/// A version is the one after one update of the first router.
-fn compare_after_one(rt: &impl Abort, alloc: Global, version: &Version, update: Update) {
+/// A history's version is the one after one update of the first router.
+fn compare_after_one(rt: &impl Abort, alloc: Global, course: &Course, update: Update) {
     let entries = [entry_at(FIRST, update)];
-    compare_after(rt, alloc, version, &entries);
+    compare_after(rt, alloc, course.version(), course.topology(), &entries);
 }
 
 /// A history's version is the one after its updates, all of the first router.
 fn compare_course(rt: &impl Abort, alloc: Global, course: &Course) {
-    compare_after(rt, alloc, course.version(), course.entries());
+    compare_after(
+        rt,
+        alloc,
+        course.version(),
+        course.topology(),
+        course.entries(),
+    );
 }
 
 /// The changes are where the first router does something else in one version than in the other.
@@ -305,7 +320,7 @@ fn a_copy_that_is_held_keeps_its_answers(rt: HostRuntime) {
     compare_course(&rt, rt.alloc(), &held);
     compare_course(&rt, rt.alloc(), &course);
     let held = advance(&rt, rt.alloc(), held, FIRST, clear(ten(), None));
-    compare_after_one(&rt, rt.alloc(), held.version(), inside_ten());
+    compare_after_one(&rt, rt.alloc(), &held, inside_ten());
 }
 
 /// The history with an update more. The version before it, the one after it and what is told are compared.

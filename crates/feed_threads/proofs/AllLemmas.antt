@@ -10,7 +10,7 @@ use mathlib.Core.List.{IsPrefix}
 use Rattle.dn_model.specs.Answer.{IsAnswer}
 use Rattle.dn_model.specs.Entry.{entries}
 use Rattle.dn_model.specs.Query.{Question}
-use Rattle.dn_model.specs.Topology.{all_differ}
+use Rattle.base.specs.Lists.{all_differ}
 use Rattle.dn_model.specs.declared.entry.Entry.{Entry}
 use Rattle.dn_model.specs.declared.entry.Posted.{Posted}
 use Rattle.dn_model.specs.declared.topology.Topology.{Topology}

@@ -7,7 +7,7 @@ use denote.Struct.Tuple.{Tuple}
 use Rattle.std.proofs.Common.{[], ◌∷◌}
 use Rattle.std.proofs.Crossing as heap
 use Rattle.std.proofs.Crossing.{crosses}
-use Rattle.dn_model.proofs.list.List.TheSendSync as list
+use Rattle.base.proofs.list.List.TheSendSync as list
 use Rattle.dn_formats.specs.contracts.told.FeedTold as FeedTold
 use Rattle.dn_formats.proofs.told.FeedTold.TheSendSync as feed-told
 use Rattle.dn_formats.proofs.told.Told.TheSendSync as told

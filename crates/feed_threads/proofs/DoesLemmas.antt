@@ -13,7 +13,7 @@ use Rattle.dn_model.specs.Entry.{entries}
 use Rattle.dn_model.specs.Query.{Question}
 use Rattle.dn_model.specs.declared.entry.Entry.{Entry}
 use Rattle.dn_model.specs.declared.entry.Posted.{Posted}
-use Rattle.dn_model.specs.declared.ids.RouterId.{RouterId}
+use Rattle.base.specs.declared.ids.RouterId.{RouterId}
 use Rattle.dn_model.specs.declared.topology.Topology.{Topology}
 use Rattle.route_feed.specs.FeedReader.{Reader}
 use Rattle.version_lock.specs.Callers.{Caller, Lock}

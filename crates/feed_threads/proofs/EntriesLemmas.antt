@@ -9,10 +9,11 @@ use Rattle.std.proofs.lemmas.Grind.{fold-append, flat_map-append}
 use Rattle.std.proofs.lemmas.List.{append-nil, map-append, length-append, take-append-drop, take-take, drop-append-le}
 use Rattle.std.proofs.lemmas.List.Folds.{list_any-append, list_any_at}
 use Rattle.std.proofs.lemmas.List.Elements.{All-nil, All-cons, All-head, All-tail, All-append, All-filter, All-map, All-contains, filter-append}
-use Rattle.dn_model.specs.Topology.{all_differ}
+use Rattle.base.specs.Lists.{all_differ}
 use Rattle.dn_model.specs.declared.entry.Entry.{Entry}
+use Rattle.dn_model.specs.declared.entry.Entry.TheVariants.{Route}
 use Rattle.dn_model.specs.declared.entry.Op.{Op}
-use Rattle.dn_model.specs.declared.ids.RouterId.{RouterId}
+use Rattle.base.specs.declared.ids.RouterId.{RouterId}
 use Rattle.dn_formats.specs.Lawful.{Job, asked, asked_by, both_counts, front_of, taken, takes, takes_feed, kept_by, taken_by, taken_along, first_taken, left_by, entries_of_job, is_from, is_from_some}
 use Rattle.dn_formats.specs.Steps.{FrameStep, FeedRead, ops_of, updates, kept_of, entries_of}
 use Rattle.dn_formats.specs.declared.script.Line.{Line}
@@ -82,7 +83,7 @@ kept-whole : (lines : List Line) (f : FeedRead) → Front (kept_by lines f) (kep
 kept-whole lines f = kept-front f (taken lines f) f.steps (front-steps (asked f.router lines) f.steps)
 
 entries-join : (f : FeedRead) (xs ys : List Op) → entries_of f xs ++ entries_of f ys ≡ entries_of f (xs ++ ys)
-entries-join f xs ys = sym (map-append (λ (op : Op). record { router = f.router; feed_no = f.feed_no; op = op }) xs ys)
+entries-join f xs ys = sym (map-append (λ (op : Op). Route f.router f.feed_no op) xs ys)
 
 -- ---- a job of one feed
 
@@ -178,7 +179,7 @@ first-filter p fs before (l ∷ lines) =
 
 from-own : (f x : FeedRead) (ops : List Op) → same_as f x ≡ true → filter (is_from f) (entries_of x ops) ≡ entries_of x ops
 from-own f x [] own = refl
-from-own f x (o ∷ os) own = rw own (ap (λ es. record { router = x.router; feed_no = x.feed_no; op = o } ∷ es) (from-own f x os own))
+from-own f x (o ∷ os) own = rw own (ap (λ es. Route x.router x.feed_no o ∷ es) (from-own f x os own))
 
 from-other : (f x : FeedRead) (ops : List Op) → same_as f x ≡ false → filter (is_from f) (entries_of x ops) ≡ []
 from-other f x [] other = refl
@@ -295,7 +296,7 @@ abbrev IsAmong : List FeedRead → FeedRead → Type 0
 IsAmong fs x = list_any (λ f. x.feed_no == f.feed_no) fs ≡ true
 
 some-entries : (fs : List FeedRead) (x : FeedRead) (ops : List Op) → IsAmong fs x → All (IsFromSome fs) (entries_of x ops)
-some-entries fs x ops is = All-map (IsFromSome fs) (λ (op : Op). record { router = x.router; feed_no = x.feed_no; op = op }) ops (λ k d less. is)
+some-entries fs x ops is = All-map (IsFromSome fs) (λ (op : Op). Route x.router x.feed_no op) ops (λ k d less. is)
 
 some-flat : (fs : List FeedRead) (h : FeedRead → List Op) (xs : List FeedRead) → All (IsAmong fs) xs → All (IsFromSome fs) (flat_map (gives h) xs)
 some-flat fs h [] a = All-nil (IsFromSome fs)

@@ -5,6 +5,7 @@ use Rattle.std.proofs.lemmas.List.Filters.{length-filter_both}
 use Rattle.std.proofs.lemmas.List.Sums.{length-filter, count_by-le-length}
 use Rattle.std.proofs.lemmas.List.Elements.{All-nil, All-cons, All-head, All-tail}
 use Rattle.dn_model.specs.declared.entry.Entry.{Entry}
+use Rattle.dn_model.specs.declared.entry.Entry.TheVariants.{Route}
 use Rattle.dn_model.specs.declared.entry.Op.{Op}
 use Rattle.dn_model.specs.declared.topology.Topology.{Topology}
 use Rattle.dn_formats.specs.Lawful.{IsBrokenOff, IsKeptAt, IsLawful, Job, is_from, is_from_some}
@@ -65,7 +66,7 @@ never-full t limit room feeds jobs h tolds lawful fits less = λ k d below.
     (λ i e there.
     let g : FeedRead = get_or feeds i e in
     let is : length (filter (is_from g) h) ≡ length (kept_of g g.steps) =
-    ap length (lawful.shuffle.each i e there) ∙ length-map (kept_of g g.steps) (λ (op : Op). record { router = g.router; feed_no = g.feed_no; op = op }) in
+    ap length (lawful.shuffle.each i e there) ∙ length-map (kept_of g g.steps) (λ (op : Op). Route g.router g.feed_no op) in
     let few : length (kept_of g g.steps) ≤ length (updates g.steps) = (let len = length-take g.kept (updates g.steps) in omega (arith, len)) in
     let own : 28 * length (updates g.steps) ≤ room = fits i e there in
     omega (arith, is, few, own)) in

@@ -8,8 +8,9 @@ use Rattle.std.proofs.lemmas.List.Elements.{All-nil, All-cons, All-head, All-tai
 use Rattle.dn_model.specs.Answer.{IsAnswer}
 use Rattle.dn_model.specs.Entry.{entries}
 use Rattle.dn_model.specs.Query.{Question}
-use Rattle.dn_model.specs.Topology.{all_differ}
+use Rattle.base.specs.Lists.{all_differ}
 use Rattle.dn_model.specs.declared.entry.Entry.{Entry}
+use Rattle.dn_model.specs.declared.entry.Entry.TheVariants as entry
 use Rattle.dn_model.specs.declared.entry.Posted.{Posted}
 use Rattle.dn_model.specs.declared.topology.Topology.{Topology}
 use Rattle.dn_formats.specs.Lawful.{Job, IsKept, IsLawful, IsOutcome, HoldsWhatWasTaken, KeepsOrder, Tells, TellsJob, taken_along, pin_after, entries_of_job, is_from, is_from_some}
@@ -206,6 +207,12 @@ pub record Shared {X : Type 0} (number : X → ℕ) (job : X → Job) (seen : Li
   pub bears : All (λ p. Contains (map number xs) p.seat) seen
   pub differ : all_differ same_number (feeds_of_all job xs) ≡ true
 
+-- an entry of one job's feeds is of no other job's
+other-job : {X : Type 0} (number : X → ℕ) (job : X → Job) (e : Entry) (xs : List X) (x y : X) → all_differ same_number (feeds_of_all job xs) ≡ true → Contains xs x → Contains xs y →
+    (number x ≡ number y → ⊥) → is_from_some (job y).feeds e ≡ true → is_from_some (job x).feeds e ≡ false
+other-job number job (entry.Route r n op) xs x y d c in-y other is = apart-jobs number job n xs x y d c in-y other is
+other-job number job (entry.Link j l down) xs x y d c in-y other is = list_any_none (λ (f : FeedRead). is_from f (entry.Link j l down)) (job x).feeds (λ k d less. refl)
+
 -- an entry that bears a job's number is of one of the job's feeds
 from-job : {X : Type 0} (number : X → ℕ) (job : X → Job) (seen : List Posted) (xs : List X) → Shared number job seen xs → (x : X) → Contains xs x →
     All (λ p. (p.seat == number x) ≡ true → is_from_some (job x).feeds p.entry ≡ true) seen
@@ -219,7 +226,7 @@ mine-by number job seen xs x k d true shared c less is = from-job number job see
 mine-by {X = X} number job seen xs x k d false shared c less is =
     let p : Posted = get_or seen k d in
     let y : Comes number xs p.seat = comes number xs p.seat (shared.bears k d less) in
-    apart-jobs number job p.entry.feed_no xs x y.from shared.differ c y.is_in
+    other-job number job p.entry xs x y.from shared.differ c y.is_in
     (λ (same : number x ≡ number y.from). let e : (p.seat == number x) ≡ true = eq-eqb p.seat (number x) (sym (same ∙ y.same)) in cc)
     (from-job number job seen xs shared y.from y.is_in k d less (eq-eqb p.seat (number y.from) (sym y.same)))
 

@@ -9,6 +9,7 @@ pub mod HistoryLemmas
 pub mod JobLemmas
 pub mod LawLemmas
 pub mod ListLemmas
+pub mod OpLemmas
 pub mod OrderLemmas
 pub mod PlaceLemmas
 pub mod ReadLemmas

@@ -10,7 +10,7 @@ use Rattle.dn_formats.specs.Lawful.{asked, asked_by, both_counts, front_of, take
 use Rattle.dn_formats.specs.Steps.{FeedRead, kept_of, entries_of}
 use Rattle.dn_model.specs.declared.entry.Entry.{Entry}
 use Rattle.dn_model.specs.declared.entry.Op.{Op}
-use Rattle.dn_model.specs.declared.ids.RouterId.{RouterId}
+use Rattle.base.specs.declared.ids.RouterId.{RouterId}
 use Rattle.dn_formats.specs.declared.script.Line.{Line}
 use Rattle.dn_formats.specs.declared.script.Line.TheVariants as line
 

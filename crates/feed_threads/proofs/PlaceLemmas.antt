@@ -4,7 +4,7 @@ use Rattle.std.specs.List.{AllZip, position}
 use Rattle.std.proofs.lemmas.List.{set-get_or, set_split, length-take-le}
 use Rattle.std.proofs.lemmas.List.Elements.{All-set}
 use Rattle.dn_model.specs.declared.entry.Posted.{Posted}
-use Rattle.dn_model.specs.declared.ids.RouterId.{RouterId}
+use Rattle.base.specs.declared.ids.RouterId.{RouterId}
 use Rattle.dn_model.specs.declared.topology.Topology.{Topology}
 use Rattle.feed_threads.specs.Feeds.{Feed, ReadsOn}
 use Rattle.feed_threads.specs.Takes.{GivesFirst, TakesSome}

@@ -8,7 +8,7 @@ use Rattle.std.proofs.lemmas.List.Elements.{All-head, All-tail}
 use Rattle.dn_formats.specs.Lawful.{asked, asked_by, both_counts, front_of, takes, takes_feed, kept_by, taken_by, taken_along, first_taken, left_by}
 use Rattle.dn_formats.specs.Steps.{FeedRead, kept_of, entries_of}
 use Rattle.dn_model.specs.declared.entry.Op.{Op}
-use Rattle.dn_model.specs.declared.ids.RouterId.{RouterId}
+use Rattle.base.specs.declared.ids.RouterId.{RouterId}
 use Rattle.dn_formats.specs.declared.script.Line.{Line}
 use Rattle.dn_formats.specs.declared.script.Line.TheVariants as line
 use Rattle.feed_threads.specs.Tracks.{rest_of, rests_of}

@@ -8,10 +8,11 @@ use Rattle.version_lock.specs.Callers.{Caller, IsSameSeat, KeepsOwn, Applied, po
 use Rattle.version_lock.specs.History.{posted_by}
 use Rattle.dn_model.specs.Entry.{entries}
 use Rattle.dn_model.specs.declared.entry.Entry.{Entry}
+use Rattle.dn_model.specs.declared.entry.Entry.TheVariants.{Route}
 use Rattle.dn_model.specs.declared.entry.Posted.{Posted}
 use Rattle.dn_formats.specs.Steps.{entries_by}
 use Rattle.dn_model.specs.declared.entry.Op.{Op}
-use Rattle.dn_model.specs.declared.ids.RouterId.{RouterId}
+use Rattle.base.specs.declared.ids.RouterId.{RouterId}
 use Rattle.feed_threads.specs.Seats.{own_of, SawMore}
 use Rattle.feed_threads.specs.Takes.{TookFirst}
 
@@ -55,14 +56,14 @@ own-applied entry limit old new position applied = ap entries applied.own ∙ ma
 -- the own entries once one more update of a feed was applied
 pub own-more : (old mid new : Caller) (n : ℕ) (r : RouterId) (ops more : List Op) (op : Op) (took : Bool) → SawMore old mid → took ≡ true → more ≡ ops ++ op ∷ [] →
     own_of old.number mid.seen ≡ own_of old.number old.seen ++ entries_by n r ops →
-    own_of mid.number new.seen ≡ own_of mid.number mid.seen ++ (if took then record { router = r; feed_no = n; op = op } ∷ [] else []) →
+    own_of mid.number new.seen ≡ own_of mid.number mid.seen ++ (if took then Route r n op ∷ [] else []) →
     own_of old.number new.seen ≡ own_of old.number old.seen ++ entries_by n r more
 own-more old mid new n r ops more op took saw is parts before after =
-    let e : Entry = record { router = r; feed_no = n; op = op } in
+    let e : Entry = Route r n op in
     let one : own_of mid.number new.seen ≡ own_of mid.number mid.seen ++ e ∷ [] = after ∙ ap (λ (b : Bool). own_of mid.number mid.seen ++ (if b then e ∷ [] else [])) is in
     subst (λ (k : ℕ). own_of k new.seen ≡ own_of k mid.seen ++ e ∷ []) (saw-number old mid saw) one
     ∙ ap (λ es. es ++ e ∷ []) before ∙ append_assoc (own_of old.number old.seen) (entries_by n r ops) (e ∷ [])
-    ∙ ap (λ es. own_of old.number old.seen ++ es) (sym (map-append (λ (o : Op). record { router = r; feed_no = n; op = o }) ops (op ∷ [])))
+    ∙ ap (λ es. own_of old.number old.seen ++ es) (sym (map-append (λ (o : Op). Route r n o) ops (op ∷ [])))
     ∙ ap (λ os. own_of old.number old.seen ++ entries_by n r os) (sym parts)
 
 -- the own entries once a further update was refused: the first n of them stand

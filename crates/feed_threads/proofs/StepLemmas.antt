@@ -7,8 +7,8 @@ use Rattle.std.specs.Prelude.{IsOkAnd}
 use Rattle.dn_io.specs.Faults.{Rose}
 use Rattle.dn_formats.specs.Steps.{FrameStep, Accepted, Refused, updates, refusals, skipped_of, ops_of, refused_of}
 use Rattle.dn_model.specs.declared.entry.Op.{Op}
-use Rattle.dn_model.specs.declared.ids.RouterId.{RouterId}
-use Rattle.dn_model.specs.declared.memory.OutOfMemory.{OutOfMemory}
+use Rattle.base.specs.declared.ids.RouterId.{RouterId}
+use Rattle.base.specs.declared.memory.OutOfMemory.{OutOfMemory}
 use Rattle.dn_model.specs.declared.topology.Topology.{Topology}
 use Rattle.dn_formats.specs.declared.told.FeedEnd.{FeedEnd}
 use Rattle.dn_formats.specs.declared.told.FeedTold.{FeedTold}

@@ -7,10 +7,11 @@ use mathlib.Core.List.{IsPrefix}
 use Rattle.version_lock.proofs.Histories.{prefix_self}
 use Rattle.dn_formats.specs.Steps.{FrameStep, Accepted, updates, ops_of, entries_by}
 use Rattle.dn_formats.specs.Lawful.{both_counts}
+use Rattle.dn_model.specs.declared.entry.Entry.TheVariants.{Route}
 use Rattle.dn_model.specs.declared.entry.Op.{Op}
 use Rattle.dn_model.specs.declared.entry.Posted.{Posted}
-use Rattle.dn_model.specs.declared.ids.RouterId.{RouterId}
-use Rattle.dn_model.specs.declared.memory.OutOfMemory.{OutOfMemory}
+use Rattle.base.specs.declared.ids.RouterId.{RouterId}
+use Rattle.base.specs.declared.memory.OutOfMemory.{OutOfMemory}
 use Rattle.dn_model.specs.declared.topology.Topology.{Topology}
 use Rattle.dn_formats.specs.declared.told.FeedEnd.{FeedEnd}
 use Rattle.dn_formats.specs.declared.told.FeedEnd.TheVariants as ends
@@ -29,7 +30,7 @@ pub prefix-length : {A : Type 0} (xs ys : List A) → IsPrefix xs ys → length 
 prefix-length xs ys p = omega (arith, length-append xs p.0, ap length p.1)
 
 pub entries_by-append : (n : ℕ) (r : RouterId) (xs ys : List Op) → entries_by n r (xs ++ ys) ≡ entries_by n r xs ++ entries_by n r ys
-entries_by-append n r xs ys = map-append (λ (op : Op). record { router = r; feed_no = n; op = op }) xs ys
+entries_by-append n r xs ys = map-append (λ (op : Op). Route r n op) xs ys
 
 pub updates-append : (xs ys : List FrameStep) → updates (xs ++ ys) ≡ updates xs ++ updates ys
 updates-append xs ys = flat_map-append ops_of xs ys

@@ -6,7 +6,7 @@ use Rattle.dn_formats.specs.Lawful.{IsLawful, Job, TellsFront}
 use Rattle.dn_formats.specs.Steps.{FeedRead}
 use Rattle.dn_formats.specs.declared.told.JobTold.{JobTold}
 use Rattle.dn_model.specs.Entry.{entries}
-use Rattle.dn_model.specs.Topology.{all_differ}
+use Rattle.base.specs.Lists.{all_differ}
 use Rattle.dn_model.specs.declared.entry.Posted.{Posted}
 use Rattle.dn_model.specs.declared.topology.Topology.{Topology}
 use Rattle.route_feed.specs.FeedReader.{Reader}

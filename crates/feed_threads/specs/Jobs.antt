@@ -4,10 +4,10 @@ use Rattle.std.specs.List.{AllZip}
 use Rattle.dn_formats.specs.Lawful.{entries_of_job, TellsFront}
 use Rattle.dn_formats.specs.Steps.{FrameStep, FeedRead, updates, told_of}
 use Rattle.dn_model.specs.Entry.{entries}
-use Rattle.dn_model.specs.Topology.{all_differ}
+use Rattle.base.specs.Lists.{all_differ}
 use Rattle.dn_model.specs.declared.entry.Entry.{Entry}
 use Rattle.dn_model.specs.declared.entry.Posted.{Posted}
-use Rattle.dn_model.specs.declared.ids.RouterId.{RouterId}
+use Rattle.base.specs.declared.ids.RouterId.{RouterId}
 use Rattle.dn_model.specs.declared.topology.Topology.{Topology}
 use Rattle.dn_formats.specs.declared.script.Line.{Line}
 use Rattle.dn_formats.specs.declared.script.Script.{Script}

@@ -2,7 +2,7 @@
 use Rattle.std.specs.Prelude.{ℕ, ◌≡◌, ◌<◌, ◌==◌, Bool, List, ◌∷◌, ◌++◌, length, All, Option, None, Some}
 use Rattle.std.specs.List.{AllZip, position}
 use Rattle.dn_model.specs.declared.entry.Posted.{Posted}
-use Rattle.dn_model.specs.declared.ids.RouterId.{RouterId}
+use Rattle.base.specs.declared.ids.RouterId.{RouterId}
 use Rattle.dn_model.specs.declared.topology.Topology.{Topology}
 use Rattle.feed_threads.specs.Feeds.{Feed, ReadsOn}
 use Rattle.feed_threads.specs.Takes.{GivesFirst, TakesSome}

@@ -1,8 +1,8 @@
 //! What a job works with, whatever its feeds are.
 
 ghost use Rattle.std.specs.Prelude.{◌≡◌, ◌≤◌, ◌++◌, ◌∷◌, [], length, true, false, if◌then◌else◌, IfOk, OnErr};
-ghost use Rattle.dn_model.specs.Entry.{IsEntryOf};
 ghost use Rattle.version_lock.specs.Callers.{IsSeatOf};
+ghost use Rattle.version_store.specs.Kept.{IsTaken};
 ghost use Rattle.feed_threads.specs.Seats.{own_of, SawMore};
 ghost use Rattle.feed_threads.specs.Shown.{IsShown, ShowsOn};
 
@@ -93,7 +93,7 @@ impl<'a, G: Gate> Desk<'a, G> {
         entry: &Entry,
     ) -> Result<bool, OutOfMemory>
         requires lock { IsSeatOf self.now seat.old }
-        requires entry { IsEntryOf self.now.setup.basis.topology entry.now }
+        requires entry { IsTaken self.now.setup.basis.topology entry.now }
         ensures saw { SawMore seat.old seat.new }
         ensures own { IfOk result (λ taken. own_of seat.old.number seat.new.seen ≡ own_of seat.old.number seat.old.seen
             ++ (if taken then entry.now ∷ [] else [])) }

@@ -2,7 +2,7 @@
 
 ghost use Rattle.std.specs.Prelude.{◌≡◌, ℕ, ◌<◌, ◌≤◌, ◌++◌, [], List, All, length, take, IfOk, OnOk, OnErr, is_none, true, false, Some, None};
 ghost use Rattle.dn_formats.specs.Steps.{entries_by};
-ghost use Rattle.dn_model.specs.Entry.{IsOpOf};
+ghost use Rattle.route_feed.specs.FeedReader.{IsFeedOp};
 ghost use Rattle.version_lock.specs.Callers.{IsSeatOf};
 ghost use Rattle.feed_threads.specs.Feeds.{ReadsOn, end_of_feed};
 ghost use Rattle.feed_threads.specs.Seats.{own_of, SawMore};
@@ -19,6 +19,7 @@ use version_lock::Seat;
 
 /// Applies updates of one router's feed, in order, and answers how many of them the history took: all, or fewer where it
 /// was full. Where memory is wanting it took the first of them.
+#[tactic(auto, using(crate::proofs::OpLemmas::op_taken))]
 fn post_all<G: Gate, R: Wait>(
     rt: &R,
     desk: &Desk<'_, G>,
@@ -29,7 +30,7 @@ fn post_all<G: Gate, R: Wait>(
 ) -> Result<usize, OutOfMemory>
     requires lock { IsSeatOf desk.now seat.old }
     requires router { router.0 < length desk.now.setup.basis.topology.routers }
-    requires ops { All (IsOpOf desk.now.setup.basis.topology) ops.now }
+    requires ops { All (IsFeedOp desk.now.setup.basis.topology) ops.now }
     ensures saw { SawMore seat.old seat.new }
     ensures few { IfOk result (λ n. n ≤ length ops.now) }
     ensures own { IfOk result (λ n. own_of seat.old.number seat.new.seen ≡ own_of seat.old.number seat.old.seen
@@ -38,7 +39,7 @@ fn post_all<G: Gate, R: Wait>(
     ensures full { IfOk result (λ n. n < length ops.now → desk.now.setup.basis.limit ≤ length seat.new.seen) }
 {
     for taken in 0..ops.len() {
-        let entry = Entry {
+        let entry = Entry::Route {
             router,
             feed_no,
             op: ops[taken],
@@ -61,7 +62,7 @@ fn take_ops<S: Source, G: Gate, R: Wait>(
 ) -> Result<bool, OutOfMemory>
     requires lock { IsSeatOf desk.now seat.old }
     requires router { feed.old.reader.told.router.0 < length desk.now.setup.basis.topology.routers }
-    requires ops { All (IsOpOf desk.now.setup.basis.topology) ops.now }
+    requires ops { All (IsFeedOp desk.now.setup.basis.topology) ops.now }
     requires counted { length ops.now ≤ feed.old.reader.told.updates }
     requires going { feed.old.kept ≡ None }
     ensures saw { SawMore seat.old seat.new }
@@ -92,7 +93,7 @@ fn take_list<S: Source, G: Gate, R: Wait>(
 ) -> Result<bool, OutOfMemory>
     requires lock { IsSeatOf desk.now seat.old }
     requires router { feed.old.reader.told.router.0 < length desk.now.setup.basis.topology.routers }
-    requires ops { All (IsOpOf desk.now.setup.basis.topology) ops }
+    requires ops { All (IsFeedOp desk.now.setup.basis.topology) ops }
     requires counted { length ops ≤ feed.old.reader.told.updates }
     requires going { feed.old.kept ≡ None }
     ensures saw { SawMore seat.old seat.new }

@@ -2,12 +2,12 @@
 use Rattle.std.proofs.Common.{◌≡◌, ℕ, ◌+◌, ◌<◌, ◌≤◌, ◌^◌, ◌∙◌, ⊎_elim, zero, suc, List, [], ◌∷◌, length, get_or, ap, sym, subst, arith, lit<}
 use Rattle.std.proofs.lemmas.Bool.{cases_lt}
 use Rattle.std.proofs.lemmas.List.{get_or_read}
-use Rattle.dn_model.specs.Forwarding.{AreEachForwarding, IsForwarding, row_low, row_past}
-use Rattle.dn_model.specs.Rows.{CoverFrom}
-use Rattle.dn_model.specs.declared.forwarding_row.ForwardingRow.{ForwardingRow}
-use Rattle.dn_model.specs.declared.target.Target.{Target}
+use Rattle.base.specs.Forwarding.{AreEachForwarding, IsForwarding, row_low, row_past}
+use Rattle.base.specs.Rows.{CoverFrom}
+use Rattle.base.specs.declared.forwarding_row.ForwardingRow.{ForwardingRow}
+use Rattle.base.specs.declared.target.Target.{Target}
 use Rattle.label_view.specs.Listed.{Listed}
-use Rattle.dn_model.proofs.Covers.{some-row, first-low, next-low, last-high}
+use Rattle.base.proofs.Covers.{some-row, first-low, next-low, last-high}
 
 abbrev pub Cover : List ForwardingRow → Type 0
 Cover rows = CoverFrom row_low row_past 0 rows

@@ -4,9 +4,9 @@ use Rattle.std.specs.List.{list_any}
 use Rattle.std.proofs.lemmas.Bool.{cases_lt, cond-true, cond-false, lt-ltb, le-ltb}
 use Rattle.std.proofs.lemmas.Bool.Decides.{nat_tests}
 use Rattle.std.proofs.lemmas.List.Folds.{list_any-append}
-use Rattle.dn_model.specs.Rows.{is_within}
-use Rattle.dn_model.specs.Runs.{AreApart, holds}
-use Rattle.dn_model.specs.declared.run.Run.{Run}
+use Rattle.base.specs.Rows.{is_within}
+use Rattle.base.specs.Runs.{AreApart, holds}
+use Rattle.base.specs.declared.run.Run.{Run}
 use Rattle.label_view.specs.Gathered.{AreGathered, EndApartFrom, run_between}
 
 some-between : (low past : ℕ) → low < past → run_between low past ≡ record { lo = low; hi = past - 1 } ∷ []

@@ -2,17 +2,17 @@
 use Rattle.std.proofs.Common.{◌≡◌, ℕ, zero, suc, ◌+◌, ◌<◌, ◌≤◌, ◌^◌, ◌∙◌, ◌||◌, ⊎_elim, Bool, true, false, Option, List, [], ◌∷◌, length, get_or, refl, ap, sym, subst, arith}
 use Rattle.std.specs.List.{list_any}
 use Rattle.std.proofs.lemmas.Bool.{cases_lt, or_from, or_right}
-use Rattle.dn_model.specs.Forwarding.{AreForwarding, row_low, row_past, does, target_in_row, target_of}
-use Rattle.dn_model.specs.Rows.{CoverFrom, is_within}
-use Rattle.dn_model.specs.Runs.{AreApart, AreRuns, holds}
-use Rattle.dn_model.specs.Walk.{at_address}
-use Rattle.dn_model.specs.declared.forwarding_row.ForwardingRow.{ForwardingRow}
-use Rattle.dn_model.specs.declared.ids.LinkId.{LinkId}
-use Rattle.dn_model.specs.declared.ids.RouterId.{RouterId}
-use Rattle.dn_model.specs.declared.run.Run.{Run}
-use Rattle.dn_model.specs.declared.target.Target.{Target}
-use Rattle.dn_model.specs.declared.target.Target.TheVariants.{To}
-use Rattle.dn_model.proofs.Covers.{holder-at, high-at, ordered-at, within-above, within-below, within-yes}
+use Rattle.base.specs.Forwarding.{AreForwarding, row_low, row_past, does, target_in_row, target_of}
+use Rattle.base.specs.Rows.{CoverFrom, is_within}
+use Rattle.base.specs.Runs.{AreApart, AreRuns, holds}
+use Rattle.base.specs.Walk.{at_address}
+use Rattle.base.specs.declared.forwarding_row.ForwardingRow.{ForwardingRow}
+use Rattle.base.specs.declared.ids.LinkId.{LinkId}
+use Rattle.base.specs.declared.ids.RouterId.{RouterId}
+use Rattle.base.specs.declared.run.Run.{Run}
+use Rattle.base.specs.declared.target.Target.{Target}
+use Rattle.base.specs.declared.target.Target.TheVariants.{To}
+use Rattle.base.proofs.Covers.{holder-at, high-at, ordered-at, within-above, within-below, within-yes}
 use Rattle.label_view.specs.Gathered.{Gathered}
 use Rattle.label_view.specs.Places.{begin_of, IsInRow, AreGatheredTo}
 use Rattle.label_view.proofs.Found.{each-at}

@@ -1,7 +1,7 @@
 -- Runs that are gathered in order of address.
 use Rattle.std.specs.Prelude.{ℕ, List, [], ◌∷◌, ◌+◌, ◌-◌, ◌<◌, ◌≤◌, ◌^◌, nat_lt, if◌then◌else◌}
-use Rattle.dn_model.specs.Runs.{AreApart}
-use Rattle.dn_model.specs.declared.run.Run.{Run}
+use Rattle.base.specs.Runs.{AreApart}
+use Rattle.base.specs.declared.run.Run.{Run}
 
 -- runs, and the address after their last
 pub record Gathered : Type 0 where

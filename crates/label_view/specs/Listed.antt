@@ -1,6 +1,6 @@
 -- Rows of so many routers.
 use Rattle.std.specs.Prelude.{ℕ, List}
-use Rattle.dn_model.specs.declared.forwarding_row.ForwardingRow.{ForwardingRow}
+use Rattle.base.specs.declared.forwarding_row.ForwardingRow.{ForwardingRow}
 
 pub record Listed : Type 0 where
   pub routers : ℕ

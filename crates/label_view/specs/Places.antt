@@ -1,8 +1,8 @@
 -- Rows by place: where each begins, and runs that are gathered while they go by.
 use Rattle.std.specs.Prelude.{ℕ, zero, suc, Bool, false, List, [], ◌∷◌, ◌≡◌, ◌<◌, ◌≤◌, ◌^◌}
 use Rattle.std.specs.List.{list_any}
-use Rattle.dn_model.specs.Runs.{holds}
-use Rattle.dn_model.specs.declared.forwarding_row.ForwardingRow.{ForwardingRow}
+use Rattle.base.specs.Runs.{holds}
+use Rattle.base.specs.declared.forwarding_row.ForwardingRow.{ForwardingRow}
 use Rattle.label_view.specs.Gathered.{Gathered}
 
 -- where the row at a place begins; after the last, where the addresses end

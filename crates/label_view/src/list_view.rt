@@ -1,12 +1,12 @@
 //! A view of rows in a list.
 
 ghost use Rattle.std.specs.Prelude.{◌≡◌, ◌<◌, ◌≤◌, length, slice_index_or};
-ghost use Rattle.dn_model.specs.Forwarding.{AreForwarding, row_low, row_past};
-ghost use Rattle.dn_model.specs.Rows.{CoverFrom};
-ghost use Rattle.dn_model.specs.declared.forwarding_row.ForwardingRow.{ForwardingRow};
+ghost use Rattle.base.specs.Forwarding.{AreForwarding, row_low, row_past};
+ghost use Rattle.base.specs.Rows.{CoverFrom};
+ghost use Rattle.base.specs.declared.forwarding_row.ForwardingRow.{ForwardingRow};
 
 use crate::view::LabelView;
-use dn_model::{ForwardingRow, List, RouterId, Target};
+use base::{ForwardingRow, List, RouterId, Target};
 use std::marker::Model;
 
 /// A view of rows that are in a list. It is small and plain: it finds the row of an address by looking at each.
@@ -17,7 +17,7 @@ pub struct ListView {
 }
 
 impl Model for ListView {
-    ghost use Rattle.dn_model.specs.Forwarding.{AreForwarding};
+    ghost use Rattle.base.specs.Forwarding.{AreForwarding};
     ghost use Rattle.label_view.specs.Listed.{Listed};
 
     ghost Value = { Listed };

@@ -2,13 +2,13 @@
 
 ghost use Rattle.std.specs.Prelude.{◌≡◌, ℕ, Bool, ◌+◌, ◌<◌, ◌≤◌, ◌-◌, ◌^◌, ◌||◌, [], IfOk, OnOk, length};
 ghost use Rattle.std.specs.List.{list_any};
-ghost use Rattle.dn_model.specs.Forwarding.{AreForwarding};
-ghost use Rattle.dn_model.specs.Rows.{is_within};
-ghost use Rattle.dn_model.specs.Runs.{AreApart, holds};
+ghost use Rattle.base.specs.Forwarding.{AreForwarding};
+ghost use Rattle.base.specs.Rows.{is_within};
+ghost use Rattle.base.specs.Runs.{AreApart, holds};
 ghost use Rattle.label_view.specs.Places.{AreGatheredTo, IsInRow, begin_of};
 
 use crate::view::LabelView;
-use dn_model::{List, OutOfMemory, Run};
+use base::{List, OutOfMemory, Run};
 use std::alloc::Global;
 use std::marker::Model;
 

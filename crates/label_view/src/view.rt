@@ -1,10 +1,10 @@
 //! Rows of forwarding, by place.
 
 ghost use Rattle.std.specs.Prelude.{◌≡◌, ℕ, ◌<◌, ◌≤◌, List, length, slice_index_or};
-ghost use Rattle.dn_model.specs.Forwarding.{AreForwarding, target_of};
-ghost use Rattle.dn_model.specs.declared.forwarding_row.ForwardingRow.{ForwardingRow};
+ghost use Rattle.base.specs.Forwarding.{AreForwarding, target_of};
+ghost use Rattle.base.specs.declared.forwarding_row.ForwardingRow.{ForwardingRow};
 
-use dn_model::{RouterId, Target};
+use base::{RouterId, Target};
 
 /// What all routers do with all addresses: rows in order, which cover the addresses from 0 to 2^32 once, each with what
 /// every router does with its addresses. A row is named by its place in that list, from 0. No call takes memory.

@@ -4,7 +4,7 @@ ghost use Rattle.std.specs.Prelude.{◌≡◌, ◌<◌, ℕ, length, IfOk};
 ghost use Rattle.version_lock.specs.Callers.{IsSeatOf, IsNoteOf, IsSameSeat, HasNumber, first_seat};
 
 use crate::plain_book::{PlainBook, entry, plain_book};
-use dn_model::OutOfMemory;
+use dn_model::{Entry, OutOfMemory};
 use std::alloc::Global;
 use std::process::Abort;
 use std::sync::Wait;
@@ -166,6 +166,14 @@ fn a_note_goes_to_another_thread(rt: HostRuntime) -> Result<(), Fail> {
     Ok(())
 }
 
+/// The number of the feed that a router's update came from.
+fn feed_of(entry: &Entry) -> Option<u32> {
+    match entry {
+        Entry::Route { feed_no, .. } => Some(*feed_no),
+        Entry::Link { .. } => None,
+    }
+}
+
 #[test]
 fn two_threads_contend(rt: HostRuntime) -> Result<(), Fail> {
     let (lock, seat) = lock_of(&rt, rt.alloc(), 10000, 2)?;
@@ -176,7 +184,7 @@ fn two_threads_contend(rt: HostRuntime) -> Result<(), Fail> {
         let mut next = 0u32;
         for posted in book.posted.as_slice() {
             if posted.seat == number {
-                assert_eq!(rt; posted.entry.feed_no, next);
+                assert_eq!(rt; feed_of(&posted.entry), Some(next));
                 next = next.wrapping_add(1);
             }
         }

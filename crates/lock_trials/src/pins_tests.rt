@@ -46,6 +46,7 @@ fn network(alloc: Global) -> Result<Arc<Topology, Global>, OutOfMemory> {
         alloc,
         Topology {
             routers: List::new(alloc),
+            tables: List::new(alloc),
             links: List::new(alloc),
             edges: List::new(alloc),
         },
@@ -71,7 +72,7 @@ fn one(alloc: Global, topology: &Arc<Topology, Global>) -> Result<PlainShot, Out
     let mut posted = List::new(alloc);
     posted.push(Posted {
         seat: 0,
-        entry: Entry {
+        entry: Entry::Route {
             router: RouterId(0),
             feed_no: 1,
             op: Op::Clear {

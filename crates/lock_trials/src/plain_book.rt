@@ -50,6 +50,8 @@ impl Book for PlainBook {
 
     ghost shown_topology = { λ s. arc_value s.topology };
 
+    ghost takes = { λ basis e. IsEntryOf basis.topology e };
+
     fn post(&mut self, seat: u32, entry: &Entry) -> Result<u32, PostRefused> {
         let limit = self.limit;
         if self.posted.len() >= limit as usize {
@@ -107,7 +109,7 @@ pub(crate) fn plain_book(
 pub(crate) fn entry(feed_no: u32) -> Entry
     ensures { (t : Topology) → 0 < length t.routers → IsEntryOf t result }
 {
-    Entry {
+    Entry::Route {
         router: RouterId(0),
         feed_no,
         op: Op::Clear {

@@ -4,13 +4,13 @@ use Rattle.std.specs.List.{Contains, insert}
 use Rattle.std.specs.Option.{is_some}
 use Rattle.std.proofs.lemmas.Bool.{cases_eq, false≢true}
 use Rattle.std.proofs.lemmas.List.Elements.{Contains-get_or}
-use Rattle.dn_model.specs.Cycles.{is_cycle, first_router}
-use Rattle.dn_model.specs.declared.ids.RouterId.{RouterId}
-use Rattle.dn_model.specs.declared.target.Target.{Target}
-use Rattle.dn_model.proofs.Best.{contains-none}
-use Rattle.dn_model.proofs.CycleFrom.{one-cycle}
-use Rattle.dn_model.proofs.DeltaParts.{same-router}
-use Rattle.dn_model.proofs.Ordered.{Ordered, ordered-insert, insert-here, insert-kept, insert-only}
+use Rattle.base.specs.Cycles.{is_cycle, first_router}
+use Rattle.base.specs.declared.ids.RouterId.{RouterId}
+use Rattle.base.specs.declared.target.Target.{Target}
+use Rattle.base.proofs.Elements.{contains-none}
+use Rattle.base.proofs.CycleFrom.{one-cycle}
+use Rattle.base.proofs.DeltaParts.{same-router}
+use Rattle.base.proofs.Ordered.{Ordered, ordered-insert, insert-here, insert-kept, insert-only}
 use Rattle.loop_check.specs.FirstOrder.{HasFirst, IsPutByFirst, AreSomeOf, TellPassed}
 use Rattle.loop_check.specs.Following.{IsCycleAt, IsInNone, IsPassed, MeetsPassed, hops, is_among}
 use Rattle.loop_check.specs.RowCycles.{AreInFirstOrder, AreCyclesOf}

@@ -3,14 +3,14 @@ use Rattle.std.proofs.Common.{◌≡◌, ℕ, ◌+◌, ◌<◌, ◌≤◌, ◌�
 use Rattle.std.specs.List.{list_all}
 use Rattle.std.proofs.lemmas.Bool.{cases_lt, lt-ltb, and_from, and_parts, false≢true}
 use Rattle.std.proofs.lemmas.List.{get_or_past}
-use Rattle.dn_model.specs.Cycles.{goes_to, go_round, is_cycle}
-use Rattle.dn_model.specs.Reach.{is_router}
-use Rattle.dn_model.specs.Topology.{all_differ}
-use Rattle.dn_model.specs.Walk.{on_far}
-use Rattle.dn_model.specs.declared.ids.LinkId.{LinkId}
-use Rattle.dn_model.specs.declared.ids.RouterId.{RouterId}
-use Rattle.dn_model.specs.declared.target.Target.{Target}
-use Rattle.dn_model.specs.declared.target.Target.TheVariants.{NoRoute, To}
+use Rattle.base.specs.Cycles.{goes_to, go_round, is_cycle}
+use Rattle.base.specs.Reach.{is_router}
+use Rattle.base.specs.Lists.{all_differ}
+use Rattle.base.specs.Walk.{on_far}
+use Rattle.base.specs.declared.ids.LinkId.{LinkId}
+use Rattle.base.specs.declared.ids.RouterId.{RouterId}
+use Rattle.base.specs.declared.target.Target.{Target}
+use Rattle.base.specs.declared.target.Target.TheVariants.{NoRoute, To}
 use Rattle.loop_check.specs.Following.{Follows, IsInNone, hops, is_among}
 use Rattle.loop_check.proofs.Rounds.{differs, few-routers, goes-there, in-none, linked, linked-push, no-longer, rotated, split-round, step, among-head}
 

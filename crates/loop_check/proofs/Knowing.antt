@@ -4,15 +4,15 @@ use Rattle.std.specs.List.{Contains, list_any}
 use Rattle.std.proofs.lemmas.Bool.{cases_Bool, cases_eq, cases_lt}
 use Rattle.std.proofs.lemmas.List.{get_or_default, get_or-set_same, get_or-set_other, length-set}
 use Rattle.std.proofs.lemmas.List.Elements.{Contains-get_or, Contains-append_left, Contains-push, Contains-push_cases}
-use Rattle.dn_model.specs.Cycles.{is_cycle, goes_round}
-use Rattle.dn_model.specs.Forwarding.{AreForwarding, does, row_low, row_past, target_of}
-use Rattle.dn_model.specs.Rows.{CoverFrom}
-use Rattle.dn_model.specs.Runs.{holds}
-use Rattle.dn_model.specs.Walk.{at_address}
-use Rattle.dn_model.specs.declared.forwarding_row.ForwardingRow.{ForwardingRow}
-use Rattle.dn_model.specs.declared.ids.RouterId.{RouterId}
-use Rattle.dn_model.specs.declared.target.Target.{Target}
-use Rattle.dn_model.proofs.Best.{contains-none}
+use Rattle.base.specs.Cycles.{is_cycle, goes_round}
+use Rattle.base.specs.Forwarding.{AreForwarding, does, row_low, row_past, target_of}
+use Rattle.base.specs.Rows.{CoverFrom}
+use Rattle.base.specs.Runs.{holds}
+use Rattle.base.specs.Walk.{at_address}
+use Rattle.base.specs.declared.forwarding_row.ForwardingRow.{ForwardingRow}
+use Rattle.base.specs.declared.ids.RouterId.{RouterId}
+use Rattle.base.specs.declared.target.Target.{Target}
+use Rattle.base.proofs.Elements.{contains-none}
 use Rattle.label_view.specs.Gathered.{Gathered}
 use Rattle.label_view.specs.Places.{AreGatheredTo, IsInRow, begin_of}
 use Rattle.label_view.proofs.InRow.{does-in-row, gathered-skip, some_row}

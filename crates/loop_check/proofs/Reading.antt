@@ -2,14 +2,14 @@
 use Rattle.std.proofs.Common.{◌≡◌, ℕ, ◌+◌, ◌<◌, ◌≤◌, ◌∙◌, false, Option, None, List, [], ◌∷◌, ◌&&◌, length, get_or, slice_set, refl, ap, sym, ⊎_elim, arith}
 use Rattle.std.proofs.lemmas.Bool.{cases_eq, cases_lt}
 use Rattle.std.proofs.lemmas.List.{get_or-set_same, get_or-set_other, get_or_past}
-use Rattle.dn_model.specs.Cycles.{goes_to, go_round, is_cycle}
-use Rattle.dn_model.specs.Forwarding.{AreForwarding, target_of}
-use Rattle.dn_model.specs.Reach.{is_router}
-use Rattle.dn_model.specs.Walk.{on_far}
-use Rattle.dn_model.specs.declared.forwarding_row.ForwardingRow.{ForwardingRow}
-use Rattle.dn_model.specs.declared.ids.RouterId.{RouterId}
-use Rattle.dn_model.specs.declared.target.Target.{Target}
-use Rattle.dn_model.specs.declared.target.Target.TheVariants.{NoRoute}
+use Rattle.base.specs.Cycles.{goes_to, go_round, is_cycle}
+use Rattle.base.specs.Forwarding.{AreForwarding, target_of}
+use Rattle.base.specs.Reach.{is_router}
+use Rattle.base.specs.Walk.{on_far}
+use Rattle.base.specs.declared.forwarding_row.ForwardingRow.{ForwardingRow}
+use Rattle.base.specs.declared.ids.RouterId.{RouterId}
+use Rattle.base.specs.declared.target.Target.{Target}
+use Rattle.base.specs.declared.target.Target.TheVariants.{NoRoute}
 use Rattle.label_view.proofs.Found.{each-at}
 use Rattle.loop_check.specs.Following.{LeadInside, hops}
 use Rattle.loop_check.specs.RowCycles.{AreCyclesOf}

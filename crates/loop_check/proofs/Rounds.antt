@@ -3,18 +3,18 @@ use Rattle.std.proofs.Common.{◌≡◌, ℕ, ◌+◌, ◌<◌, ◌≤◌, ◌�
 use Rattle.std.specs.List.{list_all}
 use Rattle.std.proofs.lemmas.Bool.{cases_Bool, ltb-true, lt-ltb, eqb-true, eq-eqb, and_from, and_parts, or_cases, or_left, or_right, both_ways, not_from_false, false≢true}
 use Rattle.std.proofs.lemmas.List.{length-append}
-use Rattle.dn_model.specs.Cycles.{goes_to, go_round, is_cycle}
-use Rattle.dn_model.specs.Reach.{is_router}
-use Rattle.dn_model.specs.Topology.{all_differ}
-use Rattle.dn_model.specs.Walk.{on_far}
-use Rattle.dn_model.specs.declared.ids.LinkId.{LinkId}
-use Rattle.dn_model.specs.declared.ids.RouterId.{RouterId}
-use Rattle.dn_model.specs.declared.target.Target.{Target}
-use Rattle.dn_model.specs.declared.target.Target.TheVariants.{To}
-use Rattle.dn_model.proofs.CycleFrom.{at_most, cycle-parts, one-cycle}
-use Rattle.dn_model.proofs.DeltaParts.{same-router}
-use Rattle.dn_model.proofs.Loops.{target_cases}
-use Rattle.dn_model.proofs.Walks.{on_far-last}
+use Rattle.base.specs.Cycles.{goes_to, go_round, is_cycle}
+use Rattle.base.specs.Reach.{is_router}
+use Rattle.base.specs.Lists.{all_differ}
+use Rattle.base.specs.Walk.{on_far}
+use Rattle.base.specs.declared.ids.LinkId.{LinkId}
+use Rattle.base.specs.declared.ids.RouterId.{RouterId}
+use Rattle.base.specs.declared.target.Target.{Target}
+use Rattle.base.specs.declared.target.Target.TheVariants.{To}
+use Rattle.base.proofs.CycleFrom.{at_most, cycle-parts, one-cycle}
+use Rattle.base.proofs.DeltaParts.{same-router}
+use Rattle.base.proofs.Loops.{target_cases}
+use Rattle.base.proofs.Walks.{on_far-last}
 use Rattle.loop_check.specs.Following.{is_among}
 
 -- ---- one hop

@@ -3,17 +3,17 @@ use Rattle.std.proofs.Common.{◌≡◌, ℕ, zero, suc, ◌<◌, ◌≤◌, ◌
 use Rattle.std.specs.List.{Contains}
 use Rattle.std.proofs.lemmas.Bool.{both_ways}
 use Rattle.std.proofs.lemmas.List.Elements.{Contains-append_left, Contains-push, Contains-push_cases}
-use Rattle.dn_model.specs.Cycles.{AreCycles, AreInOrder, HasCycle, IsCycle, first_router, goes_round}
-use Rattle.dn_model.specs.CyclesFrom.{AreSomeCycles, IsCycleOf, IsPutAmong, TellsCycle}
-use Rattle.dn_model.specs.Forwarding.{does}
-use Rattle.dn_model.specs.Runs.{AreApart, addresses_in}
-use Rattle.dn_model.specs.declared.answer.Cycle.{Cycle}
-use Rattle.dn_model.specs.declared.forwarding_row.ForwardingRow.{ForwardingRow}
-use Rattle.dn_model.specs.declared.ids.RouterId.{RouterId}
-use Rattle.dn_model.specs.declared.run.Run.{Run}
-use Rattle.dn_model.specs.declared.target.Target.{Target}
-use Rattle.dn_model.proofs.Best.{contains-none}
-use Rattle.dn_model.proofs.CyclesFrom.{other-cycle, tell-new}
+use Rattle.base.specs.Cycles.{AreCycles, AreInOrder, HasCycle, IsCycle, first_router, goes_round}
+use Rattle.base.specs.CyclesFrom.{AreSomeCycles, IsCycleOf, IsPutAmong, TellsCycle}
+use Rattle.base.specs.Forwarding.{does}
+use Rattle.base.specs.Runs.{AreApart, addresses_in}
+use Rattle.base.specs.declared.cycle.Cycle.{Cycle}
+use Rattle.base.specs.declared.forwarding_row.ForwardingRow.{ForwardingRow}
+use Rattle.base.specs.declared.ids.RouterId.{RouterId}
+use Rattle.base.specs.declared.run.Run.{Run}
+use Rattle.base.specs.declared.target.Target.{Target}
+use Rattle.base.proofs.Elements.{contains-none}
+use Rattle.base.proofs.CyclesFrom.{other-cycle, tell-new}
 use Rattle.label_view.specs.Gathered.{Gathered}
 use Rattle.label_view.specs.Places.{AreGatheredTo, begin_of}
 use Rattle.label_view.proofs.InRow.{gathered-all}

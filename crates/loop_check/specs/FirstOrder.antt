@@ -1,8 +1,8 @@
 -- Cycles of one row that were found so far, by first router.
 use Rattle.std.specs.Prelude.{ℕ, List, Option, ◌≡◌, ◌⊎◌, Contains, IsTrue}
-use Rattle.dn_model.specs.Cycles.{is_cycle, first_router}
-use Rattle.dn_model.specs.declared.ids.RouterId.{RouterId}
-use Rattle.dn_model.specs.declared.target.Target.{Target}
+use Rattle.base.specs.Cycles.{is_cycle, first_router}
+use Rattle.base.specs.declared.ids.RouterId.{RouterId}
+use Rattle.base.specs.declared.target.Target.{Target}
 use Rattle.loop_check.specs.Following.{MeetsPassed}
 use Rattle.loop_check.specs.RowCycles.{AreInFirstOrder}
 

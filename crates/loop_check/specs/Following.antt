@@ -1,12 +1,12 @@
 -- Following one row from router to router.
 use Rattle.std.specs.Prelude.{Bool, true, false, List, Option, None, ◌≡◌, ◌<◌, length, slice_index_or, IsSome, IsTrue}
 use Rattle.std.specs.List.{list_any}
-use Rattle.dn_model.specs.Cycles.{is_cycle}
-use Rattle.dn_model.specs.Reach.{is_router}
-use Rattle.dn_model.specs.declared.ids.LinkId.{LinkId}
-use Rattle.dn_model.specs.declared.ids.RouterId.{RouterId}
-use Rattle.dn_model.specs.declared.target.Target.{Target}
-use Rattle.dn_model.specs.declared.target.Target.TheVariants.{NoRoute, To}
+use Rattle.base.specs.Cycles.{is_cycle}
+use Rattle.base.specs.Reach.{is_router}
+use Rattle.base.specs.declared.ids.LinkId.{LinkId}
+use Rattle.base.specs.declared.ids.RouterId.{RouterId}
+use Rattle.base.specs.declared.target.Target.{Target}
+use Rattle.base.specs.declared.target.Target.TheVariants.{NoRoute, To}
 use Rattle.loop_check.specs.declared.follow.Followed.{Followed}
 use Rattle.loop_check.specs.declared.follow.Followed.TheVariants.{Round, Ends, Earlier}
 

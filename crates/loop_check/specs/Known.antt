@@ -1,9 +1,9 @@
 -- Cycles that rows showed so far, with the runs of the addresses that go round them.
 use Rattle.std.specs.Prelude.{ℕ, List, ◌≡◌, ◌<◌, Contains, IsTrue}
-use Rattle.dn_model.specs.Cycles.{goes_round}
-use Rattle.dn_model.specs.Forwarding.{does}
-use Rattle.dn_model.specs.declared.forwarding_row.ForwardingRow.{ForwardingRow}
-use Rattle.dn_model.specs.declared.ids.RouterId.{RouterId}
+use Rattle.base.specs.Cycles.{goes_round}
+use Rattle.base.specs.Forwarding.{does}
+use Rattle.base.specs.declared.forwarding_row.ForwardingRow.{ForwardingRow}
+use Rattle.base.specs.declared.ids.RouterId.{RouterId}
 use Rattle.label_view.specs.Places.{AreGatheredTo, begin_of}
 use Rattle.loop_check.specs.declared.known.KnownCycle.{KnownCycle}
 

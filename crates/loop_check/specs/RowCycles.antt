@@ -1,10 +1,10 @@
 -- The cycles of one address, or of addresses that every router treats alike.
 use Rattle.std.specs.Prelude.{ℕ, List, [], ◌∷◌, ◌<◌, Contains, IsTrue, slice_index_or}
-use Rattle.dn_model.specs.Cycles.{is_cycle, first_router}
-use Rattle.dn_model.specs.Forwarding.{target_of}
-use Rattle.dn_model.specs.declared.forwarding_row.ForwardingRow.{ForwardingRow}
-use Rattle.dn_model.specs.declared.ids.RouterId.{RouterId}
-use Rattle.dn_model.specs.declared.target.Target.{Target}
+use Rattle.base.specs.Cycles.{is_cycle, first_router}
+use Rattle.base.specs.Forwarding.{target_of}
+use Rattle.base.specs.declared.forwarding_row.ForwardingRow.{ForwardingRow}
+use Rattle.base.specs.declared.ids.RouterId.{RouterId}
+use Rattle.base.specs.declared.target.Target.{Target}
 
 -- by first router, no two with the same one
 abbrev pub AreInFirstOrder : List (List RouterId) → Type 0

@@ -1,15 +1,15 @@
 //! The cycles of all addresses.
 
 ghost use Rattle.std.specs.Prelude.{◌≡◌, ◌+◌, ◌*◌, ◌≤◌, ℕ, List as Listed, IfOk, length};
-ghost use Rattle.dn_model.specs.Cycles.{AreCycles};
-ghost use Rattle.dn_model.specs.Forwarding.{does};
-ghost use Rattle.dn_model.specs.declared.forwarding_row.ForwardingRow.{ForwardingRow as Row};
+ghost use Rattle.base.specs.Cycles.{AreCycles};
+ghost use Rattle.base.specs.Forwarding.{does};
+ghost use Rattle.base.specs.declared.forwarding_row.ForwardingRow.{ForwardingRow as Row};
 ghost use Rattle.loop_check.specs.Known.{AreKnownTo, HaveAllBefore};
 
 use crate::cycle_order::tell_cycle;
 use crate::known::{KnownCycle, add_cycles};
 use crate::row::{Workspace, cycles_at};
-use dn_model::{Cycle, List, OutOfMemory};
+use base::{Cycle, List, OutOfMemory};
 use label_view::LabelView;
 use std::alloc::Global;
 use std::sync::ledger::Ledger;

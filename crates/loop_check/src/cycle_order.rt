@@ -1,17 +1,17 @@
 //! Cycles in the order in which they are told: by least address, then by first router.
 
 ghost use Rattle.std.specs.Prelude.{◌≡◌, ◌<◌, ◌≤◌, ℕ, List as Listed, IfOk, OnOk, IsTrue, IsFalse, Contains, false, length, slice_index_or};
-ghost use Rattle.dn_model.specs.Cycles.{AreInOrder, HasCycle, first_router, goes_round};
-ghost use Rattle.dn_model.specs.CyclesFrom.{is_before, AreSomeCycles, IsCycleOf, IsPutAmong, TellsCycle};
-ghost use Rattle.dn_model.specs.Forwarding.{does};
-ghost use Rattle.dn_model.specs.Runs.{AreApart, addresses_in};
-ghost use Rattle.dn_model.specs.declared.answer.Cycle.{Cycle as CycleIs};
-ghost use Rattle.dn_model.specs.declared.forwarding_row.ForwardingRow.{ForwardingRow as Row};
+ghost use Rattle.base.specs.Cycles.{AreInOrder, HasCycle, first_router, goes_round};
+ghost use Rattle.base.specs.CyclesFrom.{is_before, AreSomeCycles, IsCycleOf, IsPutAmong, TellsCycle};
+ghost use Rattle.base.specs.Forwarding.{does};
+ghost use Rattle.base.specs.Runs.{AreApart, addresses_in};
+ghost use Rattle.base.specs.declared.cycle.Cycle.{Cycle as CycleIs};
+ghost use Rattle.base.specs.declared.forwarding_row.ForwardingRow.{ForwardingRow as Row};
 ghost use Rattle.label_view.specs.Places.{AreGatheredTo};
 
 use crate::first_order::first_number;
 use crate::known::{KnownCycle, are_same_routers};
-use dn_model::{Cycle, OutOfMemory, RouterId, Run};
+use base::{Cycle, OutOfMemory, RouterId, Run};
 
 /// Whether a cycle comes before another: by least address, then by first router.
 fn comes_before(x: &Cycle, y: &Cycle) -> bool

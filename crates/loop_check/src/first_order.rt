@@ -1,12 +1,12 @@
 //! Cycles of one row, by first router.
 
 ghost use Rattle.std.specs.Prelude.{◌≡◌, ◌<◌, ◌≤◌, ℕ, List as Listed, OnOk, IsTrue, IsFalse, length, slice_index_or};
-ghost use Rattle.dn_model.specs.Cycles.{first_router};
-ghost use Rattle.dn_model.specs.declared.ids.RouterId.{RouterId as Router};
+ghost use Rattle.base.specs.Cycles.{first_router};
+ghost use Rattle.base.specs.declared.ids.RouterId.{RouterId as Router};
 ghost use Rattle.loop_check.specs.FirstOrder.{IsPutByFirst};
 ghost use Rattle.loop_check.specs.RowCycles.{AreInFirstOrder};
 
-use dn_model::{List, OutOfMemory, RouterId};
+use base::{List, OutOfMemory, RouterId};
 use std::alloc::Global;
 
 /// The number of the first of these routers.

@@ -3,7 +3,7 @@
 ghost use Rattle.std.specs.Prelude.{◌≡◌, ◌<◌, IfOk, length};
 ghost use Rattle.loop_check.specs.Following.{IsCycleAt, IsFollowed, LeadInside, hops};
 
-use dn_model::{OutOfMemory, RouterId, Target};
+use base::{OutOfMemory, RouterId, Target};
 
 /// How following a row from a router on ends.
 pub(crate) enum Followed {

@@ -1,13 +1,13 @@
 //! Cycles that rows showed so far.
 
 ghost use Rattle.std.specs.Prelude.{◌≡◌, ◌<◌, ◌+◌, Contains, IsTrue, IsFalse, OnOk, length, slice_index_or};
-ghost use Rattle.dn_model.specs.Cycles.{is_cycle};
-ghost use Rattle.dn_model.specs.Forwarding.{AreForwarding, target_of};
-ghost use Rattle.dn_model.specs.declared.forwarding_row.ForwardingRow.{ForwardingRow as Row};
+ghost use Rattle.base.specs.Cycles.{is_cycle};
+ghost use Rattle.base.specs.Forwarding.{AreForwarding, target_of};
+ghost use Rattle.base.specs.declared.forwarding_row.ForwardingRow.{ForwardingRow as Row};
 ghost use Rattle.loop_check.specs.Known.{AreKnownTo, HasKnown, HaveAllBefore, KeepKnown};
 ghost use Rattle.loop_check.specs.RowCycles.{AreCyclesAt};
 
-use dn_model::{List, OutOfMemory, RouterId};
+use base::{List, OutOfMemory, RouterId};
 use label_view::LabelView;
 use label_view::runs::RunList;
 use std::alloc::Global;

@@ -1,9 +1,9 @@
 //! The cycles of one row.
 
 ghost use Rattle.std.specs.Prelude.{◌≡◌, ◌+◌, ◌<◌, ◌≤◌, IfOk, OnOk, None, length, slice_index_or, vec_len};
-ghost use Rattle.dn_model.specs.Forwarding.{AreForwarding, target_of};
-ghost use Rattle.dn_model.specs.declared.forwarding_row.ForwardingRow.{ForwardingRow as Row};
-ghost use Rattle.dn_model.specs.declared.ids.RouterId.{RouterId as Router};
+ghost use Rattle.base.specs.Forwarding.{AreForwarding, target_of};
+ghost use Rattle.base.specs.declared.forwarding_row.ForwardingRow.{ForwardingRow as Row};
+ghost use Rattle.base.specs.declared.ids.RouterId.{RouterId as Router};
 ghost use Rattle.loop_check.specs.FirstOrder.{AreSomeOf, TellPassed};
 ghost use Rattle.loop_check.specs.Following.{IsPassed, LeadInside, hops};
 ghost use Rattle.loop_check.specs.RowCycles.{AreCyclesAt, AreCyclesOf};
@@ -11,7 +11,7 @@ ghost use Rattle.loop_check.specs.RowCycles.{AreCyclesAt, AreCyclesOf};
 use crate::first_order::put_cycle;
 use crate::follow::find_cycle;
 use crate::walk::walk_from;
-use dn_model::{List, OutOfMemory, RouterId, Target};
+use base::{List, OutOfMemory, RouterId, Target};
 use label_view::LabelView;
 use std::alloc::Global;
 use std::sync::ledger::Ledger;

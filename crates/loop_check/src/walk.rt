@@ -1,12 +1,12 @@
 //! Walks over one row that mark the routers that they pass.
 
 ghost use Rattle.std.specs.Prelude.{◌≡◌, ◌<◌, ◌⊎◌, List, None, Some, IfSome, IsSomeAnd, IsTrue, length, slice_index_or, slice_set};
-ghost use Rattle.dn_model.specs.Cycles.{is_cycle};
-ghost use Rattle.dn_model.specs.declared.ids.RouterId.{RouterId as Router};
+ghost use Rattle.base.specs.Cycles.{is_cycle};
+ghost use Rattle.base.specs.declared.ids.RouterId.{RouterId as Router};
 ghost use Rattle.loop_check.specs.Following.{IsPassed, LeadInside, MeetsPassed, hops, is_among};
 
 use crate::follow::target_at;
-use dn_model::{RouterId, Target};
+use base::{RouterId, Target};
 
 /// The start of the walk that passed a router first, if any did.
 fn mark_of(passed: &[Option<RouterId>], router: RouterId) -> Option<RouterId>

@@ -3,17 +3,17 @@ use Rattle.std.proofs.Common.{◌≡◌, ℕ, ◌<◌, ◌^◌, ◌∙◌, Bool,
 use Rattle.std.specs.Prelude.{if◌then◌else◌, Contains}
 use Rattle.std.specs.List.{list_all}
 use Rattle.std.proofs.lemmas.Bool.{cases_Bool, eqb-true, and_from, and_parts, or_left, or_right, both_ways}
-use Rattle.dn_model.specs.Cycles.{go_round, is_cycle, goes_round}
-use Rattle.dn_model.specs.Delta.{IsDelta, TellsChange, change_at, is_change_at, targets_of}
-use Rattle.dn_model.specs.Reach.{is_router}
-use Rattle.dn_model.specs.Runs.{holds}
-use Rattle.dn_model.specs.Topology.{all_differ}
-use Rattle.dn_model.specs.Walk.{at_address, on_far}
-use Rattle.dn_model.specs.declared.change.Change.{Change}
-use Rattle.dn_model.specs.declared.ids.RouterId.{RouterId}
-use Rattle.dn_model.specs.declared.target.Target.{Target}
-use Rattle.dn_model.proofs.Best.{contains-none}
-use Rattle.dn_model.proofs.DeltaParts.{same-router}
+use Rattle.base.specs.Cycles.{go_round, is_cycle, goes_round}
+use Rattle.base.specs.Delta.{IsDelta, TellsChange, change_at, is_change_at, targets_of}
+use Rattle.base.specs.Reach.{is_router}
+use Rattle.base.specs.Runs.{holds}
+use Rattle.base.specs.Lists.{all_differ}
+use Rattle.base.specs.Walk.{at_address, on_far}
+use Rattle.base.specs.declared.change.Change.{Change}
+use Rattle.base.specs.declared.ids.RouterId.{RouterId}
+use Rattle.base.specs.declared.target.Target.{Target}
+use Rattle.base.proofs.Elements.{contains-none}
+use Rattle.base.proofs.DeltaParts.{same-router}
 use Rattle.loop_check.specs.Following.{is_among}
 use Rattle.loop_check.proofs.Rounds.{among-head}
 use Rattle.loop_keeper.specs.Edits.{AreEdited, AreTakenOut}

@@ -7,19 +7,19 @@ use Rattle.std.proofs.lemmas.List.{take-append-drop, take_more}
 use Rattle.std.proofs.lemmas.List.Elements.{Contains-append_left, Contains-push, Contains-push_cases}
 use Rattle.std.proofs.lemmas.List.Sums.{sum_by-cons}
 use Rattle.std.proofs.lemmas.Nat.{mul-le, pow_pos}
-use Rattle.dn_model.specs.Cycles.{goes_round, goes_to, is_cycle}
-use Rattle.dn_model.specs.Forwarding.{AreForwarding, does, row_low, row_past, target_in_row, target_of}
-use Rattle.dn_model.specs.Rows.{CoverFrom}
-use Rattle.dn_model.specs.Runs.{holds}
-use Rattle.dn_model.specs.Walk.{at_address}
-use Rattle.dn_model.specs.declared.change.Change.{Change}
-use Rattle.dn_model.specs.declared.forwarding_row.ForwardingRow.{ForwardingRow}
-use Rattle.dn_model.specs.declared.ids.LinkId.{LinkId}
-use Rattle.dn_model.specs.declared.ids.RouterId.{RouterId}
-use Rattle.dn_model.proofs.Covers.{first-low, high-at, holder-at, last-high, low-at, ordered-at, some-row}
+use Rattle.base.specs.Cycles.{goes_round, goes_to, is_cycle}
+use Rattle.base.specs.Forwarding.{AreForwarding, does, row_low, row_past, target_in_row, target_of}
+use Rattle.base.specs.Rows.{CoverFrom}
+use Rattle.base.specs.Runs.{holds}
+use Rattle.base.specs.Walk.{at_address}
+use Rattle.base.specs.declared.change.Change.{Change}
+use Rattle.base.specs.declared.forwarding_row.ForwardingRow.{ForwardingRow}
+use Rattle.base.specs.declared.ids.LinkId.{LinkId}
+use Rattle.base.specs.declared.ids.RouterId.{RouterId}
+use Rattle.base.proofs.Covers.{first-low, high-at, holder-at, last-high, low-at, ordered-at, some-row}
 use Rattle.label_view.proofs.InRow.{some_row}
-use Rattle.dn_model.specs.declared.target.Target.{Target}
-use Rattle.dn_model.specs.declared.target.Target.TheVariants.{To}
+use Rattle.base.specs.declared.target.Target.{Target}
+use Rattle.base.specs.declared.target.Target.TheVariants.{To}
 use Rattle.label_view.proofs.Found.{each-at}
 use Rattle.loop_check.specs.Following.{IsInNone, is_among}
 use Rattle.loop_check.proofs.Rounds.{goes-nowhere, goes-on, one-shared}

@@ -5,7 +5,7 @@ use Rattle.std.proofs.Math.Nat.{pow-succ'}
 use Rattle.std.proofs.lemmas.Bool.{cases_lt}
 use Rattle.std.proofs.lemmas.Bool.Decides.{leb_tells}
 use Rattle.std.proofs.lemmas.Nat.{pow_pos}
-use Rattle.dn_model.specs.Rows.{is_within}
+use Rattle.base.specs.Rows.{is_within}
 use Rattle.loop_keeper.specs.Numbers.{Numbers, nothing, everything, span, halves, has, size_of, whole_of, IsSound, IsSame, IsOpened, IsPut, IsPutIn, IsSpan, IsLeast}
 
 -- ---- a half

@@ -4,9 +4,9 @@ use Rattle.std.specs.Prelude.{if◌then◌else◌, Contains}
 use Rattle.std.proofs.lemmas.Bool.{and_parts, both_ways, cases_Bool, cases_eq, cases_lt, leb-true, ltb-true}
 use Rattle.std.proofs.lemmas.List.{get_or_default, get_or-set_other, get_or-set_same, get_or_append_left, get_or_push, length-append, length-set}
 use Rattle.std.proofs.lemmas.List.Elements.{Contains-append_left, Contains-get_or, Contains-push, Contains-push_cases}
-use Rattle.dn_model.specs.Rows.{is_within}
-use Rattle.dn_model.specs.declared.ids.RouterId.{RouterId}
-use Rattle.dn_model.proofs.Covers.{within-yes}
+use Rattle.base.specs.Rows.{is_within}
+use Rattle.base.specs.declared.ids.RouterId.{RouterId}
+use Rattle.base.proofs.Covers.{within-yes}
 use Rattle.loop_keeper.specs.Edits.{ArePutIn}
 use Rattle.loop_keeper.specs.Finding.{HasFound}
 use Rattle.loop_keeper.specs.Kept.{HasKept, Kept, has_address}

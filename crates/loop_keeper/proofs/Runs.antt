@@ -4,16 +4,16 @@ use Rattle.std.specs.Prelude.{map, if◌then◌else◌}
 use Rattle.std.proofs.lemmas.Bool.{cases_Bool, cases_lt, eqb-true, both_ways}
 use Rattle.std.proofs.lemmas.List.Sums.{sum_by-cons}
 use Rattle.std.proofs.lemmas.Nat.{pow_pos}
-use Rattle.dn_model.specs.Cycles.{BeginAt, IsCycle, goes_round}
-use Rattle.dn_model.specs.CyclesFrom.{IsCycleOf}
-use Rattle.dn_model.specs.Runs.{AreApart, AreRuns, addresses_in, run_length}
-use Rattle.dn_model.specs.RunsFrom.{AreRunsFrom, with_run}
-use Rattle.dn_model.specs.declared.answer.Cycle.{Cycle}
-use Rattle.dn_model.specs.declared.ids.RouterId.{RouterId}
-use Rattle.dn_model.specs.declared.run.Run.{Run}
-use Rattle.dn_model.specs.declared.target.Target.{Target}
-use Rattle.dn_model.proofs.CyclesFrom.{begin-goes}
-use Rattle.dn_model.proofs.RunsFrom.{from-first, none-below, put-none, put-passed}
+use Rattle.base.specs.Cycles.{BeginAt, IsCycle, goes_round}
+use Rattle.base.specs.CyclesFrom.{IsCycleOf}
+use Rattle.base.specs.Runs.{AreApart, AreRuns, addresses_in, run_length}
+use Rattle.base.specs.RunsFrom.{AreRunsFrom, with_run}
+use Rattle.base.specs.declared.cycle.Cycle.{Cycle}
+use Rattle.base.specs.declared.ids.RouterId.{RouterId}
+use Rattle.base.specs.declared.run.Run.{Run}
+use Rattle.base.specs.declared.target.Target.{Target}
+use Rattle.base.proofs.CyclesFrom.{begin-goes}
+use Rattle.base.proofs.RunsFrom.{from-first, none-below, put-none, put-passed}
 use Rattle.loop_keeper.specs.Kept.{IsKeptExactly, Kept}
 use Rattle.loop_keeper.specs.Numbers.{IsLeast, IsSound, Numbers, everything, halves, has, nothing, size_of, span}
 use Rattle.loop_keeper.proofs.Parts.{half-twice, has-high, has-low, within-inside, within-outside}

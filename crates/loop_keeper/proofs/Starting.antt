@@ -2,16 +2,16 @@
 use Rattle.std.proofs.Common.{◌≡◌, ℕ, zero, suc, ◌+◌, ◌<◌, ◌≤◌, ◌^◌, ◌∙◌, ⊎_elim, true, false, nat_le, ◌==◌, Option, None, Some, List, [], ◌∷◌, length, get_or, refl, ap, sym, subst, inr, arith}
 use Rattle.std.proofs.lemmas.Bool.{and_parts, cases_Bool, cases_eq, eqb-true, leb-true}
 use Rattle.std.proofs.lemmas.Option.{none-some}
-use Rattle.dn_model.specs.Delta.{AreChanges, IsChange, IsDelta, TellsChange, change_at, is_change_at}
-use Rattle.dn_model.specs.Forwarding.{AreForwarding, does, row_low, row_past, target_in_row, target_of}
-use Rattle.dn_model.specs.Rows.{CoverFrom}
-use Rattle.dn_model.specs.Runs.{holds}
-use Rattle.dn_model.specs.declared.change.Change.{Change}
-use Rattle.dn_model.specs.declared.forwarding_row.ForwardingRow.{ForwardingRow}
-use Rattle.dn_model.specs.declared.ids.RouterId.{RouterId}
-use Rattle.dn_model.specs.declared.target.Target.{Target}
-use Rattle.dn_model.proofs.Covers.{holder-at, low-at, ordered-at}
-use Rattle.dn_model.proofs.DeltaOnce.{first-is, none-later, not-first, within}
+use Rattle.base.specs.Delta.{AreChanges, IsChange, IsDelta, TellsChange, change_at, is_change_at}
+use Rattle.base.specs.Forwarding.{AreForwarding, does, row_low, row_past, target_in_row, target_of}
+use Rattle.base.specs.Rows.{CoverFrom}
+use Rattle.base.specs.Runs.{holds}
+use Rattle.base.specs.declared.change.Change.{Change}
+use Rattle.base.specs.declared.forwarding_row.ForwardingRow.{ForwardingRow}
+use Rattle.base.specs.declared.ids.RouterId.{RouterId}
+use Rattle.base.specs.declared.target.Target.{Target}
+use Rattle.base.proofs.Covers.{holder-at, low-at, ordered-at}
+use Rattle.base.proofs.DeltaOnce.{first-is, none-later, not-first, within}
 use Rattle.loop_keeper.specs.Finding.{AllTellAfter, TellsAfter}
 use Rattle.loop_keeper.specs.Starts.{DoesSo, start_of}
 use Rattle.loop_keeper.proofs.Taking.{each-change}

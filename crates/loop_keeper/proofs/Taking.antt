@@ -7,11 +7,11 @@ use Rattle.std.proofs.lemmas.Bool.Decides.{leb_tells}
 use Rattle.std.proofs.lemmas.List.{get_or_default, get_or-set_same, get_or-set_other, take_more}
 use Rattle.std.proofs.lemmas.List.Elements.{Contains-get_or}
 use Rattle.std.proofs.lemmas.List.Folds.{list_any_at}
-use Rattle.dn_model.specs.Delta.{AreChanges, IsChange}
-use Rattle.dn_model.specs.Rows.{is_within}
-use Rattle.dn_model.specs.Runs.{holds}
-use Rattle.dn_model.specs.declared.change.Change.{Change}
-use Rattle.dn_model.specs.declared.ids.RouterId.{RouterId}
+use Rattle.base.specs.Delta.{AreChanges, IsChange}
+use Rattle.base.specs.Rows.{is_within}
+use Rattle.base.specs.Runs.{holds}
+use Rattle.base.specs.declared.change.Change.{Change}
+use Rattle.base.specs.declared.ids.RouterId.{RouterId}
 use Rattle.loop_check.specs.Following.{is_among}
 use Rattle.loop_keeper.specs.Edits.{AreTakenOut, IsTakenOut, has_changed}
 use Rattle.loop_keeper.specs.Finding.{is_touched, touches}

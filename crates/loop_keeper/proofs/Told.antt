@@ -3,12 +3,12 @@ use Rattle.std.proofs.Common.{◌≡◌, ℕ, ◌+◌, ◌<◌, ◌≤◌, ◌^�
 use Rattle.std.specs.Prelude.{Contains}
 use Rattle.std.proofs.lemmas.Bool.{cases_Bool, cases_eq, cases_lt, both_ways}
 use Rattle.std.proofs.lemmas.List.{get_or_default}
-use Rattle.dn_model.specs.Cycles.{AreCycles, HasCycle, goes_round}
-use Rattle.dn_model.specs.CyclesFrom.{AreSomeCycles, TellsCycle}
-use Rattle.dn_model.specs.declared.answer.Cycle.{Cycle}
-use Rattle.dn_model.specs.declared.ids.RouterId.{RouterId}
-use Rattle.dn_model.specs.declared.target.Target.{Target}
-use Rattle.dn_model.proofs.Best.{contains-none}
+use Rattle.base.specs.Cycles.{AreCycles, HasCycle, goes_round}
+use Rattle.base.specs.CyclesFrom.{AreSomeCycles, TellsCycle}
+use Rattle.base.specs.declared.cycle.Cycle.{Cycle}
+use Rattle.base.specs.declared.ids.RouterId.{RouterId}
+use Rattle.base.specs.declared.target.Target.{Target}
+use Rattle.base.proofs.Elements.{contains-none}
 use Rattle.loop_keeper.specs.Kept.{AreDistinct, AreKept, HasKept, IsKeptExactly, Kept, has_address}
 
 -- a place of a list is the element's that it has

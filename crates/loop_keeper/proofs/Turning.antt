@@ -2,12 +2,12 @@
 use Rattle.std.proofs.Common.{◌≡◌, ℕ, zero, suc, ◌+◌, ◌<◌, ◌≤◌, ◌∙◌, true, List, [], ◌∷◌, ◌++◌, length, get_or, take, drop, ap, sym, subst, ⊎_elim, arith}
 use Rattle.std.proofs.lemmas.Bool.{eqb-true, or_cases, false≢true}
 use Rattle.std.proofs.lemmas.List.{drop_more, take-append-drop}
-use Rattle.dn_model.specs.Forwarding.{AreEachForwarding, IsForwarding, target_of}
-use Rattle.dn_model.specs.Cycles.{goes_to}
-use Rattle.dn_model.specs.Reach.{is_router}
-use Rattle.dn_model.specs.declared.forwarding_row.ForwardingRow.{ForwardingRow}
-use Rattle.dn_model.specs.declared.ids.RouterId.{RouterId}
-use Rattle.dn_model.proofs.DeltaParts.{same-router}
+use Rattle.base.specs.Forwarding.{AreEachForwarding, IsForwarding, target_of}
+use Rattle.base.specs.Cycles.{goes_to}
+use Rattle.base.specs.Reach.{is_router}
+use Rattle.base.specs.declared.forwarding_row.ForwardingRow.{ForwardingRow}
+use Rattle.base.specs.declared.ids.RouterId.{RouterId}
+use Rattle.base.proofs.DeltaParts.{same-router}
 use Rattle.loop_check.specs.Following.{is_among}
 use Rattle.loop_check.proofs.Chains.{goes-below}
 use Rattle.loop_keeper.specs.Following.{IsTurned}

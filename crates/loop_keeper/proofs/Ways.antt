@@ -3,15 +3,15 @@ use Rattle.std.proofs.Common.{◌≡◌, ℕ, zero, suc, ◌+◌, ◌<◌, ◌�
 use Rattle.std.specs.List.{list_all}
 use Rattle.std.proofs.lemmas.Bool.{cases_Bool, cases_lt, lt-ltb, eqb-true, eq-eqb, and_from, and_parts, or_cases, or_left, or_right, both_ways, not_from_false, false≢true}
 use Rattle.std.proofs.lemmas.List.{append-nil, length-append}
-use Rattle.dn_model.specs.Cycles.{goes_to, go_round, is_cycle}
-use Rattle.dn_model.specs.Reach.{is_router}
-use Rattle.dn_model.specs.Topology.{all_differ}
-use Rattle.dn_model.specs.declared.ids.LinkId.{LinkId}
-use Rattle.dn_model.specs.declared.ids.RouterId.{RouterId}
-use Rattle.dn_model.specs.declared.target.Target.{Target}
-use Rattle.dn_model.specs.declared.target.Target.TheVariants.{To}
-use Rattle.dn_model.proofs.DeltaParts.{same-router}
-use Rattle.dn_model.proofs.Loops.{target_cases}
+use Rattle.base.specs.Cycles.{goes_to, go_round, is_cycle}
+use Rattle.base.specs.Reach.{is_router}
+use Rattle.base.specs.Lists.{all_differ}
+use Rattle.base.specs.declared.ids.LinkId.{LinkId}
+use Rattle.base.specs.declared.ids.RouterId.{RouterId}
+use Rattle.base.specs.declared.target.Target.{Target}
+use Rattle.base.specs.declared.target.Target.TheVariants.{To}
+use Rattle.base.proofs.DeltaParts.{same-router}
+use Rattle.base.proofs.Loops.{target_cases}
 use Rattle.loop_check.specs.Following.{Follows, IsInNone, is_among}
 use Rattle.loop_check.proofs.Rounds.{among-head, differs, few-routers, goes-far, goes-nowhere, goes-there, in-none, linked, linked-push, rotated, split-round, step}
 use Rattle.loop_keeper.specs.Following.{ComesBack, IsFollowed, IsTurned}

@@ -1,8 +1,8 @@
 -- How kept cycles are changed.
 use Rattle.std.specs.Prelude.{ℕ, Bool, not, ◌&&◌, List, ◌≡◌, ◌<◌, ◌^◌, ◌⊎◌, Contains, IsFalse}
 use Rattle.std.specs.List.{list_any}
-use Rattle.dn_model.specs.declared.change.Change.{Change}
-use Rattle.dn_model.specs.declared.ids.RouterId.{RouterId}
+use Rattle.base.specs.declared.change.Change.{Change}
+use Rattle.base.specs.declared.ids.RouterId.{RouterId}
 use Rattle.loop_check.specs.Following.{is_among}
 use Rattle.loop_keeper.specs.Finding.{HasFound, is_touched, touches}
 use Rattle.loop_keeper.specs.Kept.{Kept, HasKept, HasSome, AreDistinct, has_address}

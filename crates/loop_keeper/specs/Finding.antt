@@ -1,13 +1,13 @@
 -- The cycles that rows show where changes meet them.
 use Rattle.std.specs.Prelude.{ℕ, Bool, List, ◌≡◌, ◌<◌, ◌≤◌, ◌^◌, ◌&&◌, Contains, IsTrue, length, slice_index_or}
 use Rattle.std.specs.List.{list_any}
-use Rattle.dn_model.specs.Cycles.{goes_round}
-use Rattle.dn_model.specs.Runs.{holds}
-use Rattle.dn_model.specs.declared.change.Change.{Change}
-use Rattle.dn_model.specs.declared.ids.RouterId.{RouterId}
-use Rattle.dn_model.specs.declared.target.Target.{Target}
-use Rattle.dn_model.specs.Forwarding.{does}
-use Rattle.dn_model.specs.declared.forwarding_row.ForwardingRow.{ForwardingRow}
+use Rattle.base.specs.Cycles.{goes_round}
+use Rattle.base.specs.Runs.{holds}
+use Rattle.base.specs.declared.change.Change.{Change}
+use Rattle.base.specs.declared.ids.RouterId.{RouterId}
+use Rattle.base.specs.declared.target.Target.{Target}
+use Rattle.base.specs.Forwarding.{does}
+use Rattle.base.specs.declared.forwarding_row.ForwardingRow.{ForwardingRow}
 use Rattle.loop_check.specs.Following.{is_among}
 use Rattle.loop_keeper.specs.declared.found.Found.{Found}
 

@@ -1,10 +1,10 @@
 -- Following one row from a router on until it comes back to it.
 use Rattle.std.specs.Prelude.{Bool, true, false, not, List, ◌∷◌, ◌++◌, ◌≡◌, ◌≤◌, IsTrue}
 use Rattle.std.specs.List.{list_all}
-use Rattle.dn_model.specs.Cycles.{go_round}
-use Rattle.dn_model.specs.Reach.{is_router}
-use Rattle.dn_model.specs.declared.ids.RouterId.{RouterId}
-use Rattle.dn_model.specs.declared.target.Target.{Target}
+use Rattle.base.specs.Cycles.{go_round}
+use Rattle.base.specs.Reach.{is_router}
+use Rattle.base.specs.declared.ids.RouterId.{RouterId}
+use Rattle.base.specs.declared.target.Target.{Target}
 use Rattle.loop_check.specs.Following.{IsInNone, is_among}
 
 -- the routers passed, of which the first comes back to itself and is not among the others

@@ -1,9 +1,9 @@
 -- Cycles that are kept, each with the set of the addresses that go round it.
 use Rattle.std.specs.Prelude.{ℕ, Bool, List, ◌≡◌, ◌<◌, ◌^◌, Contains, IsTrue, refl, length, slice_index_or}
 use Rattle.std.specs.Coded.{Coded, code_by, coded_list, coded_ℕ, coded×}
-use Rattle.dn_model.specs.Cycles.{goes_round}
-use Rattle.dn_model.specs.declared.ids.RouterId.{RouterId}
-use Rattle.dn_model.specs.declared.target.Target.{Target}
+use Rattle.base.specs.Cycles.{goes_round}
+use Rattle.base.specs.declared.ids.RouterId.{RouterId}
+use Rattle.base.specs.declared.target.Target.{Target}
 use Rattle.loop_keeper.specs.Numbers.{Numbers, has, numbers_code}
 
 -- the routers of a cycle, and addresses

@@ -1,7 +1,7 @@
 -- The rows that changes meet.
 use Rattle.std.specs.Prelude.{ℕ, Bool, List, [], ◌∷◌, ◌+◌, ◌&&◌, nat_le, nat_lt, count_by}
-use Rattle.dn_model.specs.declared.change.Change.{Change}
-use Rattle.dn_model.specs.declared.forwarding_row.ForwardingRow.{ForwardingRow}
+use Rattle.base.specs.declared.change.Change.{Change}
+use Rattle.base.specs.declared.forwarding_row.ForwardingRow.{ForwardingRow}
 
 -- whether a row and the run of a change have an address in common
 abbrev pub meets : Change → ForwardingRow → Bool

@@ -2,7 +2,7 @@
 use Rattle.std.specs.Prelude.{ℕ, zero, suc, Bool, true, false, Option, None, Some, List, [], ◌∷◌, refl, ◌≡◌, ◌+◌, ◌-◌, ◌<◌, ◌≤◌, ◌^◌, nat_lt, if◌then◌else◌}
 use Rattle.std.specs.Coded.{Coded, code_by, coded_list, coded_ℕ}
 use Rattle.std.proofs.Common.{◌∙◌}
-use Rattle.dn_model.specs.Rows.{is_within}
+use Rattle.base.specs.Rows.{is_within}
 
 -- none of the numbers, all of them, those from one up to, and without, another, or those of the lower half and those of
 -- the upper one, which count from the half on, with how many these are

@@ -1,11 +1,11 @@
 -- Where following a row begins: at a router of which it is said what it does there.
 use Rattle.std.specs.Prelude.{ℕ, List, ◌≡◌, ◌<◌, slice_index_or}
-use Rattle.dn_model.specs.Forwarding.{target_of}
-use Rattle.dn_model.specs.declared.change.Change.{Change}
-use Rattle.dn_model.specs.declared.forwarding_row.ForwardingRow.{ForwardingRow}
-use Rattle.dn_model.specs.declared.ids.LinkId.{LinkId}
-use Rattle.dn_model.specs.declared.ids.RouterId.{RouterId}
-use Rattle.dn_model.specs.declared.target.Target.TheVariants.{To}
+use Rattle.base.specs.Forwarding.{target_of}
+use Rattle.base.specs.declared.change.Change.{Change}
+use Rattle.base.specs.declared.forwarding_row.ForwardingRow.{ForwardingRow}
+use Rattle.base.specs.declared.ids.LinkId.{LinkId}
+use Rattle.base.specs.declared.ids.RouterId.{RouterId}
+use Rattle.base.specs.declared.target.Target.TheVariants.{To}
 use Rattle.loop_keeper.specs.declared.following.Start.{Start}
 
 -- one of so many routers, which goes on to one of them, if to any

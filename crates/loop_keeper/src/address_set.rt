@@ -4,7 +4,7 @@ ghost use Rattle.std.specs.Prelude.{◌≡◌, ◌≤◌, ◌^◌, OnOk, IfOk};
 ghost use Rattle.loop_keeper.specs.Numbers.{nothing, IsSound, IsLeast, IsPut, size_of};
 
 use crate::number_set::NumberSet;
-use dn_model::OutOfMemory;
+use base::OutOfMemory;
 use std::alloc::Global;
 use std::marker::Model;
 

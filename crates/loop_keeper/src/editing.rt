@@ -1,14 +1,14 @@
 //! Changes of what is kept.
 
 ghost use Rattle.std.specs.Prelude.{◌≡◌, ◌<◌, ◌≤◌, ◌^◌, ◌∷◌, [], OnOk, IfSome, IfNone, Contains, length, slice_index_or};
-ghost use Rattle.dn_model.specs.Delta.{AreChanges, IsChange};
+ghost use Rattle.base.specs.Delta.{AreChanges, IsChange};
 ghost use Rattle.loop_keeper.specs.Edits.{IsTakenOut, AreTakenOut, ArePutIn, AreWithoutEmpty};
 ghost use Rattle.loop_keeper.specs.Finding.{AllInside};
 ghost use Rattle.loop_keeper.specs.Kept.{Kept as KeptIs};
 
 use crate::found::Found;
 use crate::kept_cycle::KeptCycle;
-use dn_model::{Change, List, OutOfMemory, RouterId};
+use base::{Change, List, OutOfMemory, RouterId};
 use loop_check::are_same_routers;
 use std::alloc::Global;
 

@@ -1,9 +1,9 @@
 //! The cycles that rows show where changes meet them.
 
 ghost use Rattle.std.specs.Prelude.{◌+◌, ◌-◌, ◌*◌, ◌<◌, ◌≤◌, ℕ, OnOk, IfOk, IsTrue, IsFalse, List, [], ◌∷◌, length, slice_index_or};
-ghost use Rattle.dn_model.specs.Delta.{IsChange, AreChanges};
-ghost use Rattle.dn_model.specs.Forwarding.{AreForwarding, does};
-ghost use Rattle.dn_model.specs.declared.forwarding_row.ForwardingRow.{ForwardingRow as Row};
+ghost use Rattle.base.specs.Delta.{IsChange, AreChanges};
+ghost use Rattle.base.specs.Forwarding.{AreForwarding, does};
+ghost use Rattle.base.specs.declared.forwarding_row.ForwardingRow.{ForwardingRow as Row};
 ghost use Rattle.loop_keeper.specs.Finding.{AllGoRound, AllInside, FindTouched, FindsMore, FindsAt, FindsBetween, TellsAfter, AllTellAfter};
 ghost use Rattle.loop_keeper.specs.Looks.{rows_met};
 ghost use Rattle.loop_keeper.specs.Starts.{DoesSo, IsStartOf, start_of};
@@ -11,7 +11,7 @@ ghost use Rattle.loop_keeper.specs.declared.found.Found.{Found as FoundIs};
 
 use crate::following::{Start, follow, turned};
 use crate::found::Found;
-use dn_model::{Change, OutOfMemory, RouterId, Target};
+use base::{Change, OutOfMemory, RouterId, Target};
 use label_view::LabelView;
 use std::alloc::Global;
 use std::sync::ledger::Ledger;

@@ -1,16 +1,16 @@
 //! The cycle of one row that has a router.
 
 ghost use Rattle.std.specs.Prelude.{ℕ, ◌≡◌, ◌+◌, ◌<◌, ◌≤◌, IfOk, OnOk, IsTrue, length, slice_index_or};
-ghost use Rattle.dn_model.specs.Cycles.{goes_to};
-ghost use Rattle.dn_model.specs.Forwarding.{AreForwarding, target_of};
-ghost use Rattle.dn_model.specs.declared.forwarding_row.ForwardingRow.{ForwardingRow as Row};
-ghost use Rattle.dn_model.specs.declared.ids.RouterId.{RouterId as Router};
-ghost use Rattle.dn_model.specs.declared.target.Target.{Target as TargetIs};
+ghost use Rattle.base.specs.Cycles.{goes_to};
+ghost use Rattle.base.specs.Forwarding.{AreForwarding, target_of};
+ghost use Rattle.base.specs.declared.forwarding_row.ForwardingRow.{ForwardingRow as Row};
+ghost use Rattle.base.specs.declared.ids.RouterId.{RouterId as Router};
+ghost use Rattle.base.specs.declared.target.Target.{Target as TargetIs};
 ghost use Rattle.loop_check.specs.Following.{is_among};
 ghost use Rattle.loop_keeper.specs.Following.{IsFollowed, IsTurned};
 ghost use Rattle.loop_keeper.specs.Starts.{DoesSo, IsStartOf};
 
-use dn_model::{List, OutOfMemory, RouterId, Target};
+use base::{List, OutOfMemory, RouterId, Target};
 use label_view::LabelView;
 use std::alloc::Global;
 use std::sync::ledger::Ledger;

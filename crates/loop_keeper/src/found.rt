@@ -1,6 +1,6 @@
 //! Cycles that rows show.
 
-use dn_model::{List, RouterId};
+use base::{List, RouterId};
 
 /// A cycle that all addresses from `low` up to, and without, `past` go round.
 #[derive(Drop)]

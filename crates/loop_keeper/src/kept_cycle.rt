@@ -6,7 +6,7 @@ ghost use Rattle.loop_keeper.specs.Kept.{HasSome, has_address};
 ghost use Rattle.loop_keeper.specs.Numbers.{nothing, IsPut};
 
 use crate::address_set::AddressSet;
-use dn_model::{List, OutOfMemory, RouterId};
+use base::{List, OutOfMemory, RouterId};
 use std::alloc::Global;
 use std::marker::Model;
 use std::sync::Arc;

@@ -2,11 +2,11 @@
 
 ghost use Rattle.std.specs.Prelude.{◌≡◌, ℕ, ◌+◌, ◌*◌, ◌≤◌, [], OnOk, IfOk};
 ghost use Rattle.std.specs.List.{list_any};
-ghost use Rattle.dn_model.specs.Cycles.{AreCycles};
-ghost use Rattle.dn_model.specs.Delta.{AreChanges, IsDelta};
-ghost use Rattle.dn_model.specs.Forwarding.{does};
-ghost use Rattle.dn_model.specs.declared.ids.RouterId.{RouterId as Router};
-ghost use Rattle.dn_model.specs.declared.target.Target.{Target as TargetIs};
+ghost use Rattle.base.specs.Cycles.{AreCycles};
+ghost use Rattle.base.specs.Delta.{AreChanges, IsDelta};
+ghost use Rattle.base.specs.Forwarding.{does};
+ghost use Rattle.base.specs.declared.ids.RouterId.{RouterId as Router};
+ghost use Rattle.base.specs.declared.target.Target.{Target as TargetIs};
 ghost use Rattle.loop_keeper.specs.Edits.{AreEdited, has_changed};
 ghost use Rattle.loop_keeper.specs.Finding.{AllInside};
 ghost use Rattle.loop_keeper.specs.Kept.{AreKept, IsLoopFree};
@@ -17,8 +17,8 @@ use crate::finding::find_all;
 use crate::found::Found;
 use crate::kept_cycle::KeptCycle;
 use crate::telling::cycles_of;
+use base::{Change, Cycle, List, OutOfMemory};
 use delta_graph::Delta;
-use dn_model::{Change, Cycle, List, OutOfMemory};
 use label_view::LabelView;
 use std::alloc::Global;
 use std::marker::Model;

@@ -3,7 +3,7 @@
 ghost use Rattle.std.specs.Prelude.{◌≡◌, ◌+◌, ◌-◌, ◌<◌, ◌≤◌, ◌^◌, max, min, true, false, OnOk, IfOk, IfSome, IsTrue};
 ghost use Rattle.loop_keeper.specs.Numbers.{nothing, span, IsSound, IsOpened, IsLeast, IsPut, IsPutIn, IsSpan, size_of, whole_of};
 
-use dn_model::OutOfMemory;
+use base::OutOfMemory;
 use std::alloc::Global;
 use std::marker::Model;
 use std::sync::Arc;

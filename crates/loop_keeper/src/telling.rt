@@ -1,14 +1,14 @@
 //! Kept cycles as an answer: by least address, then by first router.
 
 ghost use Rattle.std.specs.Prelude.{ℕ, IfOk, OnOk};
-ghost use Rattle.dn_model.specs.Cycles.{AreCycles};
-ghost use Rattle.dn_model.specs.CyclesFrom.{AreSomeCycles, IsCycleOf, TellsCycle};
-ghost use Rattle.dn_model.specs.declared.ids.RouterId.{RouterId as Router};
-ghost use Rattle.dn_model.specs.declared.target.Target.{Target as TargetIs};
+ghost use Rattle.base.specs.Cycles.{AreCycles};
+ghost use Rattle.base.specs.CyclesFrom.{AreSomeCycles, IsCycleOf, TellsCycle};
+ghost use Rattle.base.specs.declared.ids.RouterId.{RouterId as Router};
+ghost use Rattle.base.specs.declared.target.Target.{Target as TargetIs};
 ghost use Rattle.loop_keeper.specs.Kept.{AreKept, IsKeptExactly};
 
 use crate::kept_cycle::KeptCycle;
-use dn_model::{Cycle, List, OutOfMemory};
+use base::{Cycle, List, OutOfMemory};
 use loop_check::{has_cycle, put_cycle};
 use std::alloc::Global;
 

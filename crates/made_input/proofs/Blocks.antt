@@ -1,8 +1,8 @@
 -- The block of addresses that has an address.
-use Rattle.std.proofs.Common.{◌≡◌, ℕ, ◌-◌, ◌*◌, ◌/◌, ◌%◌, ◌^◌, ◌<◌, ◌≤◌, arith, sym, subst}
+use Rattle.std.proofs.Common.{◌≡◌, ℕ, ◌-◌, ◌*◌, ◌/◌, ◌%◌, ◌^◌, ◌<◌, ◌≤◌, arith}
 use Rattle.std.proofs.Math.Nat.{div-mul-le_self, mul-mod_left}
 use Rattle.std.proofs.Math.Pow.{pow_mono}
-use Rattle.dn_model.specs.Cidr.{IsCidr}
+use Rattle.base.specs.Cidr.{IsCidr}
 
 -- as the code reckons a block's size: no shift wraps
 pub size_found : (len : ℕ) → 1 * 2 ^ (32 - len) % 2 ^ 64 ≡ 2 ^ (32 - len)

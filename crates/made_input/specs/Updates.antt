@@ -1,9 +1,8 @@
 -- The generated updates, which are dealt out to the routers' feeds in turn.
-use Rattle.std.specs.Prelude.{ℕ, zero, suc, ◌+◌, ◌-◌, ◌*◌, ◌/◌, ◌%◌, ◌^◌, ◌==◌, ◌++◌, ◌∷◌, Bool, true, false, if◌then◌else◌, List, [], Option, Some, None}
-use Rattle.dn_model.specs.Cidr.{Cidr}
+use Rattle.std.specs.Prelude.{ℕ, zero, suc, ◌+◌, ◌-◌, ◌*◌, ◌/◌, ◌%◌, ◌^◌, ◌==◌, ◌++◌, ◌∷◌, Bool, true, false, if◌then◌else◌, List, [], Some, None}
+use Rattle.base.specs.Cidr.{Cidr}
 use Rattle.dn_formats.specs.Frames.{frame_text}
 use Rattle.dn_formats.specs.Message.{message_text}
-use Rattle.dn_formats.specs.declared.raw_route.RouteKind.{RouteKind}
 use Rattle.dn_formats.specs.declared.raw_route.RouteKind.TheVariants.{Unicast, Local}
 use Rattle.dn_formats.specs.declared.raw_route.RawRoute.{RawRoute}
 use Rattle.made_input.specs.Network.{made_routers}

@@ -2,7 +2,7 @@
 
 ghost use Rattle.std.specs.Prelude.{◌≡◌, ◌≤◌, ◌<◌, ◌++◌, OnOk, IfOk};
 ghost use Rattle.dn_formats.specs.Payload.{CanBeSaid};
-ghost use Rattle.dn_model.specs.Cidr.{IsCidr};
+ghost use Rattle.base.specs.Cidr.{IsCidr};
 ghost use Rattle.made_input.specs.Updates.{aligned, frame_for, made_feed, made_frame, made_len, made_prefix, made_route, scattered};
 
 use crate::network::ROUTERS;

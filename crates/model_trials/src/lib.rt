@@ -2,10 +2,20 @@
 #![tactic(auto)]
 
 #[cfg(test)]
+mod down_tests;
+#[cfg(test)]
 mod network;
+#[cfg(test)]
+mod object_tests;
 #[cfg(test)]
 mod plain_delta_tests;
 #[cfg(test)]
 mod plain_query_tests;
 #[cfg(test)]
 mod plain_tests;
+#[cfg(test)]
+mod replace_tests;
+#[cfg(test)]
+mod topologies;
+#[cfg(test)]
+mod vrf_tests;

@@ -2,8 +2,8 @@
 
 ghost use Rattle.std.specs.Prelude.{◌≤◌};
 
-use crate::network::{TO_SECOND, TO_THIRD, answer, clear, set, ten};
-use dn_model::{Answer, Ask, Change, Entry, Prefix, RouterId, Run, Target};
+use crate::network::{TO_SECOND, TO_THIRD, answer, answer_in, clear, set, ten};
+use dn_model::{Answer, Ask, Change, Entry, Prefix, Query, RouterId, Run, Target, Topology};
 use std::alloc::Global;
 use std::process::Abort;
 
@@ -13,6 +13,18 @@ fn changes_of(answer: &Answer) -> Option<&[Change]> {
         Answer::Delta(changes) => Some(changes.as_slice()),
         _ => None,
     }
+}
+
+/// The last of these updates of a network changed this.
+pub fn compare_delta_in(
+    rt: &impl Abort,
+    alloc: Global,
+    t: &Topology,
+    entries: &[Entry],
+    want: &[Change],
+) {
+    let answer = answer_in(rt, alloc, t, entries, &Query::of(alloc, Ask::Delta));
+    assert_eq!(rt; changes_of(&answer), Some(want));
 }
 
 /// The last of these updates changed this.

@@ -4,8 +4,8 @@ ghost use Rattle.std.specs.Prelude.{◌≡◌, ◌∷◌, [], codes};
 ghost use Rattle.dn_model.specs.Query.{IsAskedWithout};
 
 use crate::network::{
-    BACK, SECOND_TO_THIRD, THIRD_TO_SECOND, TO_SECOND, TO_THIRD, answer, answer_to, clear, name_of,
-    set, ten, ten_one,
+    BACK, SECOND_TO_THIRD, THIRD_TO_SECOND, TO_SECOND, TO_THIRD, answer, answer_to, clear,
+    link_entry, name_of, set, ten, ten_one,
 };
 use crate::plain_delta_tests::{change, compare_delta};
 use dn_model::{
@@ -74,7 +74,7 @@ fn uses_of(answer: &Answer) -> Option<(&[Run], &[Run])> {
 }
 
 /// The routers and the end of a path; None where the answer is another.
-fn path_of(answer: &Answer) -> Option<(&[RouterId], PathEnd)> {
+pub fn path_of(answer: &Answer) -> Option<(&[RouterId], PathEnd)> {
     match answer {
         Answer::Path { hops, end } => Some((hops.as_slice(), *end)),
         _ => None,
@@ -345,6 +345,69 @@ fn a_link_down_is_a_hole(rt: HostRuntime) {
         hole_at(1, Target::LinkDown(LinkId(2)), &TEN),
     ];
     compare_holes(&rt, &answer, &want);
+}
+
+/// What is left of 10.0.0.0/8 beside 10.1.0.0/16.
+const BUT_TEN_ONE: [Run; 2] = [
+    Run {
+        lo: 0x0A00_0000,
+        hi: 0x0A00_FFFF,
+    },
+    Run {
+        lo: 0x0A02_0000,
+        hi: 0x0AFF_FFFF,
+    },
+];
+
+/// As far as r2 all of 10.0.0.0/8 goes as before, but 10.1.0.0/16 goes from r1 to r3 at once; then the link b goes down
+/// and comes up, and the link c goes down.
+fn with_links() -> [Entry; 7] {
+    [
+        set(0, ten(), 20, TO_SECOND),
+        set(0, ten_one(), 20, TO_THIRD),
+        set(1, ten(), 20, SECOND_TO_THIRD),
+        set(2, ten(), 20, Target::Exit(1)),
+        link_entry(2, true),
+        link_entry(2, false),
+        link_entry(1, true),
+    ]
+}
+
+#[test]
+fn a_link_taken_as_down_beside_one_that_is(rt: HostRuntime) {
+    let entries = with_links();
+    let ten_one = [Run {
+        lo: 0x0A01_0000,
+        hi: 0x0A01_FFFF,
+    }];
+    let one = [
+        hole_at(0, Target::NoRoute, &BUT_TEN),
+        hole_at(1, Target::LinkDown(LinkId(2)), &BUT_TEN_ONE),
+    ];
+    let two = [
+        hole_at(0, Target::NoRoute, &BUT_TEN),
+        hole_at(0, Target::LinkDown(LinkId(1)), &ten_one),
+        hole_at(1, Target::LinkDown(LinkId(2)), &BUT_TEN_ONE),
+    ];
+    compare_holes(&rt, &holes_without_b(&rt, rt.alloc(), &entries[..5]), &one);
+    compare_holes(&rt, &holes_without_b(&rt, rt.alloc(), &entries[..6]), &one);
+    compare_holes(&rt, &holes_without_b(&rt, rt.alloc(), &entries), &two);
+}
+
+#[test]
+fn a_link_that_comes_up_is_taken_as_down(rt: HostRuntime) {
+    let entries = with_links();
+    let ten_one = [Run {
+        lo: 0x0A01_0000,
+        hi: 0x0A01_FFFF,
+    }];
+    compare_reach(&rt, rt.alloc(), &entries[..5], b"r3", &ten_one);
+    compare_reach(&rt, rt.alloc(), &entries[..6], b"r3", &TEN);
+    compare_reach(&rt, rt.alloc(), &entries, b"r3", &BUT_TEN_ONE);
+    let up = reach_without_b(&rt, rt.alloc(), &entries[..6]);
+    assert_eq!(rt; runs_of(&up), Some(&ten_one[..]));
+    let neither = reach_without_b(&rt, rt.alloc(), &entries);
+    assert_eq!(rt; runs_of(&neither), Some(&NONE[..]));
 }
 
 /// All that addresses from r1 vanish by is that r1 has no route for these.

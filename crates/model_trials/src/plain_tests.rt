@@ -9,8 +9,9 @@ use std::process::Abort;
 
 /// With no link down, router 0 does this with 10.1.0.7 after a history.
 fn compare_first(rt: &impl Abort, alloc: Global, entries: &[Entry], want: Target) {
-    let routes = plain_routes(alloc, entries, RouterId(0)).expect(rt, "memory");
-    let target = plain_target(routes.as_slice(), &[], 0x0A01_0007);
+    let t = network(rt, alloc);
+    let routes = plain_routes(alloc, &t, entries, RouterId(0)).expect(rt, "memory");
+    let target = plain_target(routes.as_slice(), &[], &[], 0x0A01_0007);
     assert_eq!(rt; target, want, "after {}", entries.len());
 }
 
@@ -37,13 +38,14 @@ fn least_metric_of_the_longest_prefix(rt: HostRuntime) {
 
 /// With these links down, a router with these routes does this with an address.
 fn compare_down(rt: &impl Abort, routes: &[Route], down: &[LinkId], a: u32, want: Target) {
-    assert_eq!(rt; plain_target(routes, down, a), want);
+    assert_eq!(rt; plain_target(routes, &[], down, a), want);
 }
 
 #[test]
 fn a_link_that_is_down(rt: HostRuntime) {
     let history = [set(0, ten(), 0, Target::To(RouterId(1), LinkId(4)))];
-    let routes = plain_routes(rt.alloc(), &history, RouterId(0)).expect(&rt, "memory");
+    let t = network(&rt, rt.alloc());
+    let routes = plain_routes(rt.alloc(), &t, &history, RouterId(0)).expect(&rt, "memory");
     let routes = routes.as_slice();
     let both = [LinkId(3), LinkId(4)];
     let up = Target::To(RouterId(1), LinkId(4));

@@ -2,11 +2,11 @@
 use Rattle.std.proofs.Common.{◌≡◌, ℕ, ◌+◌, ◌<◌, ◌≤◌, ◌^◌, ◌∙◌, ◌&&◌, ⊎_elim, true, false, Some, List, [], ◌∷◌, refl, ap, sym, arith, eqb, leb, ltb}
 use Rattle.std.specs.List.{Contains}
 use Rattle.std.proofs.lemmas.Bool.{both_ways, cases_Bool, cases_lt, le-leb, le-ltb, lt-leb, lt-ltb, ne_eqb, or_from}
-use Rattle.dn_model.specs.Cidr.{covers, size}
-use Rattle.dn_model.specs.Rows.{is_within, CoverFrom}
-use Rattle.dn_model.specs.Version.{Atom, atom_at, begins_at, first_of, past_of}
+use Rattle.base.specs.Cidr.{covers, size}
+use Rattle.base.specs.Rows.{is_within, CoverFrom}
+use Rattle.net_engine.specs.Version.{Atom, atom_at, begins_at, first_of, past_of}
 use Rattle.dn_model.specs.declared.entry.Route.{Route}
-use Rattle.dn_model.proofs.Covers.{holder-first, holder-rest}
+use Rattle.base.proofs.Covers.{holder-first, holder-rest}
 use Rattle.net_engine.specs.Whole.{HasEnds}
 use Rattle.net_engine.proofs.Held.{Held, Holds, held, holds}
 use Rattle.net_engine.proofs.Owned.{Alike}

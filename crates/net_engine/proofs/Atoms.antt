@@ -1,10 +1,10 @@
 -- Atoms of which one is cut, or has another one put in its place.
 use Rattle.std.proofs.Common.{◌≡◌, ℕ, ◌<◌, ◌≤◌, ◌^◌, ◌∙◌, ◌⊎◌, ◌&&◌, ◌||◌, not, ⊎_elim, Bool, true, false, cond, Option, Some, List, [], ◌∷◌, refl, ap, sym, subst, arith, eqb, inl, inr}
 use Rattle.std.proofs.lemmas.Bool.{and_from, and_left, and_right, cases_Bool, cases_eq, cases_lt, eq-eqb, ne_eqb, not_from_false, not_from_true}
-use Rattle.dn_model.specs.Rows.{is_within, CoverFrom}
-use Rattle.dn_model.specs.Version.{Atom, atom_at, begins_at, first_of, past_of, rules_at, rules_in, target_at, target_in_atom}
-use Rattle.dn_model.specs.declared.ids.RouterId.{RouterId}
-use Rattle.dn_model.proofs.Covers.{holder-first, holder-rest, within-above, within-below, within-yes}
+use Rattle.base.specs.Rows.{is_within, CoverFrom}
+use Rattle.net_engine.specs.Version.{Atom, atom_at, begins_at, first_of, past_of, rules_at, rules_in, target_at, target_in_atom}
+use Rattle.base.specs.declared.ids.RouterId.{RouterId}
+use Rattle.base.proofs.Covers.{holder-first, holder-rest, within-above, within-below, within-yes}
 use Rattle.net_engine.specs.Net.{AreWide, IsWide, between, cut_atoms}
 use Rattle.net_engine.proofs.Held.{within-high, within-low}
 

@@ -2,16 +2,16 @@
 use Rattle.std.proofs.Common.{◌≡◌, ℕ, ◌<◌, ◌≤◌, ◌^◌, ◌∙◌, ◌||◌, ⊎_elim, false, Some, List, [], ◌∷◌, length, get_or, replicate, refl, ap, sym, subst, arith, eqb}
 use Rattle.std.proofs.lemmas.Bool.{cases_eq, cases_lt, eq-eqb, ne_eqb}
 use Rattle.std.proofs.lemmas.List.{get_or-replicate, get_or_past, length-replicate}
-use Rattle.dn_model.specs.Rows.{CoverFrom}
+use Rattle.base.specs.Rows.{CoverFrom}
 use Rattle.dn_model.specs.Rules.{OwnersOf}
-use Rattle.dn_model.specs.Version.{Kept, KeptStandsFor, atom_at, first_of, past_of, rules_at, rules_in, target_at, target_in_atom}
+use Rattle.net_engine.specs.Version.{Kept, KeptStandsFor, atom_at, first_of, past_of, rules_at, rules_in, target_at, target_in_atom}
 use Rattle.dn_model.specs.declared.entry.Route.{Route}
-use Rattle.dn_model.specs.declared.ids.RouterId.{RouterId}
+use Rattle.base.specs.declared.ids.RouterId.{RouterId}
 use Rattle.dn_model.specs.declared.rule.Rule.{Rule}
-use Rattle.dn_model.specs.declared.target.Target.TheVariants.{NoRoute}
+use Rattle.base.specs.declared.target.Target.TheVariants.{NoRoute}
 use Rattle.dn_model.specs.declared.topology.Topology.{Topology}
-use Rattle.dn_model.proofs.Best.{contains-none}
-use Rattle.dn_model.proofs.Covers.{holder-first, within-yes}
+use Rattle.base.proofs.Elements.{contains-none}
+use Rattle.base.proofs.Covers.{holder-first, within-yes}
 use Rattle.dn_model.proofs.SameRoutes.{SameRoutes}
 use Rattle.net_engine.specs.Net.{AreWide, first_atom}
 use Rattle.net_engine.specs.Whole.{Agrees, IsWhole}
@@ -26,7 +26,7 @@ all-same n i x = ⊎_elim
 
 -- one atom of all addresses
 abbrev pub first_kept : Topology → Kept
-first_kept t = record { topology = t; atoms = first_atom (length t.routers) ∷ []; routes = replicate (length t.routers) [] }
+first_kept t = record { topology = t; atoms = first_atom (length t.routers) ∷ []; routes = replicate (length t.routers) []; objects = []; down = [] }
 
 module _ (n : ℕ) where
   first-at : (a : ℕ) → a < 2 ^ 32 → atom_at (first_atom n ∷ []) a ≡ Some (first_atom n)
@@ -53,7 +53,7 @@ none-owned a = record {
 none-agree : (t : Topology) (r : RouterId) → Agrees t (first_atom (length t.routers) ∷ []) r []
 none-agree t r = record {
   table = record { keys = refl; prefixes = λ x h. absurd (contains-none x h) };
-  targets = λ x h. absurd (contains-none x h);
+  ways = λ x h. absurd (contains-none x h);
   ends = λ x h. absurd (contains-none x h);
   owners = λ a l. let P : List Rule → Type 0 = λ rs. OwnersOf rs [] a in subst P (sym (first-rules (length t.routers) r a l)) (none-owned a);
   does = λ a l. first-target (length t.routers) r a l;
@@ -65,6 +65,8 @@ first-whole t few = record {
   cover = first-cover (length t.routers);
   wide = first-wide (length t.routers);
   tables = length-replicate (length t.routers) [];
+  objects = refl;
+  down = refl;
   agree = λ r l.
       let P : List Route → Type 0 = λ xs. Agrees t (first_atom (length t.routers) ∷ []) r xs in
       subst P (sym (all-same (length t.routers) r.0 [])) (none-agree t r);
@@ -82,4 +84,4 @@ first-stands t few = stands (first_kept t) (first-whole t few) []
     (λ r.
     let P : List Route → Type 0 = λ xs. SameRoutes xs [] in
     subst P (sym (all-same (length t.routers) r.0 [])) (record { there = λ x h. h; back = λ x h. h }))
-    (λ a l. first-begins a)
+    (λ r id. refl) (λ l. refl) (λ a l. first-begins a)

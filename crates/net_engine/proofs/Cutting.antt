@@ -3,17 +3,17 @@ use Rattle.std.proofs.Common.{◌≡◌, ℕ, ◌+◌, ◌-◌, ◌<◌, ◌≤�
 use Rattle.std.specs.List.{insert}
 use Rattle.std.proofs.lemmas.Bool.{cases_Bool, cases_lt, eqb-true, ne_eqb, or_left}
 use Rattle.std.proofs.lemmas.List.Edits.{get_or-insert_above, get_or-insert_at, get_or-insert_below, length-insert}
-use Rattle.dn_model.specs.Atoms.{AreAtoms, IsCut, cut_rows, has_address, atom_past, is_boundary, atom_low}
-use Rattle.dn_model.specs.Forwarding.{forwarding_at, row_low, row_past}
-use Rattle.dn_model.specs.Rows.{CoverFrom, is_within}
-use Rattle.dn_model.specs.Version.{Atom, begins_at, first_of, past_of, target_at as target_of_router}
-use Rattle.dn_model.specs.declared.atom_row.AtomRow.{AtomRow}
-use Rattle.dn_model.specs.declared.forwarding_row.ForwardingRow.{ForwardingRow}
-use Rattle.dn_model.specs.declared.ids.AtomId.{AtomId}
-use Rattle.dn_model.specs.declared.ids.RouterId.{RouterId}
-use Rattle.dn_model.proofs.Covers.{few-rows, holder-first, holder-rest, low-at, within-above, within-below, within-yes}
-use Rattle.dn_model.proofs.Cuts.{boundary-parts, cut-first, cut-rest, length-after-cut}
-use Rattle.dn_model.specs.declared.target.Target.{Target}
+use Rattle.atom_map.specs.Atoms.{AreAtoms, IsCut, cut_rows, has_address, atom_past, is_boundary, atom_low}
+use Rattle.base.specs.Forwarding.{forwarding_at, row_low, row_past}
+use Rattle.base.specs.Rows.{CoverFrom, is_within}
+use Rattle.net_engine.specs.Version.{Atom, begins_at, first_of, past_of, target_at as target_of_router}
+use Rattle.atom_map.specs.declared.atom_row.AtomRow.{AtomRow}
+use Rattle.base.specs.declared.forwarding_row.ForwardingRow.{ForwardingRow}
+use Rattle.base.specs.declared.ids.AtomId.{AtomId}
+use Rattle.base.specs.declared.ids.RouterId.{RouterId}
+use Rattle.base.proofs.Covers.{few-rows, holder-first, holder-rest, low-at, within-above, within-below, within-yes}
+use Rattle.atom_map.proofs.Cuts.{boundary-parts, cut-first, cut-rest, length-after-cut}
+use Rattle.base.specs.declared.target.Target.{Target}
 use Rattle.edge_labels.specs.Labels.{Labels, parted, targets_of}
 use Rattle.net_engine.specs.Net.{Net, between, cut_atoms}
 use Rattle.net_engine.specs.Paired.{ArePaired, atoms_with, does_at, net_of, owned, owners_at, rows_with}

@@ -4,19 +4,19 @@ use Rattle.std.proofs.Common.{◌≡◌, ℕ, ◌+◌, ◌<◌, ◌≤◌, ◌^�
 use Rattle.std.specs.List.{Contains}
 use Rattle.std.proofs.lemmas.Bool.{cases_Bool, eq-eqb, or_left, or_right}
 use Rattle.std.proofs.lemmas.List.{get_or-map}
-use Rattle.dn_model.specs.Atoms.{AreAtoms, is_boundary}
-use Rattle.dn_model.specs.Cidr.{IsCidr, size}
-use Rattle.dn_model.specs.Entry.{is_end_of}
-use Rattle.dn_model.specs.Forwarding.{forwarding_at, row_low, row_past}
-use Rattle.dn_model.specs.Rows.{is_within}
-use Rattle.dn_model.specs.Version.{atom_at, begins_at, first_of, past_of, rules_at, rules_in, target_at, target_in_atom}
-use Rattle.dn_model.specs.declared.atom_row.AtomRow.{AtomRow}
+use Rattle.atom_map.specs.Atoms.{AreAtoms, is_boundary}
+use Rattle.base.specs.Cidr.{IsCidr, size}
+use Rattle.dn_model.specs.Entry.{is_bound_of}
+use Rattle.base.specs.Forwarding.{forwarding_at, row_low, row_past}
+use Rattle.base.specs.Rows.{is_within}
+use Rattle.net_engine.specs.Version.{atom_at, begins_at, first_of, past_of, rules_at, rules_in, target_at, target_in_atom}
+use Rattle.atom_map.specs.declared.atom_row.AtomRow.{AtomRow}
 use Rattle.dn_model.specs.declared.entry.Route.{Route}
-use Rattle.dn_model.specs.declared.forwarding_row.ForwardingRow.{ForwardingRow}
-use Rattle.dn_model.specs.declared.ids.RouterId.{RouterId}
+use Rattle.base.specs.declared.forwarding_row.ForwardingRow.{ForwardingRow}
+use Rattle.base.specs.declared.ids.RouterId.{RouterId}
 use Rattle.dn_model.specs.declared.rule.Rule.{Rule}
-use Rattle.dn_model.specs.declared.target.Target.{Target}
-use Rattle.dn_model.proofs.Covers.{holder-first, holder-rest}
+use Rattle.base.specs.declared.target.Target.{Target}
+use Rattle.base.proofs.Covers.{holder-first, holder-rest}
 use Rattle.edge_labels.specs.Labels.{Labels}
 use Rattle.net_engine.specs.Paired.{ArePaired, GoAlong, atoms_with, does_at, does_in, owned, owners_at, rows_with}
 use Rattle.net_engine.specs.Routed.{ends_in, rules_covering}
@@ -61,9 +61,9 @@ target-paired labels owners rows r a = ap (λ o. target_in_atom o r) (atom-paire
 pub has-ends : (rows : List AtomRow) (labels : Labels) (tables : AllRoutes) (routes : List Route) (x : Route) → ((c : ℕ) → c < 2 ^ 32 → ends_in routes c ≡ true → is_boundary rows c ≡ true) → IsCidr x.prefix → Contains routes x → HasEnds (atoms_with rows labels tables) x
 has-ends rows labels tables routes x ends sound h = record {
   first = begins-paired labels tables rows x.prefix.base
-      ∙ ends x.prefix.base sound.base (any-of (λ (y : Route). is_end_of y.prefix x.prefix.base) routes x h (or_left (eqb x.prefix.base x.prefix.base) (eqb (x.prefix.base + size x.prefix) x.prefix.base) (eq-eqb x.prefix.base x.prefix.base refl)));
+      ∙ ends x.prefix.base sound.base (any-of (λ (y : Route). is_bound_of y.prefix x.prefix.base) routes x h (or_left (eqb x.prefix.base x.prefix.base) (eqb (x.prefix.base + size x.prefix) x.prefix.base) (eq-eqb x.prefix.base x.prefix.base refl)));
   past = λ l. begins-paired labels tables rows (x.prefix.base + size x.prefix)
-      ∙ ends (x.prefix.base + size x.prefix) l (any-of (λ (y : Route). is_end_of y.prefix (x.prefix.base + size x.prefix)) routes x h (or_right (eqb x.prefix.base (x.prefix.base + size x.prefix)) (eqb (x.prefix.base + size x.prefix) (x.prefix.base + size x.prefix)) (eq-eqb (x.prefix.base + size x.prefix) (x.prefix.base + size x.prefix) refl)));
+      ∙ ends (x.prefix.base + size x.prefix) l (any-of (λ (y : Route). is_bound_of y.prefix (x.prefix.base + size x.prefix)) routes x h (or_right (eqb x.prefix.base (x.prefix.base + size x.prefix)) (eqb (x.prefix.base + size x.prefix) (x.prefix.base + size x.prefix)) (eq-eqb (x.prefix.base + size x.prefix) (x.prefix.base + size x.prefix) refl)));
 }
 
 -- the routes that cover an address cover the first one of its row

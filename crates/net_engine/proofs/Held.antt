@@ -1,8 +1,8 @@
 -- The row that has an address, among rows that cover the addresses once: where it begins and ends.
 use Rattle.std.proofs.Common.{◌≡◌, ℕ, ◌<◌, ◌≤◌, ◌^◌, ◌∙◌, ⊎_elim, true, false, None, Some, List, [], ◌∷◌, sym, subst, arith, leb, ltb}
 use Rattle.std.proofs.lemmas.Bool.{and_parts, cases_Bool, cases_lt, leb-true, ltb-true}
-use Rattle.dn_model.specs.Rows.{is_within, CoverFrom, holder}
-use Rattle.dn_model.proofs.Covers.{holder-first, holder-rest, starts-below, within-above, within-yes}
+use Rattle.base.specs.Rows.{is_within, CoverFrom, holder}
+use Rattle.base.proofs.Covers.{holder-first, holder-rest, starts-below, within-above, within-yes}
 
 -- an address within bounds
 pub within-low : (low high a : ℕ) → is_within low high a ≡ true → low ≤ a

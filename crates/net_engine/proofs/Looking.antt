@@ -5,14 +5,14 @@ use Rattle.std.specs.List.{list_any}
 use Rattle.std.proofs.lemmas.Bool.{and_from, and_left, and_right, cases_Bool, cases_eq, cases_lt, eq-eqb, eqb-true, le-leb, le-ltb, lt-leb, lt-ltb, ne_eqb, or_cases, or_from, or_left, or_right}
 use Rattle.std.proofs.lemmas.List.Sums.{sum_by-cons}
 use Rattle.std.proofs.lemmas.Nat.{pow_pos}
-use Rattle.dn_model.specs.Atoms.{atom_low, atom_past, is_boundary}
-use Rattle.dn_model.specs.Cidr.{Cidr, size}
-use Rattle.dn_model.specs.Rows.{is_within, CoverFrom}
-use Rattle.dn_model.specs.Version.{Atom, begins_at, first_of, past_of}
-use Rattle.dn_model.specs.declared.atom_row.AtomRow.{AtomRow}
+use Rattle.atom_map.specs.Atoms.{atom_low, atom_past, is_boundary}
+use Rattle.base.specs.Cidr.{Cidr, size}
+use Rattle.base.specs.Rows.{is_within, CoverFrom}
+use Rattle.net_engine.specs.Version.{Atom, begins_at, first_of, past_of}
+use Rattle.atom_map.specs.declared.atom_row.AtomRow.{AtomRow}
 use Rattle.dn_model.specs.declared.entry.Route.{Route}
-use Rattle.dn_model.specs.declared.target.Target.{Target}
-use Rattle.dn_model.proofs.Covers.{within-above, within-below, within-yes}
+use Rattle.base.specs.declared.target.Target.{Target}
+use Rattle.base.proofs.Covers.{within-above, within-below, within-yes}
 use Rattle.edge_labels.specs.Labels.{Labels}
 use Rattle.route_table.specs.Own.{BeginWithin}
 use Rattle.net_engine.specs.Looks.{atoms_begun, atoms_between, has_some, more_at}

@@ -3,16 +3,16 @@ use Rattle.std.proofs.Common.{◌≡◌, ℕ, ◌+◌, ◌<◌, ◌≤◌, ◌^�
 use Rattle.std.specs.List.{list_any}
 use Rattle.std.proofs.Math.Seq.{take-suc}
 use Rattle.std.proofs.lemmas.Bool.{and_from, and_left, and_parts, and_right, both_ways, cases_Bool, cases_lt, le-leb, leb-true, lt-leb, ne_eqb, or_cases, or_from, or_left, or_parts, or_right}
-use Rattle.dn_model.specs.Atoms.{is_boundary}
-use Rattle.dn_model.specs.Delta.{TellsChange, change_at}
-use Rattle.dn_model.specs.Rows.{is_within}
-use Rattle.dn_model.specs.Runs.{AreApart, holds}
-use Rattle.dn_model.specs.declared.atom_row.AtomRow.{AtomRow}
-use Rattle.dn_model.specs.declared.change.Change.{Change}
-use Rattle.dn_model.specs.declared.ids.RouterId.{RouterId}
-use Rattle.dn_model.specs.declared.run.Run.{Run}
-use Rattle.dn_model.specs.declared.target.Target.{Target}
-use Rattle.dn_model.proofs.Covers.{within-above, within-below, within-yes}
+use Rattle.atom_map.specs.Atoms.{is_boundary}
+use Rattle.base.specs.Delta.{TellsChange, change_at}
+use Rattle.base.specs.Rows.{is_within}
+use Rattle.base.specs.Runs.{AreApart, holds}
+use Rattle.atom_map.specs.declared.atom_row.AtomRow.{AtomRow}
+use Rattle.base.specs.declared.change.Change.{Change}
+use Rattle.base.specs.declared.ids.RouterId.{RouterId}
+use Rattle.base.specs.declared.run.Run.{Run}
+use Rattle.base.specs.declared.target.Target.{Target}
+use Rattle.base.proofs.Covers.{within-above, within-below, within-yes}
 use Rattle.edge_labels.specs.Labels.{Labels}
 use Rattle.net_engine.specs.Paired.{AreLabelled, does_at}
 use Rattle.net_engine.specs.Rerouted.{IsMoved, IsRelabelled, RunsOfAtoms}

@@ -5,37 +5,34 @@ use Rattle.std.specs.List.Sorted.{IsPermutation}
 use Rattle.std.proofs.lemmas.Bool.{or_cases, or_left, or_right}
 use Rattle.std.proofs.lemmas.List.Elements.{Contains-push_cases}
 use Rattle.std.proofs.lemmas.List.Sorted.{Contains-permutation}
-use Rattle.dn_model.specs.Cidr.{Cidr, covers}
-use Rattle.dn_model.specs.Entry.{IsOpOf, IsTargetOf, prefix_of_op}
+use Rattle.base.specs.Cidr.{Cidr, covers}
 use Rattle.dn_model.specs.Rules.{Covers, OwnersOf, rule_of}
-use Rattle.dn_model.specs.Table.{after_op, better, has_key, is_of_prefix, target_in, target_or_none}
-use Rattle.dn_model.specs.declared.entry.Op.{Op}
-use Rattle.dn_model.specs.declared.entry.Op.TheVariants.{Set, Clear}
+use Rattle.dn_model.specs.Table.{after_table_op, better, has_key, is_of_prefix, is_replaced, target_in, target_or_none}
+use Rattle.dn_model.specs.declared.table_op.TableOp.{TableOp}
+use Rattle.dn_model.specs.declared.table_op.TableOp.TheVariants.{Put, Clear}
+use Rattle.dn_model.specs.declared.way.Way.{Way}
 use Rattle.dn_model.specs.declared.entry.Route.{Route}
 use Rattle.dn_model.specs.declared.rule.Rule.{Rule}
-use Rattle.dn_model.specs.declared.target.Target.{Target}
 use Rattle.dn_model.specs.declared.topology.Topology.{Topology}
-use Rattle.dn_model.proofs.Best.{contains-cases, contains-filter, contains-here, contains-none, contains-there, filter-contains}
-use Rattle.dn_model.proofs.Keyed.{contains-map, map-contains}
+use Rattle.base.proofs.Elements.{contains-cases, contains-filter, contains-here, contains-none, contains-there, filter-contains}
+use Rattle.base.proofs.Elements.{contains-map, map-contains}
 use Rattle.dn_model.proofs.SameRoutes.{SameRoutes}
 use Rattle.net_engine.specs.Routed.{rules_covering}
+use Rattle.net_engine.specs.Updates.{IsTableOpOf, IsWayOf}
 
 -- ---- routes
 
--- each route after an update is the one that it sets, or stood there before
-pub after-cases : (P : Route → Type 0) (routes : List Route) (op : Op) → ((x : Route) → Contains routes x → P x) → ((p : Cidr) (m : ℕ) (t : Target) → op ≡ Set p m t → P (record { prefix = p; metric = m; target = t })) → (x : Route) → Contains (after_op routes op) x → P x
-after-cases P routes (Set p m t) old new x h =
-    let route : Route = record { prefix = p; metric = m; target = t } in
-    let left : List Route = filter (λ r. not (has_key p m r)) routes in
+-- each route after an update is the one that it puts, or stood there before
+pub after-cases : (P : Route → Type 0) (alone : Bool) (routes : List Route) (op : TableOp) → ((x : Route) → Contains routes x → P x) → ((p : Cidr) (m : ℕ) (w : Way) → op ≡ Put p m w → P (record { prefix = p; metric = m; way = w })) → (x : Route) → Contains (after_table_op alone routes op) x → P x
+after-cases P alone routes (Put p m w) old new x h =
+    let route : Route = record { prefix = p; metric = m; way = w } in
+    let left : List Route = filter (λ r. not (is_replaced alone p m r)) routes in
     ⊎_elim
-    (λ (there : Contains left x). old x (filter-contains (λ r. not (has_key p m r)) x routes there).0)
-    (λ (same : route ≡ x). subst P same (new p m t refl))
+    (λ (there : Contains left x). old x (filter-contains (λ r. not (is_replaced alone p m r)) x routes there).0)
+    (λ (same : route ≡ x). subst P same (new p m w refl))
     (Contains-push_cases left route x h)
-after-cases P routes (Clear p None) old new x h = old x (filter-contains (λ r. not (is_of_prefix p r)) x routes h).0
-after-cases P routes (Clear p (Some m)) old new x h = old x (filter-contains (λ r. not (has_key p m r)) x routes h).0
-
-pub prefix-is : (op : Op) (p : Cidr) (m : ℕ) (t : Target) → op ≡ Set p m t → prefix_of_op op ≡ p
-prefix-is op p m t e = ap prefix_of_op e
+after-cases P alone routes (Clear p None) old new x h = old x (filter-contains (λ r. not (is_of_prefix p r)) x routes h).0
+after-cases P alone routes (Clear p (Some m)) old new x h = old x (filter-contains (λ r. not (has_key p m r)) x routes h).0
 
 -- the same routes have the same rules
 pub owners-same : (rules : List Rule) (xs ys : List Route) (a : ℕ) → SameRoutes xs ys → OwnersOf rules xs a → OwnersOf rules ys a
@@ -56,8 +53,8 @@ filter-alike p q (x ∷ xs) h =
     ap (λ b. cond b (x ∷ filter p xs) (filter p xs)) (h x (contains-here x xs))
     ∙ ap (λ ys. cond (q x) (x ∷ ys) ys) (filter-alike p q xs (λ y k. h y (contains-there x y xs k)))
 
-pub target-along : (routes : List Route) (a b : ℕ) → Alike routes a b → target_in routes a ≡ target_in routes b
-target-along routes a b alike = ap (λ xs. target_or_none (fold better None xs)) (filter-alike (λ (x : Route). covers x.prefix a) (λ (x : Route). covers x.prefix b) routes alike)
+pub target-along : (routes : List Route) (a b : ℕ) → Alike routes a b → target_in [] routes a ≡ target_in [] routes b
+target-along routes a b alike = ap (λ xs. target_or_none [] (fold better None xs)) (filter-alike (λ (x : Route). covers x.prefix a) (λ (x : Route). covers x.prefix b) routes alike)
 
 pub covering-along : (routes : List Route) (a b : ℕ) → Alike routes a b → rules_covering routes a ≡ rules_covering routes b
 covering-along routes a b alike = ap (map rule_of) (filter-alike (λ (x : Route). covers x.prefix a) (λ (x : Route). covers x.prefix b) routes alike)
@@ -90,9 +87,9 @@ any-of {X} q (y ∷ ys) x h t = ⊎_elim
 
 -- ---- of all routes
 
-target-set : (t : Topology) (op : Op) (p : Cidr) (m : ℕ) (u : Target) → op ≡ Set p m u → IsOpOf t op → IsTargetOf t u
-target-set t op p m u e h = let P : Op → Type 0 = λ o. IsOpOf t o in subst P e h
+way-put : (t : Topology) (op : TableOp) (p : Cidr) (m : ℕ) (w : Way) → op ≡ Put p m w → IsTableOpOf t op → IsWayOf t w
+way-put t op p m w e h = let P : TableOp → Type 0 = λ o. IsTableOpOf t o in subst P e h
 
--- an update of the network leaves routes whose targets the network has
-pub targets-after : (t : Topology) (routes new : List Route) (op : Op) → ((x : Route) → Contains routes x → IsTargetOf t x.target) → IsOpOf t op → IsPermutation new (after_op routes op) → (x : Route) → Contains new x → IsTargetOf t x.target
-targets-after t routes new op old own moved x h = after-cases (λ (y : Route). IsTargetOf t y.target) routes op old (λ p m u e. target-set t op p m u e own) x (Contains-permutation new (after_op routes op) x moved h)
+-- an update of the network leaves routes whose ways the network has
+pub ways-after : (t : Topology) (alone : Bool) (routes new : List Route) (op : TableOp) → ((x : Route) → Contains routes x → IsWayOf t x.way) → IsTableOpOf t op → IsPermutation new (after_table_op alone routes op) → (x : Route) → Contains new x → IsWayOf t x.way
+ways-after t alone routes new op old own moved x h = after-cases (λ (y : Route). IsWayOf t y.way) alone routes op old (λ p m w e. way-put t op p m w e own) x (Contains-permutation new (after_table_op alone routes op) x moved h)

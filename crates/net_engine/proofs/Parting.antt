@@ -1,10 +1,10 @@
 -- Atoms that are cut at both ends of a prefix.
 use Rattle.std.proofs.Common.{◌≡◌, ◌+◌, ◌<◌, ◌^◌, ◌∙◌, ◌||◌, Bool, true, false, List, length, refl, ap, sym, arith, eqb, inl, inr}
 use Rattle.std.proofs.lemmas.Bool.{eq-eqb, ne_eqb, or_left, or_right}
-use Rattle.dn_model.specs.Cidr.{Cidr, IsCidr, size}
-use Rattle.dn_model.specs.Entry.{is_end_of}
-use Rattle.dn_model.specs.Rows.{CoverFrom}
-use Rattle.dn_model.specs.Version.{Atom, begins_at, first_of, past_of, rules_at, target_at}
+use Rattle.base.specs.Cidr.{Cidr, IsCidr, size}
+use Rattle.dn_model.specs.Entry.{is_bound_of}
+use Rattle.base.specs.Rows.{CoverFrom}
+use Rattle.net_engine.specs.Version.{Atom, begins_at, first_of, past_of, rules_at, target_at}
 use Rattle.net_engine.specs.Looks.{atoms_met, more_at}
 use Rattle.net_engine.specs.Net.{cut_atoms}
 use Rattle.net_engine.specs.Walked.{BeginsAtEnds, IsParted}
@@ -68,6 +68,6 @@ parted-twice old mid new p cover again cidr below first second = record {
 -- then atoms begin at both ends
 pub parted-ends : (old new : List Atom) (p : Cidr) → IsCidr p → IsParted old new p → BeginsAtEnds new p
 parted-ends old new p cidr h = record {
-  first = h.begins p.base cidr.base ∙ or_right (begins_at old p.base) (is_end_of p p.base) (or_left (eqb p.base p.base) (eqb (p.base + size p) p.base) (eq-eqb p.base p.base refl));
-  past = λ l. h.begins (p.base + size p) l ∙ or_right (begins_at old (p.base + size p)) (is_end_of p (p.base + size p)) (or_right (eqb p.base (p.base + size p)) (eqb (p.base + size p) (p.base + size p)) (eq-eqb (p.base + size p) (p.base + size p) refl));
+  first = h.begins p.base cidr.base ∙ or_right (begins_at old p.base) (is_bound_of p p.base) (or_left (eqb p.base p.base) (eqb (p.base + size p) p.base) (eq-eqb p.base p.base refl));
+  past = λ l. h.begins (p.base + size p) l ∙ or_right (begins_at old (p.base + size p)) (is_bound_of p (p.base + size p)) (or_right (eqb p.base (p.base + size p)) (eqb (p.base + size p) (p.base + size p)) (eq-eqb (p.base + size p) (p.base + size p) refl));
 }

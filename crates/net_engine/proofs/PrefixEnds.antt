@@ -3,7 +3,7 @@ use Rattle.std.proofs.Common.{◌≡◌, ℕ, ◌+◌, ◌-◌, ◌*◌, ◌/◌
 use Rattle.std.proofs.Math.Nat.{mul-le-mul_left}
 use Rattle.std.proofs.lemmas.Bool.{cases_lt}
 use Rattle.std.proofs.lemmas.Nat.{pow-add, pow_pos}
-use Rattle.dn_model.specs.Cidr.{Cidr, IsCidr, size}
+use Rattle.base.specs.Cidr.{Cidr, IsCidr, size}
 
 -- a multiple of w that is below a multiple of w is less by w at least
 multiple-below : (w k n : ℕ) → w * k < w * n → w * k + w ≤ w * n

@@ -1,14 +1,14 @@
 -- A router does something else with the atoms of a span, which stand side by side.
 use Rattle.std.proofs.Common.{◌≡◌, ℕ, ◌+◌, ◌<◌, ◌≤◌, ◌^◌, ◌∙◌, ◌⊎◌, ⊎_elim, inl, inr, zero, suc, true, false, List, [], ◌∷◌, length, get_or, drop, refl, ap, sym, subst, arith}
 use Rattle.std.proofs.lemmas.Bool.{both_ways, cases_Bool, cases_lt, eqb-true, ne_eqb}
-use Rattle.dn_model.specs.Atoms.{AreAtoms, atom_low, atom_past, is_boundary}
-use Rattle.dn_model.specs.Forwarding.{forwarding_at, row_low, row_past}
-use Rattle.dn_model.specs.Rows.{CoverFrom, is_within}
-use Rattle.dn_model.specs.declared.atom_row.AtomRow.{AtomRow}
-use Rattle.dn_model.specs.declared.target.Target.{Target}
-use Rattle.dn_model.specs.declared.target.Target.TheVariants.{NoRoute}
-use Rattle.dn_model.proofs.Covers.{high-at, holder-first, holder-rest, last-high, low-at, next-low, ordered-at, within-above, within-yes}
-use Rattle.dn_model.proofs.Cuts.{boundary-at}
+use Rattle.atom_map.specs.Atoms.{AreAtoms, atom_low, atom_past, is_boundary}
+use Rattle.base.specs.Forwarding.{forwarding_at, row_low, row_past}
+use Rattle.base.specs.Rows.{CoverFrom, is_within}
+use Rattle.atom_map.specs.declared.atom_row.AtomRow.{AtomRow}
+use Rattle.base.specs.declared.target.Target.{Target}
+use Rattle.base.specs.declared.target.Target.TheVariants.{NoRoute}
+use Rattle.base.proofs.Covers.{high-at, holder-first, holder-rest, last-high, low-at, next-low, ordered-at, within-above, within-yes}
+use Rattle.atom_map.proofs.Cuts.{boundary-at}
 use Rattle.edge_labels.specs.Labels.{Labels, moved_run, target_at, targets_of}
 use Rattle.edge_labels.proofs.MovedRun.{moved_run-away, moved_run-here, moved_run-long, moved_run-others, moved_run-wide}
 use Rattle.net_engine.specs.Paired.{AreLabelled, does_at, does_in, rows_with}

@@ -6,31 +6,33 @@ use Rattle.std.specs.Option.{IfNone, IfSome}
 use Rattle.std.proofs.lemmas.Bool.{and_parts, cases_Bool, cases_eq, eqb-true, or_cases, or_left, or_right}
 use Rattle.std.proofs.lemmas.List.{get_or-set_other, get_or-set_same, length-set}
 use Rattle.std.proofs.lemmas.List.Sorted.{Contains-permutation}
-use Rattle.dn_model.specs.Atoms.{is_boundary}
-use Rattle.dn_model.specs.Cidr.{Cidr, size}
-use Rattle.dn_model.specs.Delta.{TellsChange, change_at}
-use Rattle.dn_model.specs.Entry.{is_end_of, prefix_of_op}
+use Rattle.atom_map.specs.Atoms.{is_boundary}
+use Rattle.base.specs.Cidr.{Cidr, size}
+use Rattle.base.specs.Delta.{TellsChange, change_at}
+use Rattle.dn_model.specs.Entry.{is_bound_of}
+use Rattle.dn_model.specs.Table.{prefix_of_op}
 use Rattle.dn_model.specs.Routes.{IsTable}
-use Rattle.dn_model.specs.Runs.{AreApart, holds}
-use Rattle.dn_model.specs.Table.{after_op, is_of_prefix, target_in}
-use Rattle.dn_model.specs.Version.{target_at}
-use Rattle.dn_model.specs.declared.atom_row.AtomRow.{AtomRow}
-use Rattle.dn_model.specs.declared.change.Change.{Change}
-use Rattle.dn_model.specs.declared.entry.Op.{Op}
-use Rattle.dn_model.specs.declared.entry.Op.TheVariants.{Set, Clear}
+use Rattle.base.specs.Runs.{AreApart, holds}
+use Rattle.dn_model.specs.Table.{after_table_op, followed, is_of_prefix, target_in, way_in}
+use Rattle.net_engine.specs.Version.{target_at}
+use Rattle.atom_map.specs.declared.atom_row.AtomRow.{AtomRow}
+use Rattle.base.specs.declared.change.Change.{Change}
+use Rattle.dn_model.specs.declared.table_op.TableOp.{TableOp}
+use Rattle.dn_model.specs.declared.table_op.TableOp.TheVariants.{Put, Clear}
+use Rattle.dn_model.specs.declared.way.Way.{Way}
 use Rattle.dn_model.specs.declared.entry.Route.{Route}
-use Rattle.dn_model.specs.declared.ids.RouterId.{RouterId}
-use Rattle.dn_model.specs.declared.run.Run.{Run}
-use Rattle.dn_model.specs.declared.target.Target.{Target}
-use Rattle.dn_model.proofs.Best.{contains-here, contains-there}
+use Rattle.base.specs.declared.ids.RouterId.{RouterId}
+use Rattle.base.specs.declared.run.Run.{Run}
+use Rattle.base.specs.declared.target.Target.{Target}
+use Rattle.base.proofs.Elements.{contains-here, contains-there}
 use Rattle.edge_labels.specs.Labels.{Labels}
 use Rattle.route_table.specs.Own.{AreOwnRuns, EndAtEnds, IsLooked, IsTurned, SetsOrHas, is_end_in, is_own}
-use Rattle.route_table.specs.Tables.{table_at}
 use Rattle.net_engine.specs.Looks.{atoms_begun, atoms_between, atoms_met}
 use Rattle.net_engine.specs.Paired.{AreLabelled, ArePaired, GoAlong, atoms_with, does_at}
 use Rattle.net_engine.specs.Rerouted.{IsMoved, IsRerouted, RunsOfAtoms}
 use Rattle.net_engine.specs.Routed.{ends_in}
-use Rattle.net_engine.specs.Walked.{BeginsAtEnds, IsRetold, IsSet}
+use Rattle.net_engine.specs.Updates.{IsPut}
+use Rattle.net_engine.specs.Walked.{BeginsAtEnds, IsRetold}
 use Rattle.net_engine.proofs.Does.{begins-paired, target-paired}
 use Rattle.net_engine.proofs.Looking.{begun-many, begun-meet, meets-paired}
 use Rattle.net_engine.proofs.Moving.{apart-below, apart-first, apart-rest, holds-first}
@@ -40,18 +42,18 @@ use Rattle.net_engine.proofs.Standing.{AllRoutes, length-paired}
 -- ---- the ends of routes
 
 -- where a route of some prefix is, its prefix ends where the prefix does
-end-of-prefix : (p : Cidr) (x : Route) (c : ℕ) → is_of_prefix p x ≡ true → is_end_of p c ≡ true → is_end_of x.prefix c ≡ true
+end-of-prefix : (p : Cidr) (x : Route) (c : ℕ) → is_of_prefix p x ≡ true → is_bound_of p c ≡ true → is_bound_of x.prefix c ≡ true
 end-of-prefix p x c same e =
     let parts : (eqb x.prefix.base p.base ≡ true) × (eqb x.prefix.len p.len ≡ true) = and_parts (eqb x.prefix.base p.base) (eqb x.prefix.len p.len) same in
     let base : p.base ≡ x.prefix.base = sym (eqb-true x.prefix.base p.base parts.0) in
     let len : p.len ≡ x.prefix.len = sym (eqb-true x.prefix.len p.len parts.1) in
-    let E : ℕ → ℕ → Type 0 = λ b l. is_end_of (record { base = b; len = l }) c ≡ true in
+    let E : ℕ → ℕ → Type 0 = λ b l. is_bound_of (record { base = b; len = l }) c ≡ true in
     subst (E x.prefix.base) len (subst (λ b. E b p.len) base e)
 
 -- atoms begin at the ends of an update's prefix, below the end of all addresses
-pub prefix-ends : (rows : List AtomRow) (x : Labels) (tables : AllRoutes) (own : List Route) (r : ℕ) (op : Op) → GoAlong rows x r own → (IsSet op → BeginsAtEnds (atoms_with rows x tables) (prefix_of_op op)) → SetsOrHas own op → (c : ℕ) → c < 2 ^ 32 → is_end_of (prefix_of_op op) c ≡ true → is_boundary rows c ≡ true
-prefix-ends rows x tables own r (Set p m t) along sets had c l e =
-    let ends : BeginsAtEnds (atoms_with rows x tables) p = sets tt in
+pub prefix-ends : (rows : List AtomRow) (x : Labels) (tables : AllRoutes) (own : List Route) (r : ℕ) (op : TableOp) → GoAlong rows x r own → (IsPut op → BeginsAtEnds (atoms_with rows x tables) (prefix_of_op op)) → SetsOrHas own op → (c : ℕ) → c < 2 ^ 32 → is_bound_of (prefix_of_op op) c ≡ true → is_boundary rows c ≡ true
+prefix-ends rows x tables own r (Put p m w) along puts had c l e =
+    let ends : BeginsAtEnds (atoms_with rows x tables) p = puts tt in
     ⊎_elim
     (λ (b : eqb p.base c ≡ true).
     subst (λ n. is_boundary rows n ≡ true) (eqb-true p.base c b) (sym (begins-paired x tables rows p.base) ∙ ends.first))
@@ -59,8 +61,8 @@ prefix-ends rows x tables own r (Set p m t) along sets had c l e =
     let at : p.base + size p ≡ c = eqb-true (p.base + size p) c b in
     subst (λ n. is_boundary rows n ≡ true) at (sym (begins-paired x tables rows (p.base + size p)) ∙ ends.past (omega arith)))
     (or_cases (eqb p.base c) (eqb (p.base + size p) c) e)
-prefix-ends rows x tables own r (Clear p m) along sets had c l e =
-    along.ends c l (any-weaker (is_of_prefix p) (λ (y : Route). is_end_of y.prefix c) own (λ y same. end-of-prefix p y c same e) had)
+prefix-ends rows x tables own r (Clear p m) along puts had c l e =
+    along.ends c l (any-weaker (is_of_prefix p) (λ (y : Route). is_bound_of y.prefix c) own (λ y same. end-of-prefix p y c same e) had)
 
 -- one that passes a test
 any-one : (q : Route → Bool) (xs : List Route) → list_any q xs ≡ true → (x : Route) × Contains xs x × (q x ≡ true)
@@ -71,18 +73,18 @@ any-one q (x ∷ xs) t = ⊎_elim
     (or_cases (q x) (list_any q xs) t)
 
 -- the routes after an update end where atoms begin: those before did, and where a route is set atoms were cut
-pub made-ends : (rows : List AtomRow) (x : Labels) (tables : AllRoutes) (own made : List Route) (r : ℕ) (op : Op) → GoAlong rows x r own → (IsSet op → BeginsAtEnds (atoms_with rows x tables) (prefix_of_op op)) → IsPermutation made (after_op own op) → (c : ℕ) → c < 2 ^ 32 → ends_in made c ≡ true → is_boundary rows c ≡ true
-made-ends rows x tables own made r op along sets moved c l e =
-    let w : (y : Route) × Contains made y × (is_end_of y.prefix c ≡ true) = any-one (λ (y : Route). is_end_of y.prefix c) made e in
-    after-cases (λ (y : Route). is_end_of y.prefix c ≡ true → is_boundary rows c ≡ true) own op
-    (λ y k t. along.ends c l (any-of (λ (z : Route). is_end_of z.prefix c) own y k t))
-    (λ p m u is t.
-    let P : Op → Type 0 = λ o. (IsSet o → BeginsAtEnds (atoms_with rows x tables) (prefix_of_op o)) in
-    let ends : IsSet (Set p m u) → BeginsAtEnds (atoms_with rows x tables) p = subst P is sets in
+pub made-ends : (rows : List AtomRow) (x : Labels) (tables : AllRoutes) (own made : List Route) (r : ℕ) (alone : Bool) (op : TableOp) → GoAlong rows x r own → (IsPut op → BeginsAtEnds (atoms_with rows x tables) (prefix_of_op op)) → IsPermutation made (after_table_op alone own op) → (c : ℕ) → c < 2 ^ 32 → ends_in made c ≡ true → is_boundary rows c ≡ true
+made-ends rows x tables own made r alone op along puts moved c l e =
+    let w : (y : Route) × Contains made y × (is_bound_of y.prefix c ≡ true) = any-one (λ (y : Route). is_bound_of y.prefix c) made e in
+    after-cases (λ (y : Route). is_bound_of y.prefix c ≡ true → is_boundary rows c ≡ true) alone own op
+    (λ y k t. along.ends c l (any-of (λ (z : Route). is_bound_of z.prefix c) own y k t))
+    (λ p m w' is t.
+    let P : TableOp → Type 0 = λ o. (IsPut o → BeginsAtEnds (atoms_with rows x tables) (prefix_of_op o)) in
+    let ends : IsPut (Put p m w') → BeginsAtEnds (atoms_with rows x tables) p = subst P is puts in
     set-ends p (ends tt) t)
-    w.0 (Contains-permutation made (after_op own op) w.0 moved w.1) w.2
+    w.0 (Contains-permutation made (after_table_op alone own op) w.0 moved w.1) w.2
   where
-    set-ends : (p : Cidr) → BeginsAtEnds (atoms_with rows x tables) p → is_end_of p c ≡ true → is_boundary rows c ≡ true
+    set-ends : (p : Cidr) → BeginsAtEnds (atoms_with rows x tables) p → is_bound_of p c ≡ true → is_boundary rows c ≡ true
     set-ends p ends t = ⊎_elim
         (λ (b : eqb p.base c ≡ true).
         subst (λ n. is_boundary rows n ≡ true) (eqb-true p.base c b) (sym (begins-paired x tables rows p.base) ∙ ends.first))
@@ -92,11 +94,11 @@ made-ends rows x tables own made r op along sets moved c l e =
         (or_cases (eqb p.base c) (eqb (p.base + size p) c) t)
 
 -- and so do the runs of its prefix's own addresses
-end-boundary : (rows : List AtomRow) (made : List Route) (p : Cidr) → ((c : ℕ) → c < 2 ^ 32 → is_end_of p c ≡ true → is_boundary rows c ≡ true) → ((c : ℕ) → c < 2 ^ 32 → ends_in made c ≡ true → is_boundary rows c ≡ true) → (c : ℕ) → c < 2 ^ 32 → is_end_in made p c ≡ true → is_boundary rows c ≡ true
+end-boundary : (rows : List AtomRow) (made : List Route) (p : Cidr) → ((c : ℕ) → c < 2 ^ 32 → is_bound_of p c ≡ true → is_boundary rows c ≡ true) → ((c : ℕ) → c < 2 ^ 32 → ends_in made c ≡ true → is_boundary rows c ≡ true) → (c : ℕ) → c < 2 ^ 32 → is_end_in made p c ≡ true → is_boundary rows c ≡ true
 end-boundary rows made p ends more c l e = ⊎_elim
-    (λ (h : is_end_of p c ≡ true). ends c l h)
+    (λ (h : is_bound_of p c ≡ true). ends c l h)
     (λ (h : ends_in made c ≡ true). more c l h)
-    (or_cases (is_end_of p c) (ends_in made c) e)
+    (or_cases (is_bound_of p c) (ends_in made c) e)
 
 runs-between : (rows : List AtomRow) (made : List Route) (p : Cidr) (runs : List Run) → ((c : ℕ) → c < 2 ^ 32 → is_end_in made p c ≡ true → is_boundary rows c ≡ true) → ((a : ℕ) → list_any (holds a) runs ≡ true → a < 2 ^ 32) → AreApart runs → EndAtEnds made p runs → RunsOfAtoms rows runs
 runs-between rows made p [] at below apart h = tt
@@ -106,28 +108,28 @@ runs-between rows made p (y ∷ runs) at below apart h = (
   runs-between rows made p runs at (λ a t. below a (or_right (holds a y) (list_any (holds a) runs) t)) (apart-rest y runs apart) h.2,
 )
 
-pub runs-of-atoms : (rows : List AtomRow) (x : Labels) (tables : AllRoutes) (own made : List Route) (r : ℕ) (op : Op) (runs : List Run) → GoAlong rows x r own → (IsSet op → BeginsAtEnds (atoms_with rows x tables) (prefix_of_op op)) → SetsOrHas own op → IsPermutation made (after_op own op) → AreOwnRuns made (prefix_of_op op) runs → RunsOfAtoms rows runs
-runs-of-atoms rows x tables own made r op runs along sets had moved h =
+pub runs-of-atoms : (rows : List AtomRow) (x : Labels) (tables : AllRoutes) (own made : List Route) (r : ℕ) (alone : Bool) (op : TableOp) (runs : List Run) → GoAlong rows x r own → (IsPut op → BeginsAtEnds (atoms_with rows x tables) (prefix_of_op op)) → SetsOrHas own op → IsPermutation made (after_table_op alone own op) → AreOwnRuns made (prefix_of_op op) runs → RunsOfAtoms rows runs
+runs-of-atoms rows x tables own made r alone op runs along puts had moved h =
     runs-between rows made (prefix_of_op op) runs
-    (end-boundary rows made (prefix_of_op op) (prefix-ends rows x tables own r op along sets had) (made-ends rows x tables own made r op along sets moved))
+    (end-boundary rows made (prefix_of_op op) (prefix-ends rows x tables own r op along puts had) (made-ends rows x tables own made r alone op along puts moved))
     (λ a t. apart-below runs a h.runs_are.apart t) h.runs_are.apart h.ends
 
 -- ---- what is done
 
 -- before the update one and the same was done at a prefix's own addresses
-pub same-before : (rows : List AtomRow) (x : Labels) (own made : List Route) (p : Cidr) (after : Target) (runs : List Run) (r : ℕ) → GoAlong rows x r own → IsTurned own made p after → AreOwnRuns made p runs → (a b : ℕ) → list_any (holds a) runs ≡ true → list_any (holds b) runs ≡ true → does_at rows x r a ≡ does_at rows x r b
+pub same-before : (rows : List AtomRow) (x : Labels) (own made : List Route) (p : Cidr) (after : Way) (runs : List Run) (r : ℕ) → GoAlong rows x r own → IsTurned own made p after → AreOwnRuns made p runs → (a b : ℕ) → list_any (holds a) runs ≡ true → list_any (holds b) runs ≡ true → does_at rows x r a ≡ does_at rows x r b
 same-before rows x own made p after runs r along turned runs_are a b u v =
     let below_a : a < 2 ^ 32 = apart-below runs a runs_are.runs_are.apart u in
     let below_b : b < 2 ^ 32 = apart-below runs b runs_are.runs_are.apart v in
     along.does a below_a
-    ∙ turned.before a b (sym (runs_are.runs_are.exact a below_a) ∙ u) (sym (runs_are.runs_are.exact b below_b) ∙ v)
+    ∙ ap (followed []) (turned.before a b (sym (runs_are.runs_are.exact a below_a) ∙ u) (sym (runs_are.runs_are.exact b below_b) ∙ v))
     ∙ sym (along.does b below_b)
 
-pub rerouted-turned : (rows : List AtomRow) (x y : Labels) (own made : List Route) (p : Cidr) (after : Target) (runs : List Run) (now : List Change) (r : RouterId) → GoAlong rows x r.0 own → IsTurned own made p after → AreOwnRuns made p runs → IsMoved rows x y now r runs after → IsRerouted rows x y own made now r
+pub rerouted-turned : (rows : List AtomRow) (x y : Labels) (own made : List Route) (p : Cidr) (after : Way) (runs : List Run) (now : List Change) (r : RouterId) → GoAlong rows x r.0 own → IsTurned own made p after → AreOwnRuns made p runs → IsMoved rows x y now r runs (followed [] after) → IsRerouted rows x y own made now r
 rerouted-turned rows x y own made p after runs now r along turned runs_are m =
-    let does : (a : ℕ) → a < 2 ^ 32 → does_at rows y r.0 a ≡ target_in made a = λ a l. ⊎_elim
-    (λ (h : is_own made p a ≡ true). m.here a (runs_are.runs_are.exact a l ∙ h) ∙ sym (turned.here a h))
-    (λ (n : is_own made p a ≡ false). m.away a (runs_are.runs_are.exact a l ∙ n) ∙ along.does a l ∙ sym (turned.away a n))
+    let does : (a : ℕ) → a < 2 ^ 32 → does_at rows y r.0 a ≡ target_in [] made a = λ a l. ⊎_elim
+    (λ (h : is_own made p a ≡ true). m.here a (runs_are.runs_are.exact a l ∙ h) ∙ sym (ap (followed []) (turned.here a h)))
+    (λ (n : is_own made p a ≡ false). m.away a (runs_are.runs_are.exact a l ∙ n) ∙ along.does a l ∙ sym (ap (followed []) (turned.away a n)))
     (cases_Bool (is_own made p a)) in
     record {
       labelled = m.labelled;
@@ -136,36 +138,36 @@ rerouted-turned rows x y own made p after runs now r along turned runs_are m =
       others = m.others;
       form = m.form;
       tells = λ a l.
-          let P : Target → Type 0 = λ t. TellsChange t (target_in made a) (change_at now r a) in
+          let P : Target → Type 0 = λ t. TellsChange t (target_in [] made a) (change_at now r a) in
           let Q : Target → Type 0 = λ t. TellsChange (does_at rows x r.0 a) t (change_at now r a) in
           subst P (along.does a l) (subst Q (does a l) (m.tells a));
       changes = m.changes;
     }
 
-pub rerouted-same : (rows : List AtomRow) (x : Labels) (own made : List Route) (now : List Change) (r : RouterId) → AreLabelled rows x → GoAlong rows x r.0 own → ((a : ℕ) → target_in made a ≡ target_in own a) → now ≡ [] → IsRerouted rows x x own made now r
+pub rerouted-same : (rows : List AtomRow) (x : Labels) (own made : List Route) (now : List Change) (r : RouterId) → AreLabelled rows x → GoAlong rows x r.0 own → ((a : ℕ) → way_in made a ≡ way_in own a) → now ≡ [] → IsRerouted rows x x own made now r
 rerouted-same rows x own made now r labelled along same none =
     subst (λ (cs : List Change). IsRerouted rows x x own made cs r) (sym none) (record {
       labelled = labelled;
       routers = refl;
-      does = λ a l. along.does a l ∙ sym (same a);
+      does = λ a l. along.does a l ∙ sym (ap (followed []) (same a));
       others = λ q a n. refl;
       form = tt;
-      tells = λ a l. sym (same a);
+      tells = λ a l. sym (ap (followed []) (same a));
       changes = λ q a n. refl;
     })
 
 -- ---- in the atoms
 
 -- what the calls found and made: a router's routes, and what the update makes of them
-pub record Makes (routers : ℕ) (rows : List AtomRow) (x y : Labels) (tables : AllRoutes) (own made : List Route) (now : List Change) (r : RouterId) (op : Op) : Type 0 where
+pub record Makes (routers : ℕ) (rows : List AtomRow) (x y : Labels) (tables : AllRoutes) (own made : List Route) (now : List Change) (r : RouterId) (alone : Bool) (op : TableOp) : Type 0 where
   pub inside : r.0 < routers
   pub own_is : own ≡ get_or tables r.0 []
   pub table : IsTable made
-  pub moved : IsPermutation made (after_op own op)
+  pub moved : IsPermutation made (after_table_op alone own op)
   pub ends : (c : ℕ) → c < 2 ^ 32 → ends_in made c ≡ true → is_boundary rows c ≡ true
   pub rerouted : IsRerouted rows x y own made now r
 
-module _ (routers : ℕ) (rows : List AtomRow) (x y : Labels) (tables : AllRoutes) (own made : List Route) (now : List Change) (r : RouterId) (op : Op) (h : ArePaired routers rows x tables) (k : Makes routers rows x y tables own made now r op) where
+module _ (routers : ℕ) (rows : List AtomRow) (x y : Labels) (tables : AllRoutes) (own made : List Route) (now : List Change) (r : RouterId) (alone : Bool) (op : TableOp) (h : ArePaired routers rows x tables) (k : Makes routers rows x y tables own made now r alone op) where
   w : IsRerouted rows x y own made now r
   w = k.rerouted
 
@@ -196,10 +198,10 @@ module _ (routers : ℕ) (rows : List AtomRow) (x y : Labels) (tables : AllRoute
         (cases_eq q r.0);
   }
 
-  does-then : (a : ℕ) → a < 2 ^ 32 → target_at (atoms_with rows x tables) r a ≡ target_in own a
-  does-then a b = target-paired x tables rows r a ∙ (h.along r.0 k.inside).does a b ∙ sym (ap (λ (rs : List Route). target_in rs a) k.own_is)
+  does-then : (a : ℕ) → a < 2 ^ 32 → target_at (atoms_with rows x tables) r a ≡ target_in [] own a
+  does-then a b = target-paired x tables rows r a ∙ (h.along r.0 k.inside).does a b ∙ sym (ap (λ (rs : List Route). target_in [] rs a) k.own_is)
 
-  does-now : (a : ℕ) → a < 2 ^ 32 → target_at (atoms_with rows y (set tables r.0 made)) r a ≡ target_in made a
+  does-now : (a : ℕ) → a < 2 ^ 32 → target_at (atoms_with rows y (set tables r.0 made)) r a ≡ target_in [] made a
   does-now a b = target-paired y (set tables r.0 made) rows r a ∙ w.does a b
 
   same-router : (q : RouterId) → q.0 ≡ r.0 → r ≡ q
@@ -210,7 +212,7 @@ module _ (routers : ℕ) (rows : List AtomRow) (x y : Labels) (tables : AllRoute
       (λ (e : q.0 ≡ r.0).
       let P : RouterId → Type 0 = λ s. TellsChange (target_at (atoms_with rows x tables) s a) (target_at (atoms_with rows y (set tables r.0 made)) s a) (change_at now s a) in
       let Q : Target → Type 0 = λ t. TellsChange t (target_at (atoms_with rows y (set tables r.0 made)) r a) (change_at now r a) in
-      let R : Target → Type 0 = λ t. TellsChange (target_in own a) t (change_at now r a) in
+      let R : Target → Type 0 = λ t. TellsChange (target_in [] own a) t (change_at now r a) in
       subst P (same-router q e) (subst Q (sym (does-then a l)) (subst R (sym (does-now a l)) (w.tells a l))))
       (λ (n : q.0 ≢ r.0).
       let P : Option (Target × Target) → Type 0 = λ o. TellsChange (target_at (atoms_with rows x tables) q a) (target_at (atoms_with rows y (set tables r.0 made)) q a) o in
@@ -230,7 +232,7 @@ module _ (routers : ℕ) (rows : List AtomRow) (x y : Labels) (tables : AllRoute
 
 -- a route's prefix begins where it ends, as it were
 begins-end : (routes : List Route) (c : ℕ) → list_any (λ (x : Route). eqb x.prefix.base c) routes ≡ true → ends_in routes c ≡ true
-begins-end routes c h = any-weaker (λ (x : Route). eqb x.prefix.base c) (λ (x : Route). is_end_of x.prefix c) routes (λ x e. or_left (eqb x.prefix.base c) (eqb (x.prefix.base + size x.prefix) c) e) h
+begins-end routes c h = any-weaker (λ (x : Route). eqb x.prefix.base c) (λ (x : Route). is_bound_of x.prefix c) routes (λ x e. or_left (eqb x.prefix.base c) (eqb (x.prefix.base + size x.prefix) c) e) h
 
 -- and below the end of all addresses
 begins-below : (rows : List AtomRow) (x : Labels) (r : ℕ) (own : List Route) (c : ℕ) → GoAlong rows x r own → list_any (λ (y : Route). eqb y.prefix.base c) own ≡ true → c < 2 ^ 32
@@ -249,39 +251,39 @@ looks-paired routers rows x tables own r p was is h along looked =
 -- ---- as the call needs it
 
 -- what is known where nothing, or something, was answered
-pub at-none : (P : Type 0) (o : Option Target) → o ≡ None → IfNone o P → P
+pub at-none : (P : Type 0) (o : Option Way) → o ≡ None → IfNone o P → P
 at-none P None e h = h
 at-none P (Some t) e h = absurd (let f : Some t ≡ None = e in cc)
 
-pub at-some : (P : Target → Type 0) (o : Option Target) (t : Target) → o ≡ Some t → IfSome o P → P t
+pub at-some : (P : Way → Type 0) (o : Option Way) (t : Way) → o ≡ Some t → IfSome o P → P t
 at-some P None t e h = absurd (let f : None ≡ Some t = e in cc)
 at-some P (Some u) t e h = let same : u ≡ t = cc in subst P same h
 
 -- the calls' answers, where nothing is done otherwise
-pub makes-same : (routers : ℕ) (rows : List AtomRow) (x : Labels) (tables : AllRoutes) (made : List Route) (now : List Change) (r : RouterId) (op : Op) → ArePaired routers rows x tables → r.0 < routers → (IsSet op → BeginsAtEnds (atoms_with rows x tables) (prefix_of_op op)) → IsTable made → IsPermutation made (after_op (table_at tables r.0) op) → ((a : ℕ) → target_in made a ≡ target_in (table_at tables r.0) a) → now ≡ [] → Makes routers rows x x tables (table_at tables r.0) made now r op
-makes-same routers rows x tables made now r op h l sets table moved same none = record {
+pub makes-same : (routers : ℕ) (rows : List AtomRow) (x : Labels) (tables : AllRoutes) (made : List Route) (now : List Change) (r : RouterId) (alone : Bool) (op : TableOp) → ArePaired routers rows x tables → r.0 < routers → (IsPut op → BeginsAtEnds (atoms_with rows x tables) (prefix_of_op op)) → IsTable made → IsPermutation made (after_table_op alone (get_or tables r.0 []) op) → ((a : ℕ) → way_in made a ≡ way_in (get_or tables r.0 []) a) → now ≡ [] → Makes routers rows x x tables (get_or tables r.0 []) made now r alone op
+makes-same routers rows x tables made now r alone op h l puts table moved same none = record {
   inside = l;
   own_is = refl;
   table = table;
   moved = moved;
-  ends = made-ends rows x tables (table_at tables r.0) made r.0 op (h.along r.0 l) sets moved;
-  rerouted = rerouted-same rows x (table_at tables r.0) made now r h.labelled (h.along r.0 l) same none;
+  ends = made-ends rows x tables (get_or tables r.0 []) made r.0 alone op (h.along r.0 l) puts moved;
+  rerouted = rerouted-same rows x (get_or tables r.0 []) made now r h.labelled (h.along r.0 l) same none;
 }
 
 -- and where something is
-pub makes-turned : (routers : ℕ) (rows : List AtomRow) (x y : Labels) (tables : AllRoutes) (made : List Route) (now : List Change) (r : RouterId) (op : Op) (after : Target) (runs : List Run) → ArePaired routers rows x tables → r.0 < routers → (IsSet op → BeginsAtEnds (atoms_with rows x tables) (prefix_of_op op)) → IsTable made → IsPermutation made (after_op (table_at tables r.0) op) → IsTurned (table_at tables r.0) made (prefix_of_op op) after → AreOwnRuns made (prefix_of_op op) runs → IsMoved rows x y now r runs after → Makes routers rows x y tables (table_at tables r.0) made now r op
-makes-turned routers rows x y tables made now r op after runs h l sets table moved turned runs_are m = record {
+pub makes-turned : (routers : ℕ) (rows : List AtomRow) (x y : Labels) (tables : AllRoutes) (made : List Route) (now : List Change) (r : RouterId) (alone : Bool) (op : TableOp) (after : Way) (runs : List Run) → ArePaired routers rows x tables → r.0 < routers → (IsPut op → BeginsAtEnds (atoms_with rows x tables) (prefix_of_op op)) → IsTable made → IsPermutation made (after_table_op alone (get_or tables r.0 []) op) → IsTurned (get_or tables r.0 []) made (prefix_of_op op) after → AreOwnRuns made (prefix_of_op op) runs → IsMoved rows x y now r runs (followed [] after) → Makes routers rows x y tables (get_or tables r.0 []) made now r alone op
+makes-turned routers rows x y tables made now r alone op after runs h l puts table moved turned runs_are m = record {
   inside = l;
   own_is = refl;
   table = table;
   moved = moved;
-  ends = made-ends rows x tables (table_at tables r.0) made r.0 op (h.along r.0 l) sets moved;
-  rerouted = rerouted-turned rows x y (table_at tables r.0) made (prefix_of_op op) after runs now r (h.along r.0 l) turned runs_are m;
+  ends = made-ends rows x tables (get_or tables r.0 []) made r.0 alone op (h.along r.0 l) puts moved;
+  rerouted = rerouted-turned rows x y (get_or tables r.0 []) made (prefix_of_op op) after runs now r (h.along r.0 l) turned runs_are m;
 }
 
 -- the router's list is put at its place
-pub paired-now : (routers : ℕ) (rows : List AtomRow) (x y : Labels) (tables new : AllRoutes) (own made : List Route) (now : List Change) (r : RouterId) (op : Op) → new ≡ set tables r.0 made → ArePaired routers rows x tables → Makes routers rows x y tables own made now r op → ArePaired routers rows y new
-paired-now routers rows x y tables new own made now r op e h k = subst (λ (ts : AllRoutes). ArePaired routers rows y ts) (sym e) (paired-after-update routers rows x y tables own made now r op h k)
+pub paired-now : (routers : ℕ) (rows : List AtomRow) (x y : Labels) (tables new : AllRoutes) (own made : List Route) (now : List Change) (r : RouterId) (alone : Bool) (op : TableOp) → new ≡ set tables r.0 made → ArePaired routers rows x tables → Makes routers rows x y tables own made now r alone op → ArePaired routers rows y new
+paired-now routers rows x y tables new own made now r alone op e h k = subst (λ (ts : AllRoutes). ArePaired routers rows y ts) (sym e) (paired-after-update routers rows x y tables own made now r alone op h k)
 
-pub retold-now : (routers : ℕ) (rows : List AtomRow) (x y : Labels) (tables new : AllRoutes) (own made : List Route) (now : List Change) (r : RouterId) (op : Op) → new ≡ set tables r.0 made → ArePaired routers rows x tables → Makes routers rows x y tables own made now r op → IsRetold (atoms_with rows x tables) (atoms_with rows y new) now
-retold-now routers rows x y tables new own made now r op e h k = subst (λ (ts : AllRoutes). IsRetold (atoms_with rows x tables) (atoms_with rows y ts) now) (sym e) (retold-after-update routers rows x y tables own made now r op h k)
+pub retold-now : (routers : ℕ) (rows : List AtomRow) (x y : Labels) (tables new : AllRoutes) (own made : List Route) (now : List Change) (r : RouterId) (alone : Bool) (op : TableOp) → new ≡ set tables r.0 made → ArePaired routers rows x tables → Makes routers rows x y tables own made now r alone op → IsRetold (atoms_with rows x tables) (atoms_with rows y new) now
+retold-now routers rows x y tables new own made now r alone op e h k = subst (λ (ts : AllRoutes). IsRetold (atoms_with rows x tables) (atoms_with rows y ts) now) (sym e) (retold-after-update routers rows x y tables own made now r alone op h k)

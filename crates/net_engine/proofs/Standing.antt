@@ -2,19 +2,19 @@
 use Rattle.std.proofs.Common.{◌≡◌, ℕ, ◌<◌, ◌≤◌, ◌^◌, ◌∙◌, ◌∷◌, ⊎_elim, zero, suc, true, false, None, Some, List, [], length, get_or, drop, map, replicate, refl, ap, sym, subst, arith}
 use Rattle.std.proofs.lemmas.Bool.{cases_Bool, cases_lt}
 use Rattle.std.proofs.lemmas.List.{length-map, length-replicate, get_or-map as get_or-map_below, get_or-replicate, get_or_past}
-use Rattle.dn_model.specs.Atoms.{atom_low, atom_past}
-use Rattle.dn_model.specs.Forwarding.{row_low, row_past, target_of as target_of_row}
-use Rattle.dn_model.specs.Rows.{CoverFrom, is_within}
-use Rattle.dn_model.proofs.Best.{contains-none}
-use Rattle.dn_model.proofs.Covers.{holder-first, holder-rest}
-use Rattle.dn_model.specs.Version.{Atom, atom_at, first_of, past_of}
-use Rattle.dn_model.specs.declared.atom_row.AtomRow.{AtomRow}
+use Rattle.atom_map.specs.Atoms.{atom_low, atom_past}
+use Rattle.base.specs.Forwarding.{row_low, row_past, target_of as target_of_row}
+use Rattle.base.specs.Rows.{CoverFrom, is_within}
+use Rattle.base.proofs.Elements.{contains-none}
+use Rattle.base.proofs.Covers.{holder-first, holder-rest}
+use Rattle.net_engine.specs.Version.{Atom, atom_at, first_of, past_of}
+use Rattle.atom_map.specs.declared.atom_row.AtomRow.{AtomRow}
 use Rattle.dn_model.specs.declared.entry.Route.{Route}
-use Rattle.dn_model.specs.declared.forwarding_row.ForwardingRow.{ForwardingRow}
-use Rattle.dn_model.specs.declared.ids.RouterId.{RouterId}
+use Rattle.base.specs.declared.forwarding_row.ForwardingRow.{ForwardingRow}
+use Rattle.base.specs.declared.ids.RouterId.{RouterId}
 use Rattle.dn_model.specs.declared.rule.Rule.{Rule}
-use Rattle.dn_model.specs.declared.target.Target.{Target}
-use Rattle.dn_model.specs.declared.target.Target.TheVariants.{NoRoute}
+use Rattle.base.specs.declared.target.Target.{Target}
+use Rattle.base.specs.declared.target.Target.TheVariants.{NoRoute}
 use Rattle.atom_map.specs.Index.{one_atom}
 use Rattle.atom_map.proofs.Begun.{one-indexed}
 use Rattle.edge_labels.specs.Labels.{Labels, first_labels, target_at, targets_of}

@@ -1,9 +1,9 @@
 -- Atoms with what each router does there and the rules that it has there, and how a step changes them. Nothing here
 -- says how they are kept.
 use Rattle.std.specs.Prelude.{ℕ, List, [], ◌∷◌, length, replicate, ◌≡◌, ◌^◌, ◌&&◌, ◌==◌, not, if◌then◌else◌}
-use Rattle.dn_model.specs.Rows.{is_within, CoverFrom}
-use Rattle.dn_model.specs.Version.{Atom, first_of, past_of}
-use Rattle.dn_model.specs.declared.target.Target.TheVariants.{NoRoute}
+use Rattle.base.specs.Rows.{is_within, CoverFrom}
+use Rattle.net_engine.specs.Version.{Atom, first_of, past_of}
+use Rattle.base.specs.declared.target.Target.TheVariants.{NoRoute}
 
 -- so many routers, and the atoms in order
 pub record Net : Type 0 where

@@ -1,17 +1,17 @@
 -- How a network's atoms stand beside what routers do: that stands in the order of the atoms, and an atom's rules are those of
 -- each router's routes that cover its first address. Nothing here looks at an atom's number.
 use Rattle.std.specs.Prelude.{ℕ, true, List, [], ◌∷◌, Option, None, Some, drop, length, map, slice_index_or, ◌≡◌, ◌<◌, ◌^◌}
-use Rattle.dn_model.specs.Atoms.{AreAtoms, is_boundary}
-use Rattle.dn_model.specs.Forwarding.{forwarding_at}
+use Rattle.atom_map.specs.Atoms.{AreAtoms, is_boundary}
+use Rattle.base.specs.Forwarding.{forwarding_at}
 use Rattle.dn_model.specs.Routes.{IsTable}
 use Rattle.dn_model.specs.Table.{target_in}
-use Rattle.dn_model.specs.Version.{Atom}
-use Rattle.dn_model.specs.declared.atom_row.AtomRow.{AtomRow}
+use Rattle.net_engine.specs.Version.{Atom}
+use Rattle.atom_map.specs.declared.atom_row.AtomRow.{AtomRow}
 use Rattle.dn_model.specs.declared.entry.Route.{Route}
-use Rattle.dn_model.specs.declared.forwarding_row.ForwardingRow.{ForwardingRow}
+use Rattle.base.specs.declared.forwarding_row.ForwardingRow.{ForwardingRow}
 use Rattle.dn_model.specs.declared.rule.Rule.{Rule}
-use Rattle.dn_model.specs.declared.target.Target.{Target}
-use Rattle.dn_model.specs.declared.target.Target.TheVariants.{NoRoute}
+use Rattle.base.specs.declared.target.Target.{Target}
+use Rattle.base.specs.declared.target.Target.TheVariants.{NoRoute}
 use Rattle.edge_labels.specs.Labels.{Labels, targets_of}
 use Rattle.net_engine.specs.Net.{Net}
 use Rattle.net_engine.specs.Routed.{ends_in, rules_covering}
@@ -56,7 +56,7 @@ pub record AreLabelled (rows : List AtomRow) (labels : Labels) : Type 0 where
 pub record GoAlong (rows : List AtomRow) (labels : Labels) (r : ℕ) (routes : List Route) : Type 0 where
   pub table : IsTable routes
   pub ends : (a : ℕ) → a < 2 ^ 32 → ends_in routes a ≡ true → is_boundary rows a ≡ true
-  pub does : (a : ℕ) → a < 2 ^ 32 → does_at rows labels r a ≡ target_in routes a
+  pub does : (a : ℕ) → a < 2 ^ 32 → does_at rows labels r a ≡ target_in [] routes a
 
 -- so it is with so many routers
 pub record ArePaired (routers : ℕ) (rows : List AtomRow) (labels : Labels) (tables : List (List Route)) : Type 0 where

@@ -1,17 +1,17 @@
 -- What the steps of an update make of the labels, and what is told of it.
 use Rattle.std.specs.Prelude.{ℕ, true, false, [], List, None, length, slice_index_or, ◌∷◌, ◌≡◌, ◌+◌, ◌<◌, ◌≤◌, ◌^◌}
 use Rattle.std.specs.List.{list_any}
-use Rattle.dn_model.specs.Atoms.{is_boundary}
-use Rattle.dn_model.specs.Delta.{AreChanges, TellsChange, change_at}
-use Rattle.dn_model.specs.Rows.{is_within}
-use Rattle.dn_model.specs.Runs.{holds}
+use Rattle.atom_map.specs.Atoms.{is_boundary}
+use Rattle.base.specs.Delta.{AreChanges, TellsChange, change_at}
+use Rattle.base.specs.Rows.{is_within}
+use Rattle.base.specs.Runs.{holds}
 use Rattle.dn_model.specs.Table.{target_in}
-use Rattle.dn_model.specs.declared.atom_row.AtomRow.{AtomRow}
-use Rattle.dn_model.specs.declared.change.Change.{Change}
+use Rattle.atom_map.specs.declared.atom_row.AtomRow.{AtomRow}
+use Rattle.base.specs.declared.change.Change.{Change}
 use Rattle.dn_model.specs.declared.entry.Route.{Route}
-use Rattle.dn_model.specs.declared.ids.RouterId.{RouterId}
-use Rattle.dn_model.specs.declared.run.Run.{Run}
-use Rattle.dn_model.specs.declared.target.Target.{Target}
+use Rattle.base.specs.declared.ids.RouterId.{RouterId}
+use Rattle.base.specs.declared.run.Run.{Run}
+use Rattle.base.specs.declared.target.Target.{Target}
 use Rattle.edge_labels.specs.Labels.{Labels}
 use Rattle.net_engine.specs.Paired.{AreLabelled, does_at}
 
@@ -56,8 +56,8 @@ pub record IsMoved (rows : List AtomRow) (x y : Labels) (now : List Change) (r :
 pub record IsRerouted (rows : List AtomRow) (x y : Labels) (old new : List Route) (now : List Change) (r : RouterId) : Type 0 where
   pub labelled : AreLabelled rows y
   pub routers : y.routers ≡ x.routers
-  pub does : (a : ℕ) → a < 2 ^ 32 → does_at rows y r.0 a ≡ target_in new a
+  pub does : (a : ℕ) → a < 2 ^ 32 → does_at rows y r.0 a ≡ target_in [] new a
   pub others : (q a : ℕ) → (q ≡ r.0 → ⊥) → does_at rows y q a ≡ does_at rows x q a
   pub form : AreChanges now
-  pub tells : (a : ℕ) → a < 2 ^ 32 → TellsChange (target_in old a) (target_in new a) (change_at now r a)
+  pub tells : (a : ℕ) → a < 2 ^ 32 → TellsChange (target_in [] old a) (target_in [] new a) (change_at now r a)
   pub changes : (q : RouterId) (a : ℕ) → (q.0 ≡ r.0 → ⊥) → change_at now q a ≡ None

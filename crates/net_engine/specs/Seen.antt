@@ -1,7 +1,7 @@
 -- What a network and a version are seen as, by their fields, and what always holds of them between updates.
-use Rattle.std.specs.Prelude.{length, ◌≡◌}
+use Rattle.std.specs.Prelude.{[], length, ◌≡◌}
 use Rattle.std.specs.Arc.{arc_value}
-use Rattle.dn_model.specs.Version.{Kept}
+use Rattle.net_engine.specs.Version.{Kept}
 use Rattle.net_engine.specs.Net.{Net}
 use Rattle.net_engine.specs.Paired.{ArePaired, net_of}
 use Rattle.net_engine.specs.Whole.{IsWhole}
@@ -16,9 +16,15 @@ net_in n = net_of n.routers n.atoms n.labels n.tables
 abbrev pub IsPaired : NetFields → Type 0
 IsPaired n = ArePaired n.routers n.atoms n.labels n.tables
 
--- the topology, the atoms in order, and the routes
+-- the topology, the atoms in order, and the routes; neither objects nor links that are down are kept yet
 abbrev pub kept_in : State → Kept
-kept_in s = record { topology = arc_value s.topology; atoms = (net_in s.net).atoms; routes = s.net.tables }
+kept_in s = record {
+  topology = arc_value s.topology;
+  atoms = (net_in s.net).atoms;
+  routes = s.net.tables;
+  objects = [];
+  down = [];
+}
 
 -- its atoms and its routes say the same, and the atoms stand beside what routers do
 pub record IsSound (s : State) : Type 0 where

@@ -1,24 +1,24 @@
 -- What the steps of an update make of atoms and of a version, said address by address.
-use Rattle.std.specs.Prelude.{ℕ, Bool, true, false, List, [], length, slice_index_or, slice_set, IsPermutation, ◌≡◌, ◌+◌, ◌<◌, ◌≤◌, ◌^◌, ◌&&◌, ◌||◌, ◌==◌}
-use Rattle.dn_model.specs.Cidr.{Cidr, size}
-use Rattle.dn_model.specs.Delta.{AreChanges, TellsChange, change_at}
-use Rattle.dn_model.specs.Entry.{is_end_of, op_sets_end, prefix_of_op}
-use Rattle.dn_model.specs.Rows.{is_within}
-use Rattle.dn_model.specs.Table.{after_op}
-use Rattle.dn_model.specs.Version.{Atom, Kept, begins_at, rules_at, target_at}
-use Rattle.dn_model.specs.declared.change.Change.{Change}
-use Rattle.dn_model.specs.declared.entry.Op.{Op}
-use Rattle.dn_model.specs.declared.entry.Op.TheVariants.{Set, Clear}
+use Rattle.std.specs.Prelude.{ℕ, Bool, true, false, List, length, slice_set, IsPermutation, ◌≡◌, ◌+◌, ◌<◌, ◌≤◌, ◌^◌, ◌&&◌, ◌||◌, ◌==◌}
+use Rattle.base.specs.Cidr.{Cidr, size}
+use Rattle.base.specs.Delta.{AreChanges, TellsChange, change_at}
+use Rattle.dn_model.specs.Entry.{is_bound_of}
+use Rattle.dn_model.specs.Table.{prefix_of_op}
+use Rattle.base.specs.Rows.{is_within}
+use Rattle.net_engine.specs.Version.{Atom, Kept, begins_at, rules_at, target_at}
+use Rattle.base.specs.declared.change.Change.{Change}
 use Rattle.dn_model.specs.declared.entry.Route.{Route}
-use Rattle.dn_model.specs.declared.ids.RouterId.{RouterId}
-use Rattle.dn_model.specs.declared.target.Target.{Target}
-use Rattle.net_engine.specs.Looks.{atoms_added, atoms_between, atoms_met, more_at_ends}
+use Rattle.base.specs.declared.ids.RouterId.{RouterId}
+use Rattle.base.specs.declared.target.Target.{Target}
+use Rattle.net_engine.specs.Looks.{atoms_between, atoms_met, atoms_put, more_at_ends}
+use Rattle.net_engine.specs.Updates.{after_update, its_routes, puts_end}
+use Rattle.net_engine.specs.declared.update.Update.{Update}
 use Rattle.net_engine.specs.Whole.{IsWhole}
 
 -- The atoms were cut at the ends of a prefix: they begin there too, and each router has the rules that it had at each
 -- address, and does what it did. As many atoms as before have addresses of the prefix, since its ends cut the others off.
 pub record IsParted (old new : List Atom) (p : Cidr) : Type 0 where
-  pub begins : (a : ℕ) → a < 2 ^ 32 → begins_at new a ≡ (begins_at old a || is_end_of p a)
+  pub begins : (a : ℕ) → a < 2 ^ 32 → begins_at new a ≡ (begins_at old a || is_bound_of p a)
   pub rules : (r : RouterId) (a : ℕ) → a < 2 ^ 32 → rules_at new r a ≡ rules_at old r a
   pub targets : (r : RouterId) (a : ℕ) → a < 2 ^ 32 → target_at new r a ≡ target_at old r a
   pub more : length new ≡ length old + more_at_ends old p
@@ -43,12 +43,12 @@ pub record IsRetold (old new : List Atom) (changes : List Change) : Type 0 where
   pub long : length new ≡ length old
   pub met : (low high : ℕ) → atoms_between new low high ≡ atoms_between old low high
 
--- the list at this place is what the update makes of it, in some order, and the others are as before
-pub record UpdatesAt (at : ℕ) (op : Op) (old new : List (List Route)) : Type 0 where
-  pub inside : at < length old
+-- the router's list is what the update makes of it, in some order, and the others are as before
+pub record UpdatesAt (u : Update) (old new : List (List Route)) : Type 0 where
+  pub inside : u.router.0 < length old
   pub made : List Route
-  pub as_updated : IsPermutation made (after_op (slice_index_or old at []) op)
-  pub placed : new ≡ slice_set old at made
+  pub as_updated : IsPermutation made (after_update u (its_routes u old))
+  pub placed : new ≡ slice_set old u.router.0 made
 
 -- atoms begin at both ends of a prefix
 pub record BeginsAtEnds (atoms : List Atom) (p : Cidr) : Type 0 where
@@ -63,36 +63,26 @@ pub record IsCutAt (old new : Kept) (p : Cidr) : Type 0 where
   pub parted : IsParted old.atoms new.atoms p
   pub ends : BeginsAtEnds new.atoms p
 
--- an update clears routes
-abbrev pub IsClear : Op → Type 0
-IsClear (Set p m t) = ⊥
-IsClear (Clear p m) = Unit {0}
-
--- an update sets a route
-abbrev pub IsSet : Op → Type 0
-IsSet (Set p m t) = Unit {0}
-IsSet (Clear p m) = ⊥
-
 -- An update of one router was made where atoms begin at its prefix's ends already: its routes are what the update makes
 -- of them, and it is told where a router does something else than before.
-pub record IsRemade (old new : Kept) (r : RouterId) (op : Op) (changes : List Change) : Type 0 where
+pub record IsRemade (old new : Kept) (u : Update) (changes : List Change) : Type 0 where
   pub whole : IsWhole new
   pub topology : new.topology ≡ old.topology
-  pub routes : UpdatesAt r.0 op old.routes new.routes
+  pub routes : UpdatesAt u old.routes new.routes
   pub begins : (a : ℕ) → begins_at new.atoms a ≡ begins_at old.atoms a
   pub form : AreChanges changes
   pub tells : (q : RouterId) (a : ℕ) → a < 2 ^ 32 → TellsChange (target_at old.atoms q a) (target_at new.atoms q a) (change_at changes q a)
   pub long : length new.atoms ≡ length old.atoms
-  pub met : atoms_met new.atoms (prefix_of_op op) ≡ atoms_met old.atoms (prefix_of_op op)
+  pub met : atoms_met new.atoms (prefix_of_op u.table.op) ≡ atoms_met old.atoms (prefix_of_op u.table.op)
 
 -- An update of one router was made: its routes are what the update makes of them, atoms begin at the ends of a prefix
--- that it sets too, and it is told where a router does something else than before.
-pub record IsUpdated (old new : Kept) (r : RouterId) (op : Op) (changes : List Change) : Type 0 where
+-- that it puts too, and it is told where a router does something else than before.
+pub record IsUpdated (old new : Kept) (u : Update) (changes : List Change) : Type 0 where
   pub whole : IsWhole new
   pub topology : new.topology ≡ old.topology
-  pub routes : UpdatesAt r.0 op old.routes new.routes
-  pub begins : (a : ℕ) → a < 2 ^ 32 → begins_at new.atoms a ≡ (begins_at old.atoms a || op_sets_end a op)
+  pub routes : UpdatesAt u old.routes new.routes
+  pub begins : (a : ℕ) → a < 2 ^ 32 → begins_at new.atoms a ≡ (begins_at old.atoms a || puts_end a u.table.op)
   pub form : AreChanges changes
   pub tells : (q : RouterId) (a : ℕ) → a < 2 ^ 32 → TellsChange (target_at old.atoms q a) (target_at new.atoms q a) (change_at changes q a)
-  pub added : length new.atoms ≡ length old.atoms + atoms_added old.atoms op
-  pub met : atoms_met new.atoms (prefix_of_op op) ≡ atoms_met old.atoms (prefix_of_op op)
+  pub added : length new.atoms ≡ length old.atoms + atoms_put old.atoms u.table.op
+  pub met : atoms_met new.atoms (prefix_of_op u.table.op) ≡ atoms_met old.atoms (prefix_of_op u.table.op)

@@ -1,7 +1,7 @@
 //! The two ends of a prefix, at which its atoms begin and end.
 
 ghost use Rattle.std.specs.Prelude.{◌≡◌, ◌+◌, ◌≤◌, ◌^◌, OnOk};
-ghost use Rattle.dn_model.specs.Cidr.{IsCidr, size};
+ghost use Rattle.base.specs.Cidr.{IsCidr, size};
 ghost use Rattle.net_engine.specs.Seen.{IsPaired, net_in};
 ghost use Rattle.net_engine.specs.Walked.{IsParted};
 

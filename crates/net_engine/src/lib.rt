@@ -9,6 +9,7 @@ mod relabel;
 mod router_group;
 mod router_tables;
 mod state;
+mod update;
 mod version;
 
 pub use version::Version;

@@ -2,19 +2,22 @@
 
 ghost use Rattle.std.specs.Prelude.{◌≡◌, ◌+◌, ◌<◌, ◌≤◌, ◌^◌, ◌∷◌, [], IfOk, OnOk, length, slice_index_or, replicate};
 ghost use Rattle.atom_map.specs.Index.{IsAtomAt};
-ghost use Rattle.dn_model.specs.Entry.{prefix_of_op};
-ghost use Rattle.dn_model.specs.Forwarding.{target_of};
-ghost use Rattle.dn_model.specs.Version.{Atom, first_of, past_of};
+ghost use Rattle.dn_model.specs.Table.{prefix_of_op};
+ghost use Rattle.base.specs.Forwarding.{target_of};
+ghost use Rattle.dn_model.specs.Table.{followed};
+ghost use Rattle.net_engine.specs.Updates.{IsPut};
+ghost use Rattle.net_engine.specs.Version.{Atom, first_of, past_of};
 ghost use Rattle.net_engine.specs.Looks.{atoms_met};
 ghost use Rattle.net_engine.specs.Net.{cut_atoms, first_atom};
 ghost use Rattle.net_engine.specs.Seen.{IsPaired, net_in};
-ghost use Rattle.net_engine.specs.Walked.{BeginsAtEnds, IsRetold, IsSet, UpdatesAt};
+ghost use Rattle.net_engine.specs.Walked.{BeginsAtEnds, IsRetold, UpdatesAt};
 
 use crate::relabel::reroute;
 use crate::router_tables::RouterTables;
+use crate::update::Update;
 use atom_map::{AtomMap, AtomSpot};
 use delta_graph::Delta;
-use dn_model::{Op, OutOfMemory, RouterId, Run, Target};
+use dn_model::{OutOfMemory, RouterId, Run, Target, Way};
 use edge_labels::TargetRows;
 use std::alloc::Global;
 use std::sync::ledger::Ledger;
@@ -73,36 +76,37 @@ impl Net {
         Ok(next)
     }
 
-    /// Makes an update of a router, and tells where it does something else than before. Where it sets a route, atoms begin
+    /// Makes an update of a router, and tells where it does something else than before. Where it puts a route, atoms begin
     /// at the ends of its prefix. The atom that begins where the prefix does is looked for first near a place that may be
     /// at hand. It fails for want of memory alone, and then nothing is said of it.
     pub fn update<L: Ledger>(
         &mut self,
         alloc: Global,
-        r: RouterId,
-        op: &Op,
+        update: &Update,
         near: Option<u64>,
         steps: &mut Steps<L>,
     ) -> Result<Delta, OutOfMemory>
         requires paired { IsPaired self.old }
-        requires router { r.0 < self.old.routers }
-        requires ends { IsSet op.now → BeginsAtEnds (net_in self.old).atoms (prefix_of_op op.now) }
+        requires router { update.now.router.0 < self.old.routers }
+        requires ends { IsPut update.now.table.op →
+            BeginsAtEnds (net_in self.old).atoms (prefix_of_op update.now.table.op) }
         ensures routers { OnOk result (self.new.routers ≡ self.old.routers) }
         ensures paired { OnOk result (IsPaired self.new) }
-        ensures tables { OnOk result (UpdatesAt r.0 op.now self.old.tables self.new.tables) }
+        ensures tables { OnOk result (UpdatesAt update.now self.old.tables self.new.tables) }
         ensures told { IfOk result (IsRetold (net_in self.old).atoms (net_in self.new).atoms) }
-        ensures cost { steps.new ≤ steps.old + 2 + atoms_met (net_in self.old).atoms (prefix_of_op op.now) }
+        ensures cost { steps.new ≤
+            steps.old + 2 + atoms_met (net_in self.old).atoms (prefix_of_op update.now.table.op) }
     {
-        let Some(after) = self.tables.update(alloc, r, op, &mut self.runs, steps)? else {
+        let Some(way) = self.tables.update(alloc, update, &mut self.runs, steps)? else {
             return Ok(Delta::new(alloc));
         };
         let delta = reroute(
             alloc,
             &self.atoms,
             &mut self.labels,
-            r,
+            update.router,
             &self.runs,
-            after,
+            done_by(way),
             near,
         )?;
         Ok(delta)
@@ -167,6 +171,16 @@ impl Net {
         ensures { (d : Atom) → result ≡ target_of (slice_index_or (net_in self.now).atoms i d).row r }
     {
         self.labels.target(r, i)
+    }
+}
+
+/// What a way comes to where there is no next-hop object: one by an object leads nowhere.
+fn done_by(way: Way) -> Target
+    ensures { result ≡ followed [] way }
+{
+    match way {
+        Way::Straight(target) => target,
+        Way::By(_) => Target::NoRoute,
     }
 }
 

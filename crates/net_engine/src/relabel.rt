@@ -2,10 +2,10 @@
 
 ghost use Rattle.std.specs.Prelude.{◌≡◌, ℕ, ◌+◌, ◌<◌, ◌≤◌, ◌^◌, true, None, IfOk, OnOk, length, slice_index_or};
 ghost use Rattle.std.specs.List.{list_any};
-ghost use Rattle.dn_model.specs.Atoms.{AreAtoms, is_boundary};
-ghost use Rattle.dn_model.specs.Delta.{AreChanges, change_at};
-ghost use Rattle.dn_model.specs.Runs.{AreApart, holds};
-ghost use Rattle.dn_model.specs.declared.atom_row.AtomRow.{AtomRow};
+ghost use Rattle.atom_map.specs.Atoms.{AreAtoms, is_boundary};
+ghost use Rattle.base.specs.Delta.{AreChanges, change_at};
+ghost use Rattle.base.specs.Runs.{AreApart, holds};
+ghost use Rattle.atom_map.specs.declared.atom_row.AtomRow.{AtomRow};
 ghost use Rattle.net_engine.specs.Paired.{AreLabelled, does_at};
 ghost use Rattle.net_engine.specs.Rerouted.{AtomBegins, AtomsEnd, IsMoved, IsRelabelled, RunsOfAtoms};
 ghost use Rattle.net_engine.specs.Walked.{IsTold};

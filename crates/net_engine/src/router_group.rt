@@ -1,15 +1,15 @@
 //! The routes of four routers.
 
 ghost use Rattle.std.specs.Prelude.{◌≡◌, ◌<◌, ℕ, [], IfOk, IfSome, IfNone, OnOk, IsPermutation, replicate, slice_set};
-ghost use Rattle.dn_model.specs.Entry.{prefix_of_op};
+ghost use Rattle.dn_model.specs.Table.{prefix_of_op};
 ghost use Rattle.dn_model.specs.Routes.{IsTable};
-ghost use Rattle.dn_model.specs.Table.{after_op, target_in};
+ghost use Rattle.dn_model.specs.Table.{after_table_op, way_in};
 ghost use Rattle.route_table.specs.Own.{AreOwnRuns, IsLooked, IsTurned, SetsOrHas};
 ghost use Rattle.route_table.specs.Tables.{table_at};
 
 use atom_map::Guide;
-use dn_model::{Op, OutOfMemory, Run, Target};
-use route_table::RouteTables;
+use dn_model::{OutOfMemory, Run, Way};
+use route_table::{RouteTables, TableUpdate};
 use std::alloc::Global;
 use std::marker::Model;
 use std::sync::ledger::Ledger;
@@ -52,28 +52,29 @@ impl RouterGroup {
         &mut self,
         alloc: Global,
         lane: usize,
-        op: &Op,
+        update: &TableUpdate,
         runs: &mut Vec<Run>,
         steps: &mut Steps<L>,
-    ) -> Result<Option<Target>, OutOfMemory>
+    ) -> Result<Option<Way>, OutOfMemory>
         requires { lane < 4 }
         ensures table { OnOk result (
-            IsPermutation (table_at self.new lane) (after_op (table_at self.old lane) op.now)) }
+            IsPermutation (table_at self.new lane)
+            (after_table_op update.now.alone (table_at self.old lane) update.now.op)) }
         ensures others { self.new ≡ slice_set self.old lane (table_at self.new lane) }
         ensures form { IsTable (table_at self.new lane) }
         ensures same { IfOk result (λ after. IfNone after ((a : ℕ) →
-            target_in (table_at self.new lane) a ≡ target_in (table_at self.old lane) a)) }
+            way_in (table_at self.new lane) a ≡ way_in (table_at self.old lane) a)) }
         ensures turned { IfOk result (λ after. IfSome after (
-            IsTurned (table_at self.old lane) (table_at self.new lane) (prefix_of_op op.now))) }
+            IsTurned (table_at self.old lane) (table_at self.new lane) (prefix_of_op update.now.op))) }
         ensures runs { IfOk result (λ after. IfSome after (λ _.
-            AreOwnRuns (table_at self.new lane) (prefix_of_op op.now) runs.new.items)) }
-        ensures had { IfOk result (λ after. IfSome after (λ _. SetsOrHas (table_at self.old lane) op.now)) }
-        ensures cost { IsLooked (table_at self.old lane) (prefix_of_op op.now) steps.old steps.new }
+            AreOwnRuns (table_at self.new lane) (prefix_of_op update.now.op) runs.new.items)) }
+        ensures had { IfOk result (λ after. IfSome after (λ _. SetsOrHas (table_at self.old lane) update.now.op)) }
+        ensures cost { IsLooked (table_at self.old lane) (prefix_of_op update.now.op) steps.old steps.new }
     {
-        let base = op.prefix().base();
+        let base = update.op.prefix().base();
         let before = self.tables.prefixes();
         let near = self.guide.place(base);
-        let after = self.tables.update(alloc, lane, op, near, runs, steps)?;
+        let after = self.tables.update(alloc, lane, update, near, runs, steps)?;
         self.tell_guide(alloc, before, base);
         Ok(after)
     }

@@ -2,14 +2,15 @@
 
 ghost use Rattle.std.specs.Prelude.{◌≡◌, ◌<◌, ℕ, [], IfOk, IfSome, IfNone, OnOk, IsPermutation};
 ghost use Rattle.std.specs.Prelude.{length, replicate, slice_set};
-ghost use Rattle.dn_model.specs.Entry.{prefix_of_op};
+ghost use Rattle.dn_model.specs.Table.{prefix_of_op};
 ghost use Rattle.dn_model.specs.Routes.{IsTable};
-ghost use Rattle.dn_model.specs.Table.{after_op, target_in};
+ghost use Rattle.dn_model.specs.Table.{way_in};
+ghost use Rattle.net_engine.specs.Updates.{after_update, its_routes};
 ghost use Rattle.route_table.specs.Own.{AreOwnRuns, IsLooked, IsTurned, SetsOrHas};
-ghost use Rattle.route_table.specs.Tables.{table_at};
 
 use crate::router_group::RouterGroup;
-use dn_model::{Op, OutOfMemory, RouterId, Run, Target};
+use crate::update::Update;
+use dn_model::{OutOfMemory, Run, Way};
 use route_table::LANES;
 use std::alloc::Global;
 use std::marker::Model;
@@ -53,28 +54,30 @@ impl RouterTables {
     pub fn update<L: Ledger>(
         &mut self,
         alloc: Global,
-        r: RouterId,
-        op: &Op,
+        update: &Update,
         runs: &mut Vec<Run>,
         steps: &mut Steps<L>,
-    ) -> Result<Option<Target>, OutOfMemory>
-        requires { r.0 < length self.old }
+    ) -> Result<Option<Way>, OutOfMemory>
+        requires { update.now.router.0 < length self.old }
         ensures table { OnOk result (
-            IsPermutation (table_at self.new r.0) (after_op (table_at self.old r.0) op.now)) }
-        ensures others { self.new ≡ slice_set self.old r.0 (table_at self.new r.0) }
-        ensures form { IsTable (table_at self.new r.0) }
+            IsPermutation (its_routes update.now self.new) (after_update update.now (its_routes update.now self.old))) }
+        ensures others { self.new ≡ slice_set self.old update.now.router.0 (its_routes update.now self.new) }
+        ensures form { IsTable (its_routes update.now self.new) }
         ensures same { IfOk result (λ after. IfNone after ((a : ℕ) →
-            target_in (table_at self.new r.0) a ≡ target_in (table_at self.old r.0) a)) }
+            way_in (its_routes update.now self.new) a ≡ way_in (its_routes update.now self.old) a)) }
         ensures turned { IfOk result (λ after. IfSome after (
-            IsTurned (table_at self.old r.0) (table_at self.new r.0) (prefix_of_op op.now))) }
+            IsTurned (its_routes update.now self.old) (its_routes update.now self.new)
+            (prefix_of_op update.now.table.op))) }
         ensures runs { IfOk result (λ after. IfSome after (λ _.
-            AreOwnRuns (table_at self.new r.0) (prefix_of_op op.now) runs.new.items)) }
-        ensures had { IfOk result (λ after. IfSome after (λ _. SetsOrHas (table_at self.old r.0) op.now)) }
-        ensures cost { IsLooked (table_at self.old r.0) (prefix_of_op op.now) steps.old steps.new }
+            AreOwnRuns (its_routes update.now self.new) (prefix_of_op update.now.table.op) runs.new.items)) }
+        ensures had { IfOk result (λ after. IfSome after (λ _.
+            SetsOrHas (its_routes update.now self.old) update.now.table.op)) }
+        ensures cost { IsLooked (its_routes update.now self.old) (prefix_of_op update.now.table.op)
+            steps.old steps.new }
     {
-        let place = usize::from(r.0);
+        let place = usize::from(update.router.0);
         let group = &mut self.groups[place / LANES];
-        group.update(alloc, place % LANES, op, runs, steps)
+        group.update(alloc, place % LANES, &update.table, runs, steps)
     }
 
     /// The same routes again.

@@ -1,19 +1,23 @@
 //! What a version keeps.
 
-ghost use Rattle.std.specs.Prelude.{◌≡◌, ◌+◌, ◌<◌, ◌≤◌, ◌++◌, ◌∷◌, [], List, IfOk, OnOk, length};
+ghost use Rattle.std.specs.Prelude.{◌≡◌, ◌+◌, ◌<◌, ◌≤◌, ◌++◌, ◌∷◌, [], List, IfOk, IfSome, OnOk, length};
 ghost use Rattle.std.specs.Arc.{arc_value};
-ghost use Rattle.dn_model.specs.Delta.{IsDeltaOf};
-ghost use Rattle.dn_model.specs.Entry.{IsEntryOf, IsOpOf, prefix_of_op};
-ghost use Rattle.dn_model.specs.Version.{KeptStandsFor};
+ghost use Rattle.dn_model.specs.LastDelta.{IsDeltaOf};
+ghost use Rattle.dn_model.specs.Entry.{IsEntryOf};
+ghost use Rattle.dn_model.specs.Table.{prefix_of_op};
+ghost use Rattle.net_engine.specs.Followed.{IsFollowed};
+ghost use Rattle.net_engine.specs.Updates.{IsClear, IsOwnUpdate, IsPut};
+ghost use Rattle.net_engine.specs.Version.{KeptStandsFor};
 ghost use Rattle.dn_model.specs.declared.entry.Entry.{Entry as EntryIs};
-ghost use Rattle.net_engine.specs.Looks.{atoms_added, atoms_met};
+ghost use Rattle.net_engine.specs.Looks.{atoms_added, atoms_met, prefix_of_entry};
 ghost use Rattle.net_engine.specs.Seen.{IsSound, kept_in};
-ghost use Rattle.net_engine.specs.Walked.{BeginsAtEnds, IsClear, IsCutAt, IsRemade, IsSet, IsUpdated};
+ghost use Rattle.net_engine.specs.Walked.{BeginsAtEnds, IsCutAt, IsRemade, IsUpdated};
 
 use crate::ends::cut_ends;
 use crate::net::Net;
+use crate::update::{Update, update_of};
 use delta_graph::Delta;
-use dn_model::{Entry, Op, OutOfMemory, Prefix, RouterId, Topology};
+use dn_model::{Entry, OutOfMemory, Prefix, TableOp, Topology};
 use std::alloc::Global;
 use std::sync::Arc;
 use std::sync::ledger::Ledger;
@@ -49,25 +53,25 @@ impl State {
         Ok(first)
     }
 
-    /// Makes an update of one of the routers. Where it sets a route, atoms begin at the ends of its prefix. There may be a
+    /// Makes an update of one of the routers. Where it puts a route, atoms begin at the ends of its prefix. There may be a
     /// place near which to look first for the atom that begins where the prefix does.
     fn update<L: Ledger>(
         &mut self,
         alloc: Global,
-        r: RouterId,
-        op: &Op,
+        update: &Update,
         near: Option<u64>,
         steps: &mut Steps<L>,
     ) -> Result<Delta, OutOfMemory>
         requires sound { IsSound self.old }
-        requires router { r.0 < length (kept_in self.old).topology.routers }
-        requires op { IsOpOf (kept_in self.old).topology op.now }
-        requires ends { IsSet op.now → BeginsAtEnds (kept_in self.old).atoms (prefix_of_op op.now) }
-        ensures made { IfOk result (λ delta. IsRemade (kept_in self.old) (kept_in self.new) r op.now delta) }
+        requires own { IsOwnUpdate (kept_in self.old).topology update.now }
+        requires ends { IsPut update.now.table.op →
+            BeginsAtEnds (kept_in self.old).atoms (prefix_of_op update.now.table.op) }
+        ensures made { IfOk result (λ delta. IsRemade (kept_in self.old) (kept_in self.new) update.now delta) }
         ensures sound { OnOk result (IsSound self.new) }
-        ensures cost { steps.new ≤ steps.old + 2 + atoms_met (kept_in self.old).atoms (prefix_of_op op.now) }
+        ensures cost { steps.new ≤
+            steps.old + 2 + atoms_met (kept_in self.old).atoms (prefix_of_op update.now.table.op) }
     {
-        let delta = self.net.update(alloc, r, op, near, steps)?;
+        let delta = self.net.update(alloc, update, near, steps)?;
         Ok(delta)
     }
 
@@ -75,59 +79,56 @@ impl State {
     fn clear<L: Ledger>(
         &mut self,
         alloc: Global,
-        r: RouterId,
-        op: &Op,
+        update: &Update,
         steps: &mut Steps<L>,
     ) -> Result<Delta, OutOfMemory>
         requires sound { IsSound self.old }
-        requires router { r.0 < length (kept_in self.old).topology.routers }
-        requires op { IsOpOf (kept_in self.old).topology op.now }
-        requires clears { IsClear op.now }
-        ensures made { IfOk result (λ delta. IsUpdated (kept_in self.old) (kept_in self.new) r op.now delta) }
+        requires own { IsOwnUpdate (kept_in self.old).topology update.now }
+        requires clears { IsClear update.now.table.op }
+        ensures made { IfOk result (λ delta. IsUpdated (kept_in self.old) (kept_in self.new) update.now delta) }
         ensures sound { OnOk result (IsSound self.new) }
-        ensures cost { steps.new ≤ steps.old + 2 + atoms_met (kept_in self.old).atoms (prefix_of_op op.now) }
+        ensures cost { steps.new ≤
+            steps.old + 2 + atoms_met (kept_in self.old).atoms (prefix_of_op update.now.table.op) }
     {
-        self.update(alloc, r, op, None, steps)
+        self.update(alloc, update, None, steps)
     }
 
-    /// Makes a setting, which cuts atoms at the ends of the prefix.
-    fn set<L: Ledger>(
+    /// Puts a route, for which atoms are cut at the ends of its prefix.
+    fn put<L: Ledger>(
         &mut self,
         alloc: Global,
-        r: RouterId,
-        op: &Op,
+        update: &Update,
         steps: &mut Steps<L>,
     ) -> Result<Delta, OutOfMemory>
         requires sound { IsSound self.old }
-        requires router { r.0 < length (kept_in self.old).topology.routers }
-        requires op { IsOpOf (kept_in self.old).topology op.now }
-        requires sets { IsSet op.now }
-        ensures made { IfOk result (λ delta. IsUpdated (kept_in self.old) (kept_in self.new) r op.now delta) }
+        requires own { IsOwnUpdate (kept_in self.old).topology update.now }
+        requires puts { IsPut update.now.table.op }
+        ensures made { IfOk result (λ delta. IsUpdated (kept_in self.old) (kept_in self.new) update.now delta) }
         ensures sound { OnOk result (IsSound self.new) }
-        ensures cost { steps.new ≤ steps.old + 2 + atoms_met (kept_in self.old).atoms (prefix_of_op op.now) }
+        ensures cost { steps.new ≤
+            steps.old + 2 + atoms_met (kept_in self.old).atoms (prefix_of_op update.now.table.op) }
     {
-        let first = self.cut(alloc, op.prefix())?;
-        self.update(alloc, r, op, Some(first), steps)
+        let first = self.cut(alloc, update.table.op.prefix())?;
+        self.update(alloc, update, Some(first), steps)
     }
 
     /// Makes an update of one of the routers.
     fn updated<L: Ledger>(
         &mut self,
         alloc: Global,
-        r: RouterId,
-        op: &Op,
+        update: &Update,
         steps: &mut Steps<L>,
     ) -> Result<Delta, OutOfMemory>
         requires sound { IsSound self.old }
-        requires router { r.0 < length (kept_in self.old).topology.routers }
-        requires op { IsOpOf (kept_in self.old).topology op.now }
-        ensures made { IfOk result (λ delta. IsUpdated (kept_in self.old) (kept_in self.new) r op.now delta) }
+        requires own { IsOwnUpdate (kept_in self.old).topology update.now }
+        ensures made { IfOk result (λ delta. IsUpdated (kept_in self.old) (kept_in self.new) update.now delta) }
         ensures sound { OnOk result (IsSound self.new) }
-        ensures cost { steps.new ≤ steps.old + 2 + atoms_met (kept_in self.old).atoms (prefix_of_op op.now) }
+        ensures cost { steps.new ≤
+            steps.old + 2 + atoms_met (kept_in self.old).atoms (prefix_of_op update.now.table.op) }
     {
-        match op {
-            Op::Set { .. } => self.set(alloc, r, op, steps),
-            Op::Clear { .. } => self.clear(alloc, r, op, steps),
+        match update.table.op {
+            TableOp::Put { .. } => self.put(alloc, update, steps),
+            TableOp::Clear { .. } => self.clear(alloc, update, steps),
         }
     }
 
@@ -141,6 +142,7 @@ impl State {
     ) -> Result<Delta, OutOfMemory>
         requires sound { IsSound self.old }
         requires entry { IsEntryOf (kept_in self.old).topology entry.now }
+        requires followed { IsFollowed entry.now }
         ensures topology { OnOk result ((kept_in self.new).topology ≡ (kept_in self.old).topology) }
         ensures stands { OnOk result ((history : List EntryIs) → KeptStandsFor (kept_in self.old) history →
             KeptStandsFor (kept_in self.new) (history ++ entry.now ∷ [])) }
@@ -148,14 +150,15 @@ impl State {
             IsDeltaOf (kept_in self.old).topology (history ++ entry.now ∷ []) delta) }
         ensures added { OnOk result (
             length (kept_in self.new).atoms ≡
-            length (kept_in self.old).atoms + atoms_added (kept_in self.old).atoms entry.now.op) }
-        ensures met { OnOk result (
-            atoms_met (kept_in self.new).atoms (prefix_of_op entry.now.op) ≡
-            atoms_met (kept_in self.old).atoms (prefix_of_op entry.now.op)) }
+            length (kept_in self.old).atoms + atoms_added (kept_in self.old).atoms entry.now) }
+        ensures met { OnOk result (IfSome (prefix_of_entry entry.now) (λ p.
+            atoms_met (kept_in self.new).atoms p ≡ atoms_met (kept_in self.old).atoms p)) }
         ensures sound { OnOk result (IsSound self.new) }
-        ensures cost { steps.new ≤ steps.old + 2 + atoms_met (kept_in self.old).atoms (prefix_of_op entry.now.op) }
+        ensures cost { IfSome (prefix_of_entry entry.now) (λ p.
+            steps.new ≤ steps.old + 2 + atoms_met (kept_in self.old).atoms p) }
     {
-        let delta = self.updated(alloc, entry.router, &entry.op, steps)?;
+        let update = update_of(&self.topology, entry);
+        let delta = self.updated(alloc, &update, steps)?;
         Ok(delta)
     }
 

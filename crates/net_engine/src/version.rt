@@ -1,12 +1,13 @@
 //! A version of a network.
 
-ghost use Rattle.std.specs.Prelude.{◌≡◌, ◌+◌, ◌≤◌, ◌++◌, ◌∷◌, [], List, IfOk, length};
+ghost use Rattle.std.specs.Prelude.{◌≡◌, ◌+◌, ◌≤◌, ◌++◌, ◌∷◌, [], List, IfOk, IfSome, length};
 ghost use Rattle.std.specs.Arc.{arc_value};
-ghost use Rattle.dn_model.specs.Delta.{IsDeltaOf};
-ghost use Rattle.dn_model.specs.Entry.{IsEntryOf, prefix_of_op};
-ghost use Rattle.dn_model.specs.Version.{KeptStandsFor, forwarding_of};
+ghost use Rattle.dn_model.specs.LastDelta.{IsDeltaOf};
+ghost use Rattle.dn_model.specs.Entry.{IsEntryOf};
+ghost use Rattle.net_engine.specs.Followed.{IsFollowed};
+ghost use Rattle.net_engine.specs.Version.{KeptStandsFor, forwarding_of};
 ghost use Rattle.dn_model.specs.declared.entry.Entry.{Entry as EntryIs};
-ghost use Rattle.net_engine.specs.Looks.{atoms_added, atoms_met};
+ghost use Rattle.net_engine.specs.Looks.{atoms_added, atoms_met, prefix_of_entry};
 
 use crate::state::State;
 use delta_graph::Delta;
@@ -29,7 +30,7 @@ pub struct Version {
 }
 
 impl Model for Version {
-    ghost use Rattle.dn_model.specs.Version.{Kept};
+    ghost use Rattle.net_engine.specs.Version.{Kept};
     ghost use Rattle.net_engine.specs.Seen.{IsSound, kept_in};
 
     ghost Value = { Kept };
@@ -65,15 +66,18 @@ impl Version {
         entry: &Entry,
         steps: &mut Steps<L>,
     ) -> Result<(Version, Delta), OutOfMemory>
-        requires { IsEntryOf self.topology entry.now }
+        requires entry { IsEntryOf self.topology entry.now }
+        requires followed { IsFollowed entry.now }
         ensures topology { IfOk result (λ made. made.0.topology ≡ self.topology) }
-        ensures stands { IfOk result (λ made. (history : List EntryIs) → KeptStandsFor self history → KeptStandsFor made.0 (history ++ entry.now ∷ [])) }
-        ensures delta { IfOk result (λ made. (history : List EntryIs) → KeptStandsFor self history → IsDeltaOf self.topology (history ++ entry.now ∷ []) made.1) }
+        ensures stands { IfOk result (λ made. (history : List EntryIs) → KeptStandsFor self history
+            → KeptStandsFor made.0 (history ++ entry.now ∷ [])) }
+        ensures delta { IfOk result (λ made. (history : List EntryIs) → KeptStandsFor self history
+            → IsDeltaOf self.topology (history ++ entry.now ∷ []) made.1) }
         ensures added { IfOk result (λ made.
-            length made.0.atoms ≡ length self.atoms + atoms_added self.atoms entry.now.op) }
-        ensures met { IfOk result (λ made.
-            atoms_met made.0.atoms (prefix_of_op entry.now.op) ≡ atoms_met self.atoms (prefix_of_op entry.now.op)) }
-        ensures cost { steps.new ≤ steps.old + 2 + atoms_met self.atoms (prefix_of_op entry.now.op) }
+            length made.0.atoms ≡ length self.atoms + atoms_added self.atoms entry.now) }
+        ensures met { IfOk result (λ made. IfSome (prefix_of_entry entry.now) (λ p.
+            atoms_met made.0.atoms p ≡ atoms_met self.atoms p)) }
+        ensures cost { IfSome (prefix_of_entry entry.now) (λ p. steps.new ≤ steps.old + 2 + atoms_met self.atoms p) }
     {
         let Version { mut state } = self;
         let delta = state.advance(alloc, entry, steps)?;
@@ -88,15 +92,19 @@ impl Version {
         entry: &Entry,
         steps: &mut Steps<L>,
     ) -> Result<(Version, Delta), OutOfMemory>
-        requires { IsEntryOf self.now.topology entry.now }
+        requires entry { IsEntryOf self.now.topology entry.now }
+        requires followed { IsFollowed entry.now }
         ensures topology { IfOk result (λ made. made.0.topology ≡ self.now.topology) }
-        ensures stands { IfOk result (λ made. (history : List EntryIs) → KeptStandsFor self.now history → KeptStandsFor made.0 (history ++ entry.now ∷ [])) }
-        ensures delta { IfOk result (λ made. (history : List EntryIs) → KeptStandsFor self.now history → IsDeltaOf self.now.topology (history ++ entry.now ∷ []) made.1) }
+        ensures stands { IfOk result (λ made. (history : List EntryIs) → KeptStandsFor self.now history
+            → KeptStandsFor made.0 (history ++ entry.now ∷ [])) }
+        ensures delta { IfOk result (λ made. (history : List EntryIs) → KeptStandsFor self.now history
+            → IsDeltaOf self.now.topology (history ++ entry.now ∷ []) made.1) }
         ensures added { IfOk result (λ made.
-            length made.0.atoms ≡ length self.now.atoms + atoms_added self.now.atoms entry.now.op) }
-        ensures met { IfOk result (λ made.
-            atoms_met made.0.atoms (prefix_of_op entry.now.op) ≡ atoms_met self.now.atoms (prefix_of_op entry.now.op)) }
-        ensures cost { steps.new ≤ steps.old + 2 + atoms_met self.now.atoms (prefix_of_op entry.now.op) }
+            length made.0.atoms ≡ length self.now.atoms + atoms_added self.now.atoms entry.now) }
+        ensures met { IfOk result (λ made. IfSome (prefix_of_entry entry.now) (λ p.
+            atoms_met made.0.atoms p ≡ atoms_met self.now.atoms p)) }
+        ensures cost { IfSome (prefix_of_entry entry.now) (λ p.
+            steps.new ≤ steps.old + 2 + atoms_met self.now.atoms p) }
     {
         self.copy(alloc)?.advance(alloc, entry, steps)
     }
@@ -114,7 +122,7 @@ impl Version {
 impl LabelView for Version {
     ghost width = { λ v. length v.topology.routers };
 
-    ghost rows = { λ v. forwarding_of v.atoms };
+    ghost rows = { λ v. forwarding_of v };
 
     fn routers(&self) -> u32 {
         self.state.net.routers()

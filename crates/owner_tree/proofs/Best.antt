@@ -2,14 +2,15 @@
 use Rattle.std.proofs.Common.{◌≡◌, ℕ, ◌∙◌, false, Option, Some, None, List, [], ap, sym, subst}
 use Rattle.std.specs.List.{Contains}
 use Rattle.std.proofs.lemmas.Bool.{false_from_ne_true}
-use Rattle.dn_model.specs.Cidr.{covers}
+use Rattle.base.specs.Cidr.{covers}
 use Rattle.dn_model.specs.Routes.{IsTable}
-use Rattle.dn_model.specs.Table.{IsBest, target_in, target_or_none}
+use Rattle.dn_model.specs.Table.{IsBest, way_in, way_or_none}
 use Rattle.dn_model.specs.declared.entry.Route.{Route}
-use Rattle.dn_model.proofs.Best.{contains-none}
+use Rattle.base.proofs.Elements.{contains-none}
 use Rattle.dn_model.proofs.SameRoutes.{only-best}
 use Rattle.dn_model.specs.declared.rule.Rule.{Rule}
-use Rattle.dn_model.specs.Rules.{Covers, IsTop, OwnersOf, rule_before, rule_of, target_of}
+use Rattle.dn_model.specs.Rules.{Covers, IsTop, OwnersOf, rule_before, rule_of}
+use Rattle.owner_tree.specs.Way.{way_of}
 
 none-best : (rules : List Rule) (routes : List Route) (a : ℕ) → OwnersOf rules routes a → rules ≡ [] → IsBest routes a None
 none-best rules routes a owners empty = λ x inside. false_from_ne_true (covers x.prefix a) (λ t.
@@ -25,10 +26,9 @@ top-best rules routes a t owners top w = (
       subst P (sym w.is) (top.1 (rule_of x) (owners.all x inside there)),
 )
 
--- where the rules are those of a table's routes that cover an address, the one in force says what the table does
--- with it
-pub top-target : (rules : List Rule) (routes : List Route) (a : ℕ) (o : Option Rule) → IsTable routes → OwnersOf rules routes a → IsTop rules o → target_of o ≡ target_in routes a
-top-target rules routes a None sound owners top = ap target_or_none (only-best routes a None sound (none-best rules routes a owners top))
-top-target rules routes a (Some t) sound owners top =
+-- where the rules are those of a table's routes that cover an address, the one in force has the way of the address
+pub top-way : (rules : List Rule) (routes : List Route) (a : ℕ) (o : Option Rule) → IsTable routes → OwnersOf rules routes a → IsTop rules o → way_of o ≡ way_in routes a
+top-way rules routes a None sound owners top = ap way_or_none (only-best routes a None sound (none-best rules routes a owners top))
+top-way rules routes a (Some t) sound owners top =
     let w : Covers routes a t = owners.from t top.0 in
-    ap (λ (y : Rule). y.target) (sym w.is) ∙ ap target_or_none (only-best routes a (Some w.route) sound (top-best rules routes a t owners top w))
+    ap (λ (y : Rule). y.way) (sym w.is) ∙ ap way_or_none (only-best routes a (Some w.route) sound (top-best rules routes a t owners top w))

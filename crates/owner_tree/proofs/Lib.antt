@@ -1,5 +1,3 @@
 pub mod Best
-pub mod Cleared
-pub mod Once
-pub mod Top
-pub mod Updates
+mod Once
+mod Top

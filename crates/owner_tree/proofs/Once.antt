@@ -4,8 +4,9 @@ use Rattle.std.specs.List.{list_any}
 use Rattle.std.proofs.lemmas.Bool.{and_from, and_parts, cond_both, not-true, not_from_false, or_from, or_parts}
 use Rattle.std.proofs.lemmas.Bool.Decides.{nat_tests}
 use Rattle.std.proofs.lemmas.List.Folds.{list_any-append}
-use Rattle.dn_model.specs.Topology.{all_differ}
-use Rattle.dn_model.specs.Rules.{cleared_rules, has_rule_key, with_rule, without_length, without_rule, HasRulesOnce}
+use Rattle.std.proofs.lemmas.Map.Views.{any-filter_same}
+use Rattle.base.specs.Lists.{all_differ}
+use Rattle.dn_model.specs.Rules.{cleared_rules, has_rule_key, placed_rule, with_rule, HasRulesOnce}
 use Rattle.dn_model.specs.declared.rule.Rule.{Rule}
 
 abbrev same_key : Rule → Rule → Bool
@@ -45,31 +46,21 @@ eqb-turned m n = grind (arith, nat_tests)
 key-turned : (x y : Rule) → same_key x y ≡ same_key y x
 key-turned x y = ap (λ (b : Bool). b && eqb y.metric x.metric) (eqb-turned y.len x.len) ∙ ap (λ (b : Bool). eqb x.len y.len && b) (eqb-turned y.metric x.metric)
 
--- of the rules that are left none has the key of the new one
-key-gone : (y : Rule) (xs : List Rule) → list_any (λ x. same_key x y) (without_rule xs y.len y.metric) ≡ false
-key-gone y [] = refl
-key-gone y (x ∷ xs) =
-    let left : List Rule = without_rule xs y.len y.metric in
-    let P : List Rule → Type 0 = λ ys. list_any (λ z. same_key z y) ys ≡ false in
-    cond_both (not (has_rule_key y.len y.metric x)) (x ∷ left) left P
-    (λ t. or_from (same_key x y) (list_any (λ z. same_key z y) left) (key-turned x y ∙ not-true (has_rule_key y.len y.metric x) t) (key-gone y xs))
-    (λ f. key-gone y xs)
+-- a rule behind those that are left, where the one with its key isn't
+once-behind : (p : Rule → Bool) (rules : List Rule) (y : Rule) → ((x : Rule) → same_key x y ≡ true → p x ≡ false) → HasRulesOnce rules → HasRulesOnce (filter p rules ++ y ∷ [])
+once-behind p rules y gone h = differ-push (filter p rules) y (differ-filter p rules h) (any-filter_same (λ x. same_key x y) p false gone rules)
 
--- ---- as the calls need it
+pub once-with : (rules : List Rule) (y : Rule) → HasRulesOnce rules → HasRulesOnce (with_rule rules y)
+once-with rules y h = once-behind (λ r. not (has_rule_key y.len y.metric r)) rules y (λ x t. ap not (key-turned y x ∙ t)) h
 
-pub once-without : (old new : List Rule) (l m : ℕ) → HasRulesOnce old → new ≡ without_rule old l m → HasRulesOnce new
-once-without old new l m h e = subst (λ (rs : List Rule). HasRulesOnce rs) (sym e) (differ-filter (λ r. not (has_rule_key l m r)) old h)
+pub once-alone : (rules : List Rule) (y : Rule) → HasRulesOnce rules → HasRulesOnce (placed_rule true rules y)
+once-alone rules y h = once-behind (λ r. not (eqb r.len y.len)) rules y (λ x t. ap not (eqb-turned x.len y.len ∙ (and_parts (eqb y.len x.len) (eqb y.metric x.metric) t).0)) h
 
-pub once-length : (old new : List Rule) (l : ℕ) → HasRulesOnce old → new ≡ without_length old l → HasRulesOnce new
-once-length old new l h e = subst (λ (rs : List Rule). HasRulesOnce rs) (sym e) (differ-filter (λ r. not (eqb r.len l)) old h)
+pub once-cleared : (rules new : List Rule) (l : ℕ) (m : Option ℕ) → HasRulesOnce rules → new ≡ cleared_rules rules l m → HasRulesOnce new
+once-cleared rules new l None h e = subst (λ (rs : List Rule). HasRulesOnce rs) (sym e) (differ-filter (λ r. not (eqb r.len l)) rules h)
+once-cleared rules new l (Some m) h e = subst (λ (rs : List Rule). HasRulesOnce rs) (sym e) (differ-filter (λ r. not (has_rule_key l m r)) rules h)
 
-pub once-cleared : (old new : List Rule) (l : ℕ) (m : Option ℕ) → HasRulesOnce old → new ≡ cleared_rules old l m → HasRulesOnce new
-once-cleared old new l None h e = once-length old new l h e
-once-cleared old new l (Some m) h e = once-without old new l m h e
-
-pub once-with : (old new : List Rule) (y : Rule) → HasRulesOnce old → new ≡ with_rule old y → HasRulesOnce new
-once-with old new y h e = subst (λ (rs : List Rule). HasRulesOnce rs) (sym e) (differ-push (without_rule old y.len y.metric) y (differ-filter (λ r. not (has_rule_key y.len y.metric r)) old h) (key-gone y old))
-
-pub once-put : {V E : Type 0} (r : Result V E) (old new : List Rule) (y : Rule) → HasRulesOnce old → OnOk r (new ≡ with_rule old y) → OnErr r (new ≡ old) → HasRulesOnce new
-once-put (Ok v) old new y h ok err = once-with old new y h ok
-once-put (Err e) old new y h ok err = subst (λ (rs : List Rule). HasRulesOnce rs) (sym err) h
+-- after a call that may fail
+pub once-after : {V E : Type 0} (r : Result V E) (old new made : List Rule) → HasRulesOnce old → HasRulesOnce made → OnOk r (new ≡ made) → OnErr r (new ≡ old) → HasRulesOnce new
+once-after (Ok v) old new made h k ok err = subst (λ (rs : List Rule). HasRulesOnce rs) (sym ok) k
+once-after (Err e) old new made h k ok err = subst (λ (rs : List Rule). HasRulesOnce rs) (sym err) h

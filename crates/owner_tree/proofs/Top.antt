@@ -7,7 +7,7 @@ use Rattle.std.proofs.lemmas.List.{append-nil}
 use Rattle.std.proofs.lemmas.List.Elements.{Contains-append_left, Contains-append_right, Contains-push_cases}
 use Rattle.dn_model.specs.Rules.{IsTop, rule_before}
 use Rattle.dn_model.specs.declared.rule.Rule.{Rule}
-use Rattle.dn_model.proofs.Best.{contains-here, contains-none}
+use Rattle.base.proofs.Elements.{contains-here, contains-none}
 use Rattle.owner_tree.specs.First.{first_of}
 
 abbrev before : ℕ → ℕ → ℕ → ℕ → Bool

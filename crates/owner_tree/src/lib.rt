@@ -2,9 +2,7 @@
 //! least metric (the owners of Delta-net, NSDI 2017).
 #![tactic(auto)]
 
-mod held;
 mod owners;
-mod rules;
 
 pub use dn_model::Rule;
 pub use owners::Owners;

@@ -1,7 +1,7 @@
 //! Maps that are cut, whose answers were worked out by hand.
 
-use atom_map::AtomMap;
-use dn_model::{AtomId, AtomRow};
+use atom_map::{AtomMap, AtomRow};
+use base::AtomId;
 use std::alloc::Global;
 use std::process::Abort;
 

@@ -1,7 +1,7 @@
 //! Sets that were worked out by hand or are compared with a plain list, and a network of one router.
 
 ghost use Rattle.std.specs.Prelude.{◌≡◌, ◌+◌, ◌<◌, ◌≤◌, ◌^◌, ◌∷◌, [], length, IfOk, OnOk};
-ghost use Rattle.dn_model.specs.declared.target.Target.TheVariants.{Exit, Local};
+ghost use Rattle.base.specs.declared.target.Target.TheVariants.{Exit, Local};
 ghost use Rattle.edge_labels.specs.Labels.{Labels};
 
 use dn_model::{AtomId, OutOfMemory, RouterId, Target};

@@ -1,7 +1,7 @@
 //! A small set of rules, whose answers were worked out by hand.
 
 use crate::crossing::crosses;
-use dn_model::Target;
+use dn_model::{Target, Way};
 use owner_tree::{Owners, Rule};
 use std::alloc::Global;
 use std::process::Abort;
@@ -10,16 +10,16 @@ fn rule(len: u8, metric: u32) -> Rule {
     Rule {
         len,
         metric,
-        target: Target::Exit(metric),
+        way: Way::Straight(Target::Exit(metric)),
     }
 }
 
-/// A rule whose target is the router itself.
+/// A rule by which the packets are the router's own.
 fn own_rule(len: u8, metric: u32) -> Rule {
     Rule {
         len,
         metric,
-        target: Target::Local,
+        way: Way::Straight(Target::Local),
     }
 }
 

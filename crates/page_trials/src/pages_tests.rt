@@ -45,7 +45,11 @@ impl Shared {
 }
 
 impl Keyed for Shared {
+    ghost use Rattle.std.proofs.Common.{rules};
+
     ghost key_of = { λ shared. shared };
+
+    ghost clones = { Prim.search rules };
 
     fn key(&self) -> u64 {
         self.number()

@@ -4,8 +4,8 @@ ghost use Rattle.std.specs.Prelude.{◌≡◌, ◌<◌, ◌≤◌};
 
 use crate::crossing::crosses;
 use crate::draw::next_draw;
-use dn_model::{DropKind, Op, Prefix, Route, Run, Target};
-use route_table::{RouteTable, RouteTables};
+use dn_model::{DropKind, Prefix, Route, Run, TableOp, Target, Way};
+use route_table::{RouteTable, RouteTables, TableUpdate};
 use std::alloc::Global;
 use std::marker::Brand;
 use std::process::Abort;
@@ -31,13 +31,20 @@ fn route(prefix: Prefix, metric: u32, target: Target) -> Route {
     Route {
         prefix,
         metric,
-        target,
+        way: Way::Straight(target),
     }
 }
 
 fn set(rt: &impl Abort, alloc: Global, table: &mut RouteTable, new: Route) {
     table
-        .set(alloc, new.prefix, new.metric, new.target)
+        .set(alloc, new.prefix, new.metric, new.way)
+        .expect(rt, "memory");
+}
+
+/// A route is set in the place of all routes of its prefix.
+fn set_alone(rt: &impl Abort, alloc: Global, table: &mut RouteTable, new: Route) {
+    table
+        .set_alone(alloc, new.prefix, new.metric, new.way)
         .expect(rt, "memory");
 }
 
@@ -65,11 +72,15 @@ fn set_three(rt: &impl Abort, alloc: Global, table: &mut RouteTable) {
 
 /// What the table does with an address.
 fn compare_target(rt: &impl Abort, table: &RouteTable, a: u32, want: Option<Target>) {
-    let target = match table.best(a) {
-        Some(route) => Some(route.target),
+    let way = match table.best(a) {
+        Some(route) => Some(route.way),
         None => None,
     };
-    assert_eq!(rt; target, want);
+    let want = match want {
+        Some(target) => Some(Way::Straight(target)),
+        None => None,
+    };
+    assert_eq!(rt; way, want);
 }
 
 /// The least metric of a prefix.
@@ -170,9 +181,13 @@ fn some_prefix(k: u32) -> Prefix {
     prefix_around(k.wrapping_mul(0x01F3_5A00), len)
 }
 
-/// A route is set in a plain list.
-fn set_plainly(rt: &impl Abort, plain: &mut Vec<Route>, new: Route) {
-    plain.retain(|old| old.prefix != new.prefix || old.metric != new.metric);
+/// A route is set in a plain list: alone, it takes the place of all of its prefix.
+fn set_plainly(rt: &impl Abort, plain: &mut Vec<Route>, new: Route, alone: bool) {
+    if alone {
+        plain.retain(|old| old.prefix != new.prefix);
+    } else {
+        plain.retain(|old| old.prefix != new.prefix || old.metric != new.metric);
+    }
     plain.push(new).expect(rt, "memory");
 }
 
@@ -184,51 +199,70 @@ fn clear_plainly(plain: &mut Vec<Route>, prefix: Prefix, metric: Option<u32>) {
     }
 }
 
-/// A route is set, or one is cleared, or all of a prefix.
-fn some_op(draw: u64) -> Op {
+/// Two interfaces, and an object.
+fn some_way(k: u32) -> Way {
+    if k == 2 {
+        return Way::By(7);
+    }
+    Way::Straight(Target::Exit(k))
+}
+
+/// A route is put, or one is cleared, or all of a prefix.
+fn some_op(draw: u64) -> TableOp {
     let prefix = some_prefix(((draw >> 33) % 300) as u32);
     let metric = ((draw >> 20) % 4) as u32;
     let kind = (draw >> 12) % 8;
     if kind < 5 {
-        let exit = ((draw >> 15) % 3) as u32;
-        return Op::Set {
+        let way = some_way(((draw >> 15) % 3) as u32);
+        return TableOp::Put {
             prefix,
             metric,
-            target: Target::Exit(exit),
+            way,
         };
     }
     let metric = if kind < 7 { Some(metric) } else { None };
-    Op::Clear { prefix, metric }
+    TableOp::Clear { prefix, metric }
 }
 
 /// An update of a plain list.
-fn update_plainly(rt: &impl Abort, plain: &mut Vec<Route>, op: &Op) {
-    match *op {
-        Op::Set {
+fn update_plainly(rt: &impl Abort, plain: &mut Vec<Route>, update: &TableUpdate) {
+    match update.op {
+        TableOp::Put {
             prefix,
             metric,
-            target,
-        } => set_plainly(rt, plain, route(prefix, metric, target)),
-        Op::Clear { prefix, metric } => clear_plainly(plain, prefix, metric),
+            way,
+        } => {
+            let new = Route {
+                prefix,
+                metric,
+                way,
+            };
+            set_plainly(rt, plain, new, update.alone);
+        }
+        TableOp::Clear { prefix, metric } => clear_plainly(plain, prefix, metric),
     }
 }
 
-/// An update of both.
-fn update_both(
-    rt: &impl Abort,
-    alloc: Global,
-    table: &mut RouteTable,
-    plain: &mut Vec<Route>,
-    op: &Op,
-) {
-    update_plainly(rt, plain, op);
-    match *op {
-        Op::Set {
+/// An update of the table of one router.
+fn update_table(rt: &impl Abort, alloc: Global, table: &mut RouteTable, update: &TableUpdate) {
+    match update.op {
+        TableOp::Put {
             prefix,
             metric,
-            target,
-        } => set(rt, alloc, table, route(prefix, metric, target)),
-        Op::Clear { prefix, metric } => clear(rt, alloc, table, prefix, metric),
+            way,
+        } => {
+            let new = Route {
+                prefix,
+                metric,
+                way,
+            };
+            if update.alone {
+                set_alone(rt, alloc, table, new);
+            } else {
+                set(rt, alloc, table, new);
+            }
+        }
+        TableOp::Clear { prefix, metric } => clear(rt, alloc, table, prefix, metric),
     }
 }
 
@@ -243,7 +277,13 @@ fn update_often(
     let mut draw = seed;
     for _ in 0..2000u32 {
         draw = next_draw(draw);
-        update_both(rt, alloc, table, plain, &some_op(draw));
+        let alone = (draw >> 60) % 4 == 0;
+        let update = TableUpdate {
+            op: some_op(draw),
+            alone,
+        };
+        update_plainly(rt, plain, &update);
+        update_table(rt, alloc, table, &update);
     }
 }
 
@@ -276,40 +316,75 @@ fn a_copy_is_held_across_many_updates(rt: HostRuntime) {
     compare_plainly(&rt, rt.alloc(), &held, &old);
 }
 
-/// An update of the third of four tables, which is looked for first at the first row, answers this and tells these
-/// runs.
+/// What an update is to tell: what is done after it, and where.
+#[derive(Clone, Copy)]
+struct Told<'a> {
+    after: Option<Target>,
+    runs: &'a [Run],
+}
+
+fn answer(after: Target, runs: &[Run]) -> Told<'_> {
+    Told {
+        after: Some(after),
+        runs,
+    }
+}
+
+/// An update of the third of four tables, which is looked for first at the first row, tells this.
 fn compare_update<L: Ledger>(
     rt: &impl Abort,
     alloc: Global,
     tables: &mut RouteTables,
-    op: Op,
-    want: Option<Target>,
-    want_runs: &[Run],
+    op: TableOp,
+    want: Told<'_>,
     steps: &mut Steps<L>,
 ) {
     let mut runs = Vec::new(alloc);
+    let update = TableUpdate { op, alone: false };
     let after = tables
-        .update(alloc, 2, &op, 0, &mut runs, steps)
+        .update(alloc, 2, &update, 0, &mut runs, steps)
         .expect(rt, "memory");
-    assert_eq!(rt; after, want);
-    assert_eq!(rt; runs.as_slice(), want_runs);
+    let way = match want.after {
+        Some(target) => Some(Way::Straight(target)),
+        None => None,
+    };
+    assert_eq!(rt; after, way);
+    assert_eq!(rt; runs.as_slice(), want.runs);
 }
 
-/// A route is set.
-fn setting(prefix: Prefix, metric: u32, target: Target) -> Op {
-    Op::Set {
+/// A route is put.
+fn setting(prefix: Prefix, metric: u32, target: Target) -> TableOp {
+    TableOp::Put {
         prefix,
         metric,
-        target,
+        way: Way::Straight(target),
     }
 }
 
 /// All routes of a prefix are cleared.
-fn clearing(prefix: Prefix) -> Op {
-    Op::Clear {
+fn clearing(prefix: Prefix) -> TableOp {
+    TableOp::Clear {
         prefix,
         metric: None,
     }
+}
+
+/// A route is put in one of the tables.
+fn put<L: Ledger>(
+    rt: &impl Abort,
+    alloc: Global,
+    tables: &mut RouteTables,
+    lane: usize,
+    op: TableOp,
+    steps: &mut Steps<L>,
+)
+    requires { lane < 4 }
+{
+    let mut runs = Vec::new(alloc);
+    let update = TableUpdate { op, alone: false };
+    tables
+        .update(alloc, lane, &update, 0, &mut runs, steps)
+        .expect(rt, "memory");
 }
 
 /// Its neighbours set the same prefixes and some within and around them, which is nothing to the third router.
@@ -319,19 +394,12 @@ fn set_at_neighbours<L: Ledger>(
     tables: &mut RouteTables,
     steps: &mut Steps<L>,
 ) {
-    let mut runs = Vec::new(alloc);
     let all = setting(Prefix::new(0, 0), 1, Target::Local);
     let within = setting(Prefix::new(0x0A01_0200, 24), 1, Target::Exit(9));
     let same = setting(ten_one(), 1, Target::Exit(9));
-    tables
-        .update(alloc, 1, &all, 0, &mut runs, steps)
-        .expect(rt, "memory");
-    tables
-        .update(alloc, 3, &within, 0, &mut runs, steps)
-        .expect(rt, "memory");
-    tables
-        .update(alloc, 3, &same, 0, &mut runs, steps)
-        .expect(rt, "memory");
+    put(rt, alloc, tables, 1, all, steps);
+    put(rt, alloc, tables, 3, within, steps);
+    put(rt, alloc, tables, 3, same, steps);
 }
 
 fn updates_of_one_in_another<L: Ledger>(rt: &impl Abort, alloc: Global, blank: Blank)
@@ -361,22 +429,32 @@ fn updates_of_one_in_another<L: Ledger>(rt: &impl Abort, alloc: Global, blank: B
     ];
     let inner = Target::Exit(1);
     let outer = Target::Exit(2);
-    let local = Some(Target::Local);
+    let nothing = Told {
+        after: None,
+        runs: &[],
+    };
     let set_ten = setting(ten(), 20, Target::Local);
-    compare_update(rt, alloc, tables, set_ten, local, &ten_all, steps);
+    let local = answer(Target::Local, &ten_all);
+    compare_update(rt, alloc, tables, set_ten, local, steps);
     set_at_neighbours(rt, alloc, tables, steps);
     let set_again = setting(ten(), 20, Target::Local);
-    compare_update(rt, alloc, tables, set_again, None, &[], steps);
+    compare_update(rt, alloc, tables, set_again, nothing, steps);
     let set_one = setting(ten_one(), 5, inner);
-    compare_update(rt, alloc, tables, set_one, Some(inner), &one_all, steps);
+    compare_update(rt, alloc, tables, set_one, answer(inner, &one_all), steps);
     let set_less = setting(ten(), 10, outer);
-    compare_update(rt, alloc, tables, set_less, Some(outer), &around_one, steps);
-    compare_update(rt, alloc, tables, clearing(ten_zero()), None, &[], steps);
+    compare_update(
+        rt,
+        alloc,
+        tables,
+        set_less,
+        answer(outer, &around_one),
+        steps,
+    );
+    compare_update(rt, alloc, tables, clearing(ten_zero()), nothing, steps);
     let clear_one = clearing(ten_one());
-    compare_update(rt, alloc, tables, clear_one, Some(outer), &one_all, steps);
-    let clear_ten = clearing(ten());
-    let none = Some(Target::NoRoute);
-    compare_update(rt, alloc, tables, clear_ten, none, &ten_all, steps);
+    compare_update(rt, alloc, tables, clear_one, answer(outer, &one_all), steps);
+    let none = answer(Target::NoRoute, &ten_all);
+    compare_update(rt, alloc, tables, clearing(ten()), none, steps);
 }
 
 #[test]
@@ -384,11 +462,11 @@ fn an_update_tells_the_own_addresses_of_its_prefix(rt: HostRuntime) {
     updates_of_one_in_another::<Brand>(&rt, rt.alloc(), Blank::new(1));
 }
 
-/// What a table does with an address.
-fn target_of(table: &RouteTable, a: u32) -> Target {
+/// The way of an address by a table.
+fn way_of(table: &RouteTable, a: u32) -> Way {
     match table.best(a) {
-        Some(route) => route.target,
-        None => Target::NoRoute,
+        Some(route) => route.way,
+        None => Way::Straight(Target::NoRoute),
     }
 }
 
@@ -398,42 +476,45 @@ fn compare_turned(
     before: &RouteTable,
     table: &RouteTable,
     runs: &[Run],
-    after: Option<Target>,
+    after: Option<Way>,
 ) {
     for k in 0..60u32 {
         let a = some_prefix(k * 5).base();
-        let mut want = target_of(before, a);
-        if let Some(target) = after {
+        let mut want = way_of(before, a);
+        if let Some(way) = after {
             if runs.iter().any(|run| run.lo <= a && a <= run.hi) {
-                want = target;
+                want = way;
             }
         }
-        assert_eq!(rt; target_of(table, a), want);
+        assert_eq!(rt; way_of(table, a), want);
     }
 }
 
-/// An update of one of four tables, and of the table of that router alone, which shows whether what the first told is
-/// so.
+/// An update of the first of four tables or of the last, and of the table of that router by itself, which shows whether
+/// what the first told is so. The last router replaces by prefix.
 fn update_beside<L: Ledger>(
     rt: &impl Abort,
     alloc: Global,
     tables: &mut RouteTables,
     lane: usize,
-    alone: &mut RouteTable,
+    own: &mut RouteTable,
     draw: u64,
     steps: &mut Steps<L>,
 )
     requires { lane < 4 }
 {
-    let op = some_op(draw);
-    let before = copied(rt, alone);
+    let update = TableUpdate {
+        op: some_op(draw),
+        alone: lane == 3,
+    };
+    let before = copied(rt, own);
     let mut runs = Vec::new(alloc);
     let near = (draw >> 50) % 400;
     let after = tables
-        .update(alloc, lane, &op, near, &mut runs, steps)
+        .update(alloc, lane, &update, near, &mut runs, steps)
         .expect(rt, "memory");
-    update_both(rt, alloc, alone, &mut Vec::new(alloc), &op);
-    compare_turned(rt, &before, alone, &runs, after);
+    update_table(rt, alloc, own, &update);
+    compare_turned(rt, &before, own, &runs, after);
 }
 
 /// Updates of the first and the last of four tables in turn.

@@ -4,26 +4,26 @@ use Rattle.std.specs.List.{Contains, list_all}
 use Rattle.std.proofs.lemmas.Bool.{and_parts, and_right, cases_Bool, cases_lt, cond_both, true≢false}
 use Rattle.std.proofs.lemmas.List.{get_or_default}
 use Rattle.std.proofs.lemmas.List.Sums.{sum_by-cons}
-use Rattle.dn_model.specs.Cycles.{AreCycles, AreInOrder, BeginAt, HasCycle, IsCycle, first_router, go_round, goes_round, goes_to, is_cycle}
-use Rattle.dn_model.specs.CyclesFrom.{AreSomeCycles, IsCycleOf, IsPutAmong}
-use Rattle.dn_model.specs.Forwarding.{AreForwarding, does}
-use Rattle.dn_model.specs.Reach.{is_router}
-use Rattle.dn_model.specs.Rows.{is_within}
-use Rattle.dn_model.specs.Runs.{AreApart, AreRuns, addresses_in, run_length}
-use Rattle.dn_model.specs.Topology.{all_differ}
-use Rattle.dn_model.specs.Walk.{at_address, on_far}
-use Rattle.dn_model.specs.declared.answer.Cycle.{Cycle}
-use Rattle.dn_model.specs.declared.forwarding_row.ForwardingRow.{ForwardingRow}
-use Rattle.dn_model.specs.declared.ids.LinkId.{LinkId}
-use Rattle.dn_model.specs.declared.ids.RouterId.{RouterId}
-use Rattle.dn_model.specs.declared.run.Run.{Run}
-use Rattle.dn_model.specs.declared.target.Target.{Target}
-use Rattle.dn_model.specs.declared.target.Target.TheVariants.{To}
-use Rattle.dn_model.proofs.Best.{contains-none}
-use Rattle.dn_model.proofs.Covers.{within-yes}
-use Rattle.dn_model.proofs.CyclesFrom.{begin-goes, few, other-cycle, tell-new}
-use Rattle.dn_model.proofs.RunsOnce.{apart-head}
-use Rattle.dn_model.proofs.Walks.{on_far-last}
+use Rattle.base.specs.Cycles.{AreCycles, AreInOrder, BeginAt, HasCycle, IsCycle, first_router, go_round, goes_round, goes_to, is_cycle}
+use Rattle.base.specs.CyclesFrom.{AreSomeCycles, IsCycleOf, IsPutAmong}
+use Rattle.base.specs.Forwarding.{AreForwarding, does}
+use Rattle.base.specs.Reach.{is_router}
+use Rattle.base.specs.Rows.{is_within}
+use Rattle.base.specs.Runs.{AreApart, AreRuns, addresses_in, run_length}
+use Rattle.base.specs.Lists.{all_differ}
+use Rattle.base.specs.Walk.{at_address, on_far}
+use Rattle.base.specs.declared.cycle.Cycle.{Cycle}
+use Rattle.base.specs.declared.forwarding_row.ForwardingRow.{ForwardingRow}
+use Rattle.base.specs.declared.ids.LinkId.{LinkId}
+use Rattle.base.specs.declared.ids.RouterId.{RouterId}
+use Rattle.base.specs.declared.run.Run.{Run}
+use Rattle.base.specs.declared.target.Target.{Target}
+use Rattle.base.specs.declared.target.Target.TheVariants.{To}
+use Rattle.base.proofs.Elements.{contains-none}
+use Rattle.base.proofs.Covers.{within-yes}
+use Rattle.base.proofs.CyclesFrom.{begin-goes, few, other-cycle, tell-new}
+use Rattle.base.proofs.RunsOnce.{apart-head}
+use Rattle.base.proofs.Walks.{on_far-last}
 use Rattle.par_scan.specs.CyclesByRange.{AreCyclePieces, AreCyclesByRange, AreCyclesWithin, IsCycleWithin, IsShare, TellsCycleAt, TellsCyclesOf}
 use Rattle.par_scan.specs.Joined.{joined}
 use Rattle.par_scan.specs.Parts.{ShowsPart}

@@ -3,26 +3,26 @@ use Rattle.std.proofs.Common.{◌≡◌, ◌≢◌, ℕ, zero, suc, ◌+◌, ◌
 use Rattle.std.specs.List.{Contains, list_any}
 use Rattle.std.proofs.lemmas.Bool.{and_from, and_parts, and_right, both_ways, or_parts, cases_Bool, cases_lt, cond-true, cond-false, eq-eqb, eqb-true, true≢false}
 use Rattle.std.proofs.lemmas.List.{drop_more, get_or_default}
-use Rattle.dn_model.specs.Forwarding.{AreForwarding, does}
-use Rattle.dn_model.specs.Holes.{AreHoles, HasHole, IsHole, cause_rank, ends_by, falls, is_cause}
-use Rattle.dn_model.specs.HolesFrom.{AreSomeHoles, IsPutAmong, is_hole_of}
-use Rattle.dn_model.specs.Reach.{is_router}
-use Rattle.dn_model.specs.Rows.{is_within}
-use Rattle.dn_model.specs.Runs.{AreRuns}
-use Rattle.dn_model.specs.Walk.{at_address, on_far, walk_end, walk_last}
-use Rattle.dn_model.specs.declared.answer.Hole.{Hole}
-use Rattle.dn_model.specs.declared.answer.PathEnd.{PathEnd}
-use Rattle.dn_model.specs.declared.answer.PathEnd.TheVariants.{At, Loop}
-use Rattle.dn_model.specs.declared.forwarding_row.ForwardingRow.{ForwardingRow}
-use Rattle.dn_model.specs.declared.ids.RouterId.{RouterId}
-use Rattle.dn_model.specs.declared.run.Run.{Run}
-use Rattle.dn_model.specs.declared.target.Target.{Target}
-use Rattle.dn_model.specs.declared.target.Target.TheVariants.{Local}
-use Rattle.dn_model.proofs.Best.{contains-here, contains-none, contains-there}
-use Rattle.dn_model.proofs.Covers.{within-yes}
-use Rattle.dn_model.proofs.Picks.{any-none, any-some}
-use Rattle.dn_model.proofs.RunsOnce.{apart-bound, apart-head, first-holds}
-use Rattle.dn_model.proofs.Walks.{on_far-same, walk_end-last, walk_end-same}
+use Rattle.base.specs.Forwarding.{AreForwarding, does}
+use Rattle.base.specs.Holes.{AreHoles, HasHole, IsHole, cause_rank, ends_by, falls, is_cause}
+use Rattle.base.specs.HolesFrom.{AreSomeHoles, IsPutAmong, is_hole_of}
+use Rattle.base.specs.Reach.{is_router}
+use Rattle.base.specs.Rows.{is_within}
+use Rattle.base.specs.Runs.{AreRuns}
+use Rattle.base.specs.Walk.{at_address, on_far, walk_end, walk_last}
+use Rattle.base.specs.declared.hole.Hole.{Hole}
+use Rattle.base.specs.declared.path_end.PathEnd.{PathEnd}
+use Rattle.base.specs.declared.path_end.PathEnd.TheVariants.{At, Loop}
+use Rattle.base.specs.declared.forwarding_row.ForwardingRow.{ForwardingRow}
+use Rattle.base.specs.declared.ids.RouterId.{RouterId}
+use Rattle.base.specs.declared.run.Run.{Run}
+use Rattle.base.specs.declared.target.Target.{Target}
+use Rattle.base.specs.declared.target.Target.TheVariants.{Local}
+use Rattle.base.proofs.Elements.{contains-here, contains-none, contains-there}
+use Rattle.base.proofs.Covers.{within-yes}
+use Rattle.base.proofs.Picks.{any-none, any-some}
+use Rattle.base.proofs.RunsOnce.{apart-bound, apart-head, first-holds}
+use Rattle.base.proofs.Walks.{on_far-same, walk_end-last, walk_end-same}
 use Rattle.par_scan.specs.HolesByRange.{AreHolePieces, AreHolesByRange, AreHolesWithin, IsHoleWithin, TellsHoleAt, TellsHolesOf, hole_runs}
 use Rattle.par_scan.specs.Joined.{joined}
 use Rattle.par_scan.specs.Parts.{ShowsPart}

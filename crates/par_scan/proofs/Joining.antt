@@ -3,12 +3,12 @@ use Rattle.std.proofs.Common.{◌≡◌, ℕ, ◌+◌, ◌-◌, ◌<◌, ◌≤�
 use Rattle.std.proofs.lemmas.Bool.{cases_eq, cond-true, cond-false, cond_both, eq-eqb, eqb-true, ne_eqb, cases_lt, both_ways, or_left, or_right}
 use Rattle.std.specs.List.{list_any}
 use Rattle.std.proofs.lemmas.List.Sums.{sum_by-cons}
-use Rattle.dn_model.specs.Runs.{holds, AreApart, AreRuns, addresses_in, run_length}
-use Rattle.dn_model.specs.RunsFrom.{with_run, AreRunsFrom, StartFrom}
-use Rattle.dn_model.specs.declared.run.Run.{Run}
-use Rattle.dn_model.proofs.Covers.{within-above, within-below, within-yes}
-use Rattle.dn_model.proofs.RunsFrom.{put-passed, with-holds}
-use Rattle.dn_model.proofs.RunsOnce.{apart-bound, apart-head, apart-tail, first-holds, holds-above, holds-in}
+use Rattle.base.specs.Runs.{holds, AreApart, AreRuns, addresses_in, run_length}
+use Rattle.base.specs.RunsFrom.{with_run, AreRunsFrom, StartFrom}
+use Rattle.base.specs.declared.run.Run.{Run}
+use Rattle.base.proofs.Covers.{within-above, within-below, within-yes}
+use Rattle.base.proofs.RunsFrom.{put-passed, with-holds}
+use Rattle.base.proofs.RunsOnce.{apart-bound, apart-head, apart-tail, first-holds, holds-above, holds-in}
 use Rattle.par_scan.specs.Joined.{joined}
 use Rattle.par_scan.specs.Ranges.{AreBounds, AreRunsByRange, only_within}
 

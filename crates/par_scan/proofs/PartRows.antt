@@ -2,13 +2,13 @@
 use Rattle.std.proofs.Common.{◌≡◌, ℕ, zero, suc, ◌+◌, ◌-◌, ◌<◌, ◌≤◌, ◌^◌, ◌∙◌, ⊎_elim, Bool, true, false, cond, ltb, Option, Some, List, [], ◌∷◌, ◌++◌, length, take, drop, replicate, get_or, refl, ap, sym, subst, arith}
 use Rattle.std.proofs.lemmas.Bool.{cases_lt, cond-true, cond-false, lt-ltb, le-ltb}
 use Rattle.std.proofs.lemmas.List.{length-append, length-drop, length-take-le, get_or-take, get_or-drop, get_or_append_left, get_or-append_right}
-use Rattle.dn_model.specs.Forwarding.{AreEachForwarding, AreForwarding, IsForwarding, row_low, row_past, forwarding_at, target_in_row, target_of}
-use Rattle.dn_model.specs.Rows.{CoverFrom, is_within}
-use Rattle.dn_model.specs.declared.forwarding_row.ForwardingRow.{ForwardingRow}
-use Rattle.dn_model.specs.declared.ids.LinkId.{LinkId}
-use Rattle.dn_model.specs.declared.ids.RouterId.{RouterId}
-use Rattle.dn_model.specs.declared.target.Target.TheVariants.{Local, NoRoute, To}
-use Rattle.dn_model.proofs.Covers.{few-rows, holder-first, holder-rest, starts-below, within-above, within-yes}
+use Rattle.base.specs.Forwarding.{AreEachForwarding, AreForwarding, IsForwarding, row_low, row_past, forwarding_at, target_in_row, target_of}
+use Rattle.base.specs.Rows.{CoverFrom, is_within}
+use Rattle.base.specs.declared.forwarding_row.ForwardingRow.{ForwardingRow}
+use Rattle.base.specs.declared.ids.LinkId.{LinkId}
+use Rattle.base.specs.declared.ids.RouterId.{RouterId}
+use Rattle.base.specs.declared.target.Target.TheVariants.{Local, NoRoute, To}
+use Rattle.base.proofs.Covers.{few-rows, holder-first, holder-rest, starts-below, within-above, within-yes}
 use Rattle.label_view.specs.Places.{IsInRow, begin_of}
 use Rattle.label_view.proofs.InRow.{in-row}
 use Rattle.par_scan.specs.Parts.{ShowsPart, idle_row, idle_rows, part_of}

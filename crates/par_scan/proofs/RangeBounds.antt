@@ -3,10 +3,10 @@ use Rattle.std.proofs.Common.{◌≡◌, ℕ, zero, suc, ◌+◌, ◌*◌, ◌<�
 use Rattle.std.specs.Prelude.{IfOk, MatchResult}
 use Rattle.std.specs.List.{AllZip, Contains, range_with_len}
 use Rattle.std.proofs.lemmas.Bool.{cases_lt, cond-true, cond-false, lt-ltb, le-ltb}
-use Rattle.dn_model.specs.Forwarding.{AreForwarding}
-use Rattle.dn_model.specs.Runs.{AreRuns}
-use Rattle.dn_model.specs.declared.forwarding_row.ForwardingRow.{ForwardingRow}
-use Rattle.dn_model.specs.declared.run.Run.{Run}
+use Rattle.base.specs.Forwarding.{AreForwarding}
+use Rattle.base.specs.Runs.{AreRuns}
+use Rattle.base.specs.declared.forwarding_row.ForwardingRow.{ForwardingRow}
+use Rattle.base.specs.declared.run.Run.{Run}
 use Rattle.label_view.specs.Places.{begin_of}
 use Rattle.par_scan.specs.Parts.{ShowsPart}
 use Rattle.par_scan.specs.Ranges.{AreBounds, AreRunsByRange, only_within, place_at, range_begin}

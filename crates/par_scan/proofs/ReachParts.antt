@@ -2,15 +2,15 @@
 use Rattle.std.proofs.Common.{◌≡◌, ℕ, ◌<◌, ◌≤◌, ◌^◌, ◌⊎◌, inl, inr, ◌∙◌, ⊎_elim, Bool, true, false, ◌&&◌, List, ap, sym, arith}
 use Rattle.std.specs.List.{list_any}
 use Rattle.std.proofs.lemmas.Bool.{cases_lt}
-use Rattle.dn_model.specs.Forwarding.{does}
-use Rattle.dn_model.specs.Reach.{is_router, reaches}
-use Rattle.dn_model.specs.Runs.{AreRuns}
-use Rattle.dn_model.specs.Walk.{at_address}
-use Rattle.dn_model.specs.declared.forwarding_row.ForwardingRow.{ForwardingRow}
-use Rattle.dn_model.specs.declared.ids.RouterId.{RouterId}
-use Rattle.dn_model.specs.declared.run.Run.{Run}
-use Rattle.dn_model.proofs.Covers.{within-above, within-below, within-yes}
-use Rattle.dn_model.proofs.Walks.{walk-same}
+use Rattle.base.specs.Forwarding.{does}
+use Rattle.base.specs.Reach.{is_router, reaches}
+use Rattle.base.specs.Runs.{AreRuns}
+use Rattle.base.specs.Walk.{at_address}
+use Rattle.base.specs.declared.forwarding_row.ForwardingRow.{ForwardingRow}
+use Rattle.base.specs.declared.ids.RouterId.{RouterId}
+use Rattle.base.specs.declared.run.Run.{Run}
+use Rattle.base.proofs.Covers.{within-above, within-below, within-yes}
+use Rattle.base.proofs.Walks.{walk-same}
 use Rattle.walk_check.proofs.Reaching.{met-here, met-never}
 use Rattle.par_scan.specs.Parts.{ShowsPart}
 use Rattle.par_scan.specs.Ranges.{only_within}

@@ -1,12 +1,12 @@
 -- Cycles of ranges of addresses, and what is put together of them.
 use Rattle.std.specs.Prelude.{ℕ, Bool, List, [], ◌≡◌, ◌≢◌, ◌+◌, ◌<◌, ◌≤◌, ◌^◌, IsTrue, Contains, length, slice_index_or}
-use Rattle.dn_model.specs.Cycles.{BeginAt, HasCycle, goes_round}
-use Rattle.dn_model.specs.CyclesFrom.{AreSomeCycles}
-use Rattle.dn_model.specs.Runs.{AreRuns, addresses_in}
-use Rattle.dn_model.specs.declared.answer.Cycle.{Cycle}
-use Rattle.dn_model.specs.declared.ids.RouterId.{RouterId}
-use Rattle.dn_model.specs.declared.run.Run.{Run}
-use Rattle.dn_model.specs.declared.target.Target.{Target}
+use Rattle.base.specs.Cycles.{BeginAt, HasCycle, goes_round}
+use Rattle.base.specs.CyclesFrom.{AreSomeCycles}
+use Rattle.base.specs.Runs.{AreRuns, addresses_in}
+use Rattle.base.specs.declared.cycle.Cycle.{Cycle}
+use Rattle.base.specs.declared.ids.RouterId.{RouterId}
+use Rattle.base.specs.declared.run.Run.{Run}
+use Rattle.base.specs.declared.target.Target.{Target}
 use Rattle.par_scan.specs.Ranges.{AreBounds, only_within}
 use Rattle.par_scan.specs.declared.share.Share.{Share}
 

@@ -1,12 +1,12 @@
 -- Black holes of ranges of addresses, and what is put together of them.
 use Rattle.std.specs.Prelude.{ℕ, List, [], ◌∷◌, ◌≡◌, ◌≢◌, ◌+◌, ◌<◌, ◌≤◌, ◌^◌, IsTrue, Contains, if◌then◌else◌, length, slice_index_or}
-use Rattle.dn_model.specs.Holes.{HasHole, falls, is_cause}
-use Rattle.dn_model.specs.HolesFrom.{AreSomeHoles, is_hole_of}
-use Rattle.dn_model.specs.Runs.{AreRuns}
-use Rattle.dn_model.specs.declared.answer.Hole.{Hole}
-use Rattle.dn_model.specs.declared.ids.RouterId.{RouterId}
-use Rattle.dn_model.specs.declared.run.Run.{Run}
-use Rattle.dn_model.specs.declared.target.Target.{Target}
+use Rattle.base.specs.Holes.{HasHole, falls, is_cause}
+use Rattle.base.specs.HolesFrom.{AreSomeHoles, is_hole_of}
+use Rattle.base.specs.Runs.{AreRuns}
+use Rattle.base.specs.declared.hole.Hole.{Hole}
+use Rattle.base.specs.declared.ids.RouterId.{RouterId}
+use Rattle.base.specs.declared.run.Run.{Run}
+use Rattle.base.specs.declared.target.Target.{Target}
 use Rattle.par_scan.specs.Ranges.{AreBounds, only_within}
 
 -- a hole of the addresses between two bounds: the runs of those that fall there, of which there is one

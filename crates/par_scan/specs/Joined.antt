@@ -1,7 +1,7 @@
 -- Runs of addresses, and more of them after the last.
 use Rattle.std.specs.Prelude.{List, [], ◌∷◌}
-use Rattle.dn_model.specs.RunsFrom.{with_run}
-use Rattle.dn_model.specs.declared.run.Run.{Run}
+use Rattle.base.specs.RunsFrom.{with_run}
+use Rattle.base.specs.declared.run.Run.{Run}
 
 -- runs, and more after them: where the last one touches the first of these, the two are one
 abbrev pub joined : List Run → List Run → List Run

@@ -1,9 +1,9 @@
 -- Rows cut into ranges of one size, and what is found in each.
 use Rattle.std.specs.Prelude.{ℕ, Bool, List, ◌*◌, ◌+◌, ◌<◌, ◌≤◌, ◌≡◌, ◌&&◌, nat_lt, if◌then◌else◌, length, slice_index_or}
-use Rattle.dn_model.specs.Rows.{is_within}
-use Rattle.dn_model.specs.Runs.{AreRuns}
-use Rattle.dn_model.specs.declared.forwarding_row.ForwardingRow.{ForwardingRow}
-use Rattle.dn_model.specs.declared.run.Run.{Run}
+use Rattle.base.specs.Rows.{is_within}
+use Rattle.base.specs.Runs.{AreRuns}
+use Rattle.base.specs.declared.forwarding_row.ForwardingRow.{ForwardingRow}
+use Rattle.base.specs.declared.run.Run.{Run}
 use Rattle.label_view.specs.Places.{begin_of}
 
 -- where the range with this number begins, among so many rows: the last ends with them

@@ -1,16 +1,16 @@
 //! Cycles of all addresses, put together from those of each range.
 
 ghost use Rattle.std.specs.Prelude.{◌≡◌, ◌<◌, ℕ, IfOk, OnOk};
-ghost use Rattle.dn_model.specs.Cycles.{AreCycles, goes_round};
-ghost use Rattle.dn_model.specs.CyclesFrom.{AreSomeCycles};
-ghost use Rattle.dn_model.specs.declared.answer.Cycle.{Cycle as CycleIs};
-ghost use Rattle.dn_model.specs.declared.ids.RouterId.{RouterId as RouterIs};
-ghost use Rattle.dn_model.specs.declared.target.Target.{Target as TargetIs};
+ghost use Rattle.base.specs.Cycles.{AreCycles, goes_round};
+ghost use Rattle.base.specs.CyclesFrom.{AreSomeCycles};
+ghost use Rattle.base.specs.declared.cycle.Cycle.{Cycle as CycleIs};
+ghost use Rattle.base.specs.declared.ids.RouterId.{RouterId as RouterIs};
+ghost use Rattle.base.specs.declared.target.Target.{Target as TargetIs};
 ghost use Rattle.par_scan.specs.CyclesByRange.{AreCyclePieces, AreCyclesWithin, IsCycleWithin, IsShare, TellsCycleAt, TellsCyclesOf};
 ghost use Rattle.par_scan.specs.Ranges.{only_within};
 
 use crate::share::{Share, both};
-use dn_model::{Cycle, List, OutOfMemory, RouterId};
+use base::{Cycle, List, OutOfMemory, RouterId};
 use loop_check::{are_same_routers, has_cycle, put_cycle};
 use std::alloc::Global;
 

@@ -1,8 +1,8 @@
 //! In which cycles addresses go round.
 
 ghost use Rattle.std.specs.Prelude.{◌≡◌, ◌+◌, ◌*◌, ◌<◌, ◌≤◌, ◌^◌, ℕ, IfOk, length};
-ghost use Rattle.dn_model.specs.Cycles.{AreCycles};
-ghost use Rattle.dn_model.specs.Forwarding.{does};
+ghost use Rattle.base.specs.Cycles.{AreCycles};
+ghost use Rattle.base.specs.Forwarding.{does};
 ghost use Rattle.par_scan.specs.CyclesByRange.{AreCyclesByRange, AreCyclesWithin};
 ghost use Rattle.par_scan.specs.Ranges.{range_begin};
 
@@ -10,7 +10,7 @@ use crate::cycle_pieces::join_cycles;
 use crate::one_thread::loops_alone;
 use crate::part::Part;
 use crate::ranges::Ranges;
-use dn_model::{Cycle, List, OutOfMemory};
+use base::{Cycle, List, OutOfMemory};
 use label_view::LabelView;
 use rayon::current_num_threads;
 use rayon::prelude::*;

@@ -2,12 +2,12 @@
 
 ghost use Rattle.std.specs.Prelude.{◌≡◌, ◌<◌, ◌≤◌, ℕ, false, IsTrue, OnOk, length, slice_index_or};
 ghost use Rattle.std.specs.List.{list_any};
-ghost use Rattle.dn_model.specs.Holes.{AreInOrder, cause_rank};
-ghost use Rattle.dn_model.specs.HolesFrom.{IsPutAmong, is_before, is_hole_of};
-ghost use Rattle.dn_model.specs.declared.answer.Hole.{Hole as HoleIs};
+ghost use Rattle.base.specs.Holes.{AreInOrder, cause_rank};
+ghost use Rattle.base.specs.HolesFrom.{IsPutAmong, is_before, is_hole_of};
+ghost use Rattle.base.specs.declared.hole.Hole.{Hole as HoleIs};
 ghost use Rattle.par_scan.specs.HolesByRange.{hole_runs};
 
-use dn_model::{DropKind, Hole, OutOfMemory, RouterId, Run, Target};
+use base::{DropKind, Hole, OutOfMemory, RouterId, Run, Target};
 
 /// The place of a cause in the order in which causes are told; 0 for what is none.
 fn rank(target: Target) -> u32

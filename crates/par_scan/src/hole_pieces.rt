@@ -1,17 +1,17 @@
 //! Black holes of all addresses, put together from those of each range.
 
 ghost use Rattle.std.specs.Prelude.{◌≡◌, ◌<◌, ℕ, IfOk, OnOk};
-ghost use Rattle.dn_model.specs.Holes.{AreHoles, falls};
-ghost use Rattle.dn_model.specs.HolesFrom.{AreSomeHoles};
-ghost use Rattle.dn_model.specs.Runs.{AreRuns};
-ghost use Rattle.dn_model.specs.declared.answer.Hole.{Hole as HoleIs};
-ghost use Rattle.dn_model.specs.declared.ids.RouterId.{RouterId as RouterIs};
-ghost use Rattle.dn_model.specs.declared.target.Target.{Target as TargetIs};
+ghost use Rattle.base.specs.Holes.{AreHoles, falls};
+ghost use Rattle.base.specs.HolesFrom.{AreSomeHoles};
+ghost use Rattle.base.specs.Runs.{AreRuns};
+ghost use Rattle.base.specs.declared.hole.Hole.{Hole as HoleIs};
+ghost use Rattle.base.specs.declared.ids.RouterId.{RouterId as RouterIs};
+ghost use Rattle.base.specs.declared.target.Target.{Target as TargetIs};
 ghost use Rattle.par_scan.specs.HolesByRange.{AreHolePieces, AreHolesWithin, IsHoleWithin, TellsHoleAt, TellsHolesOf};
 
 use crate::hole_order::{has_hole, put_hole, runs_at};
 use crate::more_runs::add_runs;
-use dn_model::{Hole, List, OutOfMemory, RouterId, Run, Target};
+use base::{Hole, List, OutOfMemory, RouterId, Run, Target};
 use std::alloc::Global;
 
 /// The runs of all addresses that fall at a router by a cause.

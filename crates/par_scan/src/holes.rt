@@ -1,8 +1,8 @@
 //! Where walks end without a way on.
 
 ghost use Rattle.std.specs.Prelude.{◌≡◌, ◌+◌, ◌*◌, ◌<◌, ◌≤◌, ◌^◌, ℕ, IfOk, length};
-ghost use Rattle.dn_model.specs.Forwarding.{does};
-ghost use Rattle.dn_model.specs.Holes.{AreHoles};
+ghost use Rattle.base.specs.Forwarding.{does};
+ghost use Rattle.base.specs.Holes.{AreHoles};
 ghost use Rattle.par_scan.specs.HolesByRange.{AreHolesByRange, AreHolesWithin};
 ghost use Rattle.par_scan.specs.Ranges.{range_begin};
 
@@ -10,7 +10,7 @@ use crate::hole_pieces::join_holes;
 use crate::one_thread::holes_alone;
 use crate::part::Part;
 use crate::ranges::Ranges;
-use dn_model::{Hole, List, OutOfMemory, RouterId};
+use base::{Hole, List, OutOfMemory, RouterId};
 use label_view::LabelView;
 use rayon::current_num_threads;
 use rayon::prelude::*;

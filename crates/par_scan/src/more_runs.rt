@@ -1,11 +1,11 @@
 //! Runs of addresses that come after others.
 
 ghost use Rattle.std.specs.Prelude.{◌≡◌, ℕ, Bool, [], ◌∷◌, IfOk, OnOk, length};
-ghost use Rattle.dn_model.specs.Runs.{AreRuns};
+ghost use Rattle.base.specs.Runs.{AreRuns};
 ghost use Rattle.par_scan.specs.Joined.{joined};
 ghost use Rattle.par_scan.specs.Ranges.{AreBounds, AreRunsByRange, only_within};
 
-use dn_model::{List, OutOfMemory, Run};
+use base::{List, OutOfMemory, Run};
 use std::alloc::Global;
 
 /// Adds a run after others. If the last of them touches it, the two become one.

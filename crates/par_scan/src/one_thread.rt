@@ -2,13 +2,13 @@
 //! bytes.
 
 ghost use Rattle.std.specs.Prelude.{◌≡◌, ◌<◌, IfOk};
-ghost use Rattle.dn_model.specs.Cycles.{AreCycles};
-ghost use Rattle.dn_model.specs.Forwarding.{does};
-ghost use Rattle.dn_model.specs.Holes.{AreHoles};
-ghost use Rattle.dn_model.specs.Reach.{reaches};
-ghost use Rattle.dn_model.specs.Runs.{AreRuns};
+ghost use Rattle.base.specs.Cycles.{AreCycles};
+ghost use Rattle.base.specs.Forwarding.{does};
+ghost use Rattle.base.specs.Holes.{AreHoles};
+ghost use Rattle.base.specs.Reach.{reaches};
+ghost use Rattle.base.specs.Runs.{AreRuns};
 
-use dn_model::{Cycle, Hole, List, OutOfMemory, RouterId, Run};
+use base::{Cycle, Hole, List, OutOfMemory, RouterId, Run};
 use label_view::LabelView;
 use std::alloc::Global;
 use std::marker::Brand;

@@ -6,7 +6,7 @@ ghost use Rattle.par_scan.specs.Parts.{ShowsPart, part_of};
 ghost use Rattle.par_scan.specs.Ranges.{range_begin};
 
 use crate::ranges::Ranges;
-use dn_model::{RouterId, Target};
+use base::{RouterId, Target};
 use label_view::LabelView;
 
 /// So many rows of a view from a place on, as a view of as many routers. All other addresses stay where they are: a row

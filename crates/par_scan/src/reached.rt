@@ -1,16 +1,16 @@
 //! Which addresses come to a router.
 
 ghost use Rattle.std.specs.Prelude.{◌≡◌, ◌+◌, ◌*◌, ◌<◌, ◌≤◌, ◌^◌, ℕ, true, IfOk, length};
-ghost use Rattle.dn_model.specs.Forwarding.{does};
-ghost use Rattle.dn_model.specs.Reach.{reaches};
-ghost use Rattle.dn_model.specs.Runs.{AreRuns};
+ghost use Rattle.base.specs.Forwarding.{does};
+ghost use Rattle.base.specs.Reach.{reaches};
+ghost use Rattle.base.specs.Runs.{AreRuns};
 ghost use Rattle.par_scan.specs.Ranges.{AreRunsByRange, only_within, range_begin};
 
 use crate::more_runs::join_runs;
 use crate::one_thread::reach_alone;
 use crate::part::Part;
 use crate::ranges::Ranges;
-use dn_model::{List, OutOfMemory, RouterId, Run};
+use base::{List, OutOfMemory, RouterId, Run};
 use label_view::LabelView;
 use rayon::current_num_threads;
 use rayon::prelude::*;

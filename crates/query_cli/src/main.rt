@@ -31,5 +31,5 @@ fn main(rt: HostRuntime) -> ExitCode {
         ),
         Err(_) => Status::OutOfMemory,
     };
-    ExitCode::from(status as u8)
+    ExitCode::from(status.number())
 }

@@ -1,5 +1,5 @@
 -- The words of a query, joined by spaces.
-use Rattle.std.proofs.Common.{◌≡◌, ◌≤◌, ◌-◌, ℕ, List, [], ◌∷◌, ◌++◌, Some, codes, length, map, get_or, unwrap_or, ap, sym, ◌∙◌, append_assoc, decimal, refl}
+use Rattle.std.proofs.Common.{◌≡◌, ◌≤◌, ◌-◌, ℕ, List, [], ◌∷◌, ◌++◌, Some, codes, length, map, unwrap_or, ap, sym, ◌∙◌, append_assoc, decimal, refl}
 use Rattle.std.specs.List.{join_with_byte, slice_get}
 use Rattle.std.proofs.lemmas.List.{get_or_append_left, get_or-append_right}
 use Rattle.std.proofs.lemmas.Option.{slice_get_within, get_or_from_slice_get, unwrap_or-slice_get}

@@ -1,12 +1,12 @@
 -- Queries that words ask.
-use Rattle.std.proofs.Common.{◌≡◌, ◌≢◌, ◌≤◌, ◌<◌, ◌^◌, ◌+◌, ℕ, Bool, true, false, Option, None, Some, List, [], ◌∷◌, ◌++◌, length, if◌then◌else◌, ◌&&◌, refl, arith, ap, sym, ◌∙◌}
+use Rattle.std.proofs.Common.{◌≡◌, ◌≢◌, ◌≤◌, ◌+◌, ℕ, Bool, true, false, Option, None, Some, List, [], ◌∷◌, ◌++◌, length, if◌then◌else◌, ◌&&◌, refl, arith, ap, ◌∙◌}
 use Rattle.std.specs.List.{list_all, slice_split}
 use Rattle.std.proofs.lemmas.List.{length-append, length-map}
-use Rattle.dn_model.specs.Name.{is_name_text}
+use Rattle.base.specs.Name.{is_name_text}
 use Rattle.dn_model.specs.Query.{IsQuestion, IsAskedWithout, names_asked, link_names, LinkName}
 use Rattle.dn_model.specs.declared.query.Ask.{Ask}
 use Rattle.dn_model.specs.declared.query.Ask.TheVariants.{Path, Reach, Uses, Loops, Blackholes, Waypoint, Delta}
-use Rattle.dn_formats.specs.QueryWords.{path_of, reach_of, uses_of, loops_of, blackholes_of, waypoint_of, delta_of, is_comma, names_in, asked_without}
+use Rattle.dn_formats.specs.QueryWords.{path_of, reach_of, uses_of, loops_of, blackholes_of, waypoint_of, delta_of, is_comma, names_in}
 use Rattle.dn_formats.specs.ScriptText.{two_of}
 
 -- ---- verbs that have another number of words after them

@@ -3,7 +3,7 @@
 ghost use Rattle.std.specs.Prelude.{◌≡◌, ◌≤◌, ◌+◌, length, if◌then◌else◌, IfOk, IfSome, Option, None, Some};
 ghost use Rattle.dn_formats.specs.QueryWords.{ask_of, asked_without, blackholes_of, delta_of, loops_of, names_in, path_of, query_of, reach_of, uses_of, waypoint_of, without_of};
 ghost use Rattle.dn_formats.specs.ScriptText.{words_of};
-ghost use Rattle.dn_model.specs.Name.{is_name_text};
+ghost use Rattle.base.specs.Name.{is_name_text};
 
 use crate::address::read_address;
 use crate::text_cut::{

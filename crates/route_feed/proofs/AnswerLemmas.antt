@@ -9,14 +9,14 @@ use Rattle.dn_io.specs.Told.{with_front, NothingLeft}
 use Rattle.dn_formats.specs.Feed.{AreSteps, IsStep, IsReading, ending}
 use Rattle.dn_formats.specs.Frames.{Frame, IsFrame, IsFrameFront, frame_text, frames_text, rest_kind, lost_cause}
 use Rattle.dn_formats.specs.Steps.{FrameStep, Accepted, Refused, updates, refusals, skipped_of, ops_of, refused_of}
-use Rattle.dn_model.specs.declared.ids.RouterId.{RouterId}
+use Rattle.base.specs.declared.ids.RouterId.{RouterId}
 use Rattle.dn_model.specs.declared.topology.Topology.{Topology}
 use Rattle.dn_model.specs.declared.entry.Op.{Op}
 use Rattle.dn_formats.specs.declared.told.FeedTold.{FeedTold}
 use Rattle.dn_formats.specs.declared.told.RefusedFrame.{RefusedFrame}
 use Rattle.dn_formats.specs.declared.told.FeedEnd.{FeedEnd}
 use Rattle.dn_formats.specs.declared.told.FeedEnd.TheVariants as ends
-use Rattle.dn_model.specs.declared.memory.OutOfMemory.{OutOfMemory}
+use Rattle.base.specs.declared.memory.OutOfMemory.{OutOfMemory}
 use Rattle.dn_formats.proofs.FeedLemmas.{steps_push, is_kept}
 use Rattle.dn_formats.proofs.FramesLemmas.{front-not_frame, front-not_lost, frames_text-push}
 use Rattle.route_feed.specs.FeedReader.{IsAt, HasEnded, HasFaulted, IsAnswered, IsOutcome, told_so_far, told_after, end_of}

@@ -7,10 +7,10 @@ use Rattle.std.proofs.lemmas.List.{append-nil, drop_all}
 use Rattle.std.proofs.lemmas.List.Elements.{All-nil}
 use Rattle.std.proofs.lemmas.List.Sums.{sum_by-cons}
 use Rattle.std.proofs.Math.Seq.{drop-cons}
-use Rattle.dn_model.specs.Entry.{IsOpOf}
+use Rattle.route_feed.specs.FeedReader.{IsFeedOp}
 use Rattle.dn_formats.specs.Feed.{item_op, item_refusal, item_is_skipped, ops_among, skipped_among, step_by, step_of}
 use Rattle.dn_model.specs.declared.entry.Op.{Op}
-use Rattle.dn_model.specs.declared.ids.RouterId.{RouterId}
+use Rattle.base.specs.declared.ids.RouterId.{RouterId}
 use Rattle.dn_formats.specs.declared.payload.Item.{Item}
 use Rattle.dn_formats.specs.declared.payload.Payload.{Payload}
 use Rattle.dn_formats.specs.declared.payload.Refused.{Refused as Refusal}
@@ -20,7 +20,7 @@ use Rattle.route_feed.specs.Gathered.{HasGathered}
 use Rattle.route_feed.specs.declared.feed_step.FeedStep.TheVariants as answers
 
 pub gathered-none : (t : Topology) (r : RouterId) (items : List Item) → HasGathered t r items 0 [] 0
-gathered-none t r items = record { refusals = refl; ops_are = refl; skipped_are = zero-add (skipped_among items); few = omega arith; within = All-nil (IsOpOf t) }
+gathered-none t r items = record { refusals = refl; ops_are = refl; skipped_are = zero-add (skipped_among items); few = omega arith; within = All-nil (IsFeedOp t) }
 
 -- the list from a place on is the item there, and then the rest
 from : (items : List Item) (i : ℕ) (x : Item) → i < length items → get_or items i x ≡ x → drop i items ≡ x ∷ drop (i + 1) items
@@ -33,7 +33,7 @@ cons-append (Some x) xs = refl
 -- one more message that isn't refused
 pub gathered-more : (t : Topology) (r : RouterId) (items : List Item) (i : ℕ) (x : Item) (ops news : List Op) (skipped count : ℕ) →
     HasGathered t r items i ops skipped → i < length items → get_or items i x ≡ x → item_refusal t r x ≡ None → news ≡ ops ++ option_to_list (item_op t r x) →
-    count ≡ skipped + (if item_is_skipped x then 1 else 0) → length news + count ≤ length ops + skipped + 1 → All (IsOpOf t) news →
+    count ≡ skipped + (if item_is_skipped x then 1 else 0) → length news + count ≤ length ops + skipped + 1 → All (IsFeedOp t) news →
     HasGathered t r items (i + 1) news count
 gathered-more t r items i x ops news skipped count g h e none is counts few within =
     let cut : drop i items ≡ x ∷ drop (i + 1) items = from items i x h e in

@@ -5,10 +5,10 @@ use Rattle.dn_formats.specs.Frames.{Frame, frame_text}
 use Rattle.dn_formats.specs.Feed.{IsStep, step_of}
 use Rattle.dn_formats.specs.Payload.{IsPayload}
 use Rattle.dn_formats.specs.Steps.{FrameStep, Accepted, Refused}
-use Rattle.dn_model.specs.declared.ids.RouterId.{RouterId}
-use Rattle.dn_model.specs.declared.memory.OutOfMemory.{OutOfMemory}
+use Rattle.base.specs.declared.ids.RouterId.{RouterId}
+use Rattle.base.specs.declared.memory.OutOfMemory.{OutOfMemory}
 use Rattle.dn_formats.specs.declared.payload.Payload.{Payload}
-use Rattle.dn_formats.specs.declared.frame_cause.TheConstants.{FRAME_TYPE}
+use Rattle.dn_formats.specs.FrameCauses.{frame_type}
 use Rattle.dn_model.specs.declared.topology.Topology.{Topology}
 use Rattle.dn_formats.specs.declared.told.FeedTold.{FeedTold}
 use Rattle.fpm_frame.specs.Answers.{HoldsFrame}
@@ -83,7 +83,7 @@ says t r offset kind bytes p step k h e =
 
 -- the answer to a frame of another kind
 pub other : (t : Topology) (r : RouterId) (offset kind : ℕ) (bytes : List ℕ) → kind ≢ 1 →
-    ComesTo t r offset (record { kind = kind; payload = bytes }) (answers.Refused offset 0 FRAME_TYPE)
+    ComesTo t r offset (record { kind = kind; payload = bytes }) (answers.Refused offset 0 frame_type)
 other t r offset kind bytes k = inr (record { other = k; refused = refl })
 
 -- the same of answers that may want memory

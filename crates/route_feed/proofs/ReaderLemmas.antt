@@ -8,7 +8,7 @@ use Rattle.dn_io.specs.Told.{with_front}
 use Rattle.dn_formats.specs.Feed.{AreSteps, IsReading, ending}
 use Rattle.dn_formats.specs.Frames.{Frame, IsFrame, IsFrameFront, FrameRest, NoRest, CutFrame, frames_text, rest_kind, lost_cause}
 use Rattle.dn_formats.specs.Steps.{FrameStep}
-use Rattle.dn_model.specs.declared.ids.RouterId.{RouterId}
+use Rattle.base.specs.declared.ids.RouterId.{RouterId}
 use Rattle.dn_model.specs.declared.topology.Topology.{Topology}
 use Rattle.dn_formats.specs.declared.told.FeedTold.{FeedTold}
 use Rattle.dn_formats.specs.declared.told.FeedEnd.{FeedEnd}

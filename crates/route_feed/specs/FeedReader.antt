@@ -2,12 +2,14 @@
 use Rattle.std.specs.Prelude.{◌≡◌, ℕ, ◌+◌, ◌*◌, ◌<◌, ◌≤◌, List, [], ◌∷◌, ◌++◌, length, All, map, sum, Option, None, Some, Result, Ok, Err}
 use Rattle.dn_io.specs.Faults.{Rose}
 use Rattle.dn_io.specs.Told.{with_front, NothingLeft}
-use Rattle.dn_model.specs.Entry.{IsOpOf}
+use Rattle.dn_model.specs.Entry.{IsTargetOf}
+use Rattle.dn_model.specs.declared.entry.Op.{Op}
+use Rattle.dn_model.specs.declared.entry.Op.TheVariants.{Set, SetBy, Clear, Object, NoObject}
 use Rattle.dn_formats.specs.Feed.{AreSteps, IsReading, IsFaultedReading}
 use Rattle.dn_formats.specs.Frames.{Frame, IsFrame, frames_text}
 use Rattle.dn_formats.specs.Steps.{FrameStep, Accepted, Refused, updates, refusals, skipped_of, told_of}
-use Rattle.dn_model.specs.declared.ids.RouterId.{RouterId}
-use Rattle.dn_model.specs.declared.memory.OutOfMemory.{OutOfMemory}
+use Rattle.base.specs.declared.ids.RouterId.{RouterId}
+use Rattle.base.specs.declared.memory.OutOfMemory.{OutOfMemory}
 use Rattle.dn_model.specs.declared.topology.Topology.{Topology}
 use Rattle.dn_formats.specs.declared.told.FeedEnd.{FeedEnd}
 use Rattle.dn_formats.specs.declared.told.FeedEnd.TheVariants as ends
@@ -144,9 +146,17 @@ Advances (answers.Lost offset cause) old new = new.passed ≡ old.passed
 Advances answers.TooLong old new = new.passed ≡ old.passed
 Advances answers.Faulted old new = new.passed ≡ old.passed
 
+-- an update that a feed gives: a route of this network that is set, or one that is cleared
+abbrev pub IsFeedOp : Topology → Op → Type 0
+IsFeedOp t (Set p m target) = IsTargetOf t target
+IsFeedOp t (SetBy p m id) = ⊥
+IsFeedOp t (Clear p m) = Unit {0}
+IsFeedOp t (Object id target) = ⊥
+IsFeedOp t (NoObject id) = ⊥
+
 -- the updates that are handed out can come of this network
 abbrev pub AreOpsOf : Topology → FeedStep → Type 0
-AreOpsOf t (answers.Ops ops skipped) = All (IsOpOf t) ops
+AreOpsOf t (answers.Ops ops skipped) = All (IsFeedOp t) ops
 AreOpsOf t (answers.Refused offset at cause) = Unit {0}
 AreOpsOf t answers.End = Unit {0}
 AreOpsOf t (answers.CutShort offset) = Unit {0}

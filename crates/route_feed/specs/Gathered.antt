@@ -1,10 +1,10 @@
 -- How far the messages of a payload were looked at.
 use Rattle.std.specs.Prelude.{◌≡◌, ℕ, ◌+◌, ◌≤◌, List, ◌++◌, length, drop, All}
 use Rattle.std.specs.List.{filter_map}
-use Rattle.dn_model.specs.Entry.{IsOpOf}
+use Rattle.route_feed.specs.FeedReader.{IsFeedOp}
 use Rattle.dn_formats.specs.Feed.{item_refusal, ops_among, skipped_among}
 use Rattle.dn_model.specs.declared.entry.Op.{Op}
-use Rattle.dn_model.specs.declared.ids.RouterId.{RouterId}
+use Rattle.base.specs.declared.ids.RouterId.{RouterId}
 use Rattle.dn_formats.specs.declared.payload.Item.{Item}
 use Rattle.dn_model.specs.declared.topology.Topology.{Topology}
 
@@ -15,4 +15,4 @@ pub record HasGathered (t : Topology) (r : RouterId) (items : List Item) (seen :
   pub ops_are : ops ++ ops_among t r (drop seen items) ≡ ops_among t r items
   pub skipped_are : skipped + skipped_among (drop seen items) ≡ skipped_among items
   pub few : length ops + skipped ≤ seen
-  pub within : All (IsOpOf t) ops
+  pub within : All (IsFeedOp t) ops

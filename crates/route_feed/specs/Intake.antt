@@ -3,7 +3,7 @@ use Rattle.std.specs.Prelude.{◌≡◌, ℕ, ◌+◌, ◌≤◌, ◌<◌, List,
 use Rattle.dn_io.specs.Faults.{Rose}
 use Rattle.dn_io.specs.Told.{with_front, NothingLeft}
 use Rattle.dn_formats.specs.Frames.{BeginsFrame, IsFrameFront, rest_kind, lost_cause, NoRest, CutFrame}
-use Rattle.dn_model.specs.declared.memory.OutOfMemory.{OutOfMemory}
+use Rattle.base.specs.declared.memory.OutOfMemory.{OutOfMemory}
 use Rattle.dn_formats.specs.declared.told.FeedEnd.{FeedEnd}
 use Rattle.dn_formats.specs.declared.told.FeedEnd.TheVariants.{End, CutShort, Lost, TooLong, Full, Faulted}
 use Rattle.route_feed.specs.declared.intake.Got.{Got}

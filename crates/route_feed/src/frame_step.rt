@@ -2,10 +2,9 @@
 
 ghost use Rattle.std.specs.Prelude.{◌≡◌, ◌+◌, ◌<◌, ◌≤◌, ◌^◌, ◌++◌, [], All, Some, IfOk, OnOk, OnErr, length, if◌then◌else◌};
 ghost use Rattle.std.specs.Option.{option_to_list};
-ghost use Rattle.dn_model.specs.Entry.{IsOpOf};
 ghost use Rattle.dn_formats.specs.Feed.{item_op, item_refusal, item_is_skipped, step_of};
 ghost use Rattle.dn_formats.specs.Frames.{BeginsFrame};
-ghost use Rattle.route_feed.specs.FeedReader.{told_after, AreOpsOf};
+ghost use Rattle.route_feed.specs.FeedReader.{told_after, AreOpsOf, IsFeedOp};
 ghost use Rattle.route_feed.specs.FrameStep.{ComesTo, frame_step, IsOfFrame, HandsTo};
 
 use crate::feed_step::FeedStep;
@@ -45,7 +44,7 @@ impl Gathered {
         ensures ops { OnOk result (self.new.ops ≡ self.old.ops ++ option_to_list (item_op topology.now router item.now)) }
         ensures skipped { OnOk result (self.new.skipped ≡ self.old.skipped + (if item_is_skipped item.now then 1 else 0)) }
         ensures few { OnOk result (length self.new.ops + self.new.skipped ≤ length self.old.ops + self.old.skipped + 1) }
-        ensures within { All (IsOpOf topology.now) self.old.ops → All (IsOpOf topology.now) self.new.ops }
+        ensures within { All (IsFeedOp topology.now) self.old.ops → All (IsFeedOp topology.now) self.new.ops }
     {
         match item.what {
             ItemKind::Route(raw) => match op_of(topology, router, &raw, hints) {

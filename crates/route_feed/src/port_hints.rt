@@ -8,7 +8,7 @@ ghost use Rattle.std.specs.Prelude.{◌≡◌, Some, IfSome};
 ghost use Rattle.dn_model.specs.Topology.{same_end};
 ghost use Rattle.dn_model.specs.Lookup.{port_of, IsPortWithin};
 
-use dn_model::{LinkId, Port, RouterId, TopoEnd, TopoLink, Topology, port};
+use dn_model::{LinkId, Port, RouterId, TopoEnd, TopoLink, Topology, device_of, port};
 use std::marker::Model;
 
 /// How many interfaces have a place of their own. One whose number is larger shares the place of another.
@@ -28,11 +28,12 @@ impl Model for PortHints {
     ghost view = { λ hints. tt };
 }
 
-/// Whether two interfaces are the same.
-fn is_same_end(first: TopoEnd, second: TopoEnd) -> bool
-    ensures { result ≡ same_end first second }
+/// Whether two interfaces are the same: those of a device and its VRFs are the device's.
+fn is_same_end(topology: &Topology, first: TopoEnd, second: TopoEnd) -> bool
+    ensures { result ≡ same_end topology.now.tables first second }
 {
-    first.router.0 == second.router.0 && first.index == second.index
+    device_of(topology, first.router).0 == device_of(topology, second.router).0
+        && first.index == second.index
 }
 
 /// What the link at this place puts at the end whose far router this is.
@@ -55,9 +56,9 @@ fn port_at_link(topology: &Topology, place: u16, at: TopoEnd) -> Option<Port>
         return None;
     }
     let link = &links[place as usize];
-    if is_same_end(at, link.first) {
+    if is_same_end(topology, at, link.first) {
         Some(port_over(link, place, link.second.router))
-    } else if is_same_end(at, link.second) {
+    } else if is_same_end(topology, at, link.second) {
         Some(port_over(link, place, link.first.router))
     } else {
         None
@@ -69,16 +70,20 @@ fn port_at_edge(topology: &Topology, place: u16, at: TopoEnd) -> Option<Port>
     ensures { IfSome result (λ port. port_of topology.now at.router at.index ≡ Some port) }
 {
     let edges = topology.edges.as_slice();
-    if (place as usize) < edges.len() && is_same_end(at, edges[place as usize]) {
+    if (place as usize) < edges.len() && is_same_end(topology, at, edges[place as usize]) {
         Some(Port::Edge)
     } else {
         None
     }
 }
 
-/// The first place in a list of edges of this interface, and 0 where it is none of them.
-fn place_of_edge(edges: &[TopoEnd], at: TopoEnd) -> u16 {
-    match edges.iter().position(|edge| is_same_end(at, *edge)) {
+/// The first place among the edges of this interface, and 0 where it is none of them.
+fn place_of_edge(topology: &Topology, at: TopoEnd) -> u16 {
+    let edges = topology.edges.as_slice();
+    match edges
+        .iter()
+        .position(|edge| is_same_end(topology, at, *edge))
+    {
         Some(place) => u16::try_from(place).unwrap_or(0),
         None => 0,
     }
@@ -109,7 +114,7 @@ impl PortHints {
         let place = (at.index % PLACES) as usize;
         match found {
             Port::Link { link, .. } => self.links[place] = link.0,
-            Port::Edge => self.edges[place] = place_of_edge(topology.edges.as_slice(), at),
+            Port::Edge => self.edges[place] = place_of_edge(topology, at),
         }
     }
 }

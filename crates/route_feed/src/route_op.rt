@@ -1,9 +1,11 @@
 //! The update of a router's table that a route's message is.
 
 ghost use Rattle.std.specs.Prelude.{◌≡◌, IfSome, unwrap_or};
-ghost use Rattle.dn_model.specs.Entry.{IsOpOf, IsTargetOf};
+ghost use Rattle.dn_model.specs.Entry.{IsTargetOf};
 ghost use Rattle.dn_model.specs.Lookup.{IsPortWithin};
 ghost use Rattle.dn_formats.specs.Message.{target_at, set_op_of, set_op_by, op_of};
+ghost use Rattle.dn_model.specs.declared.topology.Topology.{Topology as TopologyIs};
+ghost use Rattle.route_feed.specs.FeedReader.{IsFeedOp};
 
 use crate::port_hints::{PortHints, port_hinted};
 use dn_formats::{RawRoute, RouteKind};
@@ -11,7 +13,8 @@ use dn_model::{DropKind, Op, Port, RouterId, Target, Topology};
 
 /// What a unicast route does at a port, which is the router's interface of this number.
 fn target_at(port: Port, via: bool, index: u32) -> Target
-    ensures { result ≡ target_at port via index }
+    ensures value { result ≡ target_at port via index }
+    ensures within { (t : TopologyIs) → IsPortWithin t port → IsTargetOf t result }
 {
     match port {
         Port::Link {
@@ -54,7 +57,7 @@ fn set_unicast(
     hints: &mut PortHints,
 ) -> Option<Op>
     ensures value { result ≡ set_op_of topology.now router raw.now.prefix raw.now.metric raw.now.via raw.now.oif }
-    ensures within { IfSome result (IsOpOf topology.now) }
+    ensures within { IfSome result (IsFeedOp topology.now) }
 {
     let index = raw.oif?;
     let at = port_hinted(topology, router, index, hints)?;
@@ -69,7 +72,7 @@ fn set_by_kind(
     hints: &mut PortHints,
 ) -> Option<Op>
     ensures value { result ≡ set_op_by topology.now router raw.now.kind raw.now.prefix raw.now.metric raw.now.via raw.now.oif }
-    ensures within { IfSome result (IsOpOf topology.now) }
+    ensures within { IfSome result (IsFeedOp topology.now) }
 {
     match raw.kind {
         RouteKind::Unicast => set_unicast(topology, router, raw, hints),
@@ -89,7 +92,7 @@ pub fn op_of(
     hints: &mut PortHints,
 ) -> Option<Op>
     ensures value { result ≡ op_of topology.now router raw.now }
-    ensures within { IfSome result (IsOpOf topology.now) }
+    ensures within { IfSome result (IsFeedOp topology.now) }
 {
     if raw.del {
         Some(Op::Clear {

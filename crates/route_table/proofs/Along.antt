@@ -5,12 +5,12 @@ use Rattle.std.proofs.lemmas.Bool.{and_from, and_left, and_right, cases_Bool, ca
 use Rattle.std.proofs.lemmas.Bool.Decides.{nat_tests}
 use Rattle.std.proofs.lemmas.List.{append-nil, take-append-drop}
 use Rattle.std.proofs.lemmas.List.Sums.{fold-append}
-use Rattle.dn_model.proofs.Best.{contains-here, contains-there}
-use Rattle.dn_model.proofs.RunsFrom.{put-none, put-passed}
-use Rattle.dn_model.specs.Cidr.{Cidr, IsCidr, covers, size}
-use Rattle.dn_model.specs.RunsFrom.{AreRunsFrom, StartFrom, with_run}
+use Rattle.base.proofs.Elements.{contains-here, contains-there}
+use Rattle.base.proofs.RunsFrom.{put-none, put-passed}
+use Rattle.base.specs.Cidr.{Cidr, IsCidr, covers, size}
+use Rattle.base.specs.RunsFrom.{AreRunsFrom, StartFrom, with_run}
 use Rattle.dn_model.specs.declared.entry.Route.{Route}
-use Rattle.dn_model.specs.declared.run.Run.{Run}
+use Rattle.base.specs.declared.run.Run.{Run}
 use Rattle.route_table.specs.Along.{Along, along, along_slot, begins_past, gap, is_passed_over, past_of}
 use Rattle.route_table.specs.Ascending.{AscendsFrom}
 use Rattle.route_table.specs.Own.{BeginWithin, EndAtEnds, is_end_in}

@@ -3,7 +3,7 @@ use Rattle.std.proofs.Common.{◌≡◌, ℕ, ◌<◌, ◌≤◌, ◌+◌, ◌�
 use Rattle.std.specs.List.{Contains}
 use Rattle.std.specs.Option.{IfNone, IfSome}
 use Rattle.std.proofs.lemmas.Bool.{and_from, both_ways, eq-eqb, false_from_ne_true}
-use Rattle.dn_model.specs.Cidr.{Cidr, IsCidr, covers}
+use Rattle.base.specs.Cidr.{Cidr, IsCidr, covers}
 use Rattle.dn_model.specs.Routes.{IsTable}
 use Rattle.dn_model.specs.Table.{is_of_prefix, best}
 use Rattle.dn_model.specs.declared.entry.Route.{Route}

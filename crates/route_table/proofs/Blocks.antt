@@ -3,7 +3,7 @@ use Rattle.std.proofs.Common.{◌≡◌, ℕ, ◌+◌, ◌-◌, ◌*◌, ◌/◌
 use Rattle.std.proofs.Math.Nat.{mul-le-mul_left, mul_assoc, mul-add}
 use Rattle.std.proofs.lemmas.Bool.{and_from, and_parts, cases_lt, leb-true, le-leb, ltb-true, lt-ltb}
 use Rattle.std.proofs.lemmas.Nat.{pow-add, pow_pos}
-use Rattle.dn_model.specs.Cidr.{Cidr, IsCidr, covers, size}
+use Rattle.base.specs.Cidr.{Cidr, IsCidr, covers, size}
 
 -- ---- multiples
 

@@ -2,7 +2,7 @@
 use Rattle.std.proofs.Common.{◌≡◌, ℕ, zero, suc, Bool, true, List, [], ◌∷◌, get_or, set, refl, subst, ⊎_elim}
 use Rattle.std.specs.List.{Contains, insert}
 use Rattle.std.proofs.lemmas.List.Sorted.{Contains-permutation, IsPermutation-insert, IsPermutation-sym}
-use Rattle.dn_model.proofs.Best.{contains-cases, contains-here, contains-there}
+use Rattle.base.proofs.Elements.{contains-cases, contains-here, contains-there}
 use Rattle.route_table.specs.Above.{HasLength}
 use Rattle.route_table.specs.Slots.{PrefixRoutes}
 

@@ -5,21 +5,21 @@ use Rattle.std.proofs.lemmas.Bool.{and_from, and_left, and_parts, and_right, cas
 use Rattle.std.proofs.lemmas.List.{take-append-drop}
 use Rattle.std.proofs.lemmas.List.Elements.{Contains-append_right}
 use Rattle.std.proofs.lemmas.List.Folds.{list_any-append}
-use Rattle.dn_model.specs.Cidr.{Cidr, IsCidr, covers, size}
-use Rattle.dn_model.specs.Entry.{is_end_of}
-use Rattle.dn_model.specs.Runs.{holds}
-use Rattle.dn_model.specs.RunsFrom.{AreRunsFrom}
+use Rattle.base.specs.Cidr.{Cidr, IsCidr, covers, size}
+use Rattle.dn_model.specs.Entry.{is_bound_of}
+use Rattle.base.specs.Runs.{holds}
+use Rattle.base.specs.RunsFrom.{AreRunsFrom}
 use Rattle.dn_model.specs.declared.entry.Route.{Route}
-use Rattle.dn_model.specs.declared.run.Run.{Run}
-use Rattle.dn_model.proofs.Best.{contains-cases, contains-filter, contains-here, contains-none}
-use Rattle.dn_model.proofs.Keyed.{map-contains}
-use Rattle.dn_model.proofs.RunsFrom.{none-below}
+use Rattle.base.specs.declared.run.Run.{Run}
+use Rattle.base.proofs.Elements.{contains-cases, contains-filter, contains-here, contains-none}
+use Rattle.base.proofs.Elements.{map-contains}
+use Rattle.base.proofs.RunsFrom.{none-below}
 use Rattle.route_table.specs.Along.{along, past_of}
 use Rattle.route_table.specs.Ascending.{AscendsFrom, IsFound}
 use Rattle.route_table.specs.Own.{AreOwnRuns, IsPassed, is_longer_at, is_own}
 use Rattle.route_table.specs.Slots.{AreSlots, IsSlot, PrefixRoutes, key_of, routes_at, routes_of, slot_key}
 use Rattle.route_table.specs.Targets.{route_at}
-use Rattle.route_table.specs.declared.targets.MetricTarget.{MetricTarget}
+use Rattle.route_table.specs.declared.targets.MetricWay.{MetricWay}
 use Rattle.route_table.proofs.Along.{EndsBefore, OfEach, begun-are, begun-within, begun_from, each-drop, has_route_at, is_left, runs-ends, runs-left, runs_from}
 use Rattle.route_table.proofs.Blocks.{cidr-end, covers-in, nested-from, size-some}
 use Rattle.route_table.proofs.Places.{all-from}
@@ -45,7 +45,7 @@ some-of : {T : Type 0} (xs : List T) → eqb (length xs) 0 ≡ false → (x : T)
 some-of [] n = absurd (let f : true ≡ false = n in cc)
 some-of (x ∷ xs) n = (x, contains-here x xs)
 
-pub route-of : (slots : List PrefixRoutes) (s : PrefixRoutes) (x : MetricTarget) → Contains slots s → Contains s.targets x → Contains (routes_of slots) (route_at s.prefix x)
+pub route-of : (slots : List PrefixRoutes) (s : PrefixRoutes) (x : MetricWay) → Contains slots s → Contains s.targets x → Contains (routes_of slots) (route_at s.prefix x)
 route-of slots s x i j =
     let there : Contains (routes_at s) (route_at s.prefix x) = map-contains (route_at s.prefix) s.targets x j in
     in-slot slots i.0 s (route_at s.prefix x) i.1 (subst (λ (y : PrefixRoutes). Contains (routes_at y) (route_at s.prefix x)) (sym i.2) there)
@@ -71,7 +71,7 @@ longer-later p q a sp sq longer in_p in_q =
 
 -- ---- the routes of one slot
 
-slot-any : (q : Route → Bool) (b : Bool) (p : Cidr) (xs : List MetricTarget) → ((x : MetricTarget) → q (route_at p x) ≡ b) → list_any q (map (route_at p) xs) ≡ (not (eqb (length xs) 0) && b)
+slot-any : (q : Route → Bool) (b : Bool) (p : Cidr) (xs : List MetricWay) → ((x : MetricWay) → q (route_at p x) ≡ b) → list_any q (map (route_at p) xs) ≡ (not (eqb (length xs) 0) && b)
 slot-any q b p [] h = refl
 slot-any q b p (x ∷ xs) h =
     ap (λ c. c || list_any q (map (route_at p) xs)) (h x)
@@ -170,17 +170,17 @@ module _ (slots : List PrefixRoutes) (p : Cidr) (i : ℕ) (form : AreSlots slots
 
   end-of : (q : Cidr → Bool) (s : PrefixRoutes) → Contains behind s → eqb (length s.targets) 0 ≡ false → q s.prefix ≡ true → list_any (λ r. q r.prefix) (routes_of slots) ≡ true
   end-of q s j n t =
-      let x : (y : MetricTarget) × Contains s.targets y = some-of s.targets n in
+      let x : (y : MetricWay) × Contains s.targets y = some-of s.targets n in
       any-of (λ r. q r.prefix) (route_at s.prefix x.0) (routes_of slots) (route-of slots s x.0 (behind-contains slots (suc i) s j) x.1) t
 
   own-runs : AreOwnRuns (routes_of slots) p (runs_from past p.base behind)
   own-runs = record {
     runs_are = record { apart = left.apart; exact = runs-exact };
     ends = runs-ends (routes_of slots) p past p.base behind
-        (or_left (is_end_of p p.base) (list_any (λ r. is_end_of r.prefix p.base) (routes_of slots)) (or_left (eqb p.base p.base) (eqb past p.base) (eq-eqb p.base p.base refl)))
-        (or_left (is_end_of p past) (list_any (λ r. is_end_of r.prefix past) (routes_of slots)) (or_right (eqb p.base past) (eqb past past) (eq-eqb past past refl)))
-        (λ s j n. or_right (is_end_of p s.prefix.base) (list_any (λ r. is_end_of r.prefix s.prefix.base) (routes_of slots)) (end-of (λ q. is_end_of q s.prefix.base) s j n (or_left (eqb s.prefix.base s.prefix.base) (eqb (past_of s) s.prefix.base) (eq-eqb s.prefix.base s.prefix.base refl))))
-        (λ s j n. or_right (is_end_of p (past_of s)) (list_any (λ r. is_end_of r.prefix (past_of s)) (routes_of slots)) (end-of (λ q. is_end_of q (past_of s)) s j n (or_right (eqb s.prefix.base (past_of s)) (eqb (past_of s) (past_of s)) (eq-eqb (past_of s) (past_of s) refl))));
+        (or_left (is_bound_of p p.base) (list_any (λ r. is_bound_of r.prefix p.base) (routes_of slots)) (or_left (eqb p.base p.base) (eqb past p.base) (eq-eqb p.base p.base refl)))
+        (or_left (is_bound_of p past) (list_any (λ r. is_bound_of r.prefix past) (routes_of slots)) (or_right (eqb p.base past) (eqb past past) (eq-eqb past past refl)))
+        (λ s j n. or_right (is_bound_of p s.prefix.base) (list_any (λ r. is_bound_of r.prefix s.prefix.base) (routes_of slots)) (end-of (λ q. is_bound_of q s.prefix.base) s j n (or_left (eqb s.prefix.base s.prefix.base) (eqb (past_of s) s.prefix.base) (eq-eqb s.prefix.base s.prefix.base refl))))
+        (λ s j n. or_right (is_bound_of p (past_of s)) (list_any (λ r. is_bound_of r.prefix (past_of s)) (routes_of slots)) (end-of (λ q. is_bound_of q (past_of s)) s j n (or_right (eqb s.prefix.base (past_of s)) (eqb (past_of s) (past_of s)) (eq-eqb (past_of s) (past_of s) refl))));
   }
 
   -- a slot behind that begins in the prefix is of a longer one
@@ -195,7 +195,7 @@ module _ (slots : List PrefixRoutes) (p : Cidr) (i : ℕ) (form : AreSlots slots
 
   begun-known : OfEach (λ s. s.prefix.base < past → list_any (λ r. eqb r.prefix.base s.prefix.base) (filter (λ r. ltb p.len r.prefix.len) (routes_of slots)) ≡ true) behind
   begun-known s j n l =
-      let x : (y : MetricTarget) × Contains s.targets y = some-of s.targets n in
+      let x : (y : MetricWay) × Contains s.targets y = some-of s.targets n in
       let r : Route = route_at s.prefix x.0 in
       let there : Contains (routes_of slots) r = route-of slots s x.0 (behind-contains slots (suc i) s j) x.1 in
       any-of (λ y. eqb y.prefix.base s.prefix.base) r (filter (λ y. ltb p.len y.prefix.len) (routes_of slots))

@@ -4,7 +4,7 @@ use Rattle.std.specs.List.{AllByRecursion}
 use Rattle.std.proofs.lemmas.Bool.{or_right}
 use Rattle.std.proofs.lemmas.List.{drop-drop, get_or-take, length-append, length-drop, length-take, take-take, take_all}
 use Rattle.std.proofs.lemmas.List.Folds.{list_any-append}
-use Rattle.dn_model.specs.declared.run.Run.{Run}
+use Rattle.base.specs.declared.run.Run.{Run}
 use Rattle.route_table.specs.Along.{Along, along, begins_past, gap}
 use Rattle.route_table.specs.Ascending.{AscendsFrom, IsFound}
 use Rattle.route_table.specs.Slots.{AreSlots, IsSlot, PrefixRoutes, slot_key}

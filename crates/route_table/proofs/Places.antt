@@ -4,7 +4,7 @@ use Rattle.std.specs.List.{Contains, insert}
 use Rattle.std.specs.List.Sorted.{IsPermutation}
 use Rattle.std.proofs.lemmas.Bool.{cases_Bool, eq-eqb, eqb-true, false_from_ne_true}
 use Rattle.std.proofs.lemmas.List.Sorted.{IsPermutation-cons, IsPermutation-refl, IsPermutation-to_front, IsPermutation-sym}
-use Rattle.dn_model.proofs.Best.{contains-cases, contains-none}
+use Rattle.base.proofs.Elements.{contains-cases, contains-none}
 use Rattle.route_table.specs.Ascending.{AscendsFrom, IsFound, IsGap, IsPlace}
 
 -- ---- order

@@ -6,17 +6,17 @@ use Rattle.std.proofs.lemmas.Bool.{and_from, and_parts, both_ways, eq-eqb, eqb-t
 use Rattle.std.proofs.lemmas.List.{map-append}
 use Rattle.std.proofs.lemmas.List.Elements.{Contains-append_cases, Contains-append_left, Contains-append_right, filter-append}
 use Rattle.std.proofs.lemmas.List.Sorted.{IsPermutation-append_left, IsPermutation-append_right, IsPermutation-map, IsPermutation-sym, IsPermutation-to_front, IsPermutation-trans}
-use Rattle.dn_model.specs.Cidr.{Cidr, IsCidr}
-use Rattle.dn_model.specs.Table.{has_key, is_of_prefix}
+use Rattle.base.specs.Cidr.{Cidr, IsCidr}
+use Rattle.dn_model.specs.Table.{has_key, is_of_prefix, is_replaced}
 use Rattle.dn_model.specs.declared.entry.Route.{Route}
-use Rattle.dn_model.specs.declared.target.Target.{Target}
-use Rattle.dn_model.proofs.Best.{filter-contains}
-use Rattle.dn_model.proofs.Filtered.{filter-whole}
-use Rattle.dn_model.proofs.Keyed.{contains-map}
+use Rattle.dn_model.specs.declared.way.Way.{Way}
+use Rattle.base.proofs.Elements.{filter-contains}
+use Rattle.base.proofs.Filtered.{filter-whole}
+use Rattle.base.proofs.Elements.{contains-map}
 use Rattle.route_table.specs.Ascending.{AscendsFrom, IsFound, IsGap}
 use Rattle.route_table.specs.Slots.{PrefixRoutes, key_of, routes_at, routes_of, slot_key}
 use Rattle.route_table.specs.Targets.{route_at, with_target, without_metric}
-use Rattle.route_table.specs.declared.targets.MetricTarget.{MetricTarget}
+use Rattle.route_table.specs.declared.targets.MetricWay.{MetricWay}
 
 -- ---- prefixes
 
@@ -26,7 +26,7 @@ of-prefix p r h =
     let C : ℕ → ℕ → Cidr = λ b l. record { base = b; len = l } in
     ap (λ b. C b r.prefix.len) (eqb-true r.prefix.base p.base parts.0) ∙ ap (λ l. C p.base l) (eqb-true r.prefix.len p.len parts.1)
 
-pub own-prefix : (p : Cidr) (x : MetricTarget) → is_of_prefix p (route_at p x) ≡ true
+pub own-prefix : (p : Cidr) (x : MetricWay) → is_of_prefix p (route_at p x) ≡ true
 own-prefix p x = and_from (eqb p.base p.base) (eqb p.len p.len) (eq-eqb p.base p.base refl) (eq-eqb p.len p.len refl)
 
 -- the key tells prefixes apart
@@ -43,7 +43,7 @@ key-exact p q sp sq h =
 
 pub slot-apart : (s : PrefixRoutes) (p : Cidr) (r : Route) → slot_key s ≢ key_of p → Contains (routes_at s) r → is_of_prefix p r ≡ false
 slot-apart s p r n i = false_from_ne_true (is_of_prefix p r) (λ t.
-    let w : (x : MetricTarget) × Contains s.targets x × (route_at s.prefix x ≡ r) = contains-map (route_at s.prefix) s.targets r i in
+    let w : (x : MetricWay) × Contains s.targets x × (route_at s.prefix x ≡ r) = contains-map (route_at s.prefix) s.targets r i in
     let same : s.prefix ≡ p = ap (λ (y : Route). y.prefix) w.2 ∙ of-prefix p r t in
     n (ap key_of same))
 
@@ -173,10 +173,10 @@ gap-none p start xs i r h g c =
 
 -- ---- updates of the routes of one prefix
 
-pub own-key : (p : Cidr) (m : ℕ) (x : MetricTarget) → has_key p m (route_at p x) ≡ eqb x.metric m
+pub own-key : (p : Cidr) (m : ℕ) (x : MetricWay) → has_key p m (route_at p x) ≡ eqb x.metric m
 own-key p m x = ap (λ b. b && eqb x.metric m) (own-prefix p x)
 
-pub others-at : (p : Cidr) (m : ℕ) (xs : List MetricTarget) → filter (λ r. not (has_key p m r)) (map (route_at p) xs) ≡ map (route_at p) (without_metric xs m)
+pub others-at : (p : Cidr) (m : ℕ) (xs : List MetricWay) → filter (λ r. not (has_key p m r)) (map (route_at p) xs) ≡ map (route_at p) (without_metric xs m)
 others-at p m [] = refl
 others-at p m (x ∷ xs) = by (eqb x.metric m) refl (others-at p m xs)
   where
@@ -187,15 +187,22 @@ others-at p m (x ∷ xs) = by (eqb x.metric m) refl (others-at p m xs)
     by true h more = ap (λ b. cond (not b) (route_at p x ∷ left) left) (own-key p m x ∙ h) ∙ more ∙ sym (ap (λ b. map (route_at p) (cond (not b) (x ∷ without_metric xs m) (without_metric xs m))) h)
     by false h more = ap (λ b. cond (not b) (route_at p x ∷ left) left) (own-key p m x ∙ h) ∙ ap (λ rs. route_at p x ∷ rs) more ∙ sym (ap (λ b. map (route_at p) (cond (not b) (x ∷ without_metric xs m) (without_metric xs m))) h)
 
-pub none-at : (p : Cidr) (xs : List MetricTarget) → filter (λ r. not (is_of_prefix p r)) (map (route_at p) xs) ≡ []
+pub none-at : (p : Cidr) (xs : List MetricWay) → filter (λ r. not (is_of_prefix p r)) (map (route_at p) xs) ≡ []
 none-at p [] = refl
 none-at p (x ∷ xs) =
     let left : List Route = filter (λ r. not (is_of_prefix p r)) (map (route_at p) xs) in
     ap (λ b. cond (not b) (route_at p x ∷ left) left) (own-prefix p x) ∙ none-at p xs
 
-pub set-at : (p : Cidr) (m : ℕ) (t : Target) (xs ys : List MetricTarget) → IsPermutation ys (with_target xs m t) → IsPermutation (map (route_at p) ys) (filter (λ r. not (has_key p m r)) (map (route_at p) xs) ++ record { prefix = p; metric = m; target = t } ∷ [])
+-- alone, a route leaves none of its prefix
+pub alone-at : (p : Cidr) (m : ℕ) (xs : List MetricWay) → filter (λ r. not (is_replaced true p m r)) (map (route_at p) xs) ≡ []
+alone-at p m [] = refl
+alone-at p m (x ∷ xs) =
+    let left : List Route = filter (λ r. not (is_replaced true p m r)) (map (route_at p) xs) in
+    ap (λ b. cond (not (b && true)) (route_at p x ∷ left) left) (own-prefix p x) ∙ alone-at p m xs
+
+pub set-at : (p : Cidr) (m : ℕ) (t : Way) (xs ys : List MetricWay) → IsPermutation ys (with_target xs m t) → IsPermutation (map (route_at p) ys) (filter (λ r. not (has_key p m r)) (map (route_at p) xs) ++ record { prefix = p; metric = m; way = t } ∷ [])
 set-at p m t xs ys h =
     let moved : IsPermutation (map (route_at p) ys) (map (route_at p) (with_target xs m t)) = IsPermutation-map (route_at p) ys (with_target xs m t) h in
-    let is : map (route_at p) (with_target xs m t) ≡ filter (λ r. not (has_key p m r)) (map (route_at p) xs) ++ record { prefix = p; metric = m; target = t } ∷ [] =
-    map-append (route_at p) (without_metric xs m) (record { metric = m; target = t } ∷ []) ∙ ap (λ rs. rs ++ route_at p (record { metric = m; target = t }) ∷ []) (sym (others-at p m xs)) in
+    let is : map (route_at p) (with_target xs m t) ≡ filter (λ r. not (has_key p m r)) (map (route_at p) xs) ++ record { prefix = p; metric = m; way = t } ∷ [] =
+    map-append (route_at p) (without_metric xs m) (record { metric = m; way = t } ∷ []) ∙ ap (λ rs. rs ++ route_at p (record { metric = m; way = t }) ∷ []) (sym (others-at p m xs)) in
     subst (λ rs. IsPermutation (map (route_at p) ys) rs) is moved

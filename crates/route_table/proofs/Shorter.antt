@@ -7,16 +7,16 @@ use Rattle.std.proofs.lemmas.Bool.{both_ways, cases_lt, eq-eqb}
 use Rattle.std.proofs.lemmas.List.{get_or-take, length-take}
 use Rattle.std.proofs.lemmas.List.Elements.{Contains-get_or}
 use Rattle.std.proofs.lemmas.Nat.{div-mul-add}
-use Rattle.dn_model.specs.Cidr.{Cidr, IsCidr, covers, size}
-use Rattle.dn_model.specs.declared.target.Target.{Target}
-use Rattle.dn_model.proofs.Best.{contains-cases, contains-here, contains-none, contains-there}
+use Rattle.base.specs.Cidr.{Cidr, IsCidr, covers, size}
+use Rattle.dn_model.specs.declared.way.Way.{Way}
+use Rattle.base.proofs.Elements.{contains-cases, contains-here, contains-none, contains-there}
 use Rattle.dn_model.proofs.Keys.{base-once}
 use Rattle.route_table.specs.Above.{HasLength, IsAbove, IsFirstAbove, shares}
 use Rattle.route_table.specs.Ascending.{AscendsFrom, IsFound, IsGap, IsPlace}
 use Rattle.route_table.specs.Searches.{IsBaseBefore}
 use Rattle.route_table.specs.Slots.{AreSlots, IsSlot, PrefixRoutes, key_of, slot_key}
 use Rattle.route_table.specs.Targets.{IsFirst}
-use Rattle.route_table.specs.declared.targets.MetricTarget.{MetricTarget}
+use Rattle.route_table.specs.declared.targets.MetricWay.{MetricWay}
 use Rattle.route_table.proofs.Blocks.{covers-from, covers-in, covers-to, size-some}
 use Rattle.route_table.proofs.OwnRuns.{each-of, longer-later}
 use Rattle.route_table.proofs.Places.{all-from, found-inside, found-key, keys-from}
@@ -157,7 +157,7 @@ module _ (slots : List PrefixRoutes) (lengths : List Bool) (p : Cidr) (place len
 
   -- the prefix of the greatest length that is left, around the prefix
   module _ (l : ℕ) (q : Cidr) (next : ℕ) (less : l < p.len) (greatest : (k : ℕ) → l < k → k < len → slice_index_or lengths k true ≡ true → shares p.base base k ≡ false) (sq : IsCidr q) (q_len : q.len ≡ l) (holds : covers q p.base ≡ true) where
-    found-some : (s : PrefixRoutes) (o : Option Target) → IsFound slot_key slots (key_of q) next → ((d : PrefixRoutes) → s ≡ get_or slots next d) → IsFirst s.targets o → is_some o ≡ true → IsFirstAbove slots p o
+    found-some : (s : PrefixRoutes) (o : Option Way) → IsFound slot_key slots (key_of q) next → ((d : PrefixRoutes) → s ≡ get_or slots next d) → IsFirst s.targets o → is_some o ≡ true → IsFirstAbove slots p o
     found-some s None f at first some = absurd (let e : false ≡ true = some in cc)
     found-some s (Some t) f at first some =
         let n : next < length slots = found-inside slot_key slots (key_of q) next f in
@@ -172,7 +172,7 @@ module _ (slots : List PrefixRoutes) (lengths : List Bool) (p : Cidr) (place len
         } in
         (s, there, above, first, λ x i a. let m : x.prefix.len ≤ l = above-most l greatest x i a in omega arith)
 
-    pub above-found : (s : PrefixRoutes) (o : Option Target) → IsFound slot_key slots (key_of q) next → ((d : PrefixRoutes) → s ≡ get_or slots next d) → IsFirst s.targets o → is_some o ≡ true → IsFirstAbove slots p o
+    pub above-found : (s : PrefixRoutes) (o : Option Way) → IsFound slot_key slots (key_of q) next → ((d : PrefixRoutes) → s ≡ get_or slots next d) → IsFirst s.targets o → is_some o ≡ true → IsFirstAbove slots p o
     above-found s o f at first some = found-some s o f at first some
 
     -- where that has no routes, those that hold the prefix are shorter still
@@ -201,11 +201,11 @@ module _ (slots : List PrefixRoutes) (lengths : List Bool) (p : Cidr) (place len
 pub none-gap : (slots : List PrefixRoutes) (k next : ℕ) → AreSlots slots → IsGap slot_key slots k next → (x : PrefixRoutes) → Contains slots x → x.targets ≢ [] → slot_key x ≡ k → ⊥
 none-gap slots k next h g x i some e = gap-other 0 slots k next x h.keys g i e
 
-no-first : (xs : List MetricTarget) (o : Option Target) → IsFirst xs o → is_some o ≡ false → xs ≡ []
+no-first : (xs : List MetricWay) (o : Option Way) → IsFirst xs o → is_some o ≡ false → xs ≡ []
 no-first xs None first none = first
 no-first xs (Some t) first none = absurd (let e : true ≡ false = none in cc)
 
-pub none-first : (slots : List PrefixRoutes) (k next : ℕ) (s : PrefixRoutes) (o : Option Target) → AreSlots slots → IsFound slot_key slots k next → ((d : PrefixRoutes) → s ≡ get_or slots next d) → IsFirst s.targets o → is_some o ≡ false → (x : PrefixRoutes) → Contains slots x → x.targets ≢ [] → slot_key x ≡ k → ⊥
+pub none-first : (slots : List PrefixRoutes) (k next : ℕ) (s : PrefixRoutes) (o : Option Way) → AreSlots slots → IsFound slot_key slots k next → ((d : PrefixRoutes) → s ≡ get_or slots next d) → IsFirst s.targets o → is_some o ≡ false → (x : PrefixRoutes) → Contains slots x → x.targets ≢ [] → slot_key x ≡ k → ⊥
 none-first slots k next s o h f at first none x i some e =
     let same : x ≡ s = same-slot 0 slots k next x h.keys f i e ∙ sym (at x) in
     some (ap (λ (y : PrefixRoutes). y.targets) same ∙ no-first s.targets o first none)

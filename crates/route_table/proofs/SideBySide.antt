@@ -3,11 +3,11 @@ use Rattle.std.proofs.Common.{◌≡◌, ◌+◌, ◌<◌, ◌≤◌, ◌-◌, �
 use Rattle.std.specs.List.{insert}
 use Rattle.std.proofs.lemmas.Bool.{cases_lt}
 use Rattle.std.proofs.lemmas.List.{drop-map, get_or-map, length-map, map-set, take-map}
-use Rattle.dn_model.specs.Cidr.{Cidr, IsCidr}
-use Rattle.dn_model.specs.Entry.{prefix_of_op}
-use Rattle.dn_model.specs.declared.entry.Op.{Op}
+use Rattle.base.specs.Cidr.{Cidr, IsCidr}
+use Rattle.dn_model.specs.Table.{prefix_of_op}
+use Rattle.dn_model.specs.declared.table_op.TableOp.{TableOp}
 use Rattle.dn_model.specs.declared.entry.Route.{Route}
-use Rattle.dn_model.specs.declared.target.Target.{Target}
+use Rattle.dn_model.specs.declared.way.Way.{Way}
 use Rattle.route_table.specs.Ascending.{AscendsFrom, IsFound, IsGap, IsPlace}
 use Rattle.route_table.specs.Rows.{AddsSlots, AreWhole, KeepsRoutes, KeepsSlots, row_key, slot_in, slots_in, tables_in}
 use Rattle.route_table.specs.Searches.{IsBaseBefore}
@@ -102,14 +102,14 @@ by-lane P k lane here other = ⊎_elim
     (cases_lt k lane)
 
 -- each table is whole again
-pub added-whole : (lane : ℕ) (old new : List PrefixRow) (lengths marked : List Bool) (p : Cidr) (i m : ℕ) (t : Target) → AreWhole old lengths → ((k : ℕ) → IsGap slot_key (slots_in k old) (key_of p) i) → IsCidr p → IsAddedAt (slots_in lane old) (slots_in lane new) i p m t → AddsSlots lane old new i p → marked ≡ set lengths p.len true → AreWhole new marked
-added-whole lane old new lengths marked p i m t h g sound a others is k = by-lane (λ j. IsWhole (slots_in j new) marked) k lane
-    (add-whole (slots_in lane old) (slots_in lane new) lengths marked p i m t (h lane) (g lane) a is)
-    (λ n. subst (λ ls. IsWhole (slots_in k new) ls) (sym is) (subst (λ slots. IsWhole slots (set lengths p.len true)) (sym (others k n)) (empty-whole (slots_in k old) lengths p i (h k) sound (g k))))
+pub added-whole : (lane : ℕ) (old new : List PrefixRow) (lengths marked : List Bool) (route : Route) (i : ℕ) → AreWhole old lengths → ((k : ℕ) → IsGap slot_key (slots_in k old) (key_of route.prefix) i) → IsCidr route.prefix → IsAddedAt (slots_in lane old) (slots_in lane new) i route → AddsSlots lane old new i route.prefix → marked ≡ set lengths route.prefix.len true → AreWhole new marked
+added-whole lane old new lengths marked route i h g sound a others is k = by-lane (λ j. IsWhole (slots_in j new) marked) k lane
+    (add-whole (slots_in lane old) (slots_in lane new) lengths marked route i (h lane) (g lane) a is)
+    (λ n. subst (λ ls. IsWhole (slots_in k new) ls) (sym is) (subst (λ slots. IsWhole slots (set lengths route.prefix.len true)) (sym (others k n)) (empty-whole (slots_in k old) lengths route.prefix i (h k) sound (g k))))
 
-pub updated-whole : (lane : ℕ) (old new : List PrefixRow) (lengths : List Bool) (op : Op) (i : ℕ) (first : Option Target) → AreWhole old lengths → IsCidr (prefix_of_op op) → IsFound slot_key (slots_in lane old) (key_of (prefix_of_op op)) i → IsUpdatedAt (slots_in lane old) (slots_in lane new) i op first → KeepsSlots lane old new → AreWhole new lengths
-updated-whole lane old new lengths op i first h sound f u others k = by-lane (λ j. IsWhole (slots_in j new) lengths) k lane
-    (update-whole (slots_in lane old) (slots_in lane new) lengths op i first (h lane) sound f u)
+pub updated-whole : (lane : ℕ) (old new : List PrefixRow) (lengths : List Bool) (alone : Bool) (op : TableOp) (i : ℕ) (first : Option Way) → AreWhole old lengths → IsCidr (prefix_of_op op) → IsFound slot_key (slots_in lane old) (key_of (prefix_of_op op)) i → IsUpdatedAt (slots_in lane old) (slots_in lane new) i alone op first → KeepsSlots lane old new → AreWhole new lengths
+updated-whole lane old new lengths alone op i first h sound f u others k = by-lane (λ j. IsWhole (slots_in j new) lengths) k lane
+    (update-whole (slots_in lane old) (slots_in lane new) lengths alone op i first (h lane) sound f u)
     (λ n. subst (λ slots. IsWhole slots lengths) (sym (others k n)) (h k))
 
 -- ---- the tables as a list

@@ -2,8 +2,8 @@
 use Rattle.std.proofs.Common.{◌≡◌, ◌<◌, ◌∙◌, ℕ, Bool, List, set, refl, ap, sym, subst}
 use Rattle.std.specs.List.Sorted.{IsPermutation}
 use Rattle.dn_model.specs.Routes.{IsTable}
-use Rattle.dn_model.specs.Table.{after_op}
-use Rattle.dn_model.specs.declared.entry.Op.{Op}
+use Rattle.dn_model.specs.Table.{after_table_op}
+use Rattle.dn_model.specs.declared.table_op.TableOp.{TableOp}
 use Rattle.dn_model.specs.declared.entry.Route.{Route}
 use Rattle.route_table.specs.Rows.{AreWhole, KeepsRoutes, slots_in, tables_in}
 use Rattle.route_table.specs.Slots.{routes_of}
@@ -22,12 +22,12 @@ module _ (lane : ℕ) (old : List PrefixRow) (tables : List (List Route)) (l : l
   pub others-set : (new : List PrefixRow) → KeepsRoutes lane old new → tables_in new ≡ set tables lane (table_at (tables_in new) lane)
   others-set new h = tables-set lane old new l h ∙ ap (λ ts. set ts lane (table_at (tables_in new) lane)) view
 
-  pub permuted : (new : List PrefixRow) (op : Op) → IsPermutation (routes_of (slots_in lane new)) (after_op (routes_of (slots_in lane old)) op) → IsPermutation (table_at (tables_in new) lane) (after_op (table_at tables lane) op)
-  permuted new op h = on-table lane new l (λ rs. IsPermutation rs (after_op (table_at tables lane) op)) (subst (λ rs. IsPermutation (routes_of (slots_in lane new)) (after_op rs op)) was h)
+  pub permuted : (new : List PrefixRow) (alone : Bool) (op : TableOp) → IsPermutation (routes_of (slots_in lane new)) (after_table_op alone (routes_of (slots_in lane old)) op) → IsPermutation (table_at (tables_in new) lane) (after_table_op alone (table_at tables lane) op)
+  permuted new alone op h = on-table lane new l (λ rs. IsPermutation rs (after_table_op alone (table_at tables lane) op)) (subst (λ rs. IsPermutation (routes_of (slots_in lane new)) (after_table_op alone rs op)) was h)
 
   -- where nothing was changed
-  pub permuted-same : (new : List PrefixRow) (op : Op) → new ≡ old → IsPermutation (routes_of (slots_in lane old)) (after_op (routes_of (slots_in lane old)) op) → IsPermutation (table_at (tables_in new) lane) (after_op (table_at tables lane) op)
-  permuted-same new op e h = permuted new op (subst (λ rows. IsPermutation (routes_of (slots_in lane rows)) (after_op (routes_of (slots_in lane old)) op)) (sym e) h)
+  pub permuted-same : (new : List PrefixRow) (alone : Bool) (op : TableOp) → new ≡ old → IsPermutation (routes_of (slots_in lane old)) (after_table_op alone (routes_of (slots_in lane old)) op) → IsPermutation (table_at (tables_in new) lane) (after_table_op alone (table_at tables lane) op)
+  permuted-same new alone op e h = permuted new alone op (subst (λ rows. IsPermutation (routes_of (slots_in lane rows)) (after_table_op alone (routes_of (slots_in lane old)) op)) (sym e) h)
 
   pub table-same : (new : List PrefixRow) → new ≡ old → table_at (tables_in new) lane ≡ table_at tables lane
   table-same new e = table-is lane new l ∙ ap (λ rows. routes_of (slots_in lane rows)) e ∙ was

@@ -1,21 +1,22 @@
 -- What an update of one prefix turns: what is done at the prefix's own addresses, and nothing else.
-use Rattle.std.proofs.Common.{◌≡◌, ℕ, ◌+◌, ◌<◌, ◌≤◌, ◌∙◌, ◌&&◌, not, cond, Bool, true, false, Option, None, Some, List, [], ◌∷◌, filter, length, fold, refl, ap, sym, subst, ⊎_elim, arith, eqb, ltb}
+use Rattle.std.proofs.Common.{◌≡◌, ℕ, ◌+◌, ◌<◌, ◌≤◌, ◌∙◌, ◌&&◌, ◌||◌, not, cond, Bool, true, false, Option, None, Some, List, [], ◌∷◌, filter, length, fold, refl, ap, sym, subst, ⊎_elim, arith, eqb, ltb}
 use Rattle.std.specs.List.{Contains, list_any}
 use Rattle.std.specs.List.Sorted.{IsPermutation}
 use Rattle.std.proofs.lemmas.Bool.{and_cases, and_left, and_right, ltb-true, and_from, and_parts, both_ways, cases_Bool, cases_lt, eq-eqb, false_from_ne_true, le-ltb, lt-ltb, ltb-false, ne_eqb, not-false, not-true, not_from_false, or_from, or_parts}
 use Rattle.std.proofs.lemmas.List.Elements.{Contains-append_cases, Contains-append_left, Contains-push_cases}
-use Rattle.dn_model.specs.Cidr.{Cidr, IsCidr, covers, size}
-use Rattle.dn_model.specs.Entry.{prefix_of_op}
+use Rattle.base.specs.Cidr.{Cidr, IsCidr, covers, size}
+use Rattle.dn_model.specs.Table.{prefix_of_op}
 use Rattle.dn_model.specs.Routes.{IsTable}
-use Rattle.dn_model.specs.Table.{IsBest, after_op, best, better, goes_before, has_key, is_of_prefix, target_in, target_or_none}
-use Rattle.dn_model.specs.declared.entry.Op.{Op}
-use Rattle.dn_model.specs.declared.entry.Op.TheVariants.{Set, Clear}
+use Rattle.dn_model.specs.Table.{IsBest, after_table_op, best, better, goes_before, has_key, is_of_prefix, is_replaced, way_in, way_or_none}
+use Rattle.dn_model.specs.declared.table_op.TableOp.{TableOp}
+use Rattle.dn_model.specs.declared.table_op.TableOp.TheVariants.{Put, Clear}
 use Rattle.dn_model.specs.declared.entry.Route.{Route}
-use Rattle.dn_model.specs.declared.target.Target.{Target}
-use Rattle.dn_model.proofs.Best.{best-is, contains-cases, contains-filter, contains-here, contains-none, contains-there, filter-contains}
-use Rattle.dn_model.proofs.Keyed.{contains-map}
+use Rattle.dn_model.specs.declared.way.Way.{Way}
+use Rattle.dn_model.proofs.Best.{best-is}
+use Rattle.base.proofs.Elements.{contains-cases, contains-filter, contains-here, contains-none, contains-there, filter-contains}
+use Rattle.base.proofs.Elements.{contains-map}
 use Rattle.dn_model.proofs.Keys.{base-once}
-use Rattle.dn_model.proofs.Picks.{any-none, any-some}
+use Rattle.base.proofs.Picks.{any-none, any-some}
 use Rattle.dn_model.proofs.SameRoutes.{SameRoutes, longest-is-best, only-best, same-permutation}
 use Rattle.route_table.specs.Above.{IsAbove, IsDoneAbove, IsFirstAbove, done_by}
 use Rattle.route_table.specs.Ascending.{AscendsFrom}
@@ -23,7 +24,7 @@ use Rattle.route_table.specs.Made.{IsFirstIn, IsLeastOf}
 use Rattle.route_table.specs.Own.{BeginWithin, IsLooked, IsPassed, IsTurned, is_longer_at, is_own}
 use Rattle.route_table.specs.Slots.{AreSlots, PrefixRoutes, key_of, routes_at, routes_of, slot_key}
 use Rattle.route_table.specs.Targets.{route_at}
-use Rattle.route_table.specs.declared.targets.MetricTarget.{MetricTarget}
+use Rattle.route_table.specs.declared.targets.MetricWay.{MetricWay}
 use Rattle.route_table.proofs.Around.{around-once}
 use Rattle.route_table.proofs.Blocks.{covers-from, covers-in, covers-to, nested-from, nested-to, size-some}
 use Rattle.route_table.proofs.OwnRuns.{any-of, each-of, route-of}
@@ -43,30 +44,30 @@ left-there q routes r n i = contains-filter (λ x. not (q x)) r routes i (not_fr
 left-back : (q : Route → Bool) (routes : List Route) (r : Route) → Contains (filter (λ x. not (q x)) routes) r → Contains routes r
 left-back q routes r i = (filter-contains (λ x. not (q x)) r routes i).0
 
-after-there : (old : List Route) (op : Op) (r : Route) → is_of_prefix (prefix_of_op op) r ≡ false → Contains old r → Contains (after_op old op) r
-after-there old (Set p m t) r n i = Contains-append_left (filter (λ x. not (has_key p m x)) old) (record { prefix = p; metric = m; target = t } ∷ []) r (left-there (has_key p m) old r (and_left (is_of_prefix p r) (eqb r.metric m) n) i)
-after-there old (Clear p None) r n i = left-there (is_of_prefix p) old r n i
-after-there old (Clear p (Some m)) r n i = left-there (has_key p m) old r (and_left (is_of_prefix p r) (eqb r.metric m) n) i
+after-there : (old : List Route) (alone : Bool) (op : TableOp) (r : Route) → is_of_prefix (prefix_of_op op) r ≡ false → Contains old r → Contains (after_table_op alone old op) r
+after-there old alone (Put p m t) r n i = Contains-append_left (filter (λ x. not (is_replaced alone p m x)) old) (record { prefix = p; metric = m; way = t } ∷ []) r (left-there (is_replaced alone p m) old r (and_left (is_of_prefix p r) (alone || eqb r.metric m) n) i)
+after-there old alone (Clear p None) r n i = left-there (is_of_prefix p) old r n i
+after-there old alone (Clear p (Some m)) r n i = left-there (has_key p m) old r (and_left (is_of_prefix p r) (eqb r.metric m) n) i
 
 own-prefix : (p : Cidr) (r : Route) → r.prefix ≡ p → is_of_prefix p r ≡ true
 own-prefix p r e = and_from (eqb r.prefix.base p.base) (eqb r.prefix.len p.len) (eq-eqb r.prefix.base p.base (ap (λ (c : Cidr). c.base) e)) (eq-eqb r.prefix.len p.len (ap (λ (c : Cidr). c.len) e))
 
-after-back : (old : List Route) (op : Op) (r : Route) → is_of_prefix (prefix_of_op op) r ≡ false → Contains (after_op old op) r → Contains old r
-after-back old (Set p m t) r n i =
-    let route : Route = record { prefix = p; metric = m; target = t } in
+after-back : (old : List Route) (alone : Bool) (op : TableOp) (r : Route) → is_of_prefix (prefix_of_op op) r ≡ false → Contains (after_table_op alone old op) r → Contains old r
+after-back old alone (Put p m t) r n i =
+    let route : Route = record { prefix = p; metric = m; way = t } in
     ⊎_elim
-    (λ (j : Contains (filter (λ x. not (has_key p m x)) old) r). left-back (has_key p m) old r j)
+    (λ (j : Contains (filter (λ x. not (is_replaced alone p m x)) old) r). left-back (is_replaced alone p m) old r j)
     (λ (e : route ≡ r). absurd (both_ways (is_of_prefix p r) n (own-prefix p r (ap (λ (x : Route). x.prefix) (sym e)))))
-    (Contains-push_cases (filter (λ x. not (has_key p m x)) old) route r i)
-after-back old (Clear p None) r n i = left-back (is_of_prefix p) old r i
-after-back old (Clear p (Some m)) r n i = left-back (has_key p m) old r i
+    (Contains-push_cases (filter (λ x. not (is_replaced alone p m x)) old) route r i)
+after-back old alone (Clear p None) r n i = left-back (is_of_prefix p) old r i
+after-back old alone (Clear p (Some m)) r n i = left-back (has_key p m) old r i
 
-pub others-after : (old new : List Route) (op : Op) → IsPermutation new (after_op old op) → AreOthers (prefix_of_op op) old new
-others-after old new op h =
-    let same : SameRoutes new (after_op old op) = same-permutation new (after_op old op) h in
+pub others-after : (old new : List Route) (alone : Bool) (op : TableOp) → IsPermutation new (after_table_op alone old op) → AreOthers (prefix_of_op op) old new
+others-after old new alone op h =
+    let same : SameRoutes new (after_table_op alone old op) = same-permutation new (after_table_op alone old op) h in
     record {
-      there = λ r n i. same.back r (after-there old op r n i);
-      back = λ r n i. after-back old op r n (same.there r i);
+      there = λ r n i. same.back r (after-there old alone op r n i);
+      back = λ r n i. after-back old alone op r n (same.there r i);
     }
 
 longer-other : (p : Cidr) (r : Route) → p.len < r.prefix.len → is_of_prefix p r ≡ false
@@ -154,10 +155,10 @@ module _ (p : Cidr) (old new : List Route) (a : ℕ) (o : AreOthers p old new) (
             (cases_Bool (is_of_prefix p r)),
       )
 
-  away-same : IsTable old → target_in new a ≡ target_in old a
-  away-same table = ap target_or_none (only-best old a (best new a) table (best-carried (best new a) (best-is new a)))
+  away-same : IsTable old → way_in new a ≡ way_in old a
+  away-same table = ap way_or_none (only-best old a (best new a) table (best-carried (best new a) (best-is new a)))
 
-pub away : (p : Cidr) (old new : List Route) (a : ℕ) → AreOthers p old new → IsTable old → is_own new p a ≡ false → target_in new a ≡ target_in old a
+pub away : (p : Cidr) (old new : List Route) (a : ℕ) → AreOthers p old new → IsTable old → is_own new p a ≡ false → way_in new a ≡ way_in old a
 away p old new a o table h = away-same p old new a o (λ c. not-own new p a h c) table
 
 -- ---- own addresses are alike
@@ -186,14 +187,14 @@ filter-alike q s (x ∷ xs) h =
     ap (λ b. cond b (x ∷ filter q xs) (filter q xs)) (h x (contains-here x xs))
     ∙ ap (λ ys. cond (s x) (x ∷ ys) ys) (filter-alike q s xs (λ y i. h y (contains-there x y xs i)))
 
-same-own : (p : Cidr) (routes : List Route) (a b : ℕ) → IsCidr p → IsTable routes → IsOwn routes p a → IsOwn routes p b → target_in routes a ≡ target_in routes b
+same-own : (p : Cidr) (routes : List Route) (a b : ℕ) → IsCidr p → IsTable routes → IsOwn routes p a → IsOwn routes p b → way_in routes a ≡ way_in routes b
 same-own p routes a b sp table x y =
-    ap (λ (rs : List Route). target_or_none (fold better None rs)) (filter-alike (λ (r : Route). covers r.prefix a) (λ (r : Route). covers r.prefix b) routes (λ r i. alike p routes a b r sp table x y i))
+    ap (λ (rs : List Route). way_or_none (fold better None rs)) (filter-alike (λ (r : Route). covers r.prefix a) (λ (r : Route). covers r.prefix b) routes (λ r i. alike p routes a b r sp table x y i))
 
 -- ---- what is done there
 
 -- where the prefix has a route, what its first does
-first-own : (p : Cidr) (routes : List Route) (a : ℕ) (t : Target) → IsCidr p → IsTable routes → IsOwn routes p a → IsFirstIn routes p (Some t) → target_in routes a ≡ t
+first-own : (p : Cidr) (routes : List Route) (a : ℕ) (t : Way) → IsCidr p → IsTable routes → IsOwn routes p a → IsFirstIn routes p (Some t) → way_in routes a ≡ t
 first-own p routes a t sp table x first =
     let b : Route = first.0 in
     let least : IsLeastOf routes p b = first.1 in
@@ -202,7 +203,7 @@ first-own p routes a t sp table x first =
     longest-is-best routes a b least.among (subst (λ (q : Cidr). covers q a ≡ true) (sym least.prefix) x.here)
     (λ r i c l. x.none r i c (omega arith))
     (λ r i c e. least.least r i (around-once routes p a r table sp x.here i (e ∙ len) c)) in
-    sym (ap target_or_none (only-best routes a (Some b) table is)) ∙ first.2
+    sym (ap way_or_none (only-best routes a (Some b) table is)) ∙ first.2
 
 -- each prefix has one slot
 slot-once : (start : ℕ) (slots : List PrefixRoutes) (y z : PrefixRoutes) → AscendsFrom slot_key start slots → Contains slots y → Contains slots z → slot_key y ≡ slot_key z → y ≡ z
@@ -229,7 +230,7 @@ module _ (p : Cidr) (slots : List PrefixRoutes) (a : ℕ) (form : AreSlots slots
   -- the slot of a route
   record Stands (r : Route) : Type 0 where
     slot : PrefixRoutes
-    target : MetricTarget
+    target : MetricWay
     inside : Contains slots slot
     listed : Contains slot.targets target
     is : route_at slot.prefix target ≡ r
@@ -238,7 +239,7 @@ module _ (p : Cidr) (slots : List PrefixRoutes) (a : ℕ) (form : AreSlots slots
   stands-in [] r into i = absurd (contains-none r i)
   stands-in (s ∷ xs) r into i = ⊎_elim
       (λ (j : Contains (routes_at s) r).
-      let w : (y : MetricTarget) × Contains s.targets y × (route_at s.prefix y ≡ r) = contains-map (route_at s.prefix) s.targets r j in
+      let w : (y : MetricWay) × Contains s.targets y × (route_at s.prefix y ≡ r) = contains-map (route_at s.prefix) s.targets r j in
       record { slot = s; target = w.0; inside = into s (contains-here s xs); listed = w.1; is = w.2 })
       (λ (j : Contains (routes_of xs) r). stands-in xs r (λ y k. into y (contains-there s y xs k)) j)
       (Contains-append_cases (routes_at s) (routes_of xs) r i)
@@ -269,14 +270,14 @@ module _ (p : Cidr) (slots : List PrefixRoutes) (a : ℕ) (form : AreSlots slots
         holds = subst (λ (q : Cidr). covers q p.base ≡ true) (sym same) (covers-in r.prefix p.base from (omega arith));
       }
 
-  done-best : (o : Option Target) → IsFirstAbove slots p o → target_in (routes_of slots) a ≡ done_by o
-  done-best None above = sym (ap target_or_none (only-best (routes_of slots) a None table (λ r i. false_from_ne_true (covers r.prefix a) (λ c.
+  done-best : (o : Option Way) → IsFirstAbove slots p o → way_in (routes_of slots) a ≡ done_by o
+  done-best None above = sym (ap way_or_none (only-best (routes_of slots) a None table (λ r i. false_from_ne_true (covers r.prefix a) (λ c.
       let w : Stands r = stands r i in
       above w.slot w.inside (is-above r i c w)))))
   done-best (Some t) above =
       let s : PrefixRoutes = above.0 in
       let high : IsAbove p s = above.2 in
-      let least : MetricTarget = above.3.0 in
+      let least : MetricWay = above.3.0 in
       let b : Route = route_at s.prefix least in
       let ss : IsCidr s.prefix = (each-of slots s form.each above.1).sound in
       let shorter : s.prefix.len < p.len = high.shorter in
@@ -302,12 +303,12 @@ module _ (p : Cidr) (slots : List PrefixRoutes) (a : ℕ) (form : AreSlots slots
       let slot : w.slot ≡ s = slot-once 0 slots w.slot s form.keys w.inside above.1 (ap key_of prefix) in
       let listed : Contains s.targets w.target = subst (λ (y : PrefixRoutes). Contains y.targets w.target) slot w.listed in
       subst (λ (y : Route). least.metric ≤ y.metric) w.is (above.3.1.1 w.target listed)) in
-      sym (ap target_or_none (only-best (routes_of slots) a (Some b) table is)) ∙ above.3.2
+      sym (ap way_or_none (only-best (routes_of slots) a (Some b) table is)) ∙ above.3.2
 
 -- ---- an update
 
 -- what is done at the addresses of a prefix whose first route stays what it was
-pub same-everywhere : (p : Cidr) (old new : List Route) (t : Target) (a : ℕ) → IsCidr p → IsTable old → IsTable new → AreOthers p old new → IsFirstIn old p (Some t) → IsFirstIn new p (Some t) → target_in new a ≡ target_in old a
+pub same-everywhere : (p : Cidr) (old new : List Route) (t : Way) (a : ℕ) → IsCidr p → IsTable old → IsTable new → AreOthers p old new → IsFirstIn old p (Some t) → IsFirstIn new p (Some t) → way_in new a ≡ way_in old a
 same-everywhere p old new t a sp was now o before first = ⊎_elim
     (λ (h : is_own new p a ≡ true).
     let x : IsOwn new p a = own new p a h in
@@ -315,17 +316,17 @@ same-everywhere p old new t a sp was now o before first = ⊎_elim
     (λ (h : is_own new p a ≡ false). away p old new a o was h)
     (cases_Bool (is_own new p a))
 
-turned-by : (p : Cidr) (old new : List Route) (t : Target) → IsCidr p → IsTable old → AreOthers p old new → ((a : ℕ) → IsOwn new p a → target_in new a ≡ t) → IsTurned old new p t
+turned-by : (p : Cidr) (old new : List Route) (t : Way) → IsCidr p → IsTable old → AreOthers p old new → ((a : ℕ) → IsOwn new p a → way_in new a ≡ t) → IsTurned old new p t
 turned-by p old new t sp was o here = record {
   before = λ a b h k. same-own p old a b sp was (own-moved p old new a o (own new p a h)) (own-moved p old new b o (own new p b k));
   here = λ a h. here a (own new p a h);
   away = λ a h. away p old new a o was h;
 }
 
-pub turned-first : (p : Cidr) (old new : List Route) (t : Target) → IsCidr p → IsTable old → IsTable new → AreOthers p old new → IsFirstIn new p (Some t) → IsTurned old new p t
+pub turned-first : (p : Cidr) (old new : List Route) (t : Way) → IsCidr p → IsTable old → IsTable new → AreOthers p old new → IsFirstIn new p (Some t) → IsTurned old new p t
 turned-first p old new t sp was now o first = turned-by p old new t sp was o (λ a x. first-own p new a t sp now x first)
 
-pub turned-above : (p : Cidr) (old : List Route) (slots : List PrefixRoutes) (t : Target) → IsCidr p → IsTable old → AreSlots slots → IsTable (routes_of slots) → AreOthers p old (routes_of slots) → IsFirstIn (routes_of slots) p None → IsDoneAbove slots p t → IsTurned old (routes_of slots) p t
+pub turned-above : (p : Cidr) (old : List Route) (slots : List PrefixRoutes) (t : Way) → IsCidr p → IsTable old → AreSlots slots → IsTable (routes_of slots) → AreOthers p old (routes_of slots) → IsFirstIn (routes_of slots) p None → IsDoneAbove slots p t → IsTurned old (routes_of slots) p t
 turned-above p old slots t sp was form now o none done =
     turned-by p old (routes_of slots) t sp was o (λ a x. done-best p slots a form sp now x none done.0 done.1 ∙ sym done.2)
 

@@ -2,7 +2,7 @@
 use Rattle.std.proofs.Common.{◌≡◌, ◌≢◌, ℕ, ◌+◌, ◌<◌, ◌≤◌, ◌∙◌, true, false, List, [], ◌∷◌, ◌++◌, length, get_or, take, drop, ap, sym, subst, arith}
 use Rattle.std.proofs.lemmas.List.{length-append, take-append-drop}
 use Rattle.std.proofs.lemmas.List.Sums.{fold-append, fold_more}
-use Rattle.dn_model.specs.declared.run.Run.{Run}
+use Rattle.base.specs.declared.run.Run.{Run}
 use Rattle.route_table.specs.Along.{Along, along, along_slot, gap, is_passed_over, past_of}
 use Rattle.route_table.specs.Slots.{AreSlots, PrefixRoutes}
 use Rattle.route_table.proofs.Along.{along-ended, begun-are, begun_from, below-passed, empty-passed, gone, gone-over, slot-gone, slot-passed}

@@ -1,8 +1,8 @@
 -- A walk over the slots behind that of a prefix, in order, which leaves the prefix's own addresses.
 use Rattle.std.specs.Prelude.{ℕ, Bool, List, [], ◌∷◌, ◌++◌, fold, length, nat_le, nat_lt, ◌+◌, ◌-◌, ◌==◌, ◌||◌, if◌then◌else◌}
 use Rattle.std.specs.List.{list_any}
-use Rattle.dn_model.specs.Cidr.{size}
-use Rattle.dn_model.specs.declared.run.Run.{Run}
+use Rattle.base.specs.Cidr.{size}
+use Rattle.base.specs.declared.run.Run.{Run}
 use Rattle.route_table.specs.Slots.{PrefixRoutes}
 
 -- how far it has come: from this address on none was met; the runs so far; and where the prefixes begin that it went past

@@ -2,15 +2,15 @@
 -- are in force, or, where it has none, those of the longest prefix with a route that holds it.
 use Rattle.std.specs.Prelude.{ℕ, Bool, true, false, List, [], ◌∷◌, filter, length, nat_lt, not, ◌≡◌, ◌+◌, ◌<◌, ◌≤◌, ◌&&◌, ◌||◌, ◌==◌}
 use Rattle.std.specs.List.{list_any}
-use Rattle.dn_model.specs.Cidr.{Cidr, covers, size}
-use Rattle.dn_model.specs.Entry.{is_end_of}
-use Rattle.dn_model.specs.Runs.{AreRuns}
-use Rattle.dn_model.specs.Table.{is_of_prefix, target_in}
-use Rattle.dn_model.specs.declared.entry.Op.{Op}
-use Rattle.dn_model.specs.declared.entry.Op.TheVariants.{Set, Clear}
+use Rattle.base.specs.Cidr.{Cidr, covers, size}
+use Rattle.dn_model.specs.Entry.{is_bound_of}
+use Rattle.base.specs.Runs.{AreRuns}
+use Rattle.dn_model.specs.Table.{is_of_prefix, way_in}
+use Rattle.dn_model.specs.declared.table_op.TableOp.{TableOp}
+use Rattle.dn_model.specs.declared.table_op.TableOp.TheVariants.{Put, Clear}
 use Rattle.dn_model.specs.declared.entry.Route.{Route}
-use Rattle.dn_model.specs.declared.run.Run.{Run}
-use Rattle.dn_model.specs.declared.target.Target.{Target}
+use Rattle.base.specs.declared.run.Run.{Run}
+use Rattle.dn_model.specs.declared.way.Way.{Way}
 
 -- whether a route's prefix is longer than so many bits, and has an address
 abbrev pub is_longer_at : ℕ → ℕ → Route → Bool
@@ -22,7 +22,7 @@ is_own routes p a = covers p a && not (list_any (is_longer_at p.len a) routes)
 
 -- whether a prefix or that of a route begins at an address, or ends before it
 abbrev pub is_end_in : List Route → Cidr → ℕ → Bool
-is_end_in routes p a = is_end_of p a || list_any (λ r. is_end_of r.prefix a) routes
+is_end_in routes p a = is_bound_of p a || list_any (λ r. is_bound_of r.prefix a) routes
 
 -- runs begin and end where the prefix does, or that of a route
 abbrev pub EndAtEnds : List Route → Cidr → List Run → Type 0
@@ -36,14 +36,14 @@ pub record AreOwnRuns (routes : List Route) (p : Cidr) (runs : List Run) : Type 
 
 -- A table was changed at a prefix: at its own addresses one and the same was done before, and this is done now; at all others
 -- what was done still is.
-pub record IsTurned (old new : List Route) (p : Cidr) (after : Target) : Type 0 where
-  pub before : (a b : ℕ) → is_own new p a ≡ true → is_own new p b ≡ true → target_in old a ≡ target_in old b
-  pub here : (a : ℕ) → is_own new p a ≡ true → target_in new a ≡ after
-  pub away : (a : ℕ) → is_own new p a ≡ false → target_in new a ≡ target_in old a
+pub record IsTurned (old new : List Route) (p : Cidr) (after : Way) : Type 0 where
+  pub before : (a b : ℕ) → is_own new p a ≡ true → is_own new p b ≡ true → way_in old a ≡ way_in old b
+  pub here : (a : ℕ) → is_own new p a ≡ true → way_in new a ≡ after
+  pub away : (a : ℕ) → is_own new p a ≡ false → way_in new a ≡ way_in old a
 
 -- an update sets a route, or its prefix has one
-abbrev pub SetsOrHas : List Route → Op → Type 0
-SetsOrHas routes (Set p m t) = Unit {0}
+abbrev pub SetsOrHas : List Route → TableOp → Type 0
+SetsOrHas routes (Put p m t) = Unit {0}
 SetsOrHas routes (Clear p m) = list_any (is_of_prefix p) routes ≡ true
 
 -- addresses in order, from `lo` up to, and without, `past`, at each of which a route's prefix begins

@@ -1,7 +1,7 @@
 -- Rows: the routes of one prefix in each of four tables that stand side by side. Each table has a slot in each row,
 -- which may be without routes. A table beyond the fourth has slots without routes.
 use Rattle.std.specs.Prelude.{ℕ, Bool, List, [], ◌∷◌, insert, map, slice_index_or, ◌≡◌, ◌≢◌}
-use Rattle.dn_model.specs.Cidr.{Cidr}
+use Rattle.base.specs.Cidr.{Cidr}
 use Rattle.dn_model.specs.declared.entry.Route.{Route}
 use Rattle.route_table.specs.Slots.{PrefixRoutes, key_of, routes_of}
 use Rattle.route_table.specs.Whole.{IsWhole}

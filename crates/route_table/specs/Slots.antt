@@ -1,20 +1,20 @@
 -- The slots of a routing table: each has the routes of one prefix, in order of their metrics. The slots are in order of
 -- their prefixes.
-use Rattle.std.specs.Prelude.{ℕ, List, [], ◌∷◌, Option, ◌≡◌, ◌+◌, ◌*◌, ◌<◌, length, map, flat_map, set, insert, slice_index_or, Contains, IsPermutation}
+use Rattle.std.specs.Prelude.{ℕ, Bool, List, [], ◌∷◌, Option, ◌≡◌, ◌+◌, ◌*◌, ◌<◌, length, map, flat_map, set, insert, slice_index_or, IsPermutation}
 use Rattle.std.specs.List.{AllByRecursion}
-use Rattle.dn_model.specs.Cidr.{Cidr, IsCidr}
-use Rattle.dn_model.specs.declared.entry.Op.{Op}
-use Rattle.dn_model.specs.declared.entry.Op.TheVariants.{Set, Clear}
+use Rattle.base.specs.Cidr.{Cidr, IsCidr}
+use Rattle.dn_model.specs.declared.table_op.TableOp.{TableOp}
+use Rattle.dn_model.specs.declared.table_op.TableOp.TheVariants.{Put, Clear}
 use Rattle.dn_model.specs.declared.entry.Route.{Route}
-use Rattle.route_table.specs.declared.targets.MetricTarget.{MetricTarget}
-use Rattle.dn_model.specs.declared.target.Target.{Target}
+use Rattle.route_table.specs.declared.targets.MetricWay.{MetricWay}
+use Rattle.dn_model.specs.declared.way.Way.{Way}
 use Rattle.route_table.specs.Ascending.{AscendsFrom}
-use Rattle.route_table.specs.Targets.{cleared, metric_of, route_at, with_target, IsFirst}
+use Rattle.route_table.specs.Targets.{cleared, metric_of, placed, route_at, IsFirst, IsPlaced}
 
 -- the routes of one prefix in one table: what they do, by metric
 pub record PrefixRoutes : Type 0 where
   pub prefix : Cidr
-  pub targets : List MetricTarget
+  pub targets : List MetricWay
 
 -- what tells prefixes apart: lengths are below 64
 abbrev pub key_of : Cidr → ℕ
@@ -39,39 +39,39 @@ pub record AreSlots (slots : List PrefixRoutes) : Type 0 where
   pub keys : AscendsFrom slot_key 0 slots
   pub each : AllByRecursion IsSlot slots
 
--- one more slot stands at a place, with one route of a prefix
-pub record IsAddedAt (old new : List PrefixRoutes) (place : ℕ) (p : Cidr) (m : ℕ) (t : Target) : Type 0 where
+-- one more slot stands at a place, with one route
+pub record IsAddedAt (old new : List PrefixRoutes) (place : ℕ) (route : Route) : Type 0 where
   pub slot : PrefixRoutes
-  pub prefix : slot.prefix ≡ p
-  pub sound : IsCidr p
-  pub targets : IsPermutation slot.targets (record { metric = m; target = t } ∷ [])
+  pub prefix : slot.prefix ≡ route.prefix
+  pub sound : IsCidr route.prefix
+  pub targets : IsPermutation slot.targets (record { metric = route.metric; way = route.way } ∷ [])
   pub metrics : AscendsFrom metric_of 0 slot.targets
   pub list : new ≡ insert old place slot
 
 -- what an update makes of what the routes of its prefix do
-abbrev pub updated_targets : List MetricTarget → Op → List MetricTarget
-updated_targets targets (Set p m t) = with_target targets m t
-updated_targets targets (Clear p metric) = cleared targets metric
+abbrev pub updated_targets : Bool → List MetricWay → TableOp → List MetricWay
+updated_targets alone targets (Put p m t) = placed alone targets m t
+updated_targets alone targets (Clear p metric) = cleared targets metric
 
 -- an update of its prefix leaves the routes of a slot as they are
-abbrev pub IsUnchangedBy : List MetricTarget → Op → Type 0
-IsUnchangedBy targets (Set p m t) = Contains targets (record { metric = m; target = t })
-IsUnchangedBy targets (Clear p metric) = cleared targets metric ≡ targets
+abbrev pub IsUnchangedBy : Bool → List MetricWay → TableOp → Type 0
+IsUnchangedBy alone targets (Put p m t) = IsPlaced alone targets m t
+IsUnchangedBy alone targets (Clear p metric) = cleared targets metric ≡ targets
 
 -- an update sets a route, or there are some
-abbrev pub SetsOrHasSome : List MetricTarget → Op → Type 0
-SetsOrHasSome targets (Set p m t) = Unit {0}
+abbrev pub SetsOrHasSome : List MetricWay → TableOp → Type 0
+SetsOrHasSome targets (Put p m t) = Unit {0}
 SetsOrHasSome targets (Clear p metric) = 0 < length targets
 
 -- an update was made among the routes of a slot, and the first of them then does this
-pub record IsUpdatedIn (old new : PrefixRoutes) (op : Op) (first : Option Target) : Type 0 where
+pub record IsUpdatedIn (old new : PrefixRoutes) (alone : Bool) (op : TableOp) (first : Option Way) : Type 0 where
   pub same : new.prefix ≡ old.prefix
-  pub targets : IsPermutation new.targets (updated_targets old.targets op)
+  pub targets : IsPermutation new.targets (updated_targets alone old.targets op)
   pub metrics : AscendsFrom metric_of 0 new.targets
   pub first_is : IsFirst new.targets first
 
 -- so it was in the slot at a place
-pub record IsUpdatedAt (old new : List PrefixRoutes) (place : ℕ) (op : Op) (first : Option Target) : Type 0 where
+pub record IsUpdatedAt (old new : List PrefixRoutes) (place : ℕ) (alone : Bool) (op : TableOp) (first : Option Way) : Type 0 where
   pub slot : PrefixRoutes
-  pub made : (d : PrefixRoutes) → IsUpdatedIn (slice_index_or old place d) slot op first
+  pub made : (d : PrefixRoutes) → IsUpdatedIn (slice_index_or old place d) slot alone op first
   pub list : new ≡ set old place slot

@@ -1,7 +1,7 @@
 //! The routes whose prefixes hold another prefix.
 
 ghost use Rattle.std.specs.Prelude.{ℕ, ◌≡◌, ◌<◌, ◌≤◌, IfSome, length};
-ghost use Rattle.dn_model.specs.Cidr.{IsCidr};
+ghost use Rattle.base.specs.Cidr.{IsCidr};
 ghost use Rattle.route_table.specs.Above.{IsFirstAbove};
 ghost use Rattle.route_table.specs.Ascending.{IsPlace};
 ghost use Rattle.route_table.specs.Searches.{IsBaseBefore};
@@ -12,7 +12,7 @@ use crate::lengths::Lengths;
 use crate::prefix::prefix_around;
 use crate::rows::{LANES, PrefixRow, first_of};
 use crate::search::look;
-use dn_model::{Prefix, Target};
+use dn_model::{Prefix, Way};
 use version_pages::Pages;
 
 /// What the first route of the longest prefix does that is shorter than a prefix, holds it and has routes. The place is
@@ -24,7 +24,7 @@ pub fn first_above(
     prefix: Prefix,
     place: u64,
     before: Option<u32>,
-) -> Option<Target>
+) -> Option<Way>
     requires lane { lane < LANES }
     requires whole { AreWhole rows.now lengths.now }
     requires place { IsPlace slot_key (slots_in lane rows.now) (key_of prefix) place }

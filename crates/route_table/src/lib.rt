@@ -9,10 +9,12 @@ mod prefix;
 mod rows;
 mod search;
 mod table;
+mod table_update;
 mod tables;
 mod targets;
 mod update;
 
 pub use rows::LANES;
 pub use table::RouteTable;
+pub use table_update::TableUpdate;
 pub use tables::RouteTables;

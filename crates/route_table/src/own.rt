@@ -1,7 +1,7 @@
 //! The addresses of a prefix at which no longer prefix has a route.
 
 ghost use Rattle.std.specs.Prelude.{◌≡◌, ◌<◌, ◌≤◌, ◌+◌, ◌^◌, ◌++◌, [], true, IfOk, OnOk, IsTrue, length};
-ghost use Rattle.dn_model.specs.Cidr.{IsCidr, size};
+ghost use Rattle.base.specs.Cidr.{IsCidr, size};
 ghost use Rattle.route_table.specs.Along.{along, begins_past, gap};
 ghost use Rattle.route_table.specs.Ascending.{IsFound};
 ghost use Rattle.route_table.specs.Own.{AreOwnRuns, IsPassed};

@@ -1,7 +1,7 @@
 //! Prefixes: their order, and the one of a length around an address.
 
 ghost use Rattle.std.specs.Prelude.{◌≡◌, ◌≤◌, IsTrue};
-ghost use Rattle.dn_model.specs.Cidr.{IsCidr, covers};
+ghost use Rattle.base.specs.Cidr.{IsCidr, covers};
 ghost use Rattle.route_table.specs.Slots.{key_of};
 
 use dn_model::Prefix;

@@ -1,7 +1,7 @@
 //! The routes of the prefixes of four tables.
 
 ghost use Rattle.std.specs.Prelude.{◌≡◌, ◌≢◌, ◌<◌, ◌≤◌, ◌∷◌, ℕ, [], None, OnOk, OnErr, IfOk, IfSome, IfNone, IsFalse, IsTrue, IsPermutation, length, slice_index_or};
-ghost use Rattle.dn_model.specs.Cidr.{IsCidr};
+ghost use Rattle.base.specs.Cidr.{IsCidr};
 ghost use Rattle.route_table.specs.Ascending.{AscendsFrom, IsFound, IsGap, IsPlace};
 ghost use Rattle.route_table.specs.Rows.{row_key, slot_in, slots_in, AddsSlots, KeepsSlots};
 ghost use Rattle.route_table.specs.Slots.{key_of, AreSlots, IsAddedAt, IsUnchangedBy, IsUpdatedAt, IsUpdatedIn, SetsOrHasSome, updated_targets};
@@ -9,8 +9,9 @@ ghost use Rattle.route_table.specs.Targets.{metric_of, IsFirst};
 ghost use Rattle.route_table.specs.declared.rows.PrefixRow.{PrefixRow as Row};
 
 use crate::prefix::prefix_key;
+use crate::table_update::TableUpdate;
 use crate::targets::TargetsByMetric;
-use dn_model::{Op, OutOfMemory, Prefix, Target};
+use dn_model::{OutOfMemory, Prefix, Route, TableOp, Way};
 use std::alloc::{AllocError, Global};
 use version_pages::{Keyed, Pages};
 
@@ -59,7 +60,11 @@ fn copies(lanes: &[TargetsByMetric; LANES]) -> Result<[TargetsByMetric; LANES], 
 
 /// Rows are searched by their prefixes.
 impl Keyed for PrefixRow {
+    ghost use Rattle.std.proofs.Common.{rules};
+
     ghost key_of = { row_key };
+
+    ghost clones = { Prim.search rules };
 
     fn key(&self) -> u64 {
         prefix_key(self.prefix)
@@ -100,50 +105,56 @@ pub fn row_at(rows: &Pages<PrefixRow>, place: u64, prefix: Prefix) -> Option<&Pr
 }
 
 /// What the route of a slot with the least metric does. It is none where the slot has no route.
-pub fn first_of(row: &PrefixRow, lane: usize) -> Option<Target>
+pub fn first_of(row: &PrefixRow, lane: usize) -> Option<Way>
     requires { lane < LANES }
     ensures { IsFirst (slot_in lane row.now).targets result }
 {
     let first = row.targets(lane).first()?;
-    Some(first.target)
+    Some(first.way)
 }
 
 /// Whether an update of its prefix changes anything in a slot.
-pub fn changes(row: &PrefixRow, lane: usize, op: &Op) -> bool
+pub fn changes(row: &PrefixRow, lane: usize, update: &TableUpdate) -> bool
     requires { lane < LANES }
-    ensures same { IsFalse result → IsUnchangedBy (slot_in lane row.now).targets op.now }
-    ensures some { IsTrue result → SetsOrHasSome (slot_in lane row.now).targets op.now }
+    ensures same { IsFalse result → IsUnchangedBy update.now.alone (slot_in lane row.now).targets update.now.op }
+    ensures some { IsTrue result → SetsOrHasSome (slot_in lane row.now).targets update.now.op }
 {
     let targets = row.targets(lane);
-    match op {
-        Op::Set { metric, target, .. } => !targets.does(*metric, *target),
-        Op::Clear { metric, .. } => targets.has(*metric),
+    match &update.op {
+        TableOp::Put { metric, way, .. } => !targets.has_put(update.alone, *metric, *way),
+        TableOp::Clear { metric, .. } => targets.has(*metric),
     }
 }
 
 /// Makes an update of its prefix among the routes of a slot. After `OutOfMemory`, for which alone it fails, they are as
 /// before.
-fn update_targets(targets: &mut TargetsByMetric, op: &Op) -> Result<(), OutOfMemory>
-    ensures ok { OnOk result (IsPermutation targets.new (updated_targets targets.old op.now)) }
+fn update_targets(targets: &mut TargetsByMetric, update: &TableUpdate) -> Result<(), OutOfMemory>
+    ensures ok { OnOk result (
+        IsPermutation targets.new (updated_targets update.now.alone targets.old update.now.op)) }
     ensures err { OnErr result (targets.new ≡ targets.old) }
     ensures metrics { AscendsFrom metric_of 0 targets.new }
 {
-    match op {
-        Op::Set { metric, target, .. } => return targets.set(*metric, *target),
-        Op::Clear { metric, .. } => targets.clear(*metric),
+    match &update.op {
+        TableOp::Put { metric, way, .. } => return targets.put(update.alone, *metric, *way),
+        TableOp::Clear { metric, .. } => targets.clear(*metric),
     }
     Ok(())
 }
 
 /// Makes an update of its prefix in a slot, and answers what its route with the least metric does then. After
 /// `OutOfMemory`, for which alone it fails, the row is as before.
-fn update_in(row: &mut PrefixRow, lane: usize, op: &Op) -> Result<Option<Target>, OutOfMemory>
+fn update_in(
+    row: &mut PrefixRow,
+    lane: usize,
+    update: &TableUpdate,
+) -> Result<Option<Way>, OutOfMemory>
     requires { lane < LANES }
-    ensures ok { IfOk result (λ first. IsUpdatedIn (slot_in lane row.old) (slot_in lane row.new) op.now first) }
+    ensures ok { IfOk result (λ first.
+        IsUpdatedIn (slot_in lane row.old) (slot_in lane row.new) update.now.alone update.now.op first) }
     ensures others { (k : ℕ) → k ≢ lane → slot_in k row.new ≡ slot_in k row.old }
     ensures err { OnErr result (row.new ≡ row.old) }
 {
-    update_targets(&mut row.lanes[lane], op)?;
+    update_targets(&mut row.lanes[lane], update)?;
     Ok(first_of(row, lane))
 }
 
@@ -154,23 +165,27 @@ pub fn update_at(
     rows: &mut Pages<PrefixRow>,
     lane: usize,
     place: u64,
-    op: &Op,
-) -> Result<Option<Target>, OutOfMemory>
+    update: &TableUpdate,
+) -> Result<Option<Way>, OutOfMemory>
     requires lane { lane < LANES }
     requires inside { place < length rows.old }
     ensures ok { IfOk result (λ first.
-        IsUpdatedAt (slots_in lane rows.old) (slots_in lane rows.new) place op.now first) }
+        IsUpdatedAt (slots_in lane rows.old) (slots_in lane rows.new) place update.now.alone update.now.op first) }
     ensures others { KeepsSlots lane rows.old rows.new }
     ensures err { OnErr result (rows.new ≡ rows.old) }
 {
-    rows.change(alloc, place, |row: &mut PrefixRow| update_in(row, lane, op))?
+    rows.change(
+        alloc,
+        place,
+        |row: &mut PrefixRow| update_in(row, lane, update),
+    )?
 }
 
-/// A row with one route of a prefix in one of the tables.
-fn row_of(alloc: Global, lane: usize, prefix: Prefix, metric: u32, target: Target) -> PrefixRow
+/// A row with one route in one of the tables.
+fn row_of(alloc: Global, lane: usize, route: &Route) -> PrefixRow
     requires { lane < LANES }
-    ensures prefix { result.prefix ≡ prefix }
-    ensures targets { (slot_in lane result).targets ≡ record { metric = metric; target = target } ∷ [] }
+    ensures prefix { result.prefix ≡ route.now.prefix }
+    ensures targets { (slot_in lane result).targets ≡ record { metric = route.now.metric; way = route.now.way } ∷ [] }
     ensures others { (k : ℕ) → k ≢ lane → (slot_in k result).targets ≡ [] }
 {
     let mut lanes = [
@@ -179,28 +194,29 @@ fn row_of(alloc: Global, lane: usize, prefix: Prefix, metric: u32, target: Targe
         TargetsByMetric::none(alloc),
         TargetsByMetric::none(alloc),
     ];
-    lanes[lane] = TargetsByMetric::one(alloc, metric, target);
-    PrefixRow { prefix, lanes }
+    lanes[lane] = TargetsByMetric::one(alloc, route.metric, route.way);
+    PrefixRow {
+        prefix: route.prefix,
+        lanes,
+    }
 }
 
-/// Puts a row at a place, with one route of a prefix in one of the tables. After `OutOfMemory`, for which alone it
+/// Puts a row at a place, with one route in one of the tables. After `OutOfMemory`, for which alone it
 /// fails, all is as before.
 pub fn add_at(
     alloc: Global,
     rows: &mut Pages<PrefixRow>,
     lane: usize,
     place: u64,
-    prefix: Prefix,
-    metric: u32,
-    target: Target,
+    route: &Route,
 ) -> Result<(), OutOfMemory>
     requires lane { lane < LANES }
     requires inside { place ≤ length rows.old }
-    requires sound { IsCidr prefix }
-    ensures ok { OnOk result (IsAddedAt (slots_in lane rows.old) (slots_in lane rows.new) place prefix metric target) }
-    ensures others { OnOk result (AddsSlots lane rows.old rows.new place prefix) }
+    requires sound { IsCidr route.now.prefix }
+    ensures ok { OnOk result (IsAddedAt (slots_in lane rows.old) (slots_in lane rows.new) place route.now) }
+    ensures others { OnOk result (AddsSlots lane rows.old rows.new place route.now.prefix) }
     ensures err { OnErr result (rows.new ≡ rows.old) }
 {
-    let row = row_of(alloc, lane, prefix, metric, target);
+    let row = row_of(alloc, lane, route);
     return rows.insert_at(alloc, place, row);
 }

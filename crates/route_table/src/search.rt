@@ -1,7 +1,7 @@
 //! Searches for the row of a prefix.
 
 ghost use Rattle.std.specs.Prelude.{ℕ, ◌≡◌, ◌≤◌, IfSome, IfNone, length, slice_index_or};
-ghost use Rattle.dn_model.specs.Cidr.{IsCidr};
+ghost use Rattle.base.specs.Cidr.{IsCidr};
 ghost use Rattle.route_table.specs.Ascending.{IsFound, IsGap, IsPlace};
 ghost use Rattle.route_table.specs.Searches.{IsBaseBefore};
 ghost use Rattle.route_table.specs.Rows.{row_key, slots_in};

@@ -1,10 +1,10 @@
 //! The routing table of one router.
 
-ghost use Rattle.std.specs.Prelude.{◌≡◌, ◌≤◌, [], ◌++◌, OnOk, OnErr, IfOk, Contains, IsFalse, IsTrue, IfSome, IfNone, IsPermutation, None};
-ghost use Rattle.dn_model.specs.Cidr.{covers};
+ghost use Rattle.std.specs.Prelude.{◌≡◌, ◌≤◌, [], ◌++◌, OnOk, OnErr, IfOk, Contains, IsFalse, IsTrue, IfSome, IfNone, IsPermutation, None, false, true};
+ghost use Rattle.base.specs.Cidr.{covers};
 ghost use Rattle.dn_model.specs.Routes.{IsTable};
-ghost use Rattle.dn_model.specs.Table.{is_of_prefix, after_op, best};
-ghost use Rattle.dn_model.specs.declared.entry.Op.TheVariants.{Set, Clear};
+ghost use Rattle.dn_model.specs.Table.{is_of_prefix, after_table_op, best};
+ghost use Rattle.dn_model.specs.declared.table_op.TableOp.TheVariants.{Put, Clear};
 ghost use Rattle.dn_model.specs.declared.entry.Route.{Route as RouteIs};
 ghost use Rattle.route_table.specs.Rows.{slot_in, slots_in};
 ghost use Rattle.route_table.specs.Slots.{routes_at, routes_of};
@@ -12,8 +12,9 @@ ghost use Rattle.route_table.specs.Slots.{routes_at, routes_of};
 use crate::lengths::Lengths;
 use crate::prefix::prefix_around;
 use crate::rows::{PrefixRow, place_of, row_at};
+use crate::table_update::TableUpdate;
 use crate::update::make;
-use dn_model::{List, Op, OutOfMemory, Prefix, Route, Target};
+use dn_model::{List, OutOfMemory, Prefix, Route, TableOp, Way};
 use std::alloc::Global;
 use std::marker::Model;
 use version_pages::Pages;
@@ -81,17 +82,40 @@ impl RouteTable {
         alloc: Global,
         prefix: Prefix,
         metric: u32,
-        target: Target,
+        way: Way,
     ) -> Result<(), OutOfMemory>
-        ensures ok { OnOk result (IsPermutation self.new (after_op self.old (Set prefix metric target))) }
+        ensures ok { OnOk result (IsPermutation self.new (after_table_op false self.old (Put prefix metric way))) }
         ensures err { OnErr result (self.new ≡ self.old) }
     {
-        let op = Op::Set {
+        let op = TableOp::Put {
             prefix,
             metric,
-            target,
+            way,
         };
-        make(alloc, &mut self.rows, 0, &mut self.lengths, &op, 0)?;
+        let update = TableUpdate { op, alone: false };
+        make(alloc, &mut self.rows, 0, &mut self.lengths, &update, 0)?;
+        Ok(())
+    }
+
+    /// Sets the route of this prefix and metric, in place of all routes of the prefix. After `OutOfMemory`, for which
+    /// alone it fails, the table is as before. Where it is the prefix's only route already, that changes nothing.
+    pub fn set_alone(
+        &mut self,
+        alloc: Global,
+        prefix: Prefix,
+        metric: u32,
+        way: Way,
+    ) -> Result<(), OutOfMemory>
+        ensures ok { OnOk result (IsPermutation self.new (after_table_op true self.old (Put prefix metric way))) }
+        ensures err { OnErr result (self.new ≡ self.old) }
+    {
+        let op = TableOp::Put {
+            prefix,
+            metric,
+            way,
+        };
+        let update = TableUpdate { op, alone: true };
+        make(alloc, &mut self.rows, 0, &mut self.lengths, &update, 0)?;
         Ok(())
     }
 
@@ -103,11 +127,12 @@ impl RouteTable {
         prefix: Prefix,
         metric: Option<u32>,
     ) -> Result<(), OutOfMemory>
-        ensures ok { OnOk result (IsPermutation self.new (after_op self.old (Clear prefix metric))) }
+        ensures ok { OnOk result (IsPermutation self.new (after_table_op false self.old (Clear prefix metric))) }
         ensures err { OnErr result (self.new ≡ self.old) }
     {
-        let op = Op::Clear { prefix, metric };
-        make(alloc, &mut self.rows, 0, &mut self.lengths, &op, 0)?;
+        let op = TableOp::Clear { prefix, metric };
+        let update = TableUpdate { op, alone: false };
+        make(alloc, &mut self.rows, 0, &mut self.lengths, &update, 0)?;
         Ok(())
     }
 

@@ -2,22 +2,22 @@
 
 ghost use Rattle.std.specs.Prelude.{◌≡◌, ◌<◌, ◌≤◌, ◌∷◌, ◌↔◌, [], IfOk, IfSome, IfNone, OnOk, OnErr, IsFalse, IsTrue, Contains, IsPermutation, length};
 ghost use Rattle.route_table.specs.Ascending.{AscendsFrom, IsFound, IsGap, IsPlace};
-ghost use Rattle.route_table.specs.Targets.{cleared, metric_of, route_at, targets_of, with_target, without_metric};
-ghost use Rattle.route_table.specs.declared.targets.MetricTarget.{MetricTarget as Entry};
+ghost use Rattle.route_table.specs.Targets.{cleared, metric_of, placed, route_at, targets_of, with_target, without_metric, IsPlaced};
+ghost use Rattle.route_table.specs.declared.targets.MetricWay.{MetricWay as Entry};
 
-use dn_model::{OutOfMemory, Prefix, Route, Target};
+use dn_model::{OutOfMemory, Prefix, Route, Way};
 use std::alloc::Global;
 use std::marker::Model;
 use std::slice;
 
 /// A metric with what the route of that metric does.
 #[derive(Clone, Copy, Debug, PartialEq, Eq)]
-pub struct MetricTarget {
+pub struct MetricWay {
     pub metric: u32,
-    pub target: Target,
+    pub way: Way,
 }
 
-impl MetricTarget {
+impl MetricWay {
     /// The route of a prefix that has this metric and does this.
     pub fn route(self, prefix: Prefix) -> Route
         ensures { result ≡ route_at prefix self }
@@ -25,7 +25,7 @@ impl MetricTarget {
         Route {
             prefix,
             metric: self.metric,
-            target: self.target,
+            way: self.way,
         }
     }
 }
@@ -44,18 +44,18 @@ pub struct TargetsByMetric {
 #[derive(Drop)]
 pub enum Held {
     Nothing,
-    One(MetricTarget),
+    One(MetricWay),
     /// Two or more, or as many as are left of such.
-    More(Box<Vec<MetricTarget>>),
+    More(Box<Vec<MetricWay>>),
 }
 
 impl Model for TargetsByMetric {
     ghost use Rattle.std.specs.Prelude.{List};
     ghost use Rattle.route_table.specs.Ascending.{AscendsFrom};
     ghost use Rattle.route_table.specs.Targets.{metric_of, targets_of};
-    ghost use Rattle.route_table.specs.declared.targets.MetricTarget.{MetricTarget};
+    ghost use Rattle.route_table.specs.declared.targets.MetricWay.{MetricWay};
 
-    ghost Value = { List MetricTarget };
+    ghost Value = { List MetricWay };
 
     ghost view = { λ t. targets_of t.held };
 
@@ -74,17 +74,17 @@ impl TargetsByMetric {
     }
 
     /// One route, which takes no memory.
-    pub fn one(alloc: Global, metric: u32, target: Target) -> Self
-        ensures { result ≡ record { metric = metric; target = target } ∷ [] }
+    pub fn one(alloc: Global, metric: u32, way: Way) -> Self
+        ensures { result ≡ record { metric = metric; way = way } ∷ [] }
     {
         TargetsByMetric {
-            held: Held::One(MetricTarget { metric, target }),
+            held: Held::One(MetricWay { metric, way }),
             alloc,
         }
     }
 
     /// All, by ascending metric.
-    pub fn as_slice(&self) -> &[MetricTarget]
+    pub fn as_slice(&self) -> &[MetricWay]
         ensures value { result.now ≡ self.now }
         ensures metrics { AscendsFrom metric_of 0 self.now }
     {
@@ -96,19 +96,39 @@ impl TargetsByMetric {
     }
 
     /// Whether there is a route of this metric that does this.
-    pub fn does(&self, metric: u32, target: Target) -> bool
-        ensures { IsTrue result → Contains self.now (record { metric = metric; target = target }) }
+    fn does(&self, metric: u32, way: Way) -> bool
+        ensures { IsTrue result → Contains self.now (record { metric = metric; way = way }) }
     {
         for entry in self.as_slice() {
             if entry.metric == metric {
-                return entry.target == target;
+                return entry.way == way;
             }
         }
         false
     }
 
+    /// Whether there is a route of this metric alone, and does this.
+    fn does_alone(&self, metric: u32, way: Way) -> bool
+        ensures { IsTrue result → self.now ≡ record { metric = metric; way = way } ∷ [] }
+    {
+        match self.as_slice() {
+            [entry] => entry.metric == metric && entry.way == way,
+            _ => false,
+        }
+    }
+
+    /// Whether a route that is put changes nothing: alone, it takes the place of all.
+    pub fn has_put(&self, alone: bool, metric: u32, way: Way) -> bool
+        ensures { IsTrue result → IsPlaced alone self.now metric way }
+    {
+        if alone {
+            return self.does_alone(metric, way);
+        }
+        self.does(metric, way)
+    }
+
     /// The one with the least metric.
-    pub fn first(&self) -> Option<MetricTarget>
+    pub fn first(&self) -> Option<MetricWay>
         ensures none { IfNone result (self.now ≡ []) }
         ensures some { IfSome result (λ x. Contains self.now x ×
             ((y : Entry) → Contains self.now y → x.metric ≤ y.metric)) }
@@ -134,13 +154,27 @@ impl TargetsByMetric {
         }
     }
 
-    /// Sets what the route of a metric does. After `OutOfMemory`, for which alone it fails, all is as before.
-    pub fn set(&mut self, metric: u32, target: Target) -> Result<(), OutOfMemory>
-        ensures ok { OnOk result (IsPermutation self.new (with_target self.old metric target)) }
+    /// Puts a route: alone, it takes the place of all, and else of the one with its metric. After `OutOfMemory`, for
+    /// which alone it fails, all is as before.
+    pub fn put(&mut self, alone: bool, metric: u32, way: Way) -> Result<(), OutOfMemory>
+        ensures ok { OnOk result (IsPermutation self.new (placed alone self.old metric way)) }
         ensures err { OnErr result (self.new ≡ self.old) }
         ensures metrics { AscendsFrom metric_of 0 self.new }
     {
-        let entry = MetricTarget { metric, target };
+        if alone {
+            self.held = Held::One(MetricWay { metric, way });
+            return Ok(());
+        }
+        return self.set(metric, way);
+    }
+
+    /// Sets what the route of a metric does. After `OutOfMemory`, for which alone it fails, all is as before.
+    fn set(&mut self, metric: u32, way: Way) -> Result<(), OutOfMemory>
+        ensures ok { OnOk result (IsPermutation self.new (with_target self.old metric way)) }
+        ensures err { OnErr result (self.new ≡ self.old) }
+        ensures metrics { AscendsFrom metric_of 0 self.new }
+    {
+        let entry = MetricWay { metric, way };
         match &mut self.held {
             Held::Nothing => {
                 self.held = Held::One(entry);
@@ -198,9 +232,9 @@ impl TargetsByMetric {
 }
 
 /// A route beside another, or in its place where it has the same metric.
-fn put_beside(alloc: Global, other: MetricTarget, entry: MetricTarget) -> Result<Held, OutOfMemory>
+fn put_beside(alloc: Global, other: MetricWay, entry: MetricWay) -> Result<Held, OutOfMemory>
     ensures put { IfOk result (λ held.
-        IsPermutation (targets_of held) (with_target (other ∷ []) entry.metric entry.target)) }
+        IsPermutation (targets_of held) (with_target (other ∷ []) entry.metric entry.way)) }
     ensures metrics { IfOk result (λ held. AscendsFrom metric_of 0 (targets_of held)) }
 {
     if other.metric == entry.metric {
@@ -215,10 +249,10 @@ fn put_beside(alloc: Global, other: MetricTarget, entry: MetricTarget) -> Result
 
 /// Puts a route among others, in the place of the one with the same metric. After `OutOfMemory`, for which alone it
 /// fails, they are as before.
-fn put(targets: &mut Vec<MetricTarget>, entry: MetricTarget) -> Result<(), OutOfMemory>
+fn put(targets: &mut Vec<MetricWay>, entry: MetricWay) -> Result<(), OutOfMemory>
     requires { AscendsFrom metric_of 0 targets.old.items }
     ensures ok { OnOk result (
-        IsPermutation targets.new.items (with_target targets.old.items entry.metric entry.target)) }
+        IsPermutation targets.new.items (with_target targets.old.items entry.metric entry.way)) }
     ensures err { OnErr result (targets.new.items ≡ targets.old.items) }
     ensures metrics { AscendsFrom metric_of 0 targets.new.items }
 {
@@ -233,7 +267,7 @@ fn put(targets: &mut Vec<MetricTarget>, entry: MetricTarget) -> Result<(), OutOf
 }
 
 /// How many of the metrics are below this one.
-fn count_below(targets: &[MetricTarget], metric: u32) -> usize
+fn count_below(targets: &[MetricWay], metric: u32) -> usize
     requires { AscendsFrom metric_of 0 targets.now }
     ensures inside { result ≤ length targets.now }
     ensures place { IsPlace metric_of targets.now metric result }
@@ -249,7 +283,7 @@ fn count_below(targets: &[MetricTarget], metric: u32) -> usize
 }
 
 /// Whether the metric at a place, below which all before it are, is this one.
-fn has_at(targets: &[MetricTarget], place: usize, metric: u32) -> bool
+fn has_at(targets: &[MetricWay], place: usize, metric: u32) -> bool
     requires { IsPlace metric_of targets.now metric place }
     ensures inside { IsTrue result → place < length targets.now }
     ensures found { IsTrue result → IsFound metric_of targets.now metric place }
@@ -262,7 +296,7 @@ fn has_at(targets: &[MetricTarget], place: usize, metric: u32) -> bool
 }
 
 /// Whether one of the metrics is this one.
-fn has_metric(targets: &[MetricTarget], metric: u32) -> bool
+fn has_metric(targets: &[MetricWay], metric: u32) -> bool
     requires { AscendsFrom metric_of 0 targets.now }
     ensures same { IsFalse result → without_metric targets.now metric ≡ targets.now }
     ensures some { IsTrue result → 0 < length targets.now }
@@ -272,7 +306,7 @@ fn has_metric(targets: &[MetricTarget], metric: u32) -> bool
 }
 
 /// Drops the one with this metric.
-fn drop_metric(targets: &mut Vec<MetricTarget>, metric: u32)
+fn drop_metric(targets: &mut Vec<MetricWay>, metric: u32)
     ensures { targets.new.items ≡ without_metric targets.old.items metric }
 {
     targets.retain(|entry| entry.metric != metric);

@@ -1,9 +1,9 @@
 //! Updates of one of the tables.
 
-ghost use Rattle.std.specs.Prelude.{◌≡◌, ◌<◌, ◌+◌, None, IfOk, IfSome, IfNone, OnErr, IsPermutation};
-ghost use Rattle.dn_model.specs.Cidr.{IsCidr};
-ghost use Rattle.dn_model.specs.Entry.{prefix_of_op};
-ghost use Rattle.dn_model.specs.Table.{after_op};
+ghost use Rattle.std.specs.Prelude.{◌≡◌, ◌<◌, ◌+◌, None, IfOk, IfSome, IfNone, OnErr, IsPermutation, false};
+ghost use Rattle.base.specs.Cidr.{IsCidr};
+ghost use Rattle.dn_model.specs.Table.{prefix_of_op};
+ghost use Rattle.dn_model.specs.Table.{after_table_op};
 ghost use Rattle.route_table.specs.Above.{IsDoneAbove};
 ghost use Rattle.route_table.specs.Ascending.{IsFound, IsGap};
 ghost use Rattle.route_table.specs.Made.{IsMade};
@@ -15,7 +15,8 @@ use crate::above::first_above;
 use crate::lengths::Lengths;
 use crate::rows::{LANES, PrefixRow, add_at, changes, first_of, update_at};
 use crate::search::{Spot, look};
-use dn_model::{Op, OutOfMemory, Prefix, Target};
+use crate::table_update::TableUpdate;
+use dn_model::{OutOfMemory, Prefix, Route, TableOp, Target, Way};
 use std::alloc::Global;
 use std::sync::ledger::Ledger;
 use step_count::Steps;
@@ -27,8 +28,15 @@ use version_pages::Pages;
 pub struct Made {
     pub place: u64,
     pub base: Option<u32>,
-    pub before: Option<Target>,
-    pub first: Option<Target>,
+    pub before: Option<Way>,
+    pub first: Option<Way>,
+}
+
+/// Where a row belongs that isn't there, with the first address of the prefix of the row before it, if that was at hand.
+#[derive(Clone, Copy)]
+struct Gap {
+    place: u64,
+    base: Option<u32>,
 }
 
 /// Makes an update of one of the tables in the row of its prefix, which is put there where there is none. It answers
@@ -39,16 +47,16 @@ pub fn make(
     rows: &mut Pages<PrefixRow>,
     lane: usize,
     lengths: &mut Lengths,
-    op: &Op,
+    update: &TableUpdate,
     near: u64,
 ) -> Result<Option<Made>, OutOfMemory>
     requires lane { lane < LANES }
     requires whole { AreWhole rows.old lengths.old }
-    ensures made { IfOk result (λ made. IfSome made (λ m.
-        IsMade (slots_in lane rows.old) (slots_in lane rows.new) op.now m.place m.base m.before m.first)) }
+    ensures made { IfOk result (λ made. IfSome made (λ m. IsMade (slots_in lane rows.old) (slots_in lane rows.new)
+        update.now.alone update.now.op m.place m.base m.before m.first)) }
     ensures same { IfOk result (λ made. IfNone made (rows.new ≡ rows.old)) }
-    ensures none { IfOk result (λ made. IfNone made (
-        IsPermutation (routes_of (slots_in lane rows.old)) (after_op (routes_of (slots_in lane rows.old)) op.now))) }
+    ensures none { IfOk result (λ made. IfNone made (IsPermutation (routes_of (slots_in lane rows.old))
+        (after_table_op update.now.alone (routes_of (slots_in lane rows.old)) update.now.op))) }
     ensures err { OnErr result (rows.new ≡ rows.old) }
     ensures others { KeepsRoutes lane rows.old rows.new }
     ensures whole { AreWhole rows.new lengths.new }
@@ -57,15 +65,15 @@ pub fn make(
         place,
         row,
         before: base,
-    } = look(rows, near, op.prefix());
+    } = look(rows, near, update.op.prefix());
     let Some(row) = row else {
-        return make_first(alloc, rows, lane, lengths, op, place, base);
+        return make_first(alloc, rows, lane, lengths, update, Gap { place, base });
     };
-    if !changes(row, lane, op) {
+    if !changes(row, lane, update) {
         return Ok(None);
     }
     let before = first_of(row, lane);
-    let first = update_at(alloc, rows, lane, place, op)?;
+    let first = update_at(alloc, rows, lane, place, update)?;
     Ok(Some(Made {
         place,
         base,
@@ -74,45 +82,49 @@ pub fn make(
     }))
 }
 
-/// Makes an update of a prefix that has no row, which belongs at a place: a clearing changes nothing.
+/// Makes an update of a prefix that has no row, which belongs in a gap: a clearing changes nothing.
 fn make_first(
     alloc: Global,
     rows: &mut Pages<PrefixRow>,
     lane: usize,
     lengths: &mut Lengths,
-    op: &Op,
-    place: u64,
-    base: Option<u32>,
+    update: &TableUpdate,
+    gap: Gap,
 ) -> Result<Option<Made>, OutOfMemory>
     requires lane { lane < LANES }
     requires whole { AreWhole rows.old lengths.old }
-    requires gap { IsGap row_key rows.old (key_of (prefix_of_op op.now)) place }
-    requires base { IfSome base (IsBaseBefore (slots_in lane rows.old) place) }
-    requires sound { IsCidr (prefix_of_op op.now) }
-    ensures made { IfOk result (λ made. IfSome made (λ m.
-        IsMade (slots_in lane rows.old) (slots_in lane rows.new) op.now m.place m.base m.before m.first)) }
+    requires gap { IsGap row_key rows.old (key_of (prefix_of_op update.now.op)) gap.place }
+    requires base { IfSome gap.base (IsBaseBefore (slots_in lane rows.old) gap.place) }
+    requires sound { IsCidr (prefix_of_op update.now.op) }
+    ensures made { IfOk result (λ made. IfSome made (λ m. IsMade (slots_in lane rows.old) (slots_in lane rows.new)
+        update.now.alone update.now.op m.place m.base m.before m.first)) }
     ensures same { IfOk result (λ made. IfNone made (rows.new ≡ rows.old)) }
-    ensures none { IfOk result (λ made. IfNone made (
-        IsPermutation (routes_of (slots_in lane rows.old)) (after_op (routes_of (slots_in lane rows.old)) op.now))) }
+    ensures none { IfOk result (λ made. IfNone made (IsPermutation (routes_of (slots_in lane rows.old))
+        (after_table_op update.now.alone (routes_of (slots_in lane rows.old)) update.now.op))) }
     ensures err { OnErr result (rows.new ≡ rows.old) }
     ensures others { KeepsRoutes lane rows.old rows.new }
     ensures whole { AreWhole rows.new lengths.new }
 {
-    let Op::Set {
+    let TableOp::Put {
         prefix,
         metric,
-        target,
-    } = op
+        way,
+    } = &update.op
     else {
         return Ok(None);
     };
-    add_at(alloc, rows, lane, place, *prefix, *metric, *target)?;
+    let route = Route {
+        prefix: *prefix,
+        metric: *metric,
+        way: *way,
+    };
+    add_at(alloc, rows, lane, gap.place, &route)?;
     lengths.add(prefix.len());
     Ok(Some(Made {
-        place,
-        base,
+        place: gap.place,
+        base: gap.base,
         before: None,
-        first: Some(*target),
+        first: Some(*way),
     }))
 }
 
@@ -125,7 +137,7 @@ pub fn done_above<L: Ledger>(
     prefix: Prefix,
     made: Made,
     steps: &mut Steps<L>,
-) -> Target
+) -> Way
     requires lane { lane < LANES }
     requires whole { AreWhole rows.now lengths.now }
     requires found { IsFound slot_key (slots_in lane rows.now) (key_of prefix) made.place }
@@ -135,7 +147,7 @@ pub fn done_above<L: Ledger>(
 {
     steps.tick();
     match first_above(rows, lane, lengths, prefix, made.place, made.base) {
-        Some(target) => target,
-        None => Target::NoRoute,
+        Some(way) => way,
+        None => Way::Straight(Target::NoRoute),
     }
 }

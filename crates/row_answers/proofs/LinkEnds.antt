@@ -9,16 +9,16 @@ use Rattle.std.proofs.lemmas.Option.{none-some, same_Some}
 use borrow.Author.Tests.{ltb-true}
 use Rattle.dn_model.specs.Answer.{IsAnswerOf, IsUsesAnswer}
 use Rattle.dn_model.specs.Lookup.{link_of}
-use Rattle.dn_model.specs.Name.{is_name_text}
-use Rattle.dn_model.specs.Reach.{goes_over}
-use Rattle.dn_model.specs.Runs.{AreRuns}
+use Rattle.base.specs.Name.{is_name_text}
+use Rattle.base.specs.Reach.{goes_over}
+use Rattle.base.specs.Runs.{AreRuns}
 use Rattle.dn_model.specs.Topology.{is_end_of, is_link_of}
 use Rattle.dn_model.specs.declared.answer.Answer.TheVariants as answers
-use Rattle.dn_model.specs.declared.ids.LinkId.{LinkId}
-use Rattle.dn_model.specs.declared.ids.RouterId.{RouterId}
+use Rattle.base.specs.declared.ids.LinkId.{LinkId}
+use Rattle.base.specs.declared.ids.RouterId.{RouterId}
 use Rattle.dn_model.specs.declared.query.Ask.TheVariants.{Uses}
-use Rattle.dn_model.specs.declared.run.Run.{Run}
-use Rattle.dn_model.specs.declared.target.Target.{Target}
+use Rattle.base.specs.declared.run.Run.{Run}
+use Rattle.base.specs.declared.target.Target.{Target}
 use Rattle.dn_model.specs.declared.topology.TopoEnd.{TopoEnd}
 use Rattle.dn_model.specs.declared.topology.TopoLink.{TopoLink}
 use Rattle.dn_model.specs.declared.topology.Topology.{Topology}

@@ -1,8 +1,8 @@
 -- How many targets are looked at.
 use Rattle.std.proofs.Common.{ℕ, ◌≡◌, ◌+◌, ◌*◌, ◌<◌, ◌≤◌, List, [], ◌∷◌, length, subst, arith}
 use Rattle.std.proofs.lemmas.Nat.{mul-le}
-use Rattle.dn_model.specs.Forwarding.{AreForwarding}
-use Rattle.dn_model.specs.declared.forwarding_row.ForwardingRow.{ForwardingRow}
+use Rattle.base.specs.Forwarding.{AreForwarding}
+use Rattle.base.specs.declared.forwarding_row.ForwardingRow.{ForwardingRow}
 use Rattle.dn_model.specs.declared.query.Ask.{Ask}
 use Rattle.dn_model.specs.declared.query.Ask.TheVariants.{Path, Reach, Uses, Loops, Blackholes, Waypoint, Delta}
 use Rattle.row_answers.specs.Looks.{most_looks}

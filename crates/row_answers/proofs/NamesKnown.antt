@@ -5,7 +5,7 @@ use Rattle.dn_model.specs.Lookup.{router_of}
 use Rattle.dn_model.specs.Query.{Question, RouterName, unknown_of}
 use Rattle.dn_model.specs.declared.query.Ask.TheVariants.{Reach, Blackholes}
 use Rattle.dn_model.specs.declared.topology.Topology.{Topology}
-use Rattle.dn_model.proofs.Best.{contains-here, contains-there}
+use Rattle.base.proofs.Elements.{contains-here, contains-there}
 use Rattle.dn_model.proofs.Known.{router-known}
 
 pub reach-from : (t : Topology) (q : Question) (from to : List ℕ) → unknown_of t q ≡ None → q.ask ≡ Reach from to → IsSome (router_of t from)

@@ -5,34 +5,37 @@ use Rattle.std.specs.Prelude.{slice_get, IsSomeAnd, IfOk, nat_lt}
 use Rattle.std.specs.declared.result.Result.{Result}
 use Rattle.std.specs.declared.result.Result.TheVariants.{Ok, Err}
 use Rattle.dn_model.specs.Answer.{IsAnswer, IsAnswerOf, IsAnswerTo, IsDeltaAnswer, IsHolesAnswer, IsLoopsAnswer, IsRunsAnswer, IsUsesAnswer, links_of, path_answer}
-use Rattle.dn_model.specs.Cycles.{AreCycles, IsCycle, go_round, goes_round, goes_to, is_cycle}
-use Rattle.dn_model.specs.Forwarding.{StandsFor, does}
-use Rattle.dn_model.specs.Holes.{AreHoles, IsHole, ends_by, falls}
+use Rattle.base.specs.Cycles.{AreCycles, IsCycle, go_round, goes_round, goes_to, is_cycle}
+use Rattle.dn_model.specs.Standing.{StandsFor}
+use Rattle.base.specs.Forwarding.{does}
+use Rattle.base.specs.Holes.{AreHoles, IsHole, ends_by, falls}
 use Rattle.dn_model.specs.Lookup.{link_of, router_of}
 use Rattle.dn_model.specs.Query.{Question}
-use Rattle.dn_model.specs.Reach.{comes_before, goes_over, is_over, is_router, misses, reaches}
-use Rattle.dn_model.specs.Runs.{AreRuns}
+use Rattle.base.specs.Reach.{comes_before, goes_over, is_over, is_router, misses, reaches}
+use Rattle.base.specs.Runs.{AreRuns}
 use Rattle.dn_model.specs.Table.{does_after}
-use Rattle.dn_model.specs.Topology.{all_differ}
-use Rattle.dn_model.specs.Walk.{at_address, next, on_far, walk, walk_end, walk_last, with_down, without}
+use Rattle.base.specs.Lists.{all_differ}
+use Rattle.base.specs.Walk.{at_address, on_far, walk, walk_end, walk_last, with_down}
+use Rattle.dn_model.specs.Next.{next}
+use Rattle.base.specs.Links.{without}
 use Rattle.dn_model.specs.declared.answer.Answer.{Answer}
 use Rattle.dn_model.specs.declared.answer.Answer.TheVariants as answers
-use Rattle.dn_model.specs.declared.answer.Cycle.{Cycle}
-use Rattle.dn_model.specs.declared.answer.Hole.{Hole}
-use Rattle.dn_model.specs.declared.change.Change.{Change}
+use Rattle.base.specs.declared.cycle.Cycle.{Cycle}
+use Rattle.base.specs.declared.hole.Hole.{Hole}
+use Rattle.base.specs.declared.change.Change.{Change}
 use Rattle.dn_model.specs.declared.entry.Entry.{Entry}
-use Rattle.dn_model.specs.declared.forwarding_row.ForwardingRow.{ForwardingRow}
-use Rattle.dn_model.specs.declared.ids.LinkId.{LinkId}
-use Rattle.dn_model.specs.declared.ids.RouterId.{RouterId}
-use Rattle.dn_model.specs.declared.memory.OutOfMemory.{OutOfMemory}
+use Rattle.base.specs.declared.forwarding_row.ForwardingRow.{ForwardingRow}
+use Rattle.base.specs.declared.ids.LinkId.{LinkId}
+use Rattle.base.specs.declared.ids.RouterId.{RouterId}
+use Rattle.base.specs.declared.memory.OutOfMemory.{OutOfMemory}
 use Rattle.dn_model.specs.declared.query.Ask.{Ask}
 use Rattle.dn_model.specs.declared.query.Ask.TheVariants.{Path, Reach, Uses, Loops, Blackholes, Waypoint, Delta}
-use Rattle.dn_model.specs.declared.run.Run.{Run}
-use Rattle.dn_model.specs.declared.target.Target.{Target}
-use Rattle.dn_model.specs.declared.target.Target.TheVariants as targets
+use Rattle.base.specs.declared.run.Run.{Run}
+use Rattle.base.specs.declared.target.Target.{Target}
+use Rattle.base.specs.declared.target.Target.TheVariants as targets
 use Rattle.dn_model.specs.declared.topology.TopoLink.{TopoLink}
 use Rattle.dn_model.specs.declared.topology.Topology.{Topology}
-use Rattle.dn_model.proofs.Walks.{on_far-same, walk-same, walk_end-same}
+use Rattle.base.proofs.Walks.{on_far-same, walk-same, walk_end-same}
 use Rattle.row_answers.specs.Shown.{AreToldIf, IsShown}
 
 -- ---- walks

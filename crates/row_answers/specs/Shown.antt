@@ -2,15 +2,15 @@
 -- address of a path is one.
 use Rattle.std.specs.Prelude.{ℕ, List, ◌≡◌, ◌<◌, ◌^◌}
 use Rattle.dn_model.specs.Answer.{IsAnswerOf}
-use Rattle.dn_model.specs.Delta.{IsDeltaOf}
+use Rattle.dn_model.specs.LastDelta.{IsDeltaOf}
 use Rattle.dn_model.specs.declared.answer.Answer.{Answer}
 use Rattle.dn_model.specs.declared.answer.Answer.TheVariants as answers
-use Rattle.dn_model.specs.declared.change.Change.{Change}
+use Rattle.base.specs.declared.change.Change.{Change}
 use Rattle.dn_model.specs.declared.entry.Entry.{Entry}
-use Rattle.dn_model.specs.declared.ids.RouterId.{RouterId}
+use Rattle.base.specs.declared.ids.RouterId.{RouterId}
 use Rattle.dn_model.specs.declared.query.Ask.{Ask}
 use Rattle.dn_model.specs.declared.query.Ask.TheVariants.{Path, Reach, Uses, Loops, Blackholes, Waypoint, Delta}
-use Rattle.dn_model.specs.declared.target.Target.{Target}
+use Rattle.base.specs.declared.target.Target.{Target}
 use Rattle.dn_model.specs.declared.topology.Topology.{Topology}
 
 abbrev pub IsShown : Topology → (RouterId → ℕ → Target) → List Change → Ask → Answer → Type 0

@@ -2,7 +2,7 @@
 
 ghost use Rattle.std.specs.Prelude.{◌≡◌, ◌+◌, ◌*◌, ◌≤◌, IfOk, List, None, length};
 ghost use Rattle.dn_model.specs.Answer.{IsAnswer};
-ghost use Rattle.dn_model.specs.Forwarding.{StandsFor};
+ghost use Rattle.dn_model.specs.Standing.{StandsFor};
 ghost use Rattle.dn_model.specs.Query.{unknown_of};
 ghost use Rattle.dn_model.specs.declared.entry.Entry.{Entry};
 ghost use Rattle.row_answers.specs.Looks.{most_looks};

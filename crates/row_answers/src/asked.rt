@@ -2,7 +2,7 @@
 
 ghost use Rattle.std.specs.Prelude.{◌≡◌, ◌+◌, ◌*◌, ◌≤◌, [], IfOk, IsSome, None, length};
 ghost use Rattle.dn_model.specs.Answer.{IsAnswerOf};
-ghost use Rattle.dn_model.specs.Forwarding.{does};
+ghost use Rattle.base.specs.Forwarding.{does};
 ghost use Rattle.dn_model.specs.Lookup.{link_of, router_of};
 ghost use Rattle.dn_model.specs.Query.{unknown_of};
 ghost use Rattle.dn_model.specs.declared.query.Ask.TheVariants.{Path, Reach, Uses, Loops, Blackholes, Waypoint};

@@ -2,7 +2,8 @@
 
 ghost use Rattle.std.specs.Prelude.{◌≡◌, ◌<◌, [], IfOk, IsSome, List, None, length};
 ghost use Rattle.dn_model.specs.Answer.{IsAnswer, IsAnswerOf};
-ghost use Rattle.dn_model.specs.Forwarding.{StandsFor, does};
+ghost use Rattle.dn_model.specs.Standing.{StandsFor};
+ghost use Rattle.base.specs.Forwarding.{does};
 ghost use Rattle.dn_model.specs.Lookup.{router_of};
 ghost use Rattle.dn_model.specs.Query.{unknown_of};
 ghost use Rattle.dn_model.specs.declared.entry.Entry.{Entry};

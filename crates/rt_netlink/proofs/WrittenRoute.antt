@@ -6,7 +6,7 @@ use Rattle.std.proofs.lemmas.Bool.Decides.{nat_tests}
 use Rattle.std.proofs.lemmas.List.{take_all, drop_all}
 use Rattle.std.proofs.lemmas.Nat.{from_le_bytes-to_le_bytes_4}
 use Rattle.dn_formats.specs.Attributes.{padded, attributes_of, has, number_of, address_of, is_bad, number_in, address_in, rta_dst, rta_oif, rta_gateway, rta_priority, rta_multipath, rta_table, rta_via, rta_newdst, rta_encap_type, rta_encap, rta_nh_id}
-use Rattle.dn_model.specs.Cidr.{Cidr}
+use Rattle.base.specs.Cidr.{Cidr}
 use Rattle.dn_formats.specs.Message.{header_text, route_part, attributes_text, message_text, kind_number}
 use Rattle.dn_formats.specs.Payload.{message_length, is_set, is_deletion, family, prefix_length, source_length, service_type, table_byte, route_type, attributes, destination, prefix_of, interface, kind_of, route_of, message_rows, first_ruling, ruling_of, payload_of, said, said_after, nothing_more, CanBeSaid, HasParts}
 use Rattle.dn_formats.specs.declared.payload.ItemKind.TheVariants.{Route}

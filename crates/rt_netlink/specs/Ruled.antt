@@ -3,7 +3,7 @@ use Rattle.std.specs.Prelude.{◌≡◌, ℕ, ◌%◌, ◌^◌, ◌-◌, ◌==�
 use Rattle.std.specs.List.{list_any}
 use Rattle.dn_formats.specs.Attributes.{has, is_bad, rta_multipath, rta_newdst, rta_encap_type, rta_encap, rta_nh_id}
 use Rattle.dn_formats.specs.Payload.{Ruling, Refuses, Skips, first_ruling, ruling_of, message_length, is_set, is_deletion, family, attributes, table_of, is_main, prefix_length, source_length, service_type, destination, prefix_of, kind_of, route_type, interface}
-use Rattle.dn_formats.specs.declared.frame_cause.TheConstants.{BAD_LENGTH, SHORT, BAD_ATTR, BAD_PREFIX_LENGTH, SOURCE_OR_TOS, NO_DESTINATION, HOST_BITS, ROUTE_TYPE, MULTIPATH, ENCAP, NEXT_HOP_ID, NO_INTERFACE}
+use Rattle.dn_formats.specs.FrameCauses as causes
 use Rattle.dn_formats.specs.declared.payload.Skip.TheVariants.{OtherType, OtherFamily, OtherTable}
 use Rattle.rt_netlink.specs.declared.ruling.Ruling.{Ruling as Answer}
 use Rattle.rt_netlink.specs.declared.ruling.Ruling.TheVariants as answer
@@ -14,36 +14,36 @@ Row = Ruling × (List ℕ → Bool)
 -- of a message's header
 abbrev pub header_rows : List Row
 header_rows =
-    (Refuses BAD_LENGTH, λ m. nat_lt (length m) 16 || nat_lt (message_length m) 16 || nat_lt (length m) (message_length m))
+    (Refuses causes.bad_length, λ m. nat_lt (length m) 16 || nat_lt (message_length m) 16 || nat_lt (length m) (message_length m))
     ∷ (Skips OtherType, λ m. not (is_set m || is_deletion m))
     ∷ []
 
 -- of a route message's fixed part, its attributes and its table
 abbrev pub part_rows : List Row
 part_rows =
-    (Refuses SHORT, λ m. nat_lt (message_length m) 28)
+    (Refuses causes.short, λ m. nat_lt (message_length m) 28)
     ∷ (Skips OtherFamily, λ m. not (family m == 2))
-    ∷ (Refuses BAD_ATTR, λ m. list_any (is_bad (is_set m)) (attributes m))
+    ∷ (Refuses causes.bad_attr, λ m. list_any (is_bad (is_set m)) (attributes m))
     ∷ (Skips OtherTable, λ m. not (is_main (table_of m)))
     ∷ []
 
 -- of its prefix
 abbrev pub prefix_rows : List Row
 prefix_rows =
-    (Refuses BAD_PREFIX_LENGTH, λ m. nat_lt 32 (prefix_length m))
-    ∷ (Refuses SOURCE_OR_TOS, λ m. not (source_length m == 0) || not (service_type m == 0))
-    ∷ (Refuses NO_DESTINATION, λ m. nat_lt 0 (prefix_length m) && is_none (destination m))
-    ∷ (Refuses HOST_BITS, λ m. not ((prefix_of m).base % 2 ^ (32 - prefix_length m) == 0))
+    (Refuses causes.bad_prefix_length, λ m. nat_lt 32 (prefix_length m))
+    ∷ (Refuses causes.source_or_tos, λ m. not (source_length m == 0) || not (service_type m == 0))
+    ∷ (Refuses causes.no_destination, λ m. nat_lt 0 (prefix_length m) && is_none (destination m))
+    ∷ (Refuses causes.host_bits, λ m. not ((prefix_of m).base % 2 ^ (32 - prefix_length m) == 0))
     ∷ []
 
 -- of its next hop
 abbrev pub hop_rows : List Row
 hop_rows =
-    (Refuses ROUTE_TYPE, λ m. is_set m && is_none (kind_of (route_type m)))
-    ∷ (Refuses MULTIPATH, λ m. is_set m && has rta_multipath (attributes m))
-    ∷ (Refuses ENCAP, λ m. is_set m && (has rta_newdst (attributes m) || has rta_encap_type (attributes m) || has rta_encap (attributes m)))
-    ∷ (Refuses NEXT_HOP_ID, λ m. is_set m && has rta_nh_id (attributes m))
-    ∷ (Refuses NO_INTERFACE, λ m. is_set m && route_type m == 1 && is_none (interface m))
+    (Refuses causes.route_type, λ m. is_set m && is_none (kind_of (route_type m)))
+    ∷ (Refuses causes.multipath, λ m. is_set m && has rta_multipath (attributes m))
+    ∷ (Refuses causes.encap, λ m. is_set m && (has rta_newdst (attributes m) || has rta_encap_type (attributes m) || has rta_encap (attributes m)))
+    ∷ (Refuses causes.next_hop_id, λ m. is_set m && has rta_nh_id (attributes m))
+    ∷ (Refuses causes.no_interface, λ m. is_set m && route_type m == 1 && is_none (interface m))
     ∷ []
 
 -- the ruling that is answered

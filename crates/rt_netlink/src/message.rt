@@ -3,7 +3,7 @@
 //! The functions are given the bytes from where the message begins to the payload's end.
 
 ghost use Rattle.std.specs.Prelude.{◌≡◌, ◌≤◌, ◌<◌, ◌^◌, ◌-◌, ◌%◌, ◌==◌, ◌++◌, length, not, true, false, None, Some, IfOk, IsSome};
-ghost use Rattle.dn_model.specs.Cidr.{IsCidr};
+ghost use Rattle.base.specs.Cidr.{IsCidr};
 ghost use Rattle.dn_formats.specs.Payload.{CanBeSaid, message_length, is_set, is_main, kind_of, attributes, prefix_of, route_set, route_deleted, route_of};
 ghost use Rattle.dn_formats.specs.declared.raw_route.RouteKind.TheVariants.{Unicast};
 ghost use Rattle.rt_netlink.specs.Gathered.{Keeps, KeepsAll};

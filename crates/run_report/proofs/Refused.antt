@@ -1,6 +1,6 @@
 -- The line of a refused frame, added piece by piece.
 use Rattle.std.proofs.Common.{◌≡◌, ℕ, List, ◌++◌, codes, decimal, ap, ◌∙◌, append_assoc}
-use Rattle.dn_formats.specs.Causes.{cause_text}
+use Rattle.dn_formats.specs.FrameCauses.{cause_text}
 use Rattle.dn_formats.specs.Report.{refused_line}
 use Rattle.dn_formats.specs.declared.told.RefusedFrame.{RefusedFrame}
 

@@ -3,9 +3,10 @@
 //! A writer `push_..` adds its text at the end of `out`. After `OutOfMemory`, for which alone it fails, a part of the
 //! text may have been added.
 
-ghost use Rattle.std.specs.Prelude.{◌≡◌, ◌++◌, ◌∷◌, [], OnOk, codes, decimal};
+ghost use Rattle.std.specs.Prelude.{◌≡◌, ◌++◌, ◌∷◌, [], OnOk, codes, decimal, length};
 ghost use Rattle.std.specs.List.{flat_map};
-ghost use Rattle.dn_formats.specs.Causes.{cause_text, frame_causes, name_of_cause};
+ghost use Rattle.dn_formats.specs.Causes.{name_of_cause};
+ghost use Rattle.dn_formats.specs.FrameCauses.{cause_text, frame_causes};
 ghost use Rattle.dn_formats.specs.Report.{end_text, refused_line, feed_line, feed_lines};
 ghost use Rattle.dn_formats.specs.Texts.{line};
 
@@ -68,6 +69,16 @@ fn push_refused_lines(out: &mut Vec<u8>, frames: &[RefusedFrame]) -> Result<(), 
     Ok(())
 }
 
+/// Adds how many updates, skipped messages and refused frames a feed has.
+fn push_counts(out: &mut Vec<u8>, feed: &FeedTold) -> Result<(), OutOfMemory>
+    ensures { OnOk result (out.new.items ≡ out.old.items ++ (codes " updates " ++ decimal feed.now.updates
+        ++ codes " skipped " ++ decimal feed.now.skipped ++ codes " refused " ++ decimal (length feed.now.refused))) }
+{
+    push_labelled(out, b" updates ", feed.updates)?;
+    push_labelled(out, b" skipped ", feed.skipped)?;
+    push_labelled(out, b" refused ", feed.refused.len() as u64)
+}
+
 /// Adds a feed's line.
 fn push_feed_line(out: &mut Vec<u8>, t: &Topology, feed: &FeedTold) -> Result<(), OutOfMemory>
     ensures { OnOk result (out.new.items ≡ out.old.items ++ feed_line t.now feed.now) }
@@ -75,9 +86,7 @@ fn push_feed_line(out: &mut Vec<u8>, t: &Topology, feed: &FeedTold) -> Result<()
     push_labelled(out, b"feed ", u64::from(feed.feed_no))?;
     push_bytes(out, b" ")?;
     push_router(out, t, feed.router)?;
-    push_labelled(out, b" updates ", feed.updates)?;
-    push_labelled(out, b" skipped ", feed.skipped)?;
-    push_labelled(out, b" refused ", feed.refused.len() as u64)?;
+    push_counts(out, feed)?;
     push_bytes(out, b" ")?;
     push_end(out, feed.end)?;
     push_bytes(out, b"\n")

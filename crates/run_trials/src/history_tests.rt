@@ -3,8 +3,8 @@
 
 ghost use Rattle.std.specs.Prelude.{◌≡◌, ◌<◌, ◌∷◌, [], IsTrue, length, All};
 ghost use Rattle.std.specs.Arc.{arc_value};
-ghost use Rattle.dn_model.specs.Entry.{IsEntryOf};
-ghost use Rattle.dn_model.specs.Name.{is_name_text};
+ghost use Rattle.version_store.specs.Kept.{IsTaken};
+ghost use Rattle.base.specs.Name.{is_name_text};
 ghost use Rattle.dn_model.specs.declared.topology.Topology.{Topology as TopologyIs};
 ghost use Rattle.feed_threads.specs.AllJobs.{AreNumberedApart};
 ghost use Rattle.feed_threads.specs.Jobs.{AreApart, IsFresh};
@@ -227,8 +227,13 @@ fn run_over<R: Abort + Threads + Wait + Sync>(
 fn feeds_among(rt: &impl Abort, alloc: Global, history: &[Posted], feeds: &[u32]) -> Vec<u32> {
     let mut among = Vec::new(alloc);
     for posted in history {
-        if feeds.contains(&posted.entry.feed_no) {
-            among.push(posted.entry.feed_no).expect(rt, "memory");
+        match posted.entry {
+            Entry::Route { feed_no, .. } => {
+                if feeds.contains(&feed_no) {
+                    among.push(feed_no).expect(rt, "memory");
+                }
+            }
+            Entry::Link { .. } => {}
         }
     }
     among
@@ -295,9 +300,9 @@ fn two_jobs_share_a_history(rt: HostRuntime) {
 
 /// The third update of `reader`'s feeds.
 fn third_update() -> Entry
-    ensures { (t : TopologyIs) → length t.routers ≡ 3 → IsEntryOf t result }
+    ensures { (t : TopologyIs) → length t.routers ≡ 3 → IsTaken t result }
 {
-    Entry {
+    Entry::Route {
         router: RouterId(0),
         feed_no: 1,
         op: Op::Set {

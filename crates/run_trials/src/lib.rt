@@ -26,6 +26,8 @@ mod script_tests;
 #[cfg(test)]
 mod slow_gate;
 #[cfg(test)]
+mod sure_tests;
+#[cfg(test)]
 mod trial;
 #[cfg(test)]
 mod trial_tests;

@@ -6,7 +6,7 @@ ghost use Rattle.std.specs.Prelude.{◌≤◌, All};
 use crate::whole_run::{WholeRun, add_file, compare, compare_tail, file, run_parts, run_words};
 use dn_formats::Line;
 use dn_io::{MemFile, NoGate};
-use dn_model::{Ask, Name, RouterId, TopoEnd, TopoLink, Topology};
+use dn_model::{Ask, Name, Replace, RouterId, RouterTable, TopoEnd, TopoLink, Topology};
 use dn_run::Status;
 use made_input::{MadeInput, make_input};
 use query_lang::read_script;
@@ -72,6 +72,20 @@ fn compare_link(rt: &impl Abort, link: &TopoLink, number: u16) {
     assert!(rt; !link.unnumbered, "link {number}");
 }
 
+/// The routers are eight devices, each with its main table.
+fn compare_tables(rt: &impl Abort, tables: &[RouterTable]) {
+    assert_eq!(rt; tables.len(), 8);
+    for number in 0..8u16 {
+        let main = RouterTable {
+            device: RouterId(number),
+            number: 254,
+            replace: Replace::Key,
+        };
+        assert!(rt; (number as usize) < tables.len());
+        assert_eq!(rt; tables[number as usize], main);
+    }
+}
+
 /// The network is a ring of the routers `m0` to `m7` by the links `l0` to `l7`, with an edge at each router's interface
 /// 1.
 fn compare_network(rt: &impl Abort, network: &Topology) {
@@ -79,6 +93,7 @@ fn compare_network(rt: &impl Abort, network: &Topology) {
     let links = network.links.as_slice();
     let edges = network.edges.as_slice();
     assert_eq!(rt; (routers.len(), links.len(), edges.len()), (8, 8, 8));
+    compare_tables(rt, network.tables.as_slice());
     for number in 0..8u16 {
         let at = number as usize;
         assert!(rt; at < routers.len() && at < links.len() && at < edges.len());

@@ -100,7 +100,7 @@ pub(crate) fn entry(rt: &impl Abort, topology: &Topology, seed: u32, feed: u32, 
     assert!(rt; 0 < feed && feed <= topology.router_count());
     let router = RouterId((feed - 1) as u16);
     let chance = drawn(seed, feed, nth);
-    Entry {
+    Entry::Route {
         router,
         feed_no: feed,
         op: Op::Set {

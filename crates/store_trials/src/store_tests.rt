@@ -4,7 +4,8 @@
 ghost use Rattle.std.specs.Prelude.{◌≡◌, ◌<◌, ◌∷◌, [], IfOk, IsTrue, All, length};
 ghost use Rattle.std.specs.Arc.{arc_value};
 ghost use Rattle.dn_model.specs.Entry.{IsEntryOf, IsTargetOf};
-ghost use Rattle.dn_model.specs.Name.{is_name_text};
+ghost use Rattle.version_store.specs.Followed.{IsFollowed};
+ghost use Rattle.base.specs.Name.{is_name_text};
 ghost use Rattle.dn_model.specs.declared.topology.Topology.{Topology as TopologyIs};
 
 use answer_equality::is_same_answer;
@@ -76,9 +77,10 @@ fn ten_one() -> Prefix {
 fn set(router: u16, prefix: Prefix, metric: u32, target: Target) -> Entry
     requires router { router < 3 }
     requires target { (t : TopologyIs) → length t.routers ≡ 3 → length t.links ≡ 2 → IsTargetOf t target }
-    ensures { (t : TopologyIs) → length t.routers ≡ 3 → length t.links ≡ 2 → IsEntryOf t result }
+    ensures own { (t : TopologyIs) → length t.routers ≡ 3 → length t.links ≡ 2 → IsEntryOf t result }
+    ensures followed { IsFollowed result }
 {
-    Entry {
+    Entry::Route {
         router: RouterId(router),
         feed_no: 1,
         op: Op::Set {
@@ -92,9 +94,10 @@ fn set(router: u16, prefix: Prefix, metric: u32, target: Target) -> Entry
 /// An update that clears all routes of a prefix at a router.
 fn clear(router: u16, prefix: Prefix) -> Entry
     requires { router < 3 }
-    ensures { (t : TopologyIs) → length t.routers ≡ 3 → length t.links ≡ 2 → IsEntryOf t result }
+    ensures own { (t : TopologyIs) → length t.routers ≡ 3 → length t.links ≡ 2 → IsEntryOf t result }
+    ensures followed { IsFollowed result }
 {
-    Entry {
+    Entry::Route {
         router: RouterId(router),
         feed_no: 1,
         op: Op::Clear {
@@ -106,42 +109,48 @@ fn clear(router: u16, prefix: Prefix) -> Entry
 
 /// r1 sends 10.0.0.0/8 to r2.
 fn to_second() -> Entry
-    ensures { (t : TopologyIs) → length t.routers ≡ 3 → length t.links ≡ 2 → IsEntryOf t result }
+    ensures own { (t : TopologyIs) → length t.routers ≡ 3 → length t.links ≡ 2 → IsEntryOf t result }
+    ensures followed { IsFollowed result }
 {
     set(0, ten(), 20, TO_SECOND)
 }
 
 /// At r2 10.0.0.0/8 leaves the network.
 fn exit_at_second() -> Entry
-    ensures { (t : TopologyIs) → length t.routers ≡ 3 → length t.links ≡ 2 → IsEntryOf t result }
+    ensures own { (t : TopologyIs) → length t.routers ≡ 3 → length t.links ≡ 2 → IsEntryOf t result }
+    ensures followed { IsFollowed result }
 {
     set(1, ten(), 20, Target::Exit(1))
 }
 
 /// r1 drops 10.1.0.0/16.
 fn drop_at_first() -> Entry
-    ensures { (t : TopologyIs) → length t.routers ≡ 3 → length t.links ≡ 2 → IsEntryOf t result }
+    ensures own { (t : TopologyIs) → length t.routers ≡ 3 → length t.links ≡ 2 → IsEntryOf t result }
+    ensures followed { IsFollowed result }
 {
     set(0, ten_one(), 20, Target::Dropped(DropKind::Blackhole))
 }
 
 /// 10.0.0.0/8 is r2's own.
 fn own() -> Entry
-    ensures { (t : TopologyIs) → length t.routers ≡ 3 → length t.links ≡ 2 → IsEntryOf t result }
+    ensures own { (t : TopologyIs) → length t.routers ≡ 3 → length t.links ≡ 2 → IsEntryOf t result }
+    ensures followed { IsFollowed result }
 {
     set(1, ten(), 5, Target::Local)
 }
 
 /// r1 has no route of 10.0.0.0/8 any more.
 fn clear_at_first() -> Entry
-    ensures { (t : TopologyIs) → length t.routers ≡ 3 → length t.links ≡ 2 → IsEntryOf t result }
+    ensures own { (t : TopologyIs) → length t.routers ≡ 3 → length t.links ≡ 2 → IsEntryOf t result }
+    ensures followed { IsFollowed result }
 {
     clear(0, ten())
 }
 
 /// r2 sends 10.0.0.0/8 back to r1.
 fn back() -> Entry
-    ensures { (t : TopologyIs) → length t.routers ≡ 3 → length t.links ≡ 2 → IsEntryOf t result }
+    ensures own { (t : TopologyIs) → length t.routers ≡ 3 → length t.links ≡ 2 → IsEntryOf t result }
+    ensures followed { IsFollowed result }
 {
     set(1, ten(), 10, TO_FIRST)
 }
@@ -178,6 +187,7 @@ fn post(store: &mut Store, entry: Entry) -> Result<u32, PostRefused>
     requires routers { length store.old.basis.topology.routers ≡ 3 }
     requires links { length store.old.basis.topology.links ≡ 2 }
     requires entry { (t : TopologyIs) → length t.routers ≡ 3 → length t.links ≡ 2 → IsEntryOf t entry }
+    requires followed { IsFollowed entry }
     ensures { store.new.basis ≡ store.old.basis }
 {
     store.post(7, &entry)

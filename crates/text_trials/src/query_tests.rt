@@ -1,7 +1,7 @@
 //! The printed texts of queries, their answers and unknown names, byte for byte.
 
 ghost use Rattle.std.specs.Prelude.{IsTrue};
-ghost use Rattle.dn_model.specs.Name.{is_name_text};
+ghost use Rattle.base.specs.Name.{is_name_text};
 
 use crate::two_routers::network;
 use dn_formats::{Line, Outcome, Told};

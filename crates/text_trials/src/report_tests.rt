@@ -1,7 +1,7 @@
 //! The printed report, byte for byte, and writing it to a sink that takes parts and fails.
 
 ghost use Rattle.std.specs.Prelude.{IsTrue};
-ghost use Rattle.dn_model.specs.Name.{is_name_text};
+ghost use Rattle.base.specs.Name.{is_name_text};
 
 use dn_formats::frame_cause::{BAD_FRAME_LENGTH, BAD_VERSION};
 use dn_formats::{FeedEnd, FeedTold, JobTold, Outcome, RefusedFrame, Told};
@@ -73,26 +73,31 @@ fn ended_feed(alloc: Global) -> FeedTold {
     }
 }
 
-/// The update that sets 10.0.0.0/8 with metric 20 to a target.
-fn set_ten(target: Target) -> Op {
-    Op::Set {
-        prefix: Prefix::new(0x0a00_0000, 8),
-        metric: 20,
-        target,
+/// An update of r1's feed.
+fn update(op: Op) -> Entry {
+    Entry::Route {
+        router: FIRST,
+        feed_no: 1,
+        op,
     }
 }
 
-/// A history of updates of r1's feed.
-fn history(rt: &impl Abort, alloc: Global, ops: &[Op]) -> Pages<Posted> {
+/// The update that sets 10.0.0.0/8 with metric 20 to a target.
+fn set_ten(target: Target) -> Entry {
+    update(Op::Set {
+        prefix: Prefix::new(0x0a00_0000, 8),
+        metric: 20,
+        target,
+    })
+}
+
+/// A history of these entries.
+fn history(rt: &impl Abort, alloc: Global, entries: &[Entry]) -> Pages<Posted> {
     let mut history = Pages::new();
-    for op in ops {
+    for entry in entries {
         let posted = Posted {
             seat: 0,
-            entry: Entry {
-                router: FIRST,
-                feed_no: 1,
-                op: *op,
-            },
+            entry: *entry,
         };
         history.push(alloc, posted).expect(rt, "memory");
     }
@@ -241,11 +246,11 @@ fn prints_feeds_in_order(rt: HostRuntime) {
 }
 
 /// The update that clears 10.0.0.0/8, of one metric or of all.
-fn clear_ten(metric: Option<u32>) -> Op {
-    Op::Clear {
+fn clear_ten(metric: Option<u32>) -> Entry {
+    update(Op::Clear {
         prefix: Prefix::new(0x0a00_0000, 8),
         metric,
-    }
+    })
 }
 
 /// A history with each target and both kinds of Clear.
@@ -376,6 +381,73 @@ fn prints_all_lines(rt: HostRuntime) {
         },
     ];
     compare_report(&rt, alloc, &[], &history, &jobs, ALL_LINES);
+}
+
+/// A route by a next-hop object, and the object set before and gone after it.
+fn object_ops() -> [Entry; 3] {
+    [
+        update(Op::Object {
+            id: 7,
+            target: Target::To(SECOND, LinkId(0)),
+        }),
+        update(Op::SetBy {
+            prefix: Prefix::new(0x0a00_0000, 8),
+            metric: 20,
+            id: 7,
+        }),
+        update(Op::NoObject { id: 7 }),
+    ]
+}
+
+/// Link b goes down or comes up, by a line of job 2.
+fn link_entry(down: bool) -> Entry {
+    Entry::Link {
+        job: 2,
+        link: LinkId(1),
+        down,
+    }
+}
+
+const OBJECTS_AND_LINKS: &str = "history 5
+1 feed 1 r1 object 7 to r2 by a
+2 feed 1 r1 set 10.0.0.0/8 metric 20 by object 7
+3 feed 1 r1 noobject 7
+4 job 2 down b
+5 job 2 up b
+done
+";
+
+#[test]
+fn prints_objects_and_links(rt: HostRuntime) {
+    let alloc = rt.alloc();
+    let [set, by, gone] = object_ops();
+    let entries = [set, by, gone, link_entry(true), link_entry(false)];
+    let history = history(&rt, alloc, &entries);
+    compare_report(&rt, alloc, &[], &history, &[], OBJECTS_AND_LINKS);
+}
+
+/// A history of so many equal updates.
+fn long_history(rt: &impl Abort, alloc: Global, count: u32) -> Pages<Posted> {
+    let mut history = Pages::new();
+    for _ in 0..count {
+        let posted = Posted {
+            seat: 0,
+            entry: clear_ten(None),
+        };
+        history.push(alloc, posted).expect(rt, "memory");
+    }
+    history
+}
+
+/// The lines are `history 100001`, `I feed 1 r1 clear 10.0.0.0/8` and `done`: 28 bytes for each entry besides its number,
+/// and 488,901 digits of numbers.
+#[test]
+fn prints_a_long_history(rt: HostRuntime) {
+    let alloc = rt.alloc();
+    let topology = triangle(&rt, alloc);
+    let history = long_history(&rt, alloc, 100_001);
+    let text = report_text(alloc, &topology, &[], &history, &[]).expect(&rt, "memory");
+    assert_eq!(rt; text.len(), 3_288_949);
 }
 
 #[test]

@@ -1,8 +1,8 @@
 -- The entries of a topology's text, one after the other.
-use Rattle.std.proofs.Common.{◌≡◌, ℕ, ◌+◌, ◌<◌, ◌≤◌, Bool, true, false, cond, codes, List, [], ◌∷◌, ◌++◌, length, get_or, take, drop, map, filter, Option, Some, None, is_none, option_map, Err, refl, sym, ap, ◌∙◌, subst, arith, lit≤, length-append}
+use Rattle.std.proofs.Common.{◌≡◌, ℕ, ◌+◌, ◌<◌, ◌≤◌, Bool, true, false, cond, List, [], ◌∷◌, ◌++◌, length, get_or, take, drop, map, filter, Option, Some, None, is_none, option_map, Err, refl, sym, ap, ◌∙◌, subst, arith, lit≤, append_assoc, length-append}
 use Rattle.std.proofs.lemmas.Bool.{true≢false, leb-false}
 use Rattle.std.proofs.lemmas.Option.{same_Some}
-use Rattle.std.proofs.lemmas.List.{drop_more, take_more, take_all, drop_all, length-map}
+use Rattle.std.proofs.lemmas.List.{append-nil, drop_more, take_more, take_all, drop_all, length-map}
 use Rattle.std.proofs.Math.ListN.{get_or-map}
 use Rattle.toml.specs.declared.value.Value.{Value}
 use Rattle.toml.specs.View.{view}
@@ -10,6 +10,8 @@ use Rattle.std.proofs.lemmas.List.Elements.{filter_map-append}
 use Rattle.std.specs.List.{filter_map, cons_option}
 use Rattle.std.specs.Option.{option_to_list}
 use Rattle.toml.specs.Data.{Data, Members, as_str}
+use Rattle.dn_model.specs.declared.topology.Replace.TheVariants.{Key}
+use Rattle.dn_model.specs.declared.topology.RouterTable.{RouterTable}
 use Rattle.dn_model.specs.declared.topology.TopoEnd.{TopoEnd}
 use Rattle.dn_model.specs.declared.topology.TopoLink.{TopoLink}
 use Rattle.dn_formats.specs.declared.topology_fault.TopoFault.{TopoFault}
@@ -17,11 +19,10 @@ use Rattle.dn_formats.specs.declared.topology_fault.TopoPart.{TopoPart}
 use Rattle.dn_formats.specs.declared.topology_fault.TopoPart.TheVariants.{Routers, Link, Edge}
 use Rattle.dn_formats.specs.declared.topology_fault.TopoRefused.{TopoRefused}
 use Rattle.dn_formats.specs.declared.topology_fault.TopoRefused.TheVariants.{Fault, OutOfMemory}
-use Rattle.dn_model.specs.declared.topology.Topology.{Topology}
-use Rattle.dn_model.specs.Topology.{all_ends, is_sound_topology}
-use Rattle.dn_formats.specs.TopologyText.{top_causes, top_fault, entries_at, faults_of, Parts, parts, parts_said, list_faults, unless_faulty, standing, faults_along, router_causes, link_causes, edge_causes, router_table, link_table, edge_table, routers_said, links_said, edges_said, link_of_entry, end_of_entry}
+use Rattle.dn_model.specs.Topology.{Parts, all_ends, is_sound_topology}
+use Rattle.dn_formats.specs.TopologyText.{top_causes, top_fault, faults_of, Sections, sections_of, main_tables_from, main_tables, parts_said, list_faults, unless_faulty, standing, faults_along, router_causes, link_causes, edge_causes, router_table, link_table, edge_table, routers_said, links_said, edges_said, link_of_entry, end_of_entry}
 use Rattle.dn_formats.proofs.TopologySound.{NoneStands, AreRouters, router_next}
-use Rattle.dn_formats.proofs.TopologyLinksSound.{AreLinks, link_next, entries_sound}
+use Rattle.dn_formats.proofs.TopologyLinksSound.{AreLinks, link_next, lists_sound as said_sound}
 use Rattle.topology.specs.Reading.{first_standing, fault_at, IsRefusalAt, first_of, IsFirstFault, SayRouters, SayLinks, SayEdges}
 
 -- ---- one entry
@@ -310,23 +311,6 @@ edges_end routers links vs i edges past far = edges_done routers links (map view
 
 -- ---- the three lists, and the whole
 
-pub lists_sound : (rs ls es : List Data) (names : List (List ℕ)) (links : List TopoLink) (edges : List TopoEnd) → SayRouters rs names → SayLinks names ls links → SayEdges names links es edges
-    → is_sound_topology names links edges ≡ true
-lists_sound rs ls es names links edges r l e =
-    let said_names : List (List ℕ) = routers_said rs in
-    let P : List (List ℕ) → Type 0 = λ n. faults_along Link (link_table n) [] ls ≡ [] in
-    let Q : List (List ℕ) → Type 0 = λ n. links ≡ links_said n ls in
-    let R : List (List ℕ) → Type 0 = λ n. faults_along Edge (edge_table n links) [] es ≡ [] in
-    let S : List (List ℕ) → Type 0 = λ n. edges ≡ edges_said n es in
-    let T : List (List ℕ) → Type 0 = λ n. is_sound_topology n links edges ≡ true in
-    let said_links : links ≡ links_said said_names ls = subst Q r.said l.said in
-    let said_edges : edges ≡ edges_said said_names es = subst S r.said e.said in
-    let U : List TopoLink → Type 0 = λ k. faults_along Edge (edge_table said_names k) [] es ≡ [] in
-    let V : List TopoLink → Type 0 = λ k. is_sound_topology said_names k edges ≡ true in
-    let W : List TopoEnd → Type 0 = λ k. is_sound_topology said_names (links_said said_names ls) k ≡ true in
-    subst T (sym r.said) (subst V (sym said_links) (subst W (sym said_edges)
-    (entries_sound rs ls es r.faultless (subst P r.said l.faultless) (subst U said_links (subst R r.said e.faultless)))))
-
 pub first_of-front : (xs ys : List TopoFault) (refused : TopoRefused) → IsFirstFault xs refused → IsFirstFault (xs ++ ys) refused
 first_of-front xs ys OutOfMemory h = tt
 first_of-front [] ys (Fault f) h = cc
@@ -338,47 +322,55 @@ first_of-back xs ys refused none h = let P : List TopoFault → Type 0 = λ zs. 
 no_faults : (xs ys : List TopoFault) → xs ≡ [] → ys ≡ [] → xs ++ ys ≡ []
 no_faults xs ys one two = rw (one, two)
 
-pub lists_faultless : (rs ls es : List Data) (names : List (List ℕ)) (links : List TopoLink) (edges : List TopoEnd) → SayRouters rs names → SayLinks names ls links → SayEdges names links es edges
-    → list_faults rs ls es ≡ []
-lists_faultless rs ls es names links edges r l e =
-    let said_names : List (List ℕ) = routers_said rs in
-    let P : List (List ℕ) → Type 0 = λ n. faults_along Link (link_table n) [] ls ≡ [] in
-    let Q : List (List ℕ) → Type 0 = λ n. links ≡ links_said n ls in
-    let R : List (List ℕ) → Type 0 = λ n. faults_along Edge (edge_table n links) [] es ≡ [] in
-    let said_links : links ≡ links_said said_names ls = subst Q r.said l.said in
-    let U : List TopoLink → Type 0 = λ k. faults_along Edge (edge_table said_names k) [] es ≡ [] in
+pub lists_faultless : (lists : Sections) (p : Parts) → SayRouters lists.routers p.routers → SayLinks p.routers lists.links p.links → SayEdges p.routers p.links lists.edges p.edges
+    → list_faults lists ≡ []
+lists_faultless lists p r l e =
+    let names : List (List ℕ) = routers_said lists.routers in
+    let P : List (List ℕ) → Type 0 = λ n. faults_along Link (link_table n) [] lists.links ≡ [] in
+    let Q : List (List ℕ) → Type 0 = λ n. p.links ≡ links_said n lists.links in
+    let R : List (List ℕ) → Type 0 = λ n. faults_along Edge (edge_table n p.links) [] lists.edges ≡ [] in
+    let said_links : p.links ≡ links_said names lists.links = subst Q r.said l.said in
+    let U : List TopoLink → Type 0 = λ k. faults_along Edge (edge_table names k) [] lists.edges ≡ [] in
     no_faults _ _ (no_faults _ _ r.faultless (subst P r.said l.faultless)) (subst U said_links (subst R r.said e.faultless))
 
-same_parts : (t : Topology) (rs : List (List ℕ)) (ls : List TopoLink) (es : List TopoEnd) → t.routers ≡ rs → t.links ≡ ls → t.edges ≡ es → parts t ≡ record { routers = rs; links = ls; edges = es }
-same_parts t rs ls es one two three = cc
+abbrev made : List (List ℕ) → List RouterTable → List TopoLink → List TopoEnd → Parts
+made routers tables links edges = record { routers = routers; tables = tables; links = links; edges = edges }
 
-pub lists_said : (rs ls es : List Data) (t : Topology) → SayRouters rs t.routers → SayLinks t.routers ls t.links → SayEdges t.routers t.links es t.edges
-    → parts t ≡ parts_said rs ls es
-lists_said rs ls es t r l e =
-    let Q : List (List ℕ) → Type 0 = λ n. t.links ≡ links_said n ls in
-    let S : List (List ℕ) → Type 0 = λ n. t.edges ≡ edges_said n es in
-    let said_links : t.links ≡ links_said (routers_said rs) ls = subst Q r.said l.said in
-    let said_edges : t.edges ≡ edges_said (routers_said rs) es = subst S r.said e.said in
-    same_parts t (routers_said rs) (links_said (routers_said rs) ls) (edges_said (routers_said rs) es) r.said said_links said_edges
+same_parts : (rs xs : List (List ℕ)) (ts us : List RouterTable) (ls ks : List TopoLink) (es fs : List TopoEnd) → rs ≡ xs → ts ≡ us → ls ≡ ks → es ≡ fs → made rs ts ls es ≡ made xs us ks fs
+same_parts rs xs ts us ls ks es fs one two three four = cc
 
-pub lists_refused-routers : (rs ls es : List Data) (refused : TopoRefused) → IsFirstFault (faults_along Routers router_table [] rs) refused → IsFirstFault (list_faults rs ls es) refused
-lists_refused-routers rs ls es refused h = first_of-front _ _ refused (first_of-front _ _ refused h)
+pub lists_said : (lists : Sections) (p : Parts) → SayRouters lists.routers p.routers → p.tables ≡ main_tables p.routers → SayLinks p.routers lists.links p.links
+    → SayEdges p.routers p.links lists.edges p.edges → p ≡ parts_said lists
+lists_said lists p r tables l e =
+    let Q : List (List ℕ) → Type 0 = λ n. p.links ≡ links_said n lists.links in
+    let S : List (List ℕ) → Type 0 = λ n. p.edges ≡ edges_said n lists.edges in
+    let T : List (List ℕ) → Type 0 = λ n. p.tables ≡ main_tables n in
+    same_parts _ _ _ _ _ _ _ _ r.said (subst T r.said tables) (subst Q r.said l.said) (subst S r.said e.said)
 
-pub lists_refused-links : (rs ls es : List Data) (names : List (List ℕ)) (refused : TopoRefused) → SayRouters rs names
-    → IsFirstFault (faults_along Link (link_table names) [] ls) refused → IsFirstFault (list_faults rs ls es) refused
-lists_refused-links rs ls es names refused r h =
-    let P : List (List ℕ) → Type 0 = λ n. IsFirstFault (faults_along Link (link_table n) [] ls) refused in
+pub lists_sound : (lists : Sections) (p : Parts) → SayRouters lists.routers p.routers → p.tables ≡ main_tables p.routers → SayLinks p.routers lists.links p.links
+    → SayEdges p.routers p.links lists.edges p.edges → is_sound_topology p ≡ true
+lists_sound lists p r tables l e =
+    let P : Parts → Type 0 = λ q. is_sound_topology q ≡ true in
+    subst P (sym (lists_said lists p r tables l e)) (said_sound lists (lists_faultless lists p r l e))
+
+pub lists_refused-routers : (lists : Sections) (refused : TopoRefused) → IsFirstFault (faults_along Routers router_table [] lists.routers) refused → IsFirstFault (list_faults lists) refused
+lists_refused-routers lists refused h = first_of-front _ _ refused (first_of-front _ _ refused h)
+
+pub lists_refused-links : (lists : Sections) (names : List (List ℕ)) (refused : TopoRefused) → SayRouters lists.routers names
+    → IsFirstFault (faults_along Link (link_table names) [] lists.links) refused → IsFirstFault (list_faults lists) refused
+lists_refused-links lists names refused r h =
+    let P : List (List ℕ) → Type 0 = λ n. IsFirstFault (faults_along Link (link_table n) [] lists.links) refused in
     first_of-front _ _ refused (first_of-back _ _ refused r.faultless (subst P r.said h))
 
-pub lists_refused-edges : (rs ls es : List Data) (names : List (List ℕ)) (links : List TopoLink) (refused : TopoRefused) → SayRouters rs names → SayLinks names ls links
-    → IsFirstFault (faults_along Edge (edge_table names links) [] es) refused → IsFirstFault (list_faults rs ls es) refused
-lists_refused-edges rs ls es names links refused r l h =
-    let said_names : List (List ℕ) = routers_said rs in
-    let P : List (List ℕ) → Type 0 = λ n. faults_along Link (link_table n) [] ls ≡ [] in
-    let Q : List (List ℕ) → Type 0 = λ n. links ≡ links_said n ls in
-    let R : List (List ℕ) → Type 0 = λ n. IsFirstFault (faults_along Edge (edge_table n links) [] es) refused in
-    let said_links : links ≡ links_said said_names ls = subst Q r.said l.said in
-    let U : List TopoLink → Type 0 = λ k. IsFirstFault (faults_along Edge (edge_table said_names k) [] es) refused in
+pub lists_refused-edges : (lists : Sections) (names : List (List ℕ)) (links : List TopoLink) (refused : TopoRefused) → SayRouters lists.routers names → SayLinks names lists.links links
+    → IsFirstFault (faults_along Edge (edge_table names links) [] lists.edges) refused → IsFirstFault (list_faults lists) refused
+lists_refused-edges lists names links refused r l h =
+    let said_names : List (List ℕ) = routers_said lists.routers in
+    let P : List (List ℕ) → Type 0 = λ n. faults_along Link (link_table n) [] lists.links ≡ [] in
+    let Q : List (List ℕ) → Type 0 = λ n. links ≡ links_said n lists.links in
+    let R : List (List ℕ) → Type 0 = λ n. IsFirstFault (faults_along Edge (edge_table n links) [] lists.edges) refused in
+    let said_links : links ≡ links_said said_names lists.links = subst Q r.said l.said in
+    let U : List TopoLink → Type 0 = λ k. IsFirstFault (faults_along Edge (edge_table said_names k) [] lists.edges) refused in
     first_of-back _ _ refused (no_faults _ _ r.faultless (subst P r.said l.faultless)) (subst U said_links (subst R r.said h))
 
 -- ---- the whole
@@ -389,13 +381,22 @@ said_refused [] said f e = cc
 said_refused (x ∷ more) said f e = ap Err (same_Some _ _ e)
 
 -- a document with no cause at the top is refused for its lists
-pub document_refused : (doc : Members) (rs ls es : List Data) (refused : TopoRefused) → first_standing top_causes doc ≡ None
-    → rs ≡ entries_at (codes "routers") doc → ls ≡ entries_at (codes "link") doc → es ≡ entries_at (codes "edge") doc
-    → IsFirstFault (list_faults rs ls es) refused → IsFirstFault (faults_of doc) refused
-document_refused doc rs ls es refused none one two three h =
-    let P : List Data → Type 0 = λ x. IsFirstFault (list_faults x ls es) refused in
-    let Q : List Data → Type 0 = λ x. IsFirstFault (list_faults (entries_at (codes "routers") doc) x es) refused in
-    let R : List Data → Type 0 = λ x. IsFirstFault (list_faults (entries_at (codes "routers") doc) (entries_at (codes "link") doc) x) refused in
-    first_of-back (map top_fault (standing top_causes doc)) (list_faults (entries_at (codes "routers") doc) (entries_at (codes "link") doc) (entries_at (codes "edge") doc)) refused
-    (ap (map top_fault) (standing-none top_causes doc (none_from_first top_causes doc none)))
-    (subst R three (subst Q two (subst P one h)))
+pub document_refused : (doc : Members) (lists : Sections) (refused : TopoRefused) → first_standing top_causes doc ≡ None → lists ≡ sections_of doc
+    → IsFirstFault (list_faults lists) refused → IsFirstFault (faults_of doc) refused
+document_refused doc lists refused none is h =
+    let P : Sections → Type 0 = λ s. IsFirstFault (list_faults s) refused in
+    first_of-back (map top_fault (standing top_causes doc)) (list_faults (sections_of doc)) refused
+    (ap (map top_fault) (standing-none top_causes doc (none_from_first top_causes doc none))) (subst P is h)
+
+-- ---- tables
+
+-- the tables so far and those of the names that are left are those of all names
+pub tables_next : (names : List (List ℕ)) (tables new : List RouterTable) (i : ℕ) → i < length names → tables ++ main_tables_from i (drop i names) ≡ main_tables names
+    → new ≡ tables ++ record { device = record { 0 = i }; number = 254; replace = Key } ∷ [] → new ++ main_tables_from (i + 1) (drop (i + 1) names) ≡ main_tables names
+tables_next names tables new i within so_far pushed =
+    ap (λ (ts : List RouterTable). ts ++ main_tables_from (i + 1) (drop (i + 1) names)) pushed
+    ∙ append_assoc tables (record { device = record { 0 = i }; number = 254; replace = Key } ∷ []) (main_tables_from (i + 1) (drop (i + 1) names))
+    ∙ sym (ap (λ (ns : List (List ℕ)). tables ++ main_tables_from i ns) (drop_more names i [] within)) ∙ so_far
+
+pub tables_end : (names : List (List ℕ)) (tables : List RouterTable) (i : ℕ) → length names ≤ i → tables ++ main_tables_from i (drop i names) ≡ main_tables names → tables ≡ main_tables names
+tables_end names tables i past so_far = sym (append-nil tables) ∙ ap (λ (ns : List (List ℕ)). tables ++ main_tables_from i ns) (sym (drop_all i names past)) ∙ so_far

@@ -1,5 +1,5 @@
 -- The values that the crate `toml` hands out, as the lists that a topology's definition speaks of.
-use Rattle.std.proofs.Common.{◌≡◌, ◌<◌, ℕ, ◌+◌, Bool, not, cond, List, [], ◌∷◌, ◌++◌, length, get_or, drop, map, String, Global, string_bytes, refl, sym, ap, ◌∙◌, true, false, ◌||◌, ◌&&◌, ◌==◌, append_assoc}
+use Rattle.std.proofs.Common.{◌≡◌, ◌<◌, ℕ, ◌+◌, Bool, not, cond, List, [], ◌∷◌, ◌++◌, length, get_or, drop, map, String, Global, string_bytes, Option, Some, None, refl, sym, ap, ◌∙◌, true, false, ◌||◌, ◌&&◌, ◌==◌, append_assoc}
 use Rattle.std.specs.List.{list_any}
 use Rattle.std.proofs.lemmas.List.{drop_more}
 use Rattle.std.proofs.lemmas.List.Folds.{list_any-append}
@@ -9,9 +9,12 @@ use Rattle.toml.specs.View.{items_of, members_view}
 use Rattle.toml.specs.declared.value.Value.{Value}
 use Rattle.dn_model.specs.declared.topology.TopoEnd.{TopoEnd}
 use Rattle.dn_model.specs.declared.topology.TopoLink.{TopoLink}
-use Rattle.dn_model.specs.Topology.{same_text, same_end, all_ends}
+use Rattle.base.specs.Name.{same_text}
+use Rattle.dn_model.specs.Topology.{all_ends}
+use Rattle.dn_formats.proofs.MainTables.{main_device}
 use Rattle.dn_formats.proofs.TopologyLinksSound.{all_ends-push}
-use Rattle.dn_formats.specs.TopologyText.{items_in, has_key_besides, has_text, has_end}
+use Rattle.dn_formats.specs.TopologyText.{items_in, has_key_besides, has_text, has_end, main_tables, passes}
+use Rattle.topology.specs.Taken.{has_place}
 
 pub items_in-items_of : (ds : List Data) → items_in (items_of ds) ≡ ds
 items_in-items_of [] = refl
@@ -34,11 +37,26 @@ joined false true = refl
 joined false false = refl
 
 -- one interface more
-pub has_end-push : (ends new : List TopoEnd) (end e : TopoEnd) (before after : Bool) → new ≡ ends ++ end ∷ [] → before ≡ has_end ends e
-    → after ≡ cond ((end.router.0 == e.router.0) && (end.index == e.index)) true before → after ≡ has_end new e
+pub has_end-push : (ends new : List TopoEnd) (end e : TopoEnd) (before after : Bool) → new ≡ ends ++ end ∷ [] → before ≡ has_place ends e
+    → after ≡ cond ((end.router.0 == e.router.0) && (end.index == e.index)) true before → after ≡ has_place new e
 has_end-push ends new end e before after is_new is_before is_after =
-    is_after ∙ joined (same_end end e) before ∙ ap (λ b. b || (same_end end e || false)) is_before
-    ∙ sym (ap (λ all. has_end all e) is_new ∙ list_any-append (λ (other : TopoEnd). same_end other e) ends (end ∷ []))
+    let same : TopoEnd → Bool = λ other. (other.router.0 == e.router.0) && (other.index == e.index) in
+    is_after ∙ joined (same end) before ∙ ap (λ b. b || (same end || false)) is_before
+    ∙ sym (ap (λ all. has_place all e) is_new ∙ list_any-append same ends (end ∷ []))
+
+-- of devices, an interface is found by its router and number
+has_end-place : (names : List (List ℕ)) (ends : List TopoEnd) (e : TopoEnd) → has_end (main_tables names) ends e ≡ has_place ends e
+has_end-place names [] e = refl
+has_end-place names (end ∷ ends) e = rw (main_device names end.router, main_device names e.router, has_end-place names ends e)
+
+pub end_taken : (names : List (List ℕ)) (ends : List TopoEnd) (o : Option TopoEnd) → passes (has_end (main_tables names) ends) o ≡ passes (has_place ends) o
+end_taken names ends None = refl
+end_taken names ends (Some e) = has_end-place names ends e
+
+pub ends_taken : (names : List (List ℕ)) (ends : List TopoEnd) (o : Option (TopoEnd × TopoEnd))
+    → passes (λ both. has_end (main_tables names) ends both.0 || has_end (main_tables names) ends both.1) o ≡ passes (λ both. has_place ends both.0 || has_place ends both.1) o
+ends_taken names ends None = refl
+ends_taken names ends (Some both) = rw (has_end-place names ends both.0, has_end-place names ends both.1)
 
 -- one link more, and its interfaces
 pub ends_pushed : (ls new : List TopoLink) (l : TopoLink) (old mid last : List TopoEnd) → old ≡ all_ends ls → mid ≡ old ++ l.first ∷ [] → last ≡ mid ++ l.second ∷ []

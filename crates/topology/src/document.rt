@@ -1,16 +1,19 @@
 //! The document that a topology's text is, and what it says.
 
-ghost use Rattle.std.specs.Prelude.{◌≡◌, ◌||◌, [], IfOk, IfErr, Ok, map, is_none, option_map, codes};
+ghost use Rattle.std.specs.Prelude.{◌≡◌, ◌≤◌, ◌||◌, [], IfOk, IfErr, Ok, length, is_none, option_map, codes};
 ghost use Rattle.toml.specs.Parse.{parse_document};
-ghost use Rattle.toml.specs.View.{view, table_view};
-ghost use Rattle.dn_formats.specs.TopologyText.{list_at, list_or_none_at, said_by, top_causes, top_fault, entries_at, list_faults, parts_said, faults_of, parts_of, unless_faulty, document_of, parts, IsTopologyText, IsTopologyRefused};
+ghost use Rattle.toml.specs.View.{table_view};
+ghost use Rattle.dn_formats.specs.TopologyText.{list_at, list_or_none_at, said_by, top_causes, top_fault, main_tables, list_faults, parts_said, faults_of, parts_of, unless_faulty, document_of, IsTopologyText, IsTopologyRefused};
+ghost use Rattle.dn_model.specs.Tables.{parts};
 ghost use Rattle.topology.specs.Reading.{first_standing, IsFirstFault, IsSaidRefusal};
+ghost use Rattle.topology.specs.Sections.{sections};
 
 use crate::lists::{read_edges, read_links, read_routers};
+use crate::sections::{Sections, sections_of};
 use crate::value::{has_unknown_top_key, list_at, list_or_none_at};
 use dn_formats::topology_cause::{MISSING_KEY, NOT_TOML, TOO_LONG, UNKNOWN_KEY};
 use dn_formats::{TopoFault, TopoPart, TopoRefused};
-use dn_model::{OutOfMemory, Topology};
+use dn_model::{List, Name, OutOfMemory, Replace, RouterId, RouterTable, Topology};
 use std::alloc::Global;
 use toml::{Table, Value};
 
@@ -50,32 +53,35 @@ fn top_refusal(cause: u8) -> TopoRefused
     })
 }
 
-/// The entries of a list at a key.
-fn entries_at<'a>(table: &'a Table, key: &str) -> &'a [Value]
-    ensures { map view result.now ≡ entries_at key.now (table_view table.now) }
+/// The main table of each device.
+fn main_tables(alloc: Global, devices: &[Name]) -> Result<List<RouterTable>, OutOfMemory>
+    requires { length devices.now ≤ 1024 }
+    ensures { IfOk result (λ tables. tables ≡ main_tables devices.now) }
 {
-    match list_at(table, key) {
-        Some(entries) => entries,
-        None => &[],
+    let mut tables = List::new(alloc);
+    for device in 0..devices.len() as u16 {
+        tables.push(RouterTable {
+            device: RouterId(device),
+            number: 254,
+            replace: Replace::Key,
+        })?;
     }
+    Ok(tables)
 }
 
-/// What three lists of entries say, or their first fault.
-fn read_lists(
-    alloc: Global,
-    routers: &[Value],
-    links: &[Value],
-    edges: &[Value],
-) -> Result<Topology, TopoRefused>
-    ensures faultless { IfOk result (λ t. list_faults (map view routers.now) (map view links.now) (map view edges.now) ≡ []) }
-    ensures said { IfOk result (λ t. parts t ≡ parts_said (map view routers.now) (map view links.now) (map view edges.now)) }
-    ensures refused { IfErr result (IsFirstFault (list_faults (map view routers.now) (map view links.now) (map view edges.now))) }
+/// What lists of entries say, or their first fault.
+fn read_lists(alloc: Global, lists: &Sections<'_>) -> Result<Topology, TopoRefused>
+    ensures faultless { IfOk result (λ t. list_faults (sections lists.now) ≡ []) }
+    ensures said { IfOk result (λ t. parts t ≡ parts_said (sections lists.now)) }
+    ensures refused { IfErr result (IsFirstFault (list_faults (sections lists.now))) }
 {
-    let names = read_routers(alloc, routers)?;
-    let links = read_links(alloc, names.as_slice(), links)?;
-    let edges = read_edges(alloc, names.as_slice(), links.as_slice(), edges)?;
+    let names = read_routers(alloc, lists.routers)?;
+    let tables = main_tables(alloc, names.as_slice())?;
+    let links = read_links(alloc, names.as_slice(), lists.links)?;
+    let edges = read_edges(alloc, names.as_slice(), links.as_slice(), lists.edges)?;
     Ok(Topology {
         routers: names,
+        tables,
         links,
         edges,
     })
@@ -88,12 +94,7 @@ fn read_document(alloc: Global, table: &Table) -> Result<Topology, TopoRefused>
 {
     match top_cause(table) {
         Some(cause) => Err(top_refusal(cause)),
-        None => {
-            let routers = entries_at(table, "routers");
-            let links = entries_at(table, "link");
-            let edges = entries_at(table, "edge");
-            read_lists(alloc, routers, links, edges)
-        }
+        None => read_lists(alloc, &sections_of(table)),
     }
 }
 

@@ -2,7 +2,7 @@
 
 ghost use Rattle.std.specs.Prelude.{◌≡◌, ◌<◌, ◌≤◌, ◌==◌, IfSome, length, position};
 ghost use Rattle.std.specs.Option.{ForSome};
-ghost use Rattle.dn_model.specs.Topology.{same_text};
+ghost use Rattle.base.specs.Name.{same_text};
 ghost use Rattle.dn_formats.specs.EndText.{read_end, end_at};
 
 use dn_formats::read_number;

@@ -11,6 +11,7 @@ mod end;
 mod link;
 mod lists;
 mod router;
+mod sections;
 mod steps;
 mod taken;
 mod value;

@@ -3,9 +3,10 @@
 ghost use Rattle.std.specs.Prelude.{◌≡◌, ◌≤◌, ◌||◌, ◌==◌, length, map, not, is_none, option_map};
 ghost use Rattle.toml.specs.Data.{as_table};
 ghost use Rattle.toml.specs.View.{view, table_view};
-ghost use Rattle.dn_model.specs.Name.{is_name_text};
-ghost use Rattle.dn_formats.specs.TopologyText.{passes, has_text, has_end, has_key_besides, is_link_key, two_texts, name_in, ends_in, unnumbered_in, both_ends, ends_of_table, name_of_entry, ends_of_entry, link_causes};
+ghost use Rattle.base.specs.Name.{is_name_text};
+ghost use Rattle.dn_formats.specs.TopologyText.{passes, has_text, has_key_besides, is_link_key, two_texts, name_in, ends_in, unnumbered_in, both_ends, ends_of_table, name_of_entry, ends_of_entry, link_causes};
 ghost use Rattle.topology.specs.Reading.{first_standing};
+ghost use Rattle.topology.specs.Taken.{has_place};
 
 use crate::end::read_end;
 use crate::taken::{TakenEnds, has_link_name};
@@ -145,7 +146,7 @@ fn is_self_link(ends: Option<(TopoEnd, TopoEnd)>) -> bool
 
 /// Whether one of the ends is taken.
 fn is_end_taken(taken: &TakenEnds, ends: Option<(TopoEnd, TopoEnd)>) -> bool
-    ensures { result ≡ passes (λ both. has_end taken.now both.0 || has_end taken.now both.1) ends }
+    ensures { result ≡ passes (λ both. has_place taken.now both.0 || has_place taken.now both.1) ends }
 {
     match ends {
         Some((first, second)) => taken.has(first) || taken.has(second),

@@ -3,7 +3,7 @@
 ghost use Rattle.std.specs.Prelude.{◌≡◌, length, not, is_none};
 ghost use Rattle.toml.specs.Data.{as_str};
 ghost use Rattle.toml.specs.View.{view};
-ghost use Rattle.dn_model.specs.Name.{is_name_text};
+ghost use Rattle.base.specs.Name.{is_name_text};
 ghost use Rattle.dn_formats.specs.TopologyText.{passes, has_text, router_causes};
 ghost use Rattle.topology.specs.Reading.{first_standing};
 

@@ -4,7 +4,7 @@ ghost use Rattle.std.specs.Prelude.{◌≡◌, ◌≤◌, ◌+◌, ◌++◌, ◌
 ghost use Rattle.std.specs.Option.{option_to_list};
 ghost use Rattle.toml.specs.Data.{as_str};
 ghost use Rattle.toml.specs.View.{view, table_view};
-ghost use Rattle.dn_model.specs.Name.{is_name_text};
+ghost use Rattle.base.specs.Name.{is_name_text};
 ghost use Rattle.dn_model.specs.Topology.{all_ends};
 ghost use Rattle.dn_formats.specs.TopologyText.{passes, router_causes, link_causes, edge_causes, link_from, name_in, link_of_table, link_of_entry, name_of_entry, end_of_entry};
 ghost use Rattle.topology.specs.Reading.{first_standing, fault_at, IsRefusalAt};

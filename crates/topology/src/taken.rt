@@ -2,8 +2,10 @@
 
 ghost use Rattle.std.specs.Prelude.{◌≡◌, ◌∷◌, ◌++◌, [], IfOk, OnOk, map};
 ghost use Rattle.std.specs.List.{list_any};
-ghost use Rattle.dn_model.specs.Topology.{same_text, all_ends};
-ghost use Rattle.dn_formats.specs.TopologyText.{has_text, has_end};
+ghost use Rattle.base.specs.Name.{same_text};
+ghost use Rattle.dn_model.specs.Topology.{all_ends};
+ghost use Rattle.dn_formats.specs.TopologyText.{has_text};
+ghost use Rattle.topology.specs.Taken.{has_place};
 
 use dn_model::{OutOfMemory, TopoEnd, TopoLink};
 use std::alloc::Global;
@@ -20,14 +22,13 @@ pub struct TakenEnds {
 impl Model for TakenEnds {
     ghost use Rattle.std.specs.Prelude.{◌≡◌, List};
     ghost use Rattle.dn_model.specs.declared.topology.TopoEnd.{TopoEnd};
-    ghost use Rattle.dn_formats.specs.TopologyText.{has_end};
-    ghost use Rattle.topology.specs.Taken.{contains_end};
+    ghost use Rattle.topology.specs.Taken.{contains_end, has_place};
 
     ghost Value = { List TopoEnd };
 
     ghost view = { λ t. t.ends.items };
 
-    ghost invariant = { λ t. (e : TopoEnd) → contains_end t.found e ≡ has_end t.ends.items e };
+    ghost invariant = { λ t. (e : TopoEnd) → contains_end t.found e ≡ has_place t.ends.items e };
 }
 
 impl TakenEnds {
@@ -43,7 +44,7 @@ impl TakenEnds {
 
     /// Whether this interface is among them.
     pub fn has(&self, end: TopoEnd) -> bool
-        ensures { result ≡ has_end self.now end }
+        ensures { result ≡ has_place self.now end }
     {
         self.found.contains(&(end.router.0, end.index))
     }

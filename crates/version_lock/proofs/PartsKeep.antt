@@ -1,9 +1,9 @@
 -- Each step that parts a seat's view, or puts two together, keeps the rule of a lock.
-use Rattle.std.proofs.Common.{◌≡◌, ◌≢◌, ◌⊎◌, ℕ, zero, suc, ◌+◌, ◌-◌, ◌<◌, ◌≤◌, Bool, true, false, List, [], ◌∷◌, ◌++◌, length, get_or, set, sym, refl, ap, ◌∙◌, subst, ⊎_elim, inl, inr, arith, length-set, Some}
-use Rattle.std.specs.Prelude.{Option, Contains, All, nat_le}
+use Rattle.std.proofs.Common.{◌≡◌, ◌≢◌, ◌⊎◌, ℕ, zero, suc, ◌+◌, ◌<◌, ◌≤◌, true, false, List, [], ◌∷◌, ◌++◌, length, get_or, set, sym, refl, ap, ◌∙◌, subst, ⊎_elim, inl, inr, arith, Some}
+use Rattle.std.specs.Prelude.{Option, Contains, All}
 use Rattle.std.proofs.lemmas.List.Elements.{All-nil, All-cons, All-head, All-tail, Contains-append_left, Contains-append_right, Contains-append_cases}
 use mathlib.Core.Logic.{dite}
-use mathlib.Core.Option.{some, none, some-injective, some-ne-none}
+use mathlib.Core.Option.{some, some-injective, some-ne-none}
 use mathlib.Core.List.{IsPrefix}
 use native.Mathlib.Decide.{dec_le, ℕ_discrete}
 use lib.ListN.{get_elem?}
@@ -17,9 +17,9 @@ use Rattle.version_lock.specs.declared.view.View.{View}
 use Rattle.version_lock.specs.History.{posted_by, HasSameOf}
 use Rattle.version_lock.specs.Rule.{Knows, Kept, Remembers, keeps_lower, has_upper, upper_of, note_of, joined, spent_view, longer, numbers_from, numbers_of, past_of}
 use Rattle.version_lock.specs.Steps.{without_olds}
-use Rattle.version_lock.proofs.Histories.{prefix_self, prefix_shorter, none_before, same_between, longer_begins_left, longer_begins_right, longer_is}
+use Rattle.version_lock.proofs.Histories.{prefix_self, none_before, same_between, longer_begins_left, longer_begins_right, longer_is}
 use Rattle.version_lock.proofs.Keeps.{seats_stay, set_at, stays}
-use Rattle.version_lock.proofs.Numbers.{only_one, first_of, range_of, HasNumberIn, has_all}
+use Rattle.version_lock.proofs.Numbers.{only_one, first_of, range_of, HasNumberIn}
 
 -- ---- who owns a number afterwards
 

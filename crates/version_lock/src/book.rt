@@ -1,7 +1,7 @@
 //! What a version lock keeps: a book, in which entries are posted one after another.
 
 ghost use Rattle.std.specs.Prelude.{◌≡◌, ◌<◌, ◌++◌, ◌∷◌, [], List, length, IfOk, IfErr, OnOk, OnErr};
-ghost use Rattle.dn_model.specs.Entry.{IsEntryOf};
+ghost use Rattle.dn_model.specs.declared.entry.Entry.{Entry as EntryIs};
 ghost use Rattle.dn_model.specs.declared.entry.Posted.{Posted};
 ghost use Rattle.dn_model.specs.declared.topology.Topology.{Topology};
 ghost use Rattle.version_lock.specs.History.{IsRefusedAt};
@@ -37,9 +37,11 @@ pub trait Book: Send + Drop {
 
     ghost shown_topology: { Self.Snap → Topology };
 
+    ghost takes: { Basis → EntryIs → Type 0 };
+
     /// Adds an entry under a seat's number, and answers how many entries there are then.
     fn post(&mut self, seat: u32, entry: &Entry) -> Result<u32, PostRefused>
-        requires { IsEntryOf (basis self.old).topology entry.now }
+        requires { takes (basis self.old) entry.now }
         ensures basis { basis self.new ≡ basis self.old }
         ensures ok { OnOk result (history self.new ≡ history self.old ++ record { seat = seat; entry = entry.now } ∷ []) }
         ensures number { IfOk result (λ n. n ≡ length (history self.new)) }

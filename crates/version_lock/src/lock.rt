@@ -2,7 +2,6 @@
 
 ghost use Rattle.std.specs.Prelude.{◌≡◌, ◌-◌, ◌<◌, ◌++◌, ℕ, [], All, Contains, IfOk, IfErr, OnErr};
 ghost use mathlib.Core.List.{IsPrefix};
-ghost use Rattle.dn_model.specs.Entry.{IsEntryOf};
 ghost use Rattle.version_lock.specs.Callers.{IsSeatOf, IsNoteOf, HasNumber, IsSameSeat, KeepsOwn, Applied, first_seat, note_by, upper_seat, numbers};
 ghost use Rattle.version_lock.specs.History.{IsRefusedAt, HasSameOf, posted_by};
 ghost use Rattle.version_lock.specs.Rule.{longer};
@@ -74,7 +73,7 @@ impl<B: Book> VersionLock<B> {
     /// seen is then that history. After a refusal the seat has seen at least what it had.
     pub fn apply<R: Wait>(&self, rt: &R, seat: &mut Seat, entry: &Entry) -> Result<u32, PostRefused>
         requires lock { IsSeatOf self.now seat.old }
-        requires entry { IsEntryOf self.now.setup.basis.topology entry.now }
+        requires entry { B.takes self.now.setup.basis entry.now }
         ensures same { IsSameSeat seat.old seat.new }
         ensures seen { IsPrefix seat.old.seen seat.new.seen }
         ensures ok { IfOk result (Applied entry.now self.now.setup.basis.limit seat.old seat.new) }

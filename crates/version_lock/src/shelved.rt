@@ -1,7 +1,6 @@
 //! A book on the heap.
 
 ghost use Rattle.std.specs.Prelude.{◌≡◌, ◌<◌, ◌++◌, ◌∷◌, [], length, IfOk, IfErr, OnOk, OnErr};
-ghost use Rattle.dn_model.specs.Entry.{IsEntryOf};
 ghost use Rattle.version_lock.specs.History.{IsRefusedAt};
 
 use crate::book::{Book, PostRefused};
@@ -41,7 +40,7 @@ impl<B: Book> Shelved<B> {
 
     /// Adds an entry under a seat's number, and answers how many entries there are then.
     pub(crate) fn post(&mut self, seat: u32, entry: &Entry) -> Result<u32, PostRefused>
-        requires { IsEntryOf (B.basis self.old).topology entry.now }
+        requires { B.takes (B.basis self.old) entry.now }
         ensures basis { B.basis self.new ≡ B.basis self.old }
         ensures ok { OnOk result (B.history self.new ≡ B.history self.old ++ record { seat = seat; entry = entry.now } ∷ []) }
         ensures number { IfOk result (λ n. n ≡ length (B.history self.new)) }

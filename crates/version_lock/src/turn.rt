@@ -2,7 +2,6 @@
 
 ghost use Rattle.std.specs.Prelude.{◌≡◌, ◌+◌, ◌^◌, ◌<◌, ◌++◌, ◌∷◌, [], true, length, Some, None, IfOk, IfErr, OnOk, OnErr};
 ghost use mathlib.Core.List.{IsPrefix};
-ghost use Rattle.dn_model.specs.Entry.{IsEntryOf};
 ghost use Rattle.dn_model.specs.declared.entry.Entry.{Entry};
 ghost use Rattle.version_lock.specs.History.{HasSameOf, IsRefusedAt};
 ghost use Rattle.version_lock.specs.Rule.{setup_of};
@@ -113,7 +112,7 @@ pub(crate) fn post_in<B: Book>(
     requires basis { B.basis book ≡ (setup_of B.basis board.now.key).basis }
     requires same { B.history book ≡ token.old.me.0.seen }
     requires number { number ≡ token.old.me.0.first }
-    requires entry { IsEntryOf (B.basis book).topology entry.now }
+    requires entry { B.takes (B.basis book) entry.now }
     ensures same { IsSameToken token.old token.new }
     ensures freed { IsFreed token.old token.new }
     ensures seen { IsPrefix token.old.me.0.seen token.new.me.0.seen }

@@ -3,7 +3,8 @@ use Rattle.std.specs.Prelude.{ℕ, ◌≡◌, ◌+◌, ◌*◌, ◌≤◌, max, 
 use Rattle.std.proofs.Common.{arith}
 use Rattle.std.proofs.lemmas.List.Elements.{All-head, All-tail}
 use denote.Param.Weighed.{most}
-use Rattle.version_pages.specs.declared.keyed.Keyed.{Ghosts}
+use Rattle.std.specs.declared.clone.Clone as clone
+use Rattle.base.specs.declared.keyed.Keyed.{Ghosts}
 use Rattle.version_pages.specs.declared.tree.Node.{Node}
 use Rattle.version_pages.specs.declared.tree.Node.TheVariants.{Page, Fork}
 use Rattle.version_pages.specs.declared.tree.Kid.TheDeep.{deep-Node}
@@ -19,6 +20,6 @@ most-under height (k ∷ ks) h =
     omega arith
 
 -- no child is as deep as the node is high
-pub deep_le-height : {T : Type 0} (keyed : Ghosts T) (n : Node T) → IsKept n → max (deep-Node T keyed n) 0 ≤ 2 * (shape_of n).height
-deep_le-height keyed (Page items) h = omega arith
-deep_le-height keyed (Fork kids height ends density) h = let m = most-under height kids.items h.0.under in omega (arith, m)
+pub deep_le-height : {T : Type 0} (keyed : Ghosts T) (cloned : clone.Ghosts T) (n : Node T) → IsKept n → max (deep-Node T keyed cloned n) 0 ≤ 2 * (shape_of n).height
+deep_le-height keyed cloned (Page items) h = omega arith
+deep_le-height keyed cloned (Fork kids height ends density) h = let m = most-under height kids.items h.0.under in omega (arith, m)

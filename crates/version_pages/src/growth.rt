@@ -3,7 +3,7 @@
 ghost use Rattle.std.specs.Prelude.{◌≡◌, ◌<◌, is_ok, if◌then◌else◌};
 ghost use Rattle.version_pages.specs.Growth.{grown, CanGrow};
 
-use dn_model::OutOfMemory;
+use base::OutOfMemory;
 
 /// How a list grows by one element at a place.
 #[derive(Drop)]

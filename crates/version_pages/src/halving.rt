@@ -3,7 +3,7 @@
 ghost use Rattle.std.specs.Prelude.{◌<◌, ◌≤◌};
 ghost use Rattle.version_pages.specs.Search.{EndsBelow};
 
-use crate::keyed::Keyed;
+use base::Keyed;
 
 /// Where to look next in a search that is left with the places from `low` up to, and without, `high`, and that looked
 /// first at `near`: on the other side of what it has looked at there, each time twice as far away, and at most half

@@ -4,11 +4,10 @@
 
 mod growth;
 mod halving;
-mod keyed;
 mod page;
 mod pages;
 mod tree;
 
+pub use base::Keyed;
 pub use halving::count_below_from;
-pub use keyed::Keyed;
 pub use pages::Pages;

@@ -2,7 +2,7 @@
 
 ghost use Rattle.std.specs.Prelude.{◌≡◌, ◌++◌, ◌∷◌, [], OnOk, IfOk};
 
-use dn_model::OutOfMemory;
+use base::OutOfMemory;
 use std::alloc::Global;
 use std::vec::VecCloneMethods;
 

@@ -7,10 +7,9 @@ ghost use Rattle.version_pages.specs.Growth.{grown, CanGrow};
 ghost use Rattle.version_pages.specs.Search.{EndsBelow};
 
 use crate::growth::Growth;
-use crate::keyed::Keyed;
 use crate::page::{page_of_copies, page_of_one};
 use crate::tree::{FULL, Kid, LONG, page_kid};
-use dn_model::OutOfMemory;
+use base::{Keyed, OutOfMemory};
 use std::alloc::Global;
 use std::marker::Model;
 
@@ -122,7 +121,7 @@ impl<T: Keyed> Pages<T> {
     }
 }
 
-impl<T: Keyed + Drop> Pages<T> {
+impl<T: Keyed> Pages<T> {
     /// The same list again, which shares all pages with this one. It fails for want of memory alone.
     pub fn copy(&self) -> Result<Pages<T>, OutOfMemory>
         ensures { IfOk result (λ pages. pages ≡ self.now) }
@@ -136,7 +135,7 @@ impl<T: Keyed + Drop> Pages<T> {
     }
 }
 
-impl<T: Keyed + Clone> Pages<T> {
+impl<T: Keyed> Pages<T> {
     /// Has an element changed in its place. After `OutOfMemory` the list is as before, and the change was not called.
     pub fn change<R, F: FnOnce(&mut T) -> R>(
         &mut self,
@@ -145,7 +144,6 @@ impl<T: Keyed + Clone> Pages<T> {
         change: F,
     ) -> Result<R, OutOfMemory>
         requires inside { i < length self.old }
-        requires clones { (x y : T) → T.is_clone x y → y ≡ x }
         requires callable { F.IsAlwaysCallable change }
         ensures changed { IfOk result (Changes F.FnOnce change self.old self.new i) }
         ensures same { OnErr result (self.new ≡ self.old) }
@@ -165,7 +163,6 @@ impl<T: Keyed + Clone> Pages<T> {
         change: F,
     ) -> Result<R, OutOfMemory>
         requires inside { i < length self.old }
-        requires clones { (x y : T) → T.is_clone x y → y ≡ x }
         requires callable { F.IsAlwaysCallable change }
         ensures changed { IfOk result (ChangesRun F.FnOnce change self.old self.new i) }
         ensures same { OnErr result (self.new ≡ self.old) }
@@ -179,7 +176,6 @@ impl<T: Keyed + Clone> Pages<T> {
     /// Puts another value in the place of an element. After `OutOfMemory` the list is as before.
     pub fn put(&mut self, alloc: Global, i: u64, value: T) -> Result<(), OutOfMemory>
         requires inside { i < length self.old }
-        requires clones { (x y : T) → T.is_clone x y → y ≡ x }
         ensures { self.new ≡ (if is_ok result then set self.old i value else self.old) }
     {
         self.change(alloc, i, |element| *element = value)
@@ -189,7 +185,6 @@ impl<T: Keyed + Clone> Pages<T> {
     fn grow(&mut self, alloc: Global, i: u64, growth: Growth<T>) -> Result<(), OutOfMemory>
         requires inside { CanGrow growth self.old i }
         requires some { 0 < length self.old }
-        requires clones { (x y : T) → T.is_clone x y → y ≡ x }
         ensures { self.new ≡ (if is_ok result then grown growth self.old i else self.old) }
     {
         let Some(root) = &mut self.root else {
@@ -202,7 +197,6 @@ impl<T: Keyed + Clone> Pages<T> {
     /// is as before.
     pub fn insert_at(&mut self, alloc: Global, i: u64, value: T) -> Result<(), OutOfMemory>
         requires inside { i ≤ length self.old }
-        requires clones { (x y : T) → T.is_clone x y → y ≡ x }
         ensures { self.new ≡ (if is_ok result then insert self.old i value else self.old) }
     {
         if self.len() == 0 {
@@ -245,7 +239,6 @@ impl<T: Keyed + Clone> Pages<T> {
     fn graft(&mut self, alloc: Global, page: Vec<T>) -> Result<(), OutOfMemory>
         requires some { 0 < length page.items }
         requires few { length page.items ≤ FULL }
-        requires clones { (x y : T) → T.is_clone x y → y ≡ x }
         ensures items { OnOk result (self.new ≡ self.old ++ page.items) }
         ensures same { OnErr result (self.new ≡ self.old) }
     {
@@ -260,7 +253,6 @@ impl<T: Keyed + Clone> Pages<T> {
     /// Puts one more element at the end, in a new page where the last one is full. After `OutOfMemory` the list is as
     /// before.
     fn push_more(&mut self, alloc: Global, value: T) -> Result<(), OutOfMemory>
-        requires { (x y : T) → T.is_clone x y → y ≡ x }
         ensures { self.new ≡ (if is_ok result then self.old ++ value ∷ [] else self.old) }
     {
         if self.end_room() > 0 {
@@ -273,7 +265,6 @@ impl<T: Keyed + Clone> Pages<T> {
 
     /// Puts one more element at the end. After `OutOfMemory` the list is as before.
     pub fn push(&mut self, alloc: Global, value: T) -> Result<(), OutOfMemory>
-        requires { (x y : T) → T.is_clone x y → y ≡ x }
         ensures { self.new ≡ (if is_ok result then self.old ++ value ∷ [] else self.old) }
     {
         match self.push_alone(value) {
@@ -291,7 +282,6 @@ impl<T: Keyed + Clone> Pages<T> {
         upper: T,
     ) -> Result<(), OutOfMemory>
         requires inside { i < length self.old }
-        requires clones { (x y : T) → T.is_clone x y → y ≡ x }
         ensures { self.new ≡ (if is_ok result then set (insert self.old (i + 1) upper) i lower else self.old) }
     {
         return self.grow(alloc, i, Growth::Parts(lower, upper));
@@ -299,7 +289,6 @@ impl<T: Keyed + Clone> Pages<T> {
 
     /// The list of the elements of a `Vec`.
     pub fn from_vec(alloc: Global, items: Vec<T>) -> Result<Pages<T>, OutOfMemory>
-        requires { (x y : T) → T.is_clone x y → y ≡ x }
         ensures { IfOk result (λ pages. pages ≡ items.items) }
     {
         let mut pages = Pages::new();
@@ -329,7 +318,6 @@ impl<T: Keyed + Copy> Pages<T> {
     /// else holds it. It answers how many. After `OutOfMemory` the list is as before.
     fn fill_end(&mut self, alloc: Global, items: &[T]) -> Result<usize, OutOfMemory>
         requires some { 0 < length items.now }
-        requires clones { (x y : T) → T.is_clone x y → y ≡ x }
         ensures some { IfOk result (λ count. 0 < count) }
         ensures within { IfOk result (λ count. count ≤ length items.now) }
         ensures items { IfOk result (λ count. self.new ≡ self.old ++ take count items.now) }
@@ -348,7 +336,6 @@ impl<T: Keyed + Copy> Pages<T> {
     /// `OutOfMemory` the list is as before.
     fn add_page(&mut self, alloc: Global, items: &[T]) -> Result<usize, OutOfMemory>
         requires some { 0 < length items.now }
-        requires clones { (x y : T) → T.is_clone x y → y ≡ x }
         ensures some { IfOk result (λ count. 0 < count) }
         ensures within { IfOk result (λ count. count ≤ length items.now) }
         ensures items { IfOk result (λ count. self.new ≡ self.old ++ take count items.now) }
@@ -364,7 +351,6 @@ impl<T: Keyed + Copy> Pages<T> {
     /// `OutOfMemory` the list is as before.
     fn add_pages(&mut self, alloc: Global, items: &[T]) -> Result<usize, OutOfMemory>
         requires some { 0 < length items.now }
-        requires clones { (x y : T) → T.is_clone x y → y ≡ x }
         ensures some { IfOk result (λ count. 0 < count) }
         ensures within { IfOk result (λ count. count ≤ length items.now) }
         ensures items { IfOk result (λ count. self.new ≡ self.old ++ take count items.now) }
@@ -380,7 +366,6 @@ impl<T: Keyed + Copy> Pages<T> {
     /// least. After `OutOfMemory` the list is as before.
     fn extend_some(&mut self, alloc: Global, items: &[T]) -> Result<usize, OutOfMemory>
         requires some { 0 < length items.now }
-        requires clones { (x y : T) → T.is_clone x y → y ≡ x }
         ensures some { IfOk result (λ count. 0 < count) }
         ensures within { IfOk result (λ count. count ≤ length items.now) }
         ensures items { IfOk result (λ count. self.new ≡ self.old ++ take count items.now) }
@@ -395,7 +380,6 @@ impl<T: Keyed + Copy> Pages<T> {
     /// Puts some elements at the end: first as many as the last page has room for, and then pages of them. After
     /// `OutOfMemory` the first of them may be there.
     pub fn extend(&mut self, alloc: Global, items: &[T]) -> Result<(), OutOfMemory>
-        requires { (x y : T) → T.is_clone x y → y ≡ x }
         ensures all { OnOk result (self.new ≡ self.old ++ items.now) }
         ensures front { IsExtended self.old self.new items.now }
     {
@@ -411,7 +395,6 @@ impl<T: Keyed + Copy> Pages<T> {
     fn insert_some(&mut self, alloc: Global, i: u64, items: &[T]) -> Result<usize, OutOfMemory>
         requires some { 0 < length items.now }
         requires inside { i < length self.old }
-        requires clones { (x y : T) → T.is_clone x y → y ≡ x }
         ensures some { IfOk result (λ count. 0 < count) }
         ensures within { IfOk result (λ count. count ≤ length items.now) }
         ensures items { IfOk result (λ count. self.new ≡ take i self.old ++ take count items.now ++ drop i self.old) }
@@ -426,7 +409,6 @@ impl<T: Keyed + Copy> Pages<T> {
     /// Puts some elements before the one that stands at a place now, page by page.
     fn insert_inside(&mut self, alloc: Global, i: u64, items: &[T]) -> Result<(), OutOfMemory>
         requires inside { i < length self.old }
-        requires clones { (x y : T) → T.is_clone x y → y ≡ x }
         ensures all { OnOk result (self.new ≡ take i self.old ++ items.now ++ drop i self.old) }
         ensures front { IsInserted self.old self.new items.now i }
     {
@@ -444,7 +426,6 @@ impl<T: Keyed + Copy> Pages<T> {
     /// may be there.
     pub fn insert_all(&mut self, alloc: Global, i: u64, items: &[T]) -> Result<(), OutOfMemory>
         requires inside { i ≤ length self.old }
-        requires clones { (x y : T) → T.is_clone x y → y ≡ x }
         ensures all { OnOk result (self.new ≡ take i self.old ++ items.now ++ drop i self.old) }
         ensures front { IsInserted self.old self.new items.now i }
     {

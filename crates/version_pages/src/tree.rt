@@ -17,7 +17,7 @@ mod parts;
 mod search;
 mod split;
 
-use crate::keyed::Keyed;
+use base::Keyed;
 pub use parts::page_kid;
 use std::alloc::Global;
 use std::marker::Model;
@@ -85,7 +85,7 @@ impl<T: Keyed> Model for Tree<T> {
 
     ghost use Rattle.version_pages.specs.Falls.{deep_le-height};
 
-    ghost size_decreases = { λ t h. deep_le-height (record { key_of = T.key_of }) t.node h };
+    ghost size_decreases = { λ t h. deep_le-height (record { key_of = T.key_of }) (record { is_clone = T.is_clone; is_infallible = T.is_infallible }) t.node h };
 }
 
 impl<T: Keyed> Model for Kid<T> {

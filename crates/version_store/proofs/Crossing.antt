@@ -23,10 +23,10 @@ Delta-sync : IsSync Delta.the_row
 Delta-sync = search (sendable, crosses) depth 40
 
 Posted-send : IsSend Posted.the_row
-Posted-send = search (sendable, crosses) depth 40
+Posted-send = search (sendable, crosses) depth 60 fits 100000
 
 Posted-sync : IsSync Posted.the_row
-Posted-sync = search (sendable, crosses) depth 40
+Posted-sync = search (sendable, crosses) depth 60 fits 100000
 
 pub Snapshot-send : IsSend Snapshot.the_row
 Snapshot-send = search (Version-send, KeptLoops-send, Topology-send, Topology-sync, Delta-send, Delta-sync, Posted-send, Posted-sync, sendable, crosses, knot.crosses) depth 40

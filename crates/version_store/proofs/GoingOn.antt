@@ -1,16 +1,16 @@
 -- A version goes on with a history.
-use Rattle.std.proofs.Common.{◌≡◌, ℕ, ◌<◌, ◌≤◌, ◌+◌, ◌∷◌, ◌++◌, [], List, Option, Some, length, get_or, drop, min, take, ap, sym, ◌∙◌, subst, arith}
+use Rattle.std.proofs.Common.{◌≡◌, ℕ, ◌<◌, ◌≤◌, ◌+◌, ◌∷◌, ◌++◌, [], List, Option, Some, length, drop, min, take, ap, sym, ◌∙◌, subst, arith}
 use Rattle.std.proofs.Math.Seq.{take-append-add}
 use Rattle.std.proofs.lemmas.List.{length-append, length-take, map-append, take-append-drop}
 use Rattle.std.proofs.lemmas.List.Elements.{All-push}
-use Rattle.dn_model.specs.Delta.{IsDeltaOf}
-use Rattle.dn_model.specs.Entry.{IsEntryOf, entries}
-use Rattle.dn_model.specs.Version.{Kept, KeptStandsFor}
-use Rattle.dn_model.specs.declared.change.Change.{Change}
+use Rattle.dn_model.specs.LastDelta.{IsDeltaOf}
+use Rattle.dn_model.specs.Entry.{entries}
+use Rattle.net_engine.specs.Version.{Kept, KeptStandsFor}
+use Rattle.base.specs.declared.change.Change.{Change}
 use Rattle.dn_model.specs.declared.entry.Entry.{Entry}
 use Rattle.dn_model.specs.declared.entry.Posted.{Posted}
 use Rattle.dn_model.specs.declared.topology.Topology.{Topology}
-use Rattle.version_store.specs.Kept.{IsKeptOf, IsStandingOf, IsVersionOf}
+use Rattle.version_store.specs.Kept.{IsKeptOf, IsStandingOf, IsTaken, IsVersionOf}
 use Rattle.version_store.specs.declared.standing.Standing.{Standing}
 
 -- the entries of a history with one more
@@ -29,15 +29,15 @@ delta-more t es e old changes is on =
     subst P is.topology (on es is.stands)
 
 -- an entry of the network is one of the version's network
-pub entry-of : (t : Topology) (es : List Entry) (old : Kept) (e : Entry) → IsVersionOf t es old → IsEntryOf t e → IsEntryOf old.topology e
-entry-of t es old e is own = let P : Topology → Type 0 = λ s. IsEntryOf s e in subst P (sym is.topology) own
+pub entry-of : (t : Topology) (es : List Entry) (old : Kept) (e : Entry) → IsVersionOf t es old → IsTaken t e → IsTaken old.topology e
+entry-of t es old e is own = let P : Topology → Type 0 = λ s. IsTaken s e in subst P (sym is.topology) own
 
 -- what a store keeps goes on by an entry
-pub kept-more : (t : Topology) (limit : ℕ) (h : List Posted) (p : Posted) (old : Option Standing) (standing : Standing) (before changes : List Change) → IsKeptOf t limit h old before → length h < limit → IsEntryOf t p.entry →
+pub kept-more : (t : Topology) (limit : ℕ) (h : List Posted) (p : Posted) (old : Option Standing) (standing : Standing) (before changes : List Change) → IsKeptOf t limit h old before → length h < limit → IsTaken t p.entry →
     IsStandingOf t (entries h ++ p.entry ∷ []) standing → IsDeltaOf t (entries h ++ p.entry ∷ []) changes → IsKeptOf t limit (h ++ p ∷ []) (Some standing) changes
 kept-more t limit h p old standing before changes kept room own stands delta = record {
   few = omega (arith, length-append h (p ∷ []));
-  own = All-push (λ (q : Posted). IsEntryOf t q.entry) h p kept.own own;
+  own = All-push (λ (q : Posted). IsTaken t q.entry) h p kept.own own;
   stands = subst (λ (es : List Entry). IsStandingOf t es standing) (sym (entries-more h p)) stands;
   delta = subst (λ (es : List Entry). IsDeltaOf t es changes) (sym (entries-more h p)) delta;
 }

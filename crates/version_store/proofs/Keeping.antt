@@ -5,25 +5,28 @@ use Rattle.std.specs.List.{list_all}
 use Rattle.std.proofs.lemmas.Bool.{and_right, both_ways}
 use Rattle.std.proofs.lemmas.List.{length-append, take_at, take_more}
 use Rattle.dn_model.specs.Answer.{IsAnswer, IsAnswerTo, links_of}
-use Rattle.dn_model.specs.Cycles.{AreCycles, go_round, goes_round}
-use Rattle.dn_model.specs.Delta.{IsDelta, IsDeltaOf, less_last}
+use Rattle.base.specs.Cycles.{AreCycles, go_round, goes_round}
+use Rattle.base.specs.Delta.{IsDelta}
+use Rattle.dn_model.specs.LastDelta.{IsDeltaOf, less_last}
 use Rattle.dn_model.specs.Entry.{entries}
-use Rattle.dn_model.specs.Forwarding.{StandsFor, does}
+use Rattle.dn_model.specs.Standing.{StandsFor}
+use Rattle.base.specs.Forwarding.{does}
 use Rattle.dn_model.specs.Query.{Question}
-use Rattle.dn_model.specs.Reach.{is_router}
+use Rattle.base.specs.Reach.{is_router}
 use Rattle.dn_model.specs.Table.{does_after}
-use Rattle.dn_model.specs.Topology.{all_differ}
-use Rattle.dn_model.specs.Version.{Kept, KeptStandsFor, forwarding_of}
-use Rattle.dn_model.specs.Walk.{at_address, next}
+use Rattle.base.specs.Lists.{all_differ}
+use Rattle.net_engine.specs.Version.{Kept, KeptStandsFor, forwarding_of}
+use Rattle.base.specs.Walk.{at_address}
+use Rattle.dn_model.specs.Next.{next}
 use Rattle.dn_model.specs.declared.answer.Answer.TheVariants as answers
-use Rattle.dn_model.specs.declared.answer.Cycle.{Cycle}
-use Rattle.dn_model.specs.declared.change.Change.{Change}
+use Rattle.base.specs.declared.cycle.Cycle.{Cycle}
+use Rattle.base.specs.declared.change.Change.{Change}
 use Rattle.dn_model.specs.declared.entry.Entry.{Entry}
 use Rattle.dn_model.specs.declared.entry.Posted.{Posted}
-use Rattle.dn_model.specs.declared.ids.RouterId.{RouterId}
+use Rattle.base.specs.declared.ids.RouterId.{RouterId}
 use Rattle.dn_model.specs.declared.query.Ask.{Ask}
 use Rattle.dn_model.specs.declared.query.Ask.TheVariants.{Loops}
-use Rattle.dn_model.specs.declared.target.Target.{Target}
+use Rattle.base.specs.declared.target.Target.{Target}
 use Rattle.dn_model.specs.declared.topology.Topology.{Topology}
 use Rattle.loop_keeper.specs.Kept.{AreKept, IsLoopFree}
 use Rattle.loop_keeper.specs.Kept.{Kept as KeptCycle}
@@ -56,17 +59,17 @@ last-gone h e =
     ap (λ (n : ℕ). take n (h ++ e ∷ [])) long ∙ take_at h (e ∷ []) (length h) refl
 
 -- the rows of a version show what the routers do after its history
-rows-show : (t : Topology) (h : List Entry) (version : Kept) → IsVersionOf t h version → (r : RouterId) (a : ℕ) → a < 2 ^ 32 → does (forwarding_of version.atoms) r a ≡ does_after t h r a
+rows-show : (t : Topology) (h : List Entry) (version : Kept) → IsVersionOf t h version → (r : RouterId) (a : ℕ) → a < 2 ^ 32 → does (forwarding_of version) r a ≡ does_after t h r a
 rows-show t h version is r a b = is.stands.rows.exact r a b ∙ ap (λ (s : Topology). does_after s h r a) is.topology
 
 -- loops are kept through an update to a version
 pub loops-more : (t : Topology) (h : List Entry) (e : Entry) (version : Kept) (changes : List Change) (old new : List KeptCycle) →
     AreKept (does_after t h) old → IsVersionOf t (h ++ e ∷ []) version → IsDeltaOf t (h ++ e ∷ []) changes →
-    ((before : RouterId → ℕ → Target) → AreKept before old → IsDelta before (does (forwarding_of version.atoms)) changes → AreKept (does (forwarding_of version.atoms)) new) →
+    ((before : RouterId → ℕ → Target) → AreKept before old → IsDelta before (does (forwarding_of version)) changes → AreKept (does (forwarding_of version)) new) →
     AreKept (does_after t (h ++ e ∷ [])) new
 loops-more t h e version changes old new kept is delta on =
     let after : RouterId → ℕ → Target = does_after t (h ++ e ∷ []) in
-    let shown : RouterId → ℕ → Target = does (forwarding_of version.atoms) in
+    let shown : RouterId → ℕ → Target = does (forwarding_of version) in
     let P : List Entry → Type 0 = λ es. IsDelta (does_after t es) after changes in
     let told : IsDelta (does_after t h) shown changes = delta-alike (does_after t h) after shown changes (λ r a b. sym (rows-show t (h ++ e ∷ []) version is r a b)) (subst P (last-gone h e) delta) in
     kept-alike shown after new (rows-show t (h ++ e ∷ []) version is) (on (does_after t h) kept told)
@@ -75,7 +78,7 @@ loops-more t h e version changes old new kept is delta on =
 pub standing-more : (t : Topology) (h : List Entry) (e : Entry) (old new : Standing) (changes : List Change) → IsStandingOf t h old → new.version.topology ≡ old.version.topology →
     ((es : List Entry) → KeptStandsFor old.version es → KeptStandsFor new.version (es ++ e ∷ [])) →
     ((es : List Entry) → KeptStandsFor old.version es → IsDeltaOf old.version.topology (es ++ e ∷ []) changes) →
-    ((before : RouterId → ℕ → Target) → AreKept before old.loops → IsDelta before (does (forwarding_of new.version.atoms)) changes → AreKept (does (forwarding_of new.version.atoms)) new.loops) →
+    ((before : RouterId → ℕ → Target) → AreKept before old.loops → IsDelta before (does (forwarding_of new.version)) changes → AreKept (does (forwarding_of new.version)) new.loops) →
     IsStandingOf t (h ++ e ∷ []) new
 standing-more t h e old new changes is same stands delta on =
     let version : IsVersionOf t (h ++ e ∷ []) new.version = version-more t h e old.version new.version is.version same stands in
@@ -96,9 +99,9 @@ standing-read t h i p old new inside is stands on =
 -- ---- the answer
 
 -- the rows of what stands after a history stand for it
-pub rows-stand : (t : Topology) (h : List Entry) (standing : Standing) → IsStandingOf t h standing → StandsFor t (forwarding_of standing.version.atoms) h
+pub rows-stand : (t : Topology) (h : List Entry) (standing : Standing) → IsStandingOf t h standing → StandsFor t (forwarding_of standing.version) h
 rows-stand t h standing is =
-    let P : Topology → Type 0 = λ s. StandsFor s (forwarding_of standing.version.atoms) h in
+    let P : Topology → Type 0 = λ s. StandsFor s (forwarding_of standing.version) h in
     subst P is.version.topology is.version.stands.rows
 
 -- kept loops tell the loops after a history

@@ -1,24 +1,23 @@
 -- How many rows a version has: each begins at 0 or at an end of a prefix that was set, and no two begin alike.
-use Rattle.std.proofs.Common.{◌≡◌, ℕ, ◌+◌, ◌*◌, ◌<◌, ◌≤◌, ◌^◌, ◌∙◌, ◌==◌, ◌||◌, ⊎_elim, Bool, true, false, cond, List, [], ◌∷◌, length, refl, ap, sym, subst, arith}
+use Rattle.std.proofs.Common.{◌≡◌, ℕ, ◌+◌, ◌*◌, ◌<◌, ◌≤◌, ◌^◌, ◌∙◌, ◌==◌, ◌||◌, ⊎_elim, Bool, true, false, cond, Option, None, Some, List, [], ◌∷◌, length, map, refl, ap, sym, subst, arith}
 use Rattle.std.specs.List.{cons_option, filter_map, list_any}
 use Rattle.std.proofs.lemmas.Bool.{and_parts, both_ways, cases_Bool, cond-false, cond-true, eq-eqb, eqb-true, or_left, or_right}
-use Rattle.dn_model.specs.Cidr.{Cidr, size}
-use Rattle.dn_model.specs.Entry.{is_end_of, op_sets_end, sets_end}
-use Rattle.dn_model.specs.Forwarding.{row_low, row_past}
-use Rattle.dn_model.specs.Rows.{CoverFrom}
-use Rattle.dn_model.specs.Version.{Atom, Kept, KeptStandsFor, begins_at, forwarding_of}
+use Rattle.base.specs.Cidr.{Cidr, size}
+use Rattle.dn_model.specs.Entry.{ends_of_set, is_bound_of, is_end_of_some, prefix_set}
+use Rattle.base.specs.Forwarding.{row_low, row_past}
+use Rattle.base.specs.Rows.{CoverFrom}
+use Rattle.net_engine.specs.Version.{Atom, Kept, KeptStandsFor, begins_at, forwarding_of, row_without}
 use Rattle.dn_model.specs.declared.entry.Entry.{Entry}
-use Rattle.dn_model.specs.declared.entry.Op.{Op}
-use Rattle.dn_model.specs.declared.entry.Op.TheVariants.{Set, Clear}
+use Rattle.dn_model.specs.declared.entry.Entry.TheVariants.{Route, Link}
 use Rattle.dn_model.specs.declared.query.Ask.{Ask}
 use Rattle.dn_model.specs.declared.topology.Topology.{Topology}
-use Rattle.dn_model.specs.declared.forwarding_row.ForwardingRow.{ForwardingRow}
-use Rattle.dn_model.proofs.Covers.{starts-below}
+use Rattle.base.specs.declared.forwarding_row.ForwardingRow.{ForwardingRow}
+use Rattle.base.proofs.Covers.{starts-below}
 use Rattle.row_answers.specs.Looks.{most_looks}
 use Rattle.row_answers.proofs.Looking.{looks_all, looks_more}
 use Rattle.version_store.specs.Kept.{IsStandingOf}
 use Rattle.version_store.specs.declared.standing.Standing.{Standing}
-use Rattle.version_store.specs.Prefixes.{each_once, most_rows, prefixes_set, same_prefix, set_by, set_prefix}
+use Rattle.version_store.specs.Prefixes.{each_once, most_rows, prefixes_set, same_prefix, set_prefix}
 
 -- ---- counts of rows by where they begin
 
@@ -101,9 +100,9 @@ zero-only : IsOfOne (λ a. a == 0)
 zero-only = λ a b x y. let e : a ≡ 0 = eqb-true a 0 x in let f : b ≡ 0 = eqb-true b 0 y in e ∙ sym f
 
 -- at the ends of one prefix at most two begin
-ends-of-one : (p : Cidr) (rows : List ForwardingRow) → CoverFrom row_low row_past 0 rows → begin_where (is_end_of p) rows ≤ 2
+ends-of-one : (p : Cidr) (rows : List ForwardingRow) → CoverFrom row_low row_past 0 rows → begin_where (is_bound_of p) rows ≤ 2
 ends-of-one p rows cover =
-    let both : begin_where (is_end_of p) rows ≤ begin_where (λ a. p.base == a) rows + begin_where (λ a. (p.base + size p) == a) rows = where-or (λ a. p.base == a) (λ a. (p.base + size p) == a) rows in
+    let both : begin_where (is_bound_of p) rows ≤ begin_where (λ a. p.base == a) rows + begin_where (λ a. (p.base + size p) == a) rows = where-or (λ a. p.base == a) (λ a. (p.base + size p) == a) rows in
     let low : begin_where (λ a. p.base == a) rows ≤ 1 = one-begins (λ a. p.base == a) 0 rows (first-only p.base) cover in
     let high : begin_where (λ a. (p.base + size p) == a) rows ≤ 1 = one-begins (λ a. (p.base + size p) == a) 0 rows (first-only (p.base + size p)) cover in
     omega arith
@@ -119,21 +118,21 @@ prefix-is p q same =
 
 -- whether an address is an end of one of these prefixes
 abbrev is_end : List Cidr → ℕ → Bool
-is_end ps a = list_any (λ p. is_end_of p a) ps
+is_end ps a = list_any (λ p. is_bound_of p a) ps
 
 -- an end of a prefix is one of a list that has the prefix
-end-again : (p : Cidr) (ps : List Cidr) (a : ℕ) → list_any (same_prefix p) ps ≡ true → is_end_of p a ≡ true → is_end ps a ≡ true
+end-again : (p : Cidr) (ps : List Cidr) (a : ℕ) → list_any (same_prefix p) ps ≡ true → is_bound_of p a ≡ true → is_end ps a ≡ true
 end-again p [] a there is = absurd (both_ways false refl there)
 end-again p (q ∷ qs) a there is = ⊎_elim
-    (λ (same : same_prefix p q ≡ true). or_left (is_end_of q a) (is_end qs a) (subst (λ (c : Cidr). is_end_of c a ≡ true) (prefix-is p q same) is))
-    (λ (other : same_prefix p q ≡ false). or_right (is_end_of q a) (is_end qs a) (end-again p qs a (sym (ap (λ b. b || list_any (same_prefix p) qs) other) ∙ there) is))
+    (λ (same : same_prefix p q ≡ true). or_left (is_bound_of q a) (is_end qs a) (subst (λ (c : Cidr). is_bound_of c a ≡ true) (prefix-is p q same) is))
+    (λ (other : same_prefix p q ≡ false). or_right (is_bound_of q a) (is_end qs a) (end-again p qs a (sym (ap (λ b. b || list_any (same_prefix p) qs) other) ∙ there) is))
     (cases_Bool (same_prefix p q))
 
 end-either : (p : Cidr) (ps : List Cidr) (a : ℕ) → list_any (same_prefix p) ps ≡ true → is_end (p ∷ ps) a ≡ true → is_end ps a ≡ true
 end-either p ps a there is = ⊎_elim
-    (λ (t : is_end_of p a ≡ true). end-again p ps a there t)
-    (λ (f : is_end_of p a ≡ false). sym (ap (λ b. b || is_end ps a) f) ∙ is)
-    (cases_Bool (is_end_of p a))
+    (λ (t : is_bound_of p a ≡ true). end-again p ps a there t)
+    (λ (f : is_bound_of p a ≡ false). sym (ap (λ b. b || is_end ps a) f) ∙ is)
+    (cases_Bool (is_bound_of p a))
 
 -- at the ends of prefixes begin at most two rows for each different one
 ends-of-all : (ps : List Cidr) (rows : List ForwardingRow) → CoverFrom row_low row_past 0 rows → begin_where (is_end ps) rows ≤ 2 * length (each_once ps)
@@ -149,20 +148,21 @@ ends-of-all (p ∷ ps) rows cover =
     (λ (none : list_any (same_prefix p) ps ≡ false).
     let more : each_once (p ∷ ps) ≡ p ∷ each_once ps = cond-false (list_any (same_prefix p) ps) (each_once ps) (p ∷ each_once ps) none in
     let long : length (each_once (p ∷ ps)) ≡ length (p ∷ each_once ps) = ap (λ (qs : List Cidr). length qs) more in
-    let both : begin_where (is_end (p ∷ ps)) rows ≤ begin_where (is_end_of p) rows + begin_where (is_end ps) rows = where-or (is_end_of p) (is_end ps) rows in
-    let two : begin_where (is_end_of p) rows ≤ 2 = ends-of-one p rows cover in
+    let both : begin_where (is_end (p ∷ ps)) rows ≤ begin_where (is_bound_of p) rows + begin_where (is_end ps) rows = where-or (is_bound_of p) (is_end ps) rows in
+    let two : begin_where (is_bound_of p) rows ≤ 2 = ends-of-one p rows cover in
     omega arith)
     (cases_Bool (list_any (same_prefix p) ps))
 
 -- ---- what a history set
 
-set-first : (op : Op) (ps : List Cidr) (rest : Bool) (a : ℕ) → rest ≡ is_end ps a → (op_sets_end a op || rest) ≡ is_end (cons_option (set_by op) ps) a
-set-first (Set p m t) ps rest a e = ap (λ b. is_end_of p a || b) e
-set-first (Clear p m) ps rest a e = e
+set-first : (o : Option Cidr) (ps : List Cidr) (rest : Bool) (a : ℕ) → rest ≡ is_end ps a → (is_end_of_some o a || rest) ≡ is_end (cons_option o ps) a
+set-first None ps rest a e = e
+set-first (Some p) ps rest a e = ap (λ b. is_bound_of p a || b) e
 
-ends-set : (history : List Entry) (a : ℕ) → list_any (sets_end a) history ≡ is_end (filter_map set_prefix history) a
+ends-set : (history : List Entry) (a : ℕ) → list_any (ends_of_set a) history ≡ is_end (filter_map set_prefix history) a
 ends-set [] a = refl
-ends-set (e ∷ history) a = set-first e.op (filter_map set_prefix history) (list_any (sets_end a) history) a (ends-set history a)
+ends-set (Route r n op ∷ history) a = set-first (prefix_set op) (filter_map set_prefix history) (list_any (ends_of_set a) history) a (ends-set history a)
+ends-set (Link j l down ∷ history) a = ends-set history a
 
 -- ---- each row begins at a boundary
 
@@ -177,18 +177,21 @@ all-pass test start (row ∷ rows) cover h =
     let rest : length rows ≤ begin_where test rows = all-pass test row.past rows cover.2 (λ a b i. h a b (or_right (row.low == a) _ i)) in
     omega arith
 
-begin-atoms : (atoms : List Atom) (a : ℕ) → list_any (λ (row : ForwardingRow). row.low == a) (forwarding_of atoms) ≡ begins_at atoms a
-begin-atoms [] a = refl
-begin-atoms (x ∷ atoms) a = ap (λ b. (x.row.low == a) || b) (begin-atoms atoms a)
+begin-atoms : (kept : Kept) (a : ℕ) → list_any (λ (row : ForwardingRow). row.low == a) (forwarding_of kept) ≡ begins_at kept.atoms a
+begin-atoms kept a = by kept.atoms
+  where
+    by : (atoms : List Atom) → list_any (λ (row : ForwardingRow). row.low == a) (map (λ (x : Atom). row_without kept.down x.row) atoms) ≡ begins_at atoms a
+    by [] = refl
+    by (x ∷ atoms) = ap (λ b. (x.row.low == a) || b) (by atoms)
 
 -- a version that stands for a history has at most two rows for each prefix that was set, and one more
-pub rows_few : (kept : Kept) (history : List Entry) → KeptStandsFor kept history → length (forwarding_of kept.atoms) ≤ most_rows history
+pub rows_few : (kept : Kept) (history : List Entry) → KeptStandsFor kept history → length (forwarding_of kept) ≤ most_rows history
 rows_few kept history stands =
-    let rows = forwarding_of kept.atoms in
+    let rows = forwarding_of kept in
     let cover : CoverFrom row_low row_past 0 rows = stands.rows.form.cover in
     let ps = filter_map set_prefix history in
     let pass : (a : ℕ) → a < 2 ^ 32 → list_any (λ (row : ForwardingRow). row.low == a) rows ≡ true → ((a == 0) || is_end ps a) ≡ true =
-    λ a b i. sym (ap (λ t. (a == 0) || t) (ends-set history a)) ∙ sym (stands.boundaries a b) ∙ sym (begin-atoms kept.atoms a) ∙ i in
+    λ a b i. sym (ap (λ t. (a == 0) || t) (ends-set history a)) ∙ sym (stands.boundaries a b) ∙ sym (begin-atoms kept a) ∙ i in
     let all : length rows ≤ begin_where (λ a. (a == 0) || is_end ps a) rows = all-pass (λ a. (a == 0) || is_end ps a) 0 rows cover pass in
     let both : begin_where (λ a. (a == 0) || is_end ps a) rows ≤ begin_where (λ a. a == 0) rows + begin_where (is_end ps) rows = where-or (λ a. a == 0) (is_end ps) rows in
     let first : begin_where (λ a. a == 0) rows ≤ 1 = one-begins (λ a. a == 0) 0 rows zero-only cover in
@@ -253,25 +256,25 @@ rows-less from to (x ∷ xs) (y ∷ ys) cover other h =
     omega arith)
     (cases_Bool (y.low == x.low))
 
-rows-within : (kept other : Kept) (history : List Entry) → KeptStandsFor kept history → KeptStandsFor other history → length (forwarding_of kept.atoms) ≤ length (forwarding_of other.atoms)
-rows-within kept other history stands also = rows-less 0 0 (forwarding_of kept.atoms) (forwarding_of other.atoms) stands.rows.form.cover also.rows.form.cover
-    (λ a is. let b : a < 2 ^ 32 = begins-below 0 a (forwarding_of kept.atoms) stands.rows.form.cover is in
-    begin-atoms other.atoms a ∙ also.boundaries a b ∙ sym (stands.boundaries a b) ∙ sym (begin-atoms kept.atoms a) ∙ is)
+rows-within : (kept other : Kept) (history : List Entry) → KeptStandsFor kept history → KeptStandsFor other history → length (forwarding_of kept) ≤ length (forwarding_of other)
+rows-within kept other history stands also = rows-less 0 0 (forwarding_of kept) (forwarding_of other) stands.rows.form.cover also.rows.form.cover
+    (λ a is. let b : a < 2 ^ 32 = begins-below 0 a (forwarding_of kept) stands.rows.form.cover is in
+    begin-atoms other a ∙ also.boundaries a b ∙ sym (stands.boundaries a b) ∙ sym (begin-atoms kept a) ∙ is)
 
 -- two versions that stand for a history have as many rows
-pub rows_same : (kept other : Kept) (history : List Entry) → KeptStandsFor kept history → KeptStandsFor other history → length (forwarding_of kept.atoms) ≡ length (forwarding_of other.atoms)
+pub rows_same : (kept other : Kept) (history : List Entry) → KeptStandsFor kept history → KeptStandsFor other history → length (forwarding_of kept) ≡ length (forwarding_of other)
 rows_same kept other history stands also =
-    let less : length (forwarding_of kept.atoms) ≤ length (forwarding_of other.atoms) = rows-within kept other history stands also in
-    let more : length (forwarding_of other.atoms) ≤ length (forwarding_of kept.atoms) = rows-within other kept history also stands in
+    let less : length (forwarding_of kept) ≤ length (forwarding_of other) = rows-within kept other history stands also in
+    let more : length (forwarding_of other) ≤ length (forwarding_of kept) = rows-within other kept history also stands in
     omega arith
 
 -- ---- looks at what stands after a history
 
 pub looks_few : (t : Topology) (history : List Entry) (standing : Standing) (ask : Ask) (first now : ℕ) → IsStandingOf t history standing →
-    now ≤ first + most_looks ask (length (forwarding_of standing.version.atoms)) (length standing.version.topology.routers) → now ≤ first + most_looks ask (most_rows history) (length t.routers)
+    now ≤ first + most_looks ask (length (forwarding_of standing.version)) (length standing.version.topology.routers) → now ≤ first + most_looks ask (most_rows history) (length t.routers)
 looks_few t history standing ask first now is looks =
-    let few : most_looks ask (length (forwarding_of standing.version.atoms)) (length standing.version.topology.routers) ≤ most_looks ask (most_rows history) (length standing.version.topology.routers) =
-    looks_more ask (length (forwarding_of standing.version.atoms)) (most_rows history) (length standing.version.topology.routers) (rows_few standing.version history is.version.stands) in
+    let few : most_looks ask (length (forwarding_of standing.version)) (length standing.version.topology.routers) ≤ most_looks ask (most_rows history) (length standing.version.topology.routers) =
+    looks_more ask (length (forwarding_of standing.version)) (most_rows history) (length standing.version.topology.routers) (rows_few standing.version history is.version.stands) in
     let P : Topology → Type 0 = λ s. now ≤ first + most_looks ask (most_rows history) (length s.routers) in
     let here : now ≤ first + most_looks ask (most_rows history) (length standing.version.topology.routers) = omega arith in
     subst P is.version.topology here

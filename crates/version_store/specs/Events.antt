@@ -1,19 +1,18 @@
 -- Events of a network's history: an entry is posted, or the history so far is pinned.
 use Rattle.std.specs.Prelude.{ℕ, List, [], ◌∷◌, ◌++◌, Option, None, Some, ◌≡◌}
 use Rattle.std.specs.List.{filter_map}
-use Rattle.dn_model.specs.Entry.{IsEntryOf}
 use Rattle.dn_model.specs.declared.entry.Posted.{Posted}
 use Rattle.dn_model.specs.declared.topology.Topology.{Topology}
 use Rattle.version_lock.specs.History.{IsRefusedAt}
 use Rattle.version_lock.specs.declared.book.PostRefused.{PostRefused}
 use Rattle.version_lock.specs.declared.book.PostRefused.TheVariants as refusals
-use Rattle.version_store.specs.Kept.{Ledger, Past, more, past_of}
+use Rattle.version_store.specs.Kept.{IsTaken, Ledger, Past, more, past_of}
 use Rattle.version_store.specs.declared.play.Event.{Event}
 use Rattle.version_store.specs.declared.play.Event.TheVariants.{Apply, Pin}
 
--- an entry that is posted is the network's
+-- an entry that is posted is one that the store takes
 abbrev pub IsEventOf : Topology → Event → Type 0
-IsEventOf t (Apply e) = IsEntryOf t e
+IsEventOf t (Apply e) = IsTaken t e
 IsEventOf t Pin = Unit {0}
 
 -- what an event adds to the history, under this seat's number

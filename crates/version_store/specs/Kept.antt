@@ -1,11 +1,12 @@
 -- What a store and a snapshot mean, and what they keep of a history.
 use Rattle.std.specs.Prelude.{ℕ, List, [], ◌∷◌, ◌++◌, Option, IfSome, length, ◌≡◌, ◌<◌, ◌≤◌, ◌^◌}
 use Rattle.std.specs.List.{All}
-use Rattle.dn_model.specs.Delta.{IsDeltaOf}
+use Rattle.dn_model.specs.LastDelta.{IsDeltaOf}
 use Rattle.dn_model.specs.Entry.{IsEntryOf, entries}
 use Rattle.dn_model.specs.Table.{does_after}
-use Rattle.dn_model.specs.Version.{Kept, KeptStandsFor}
-use Rattle.dn_model.specs.declared.change.Change.{Change}
+use Rattle.net_engine.specs.Followed.{IsFollowed}
+use Rattle.net_engine.specs.Version.{Kept, KeptStandsFor}
+use Rattle.base.specs.declared.change.Change.{Change}
 use Rattle.dn_model.specs.declared.entry.Entry.{Entry}
 use Rattle.dn_model.specs.declared.entry.Posted.{Posted}
 use Rattle.dn_model.specs.declared.topology.Topology.{Topology}
@@ -35,9 +36,13 @@ past_of s = record { topology = s.basis.topology; history = s.history }
 abbrev pub entries_with : List Posted → Entry → List Entry
 entries_with history e = entries history ++ e ∷ []
 
--- each entry of the history is the network's
+-- an entry that a store takes: one of its network that a version follows
+abbrev pub IsTaken : Topology → Entry → Type 0
+IsTaken t e = IsEntryOf t e × IsFollowed e
+
+-- each entry of the history is one
 abbrev pub AreOf : Topology → List Posted → Type 0
-AreOf t history = All (λ posted. IsEntryOf t posted.entry) history
+AreOf t history = All (λ posted. IsTaken t posted.entry) history
 
 -- a version of this network that stands for these entries
 pub record IsVersionOf (t : Topology) (history : List Entry) (version : Kept) : Type 0 where

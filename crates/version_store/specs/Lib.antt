@@ -1,3 +1,4 @@
+pub use Rattle.net_engine.specs.Followed
 pub mod Asked
 pub mod Events
 pub mod Kept

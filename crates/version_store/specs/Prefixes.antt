@@ -1,19 +1,15 @@
 -- The prefixes that a history ever set, and how many rows a version of it has at most.
-use Rattle.std.specs.Prelude.{ℕ, Bool, List, [], ◌∷◌, Option, None, Some, length, ◌+◌, ◌*◌, ◌==◌, ◌&&◌, if◌then◌else◌}
+use Rattle.std.specs.Prelude.{ℕ, Bool, List, [], ◌∷◌, Option, None, length, ◌+◌, ◌*◌, ◌==◌, ◌&&◌, if◌then◌else◌}
 use Rattle.std.specs.List.{filter_map, list_any}
-use Rattle.dn_model.specs.Cidr.{Cidr}
+use Rattle.base.specs.Cidr.{Cidr}
 use Rattle.dn_model.specs.declared.entry.Entry.{Entry}
-use Rattle.dn_model.specs.declared.entry.Op.{Op}
-use Rattle.dn_model.specs.declared.entry.Op.TheVariants.{Set, Clear}
+use Rattle.dn_model.specs.Entry.{prefix_set}
+use Rattle.dn_model.specs.declared.entry.Entry.TheVariants.{Route, Link}
 
--- the prefix of the route that an update sets; clearing one sets none
-abbrev pub set_by : Op → Option Cidr
-set_by (Set p m t) = Some p
-set_by (Clear p m) = None
-
--- the prefix that an entry sets
+-- the prefix of the route that an entry sets; clearing one sets none
 abbrev pub set_prefix : Entry → Option Cidr
-set_prefix e = set_by e.op
+set_prefix (Route r n op) = prefix_set op
+set_prefix (Link j l down) = None
 
 abbrev pub same_prefix : Cidr → Cidr → Bool
 same_prefix p q = (p.base == q.base) && (p.len == q.len)

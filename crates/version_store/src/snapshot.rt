@@ -3,10 +3,10 @@
 ghost use Rattle.std.specs.Prelude.{◌≡◌, ◌+◌, ◌*◌, ◌<◌, ◌≤◌, ◌^◌, [], IfOk, IfErr, None, OnOk, length};
 ghost use Rattle.std.specs.Arc.{arc_value};
 ghost use Rattle.dn_model.specs.Answer.{IsAnswer};
-ghost use Rattle.dn_model.specs.Delta.{IsDeltaOf};
+ghost use Rattle.dn_model.specs.LastDelta.{IsDeltaOf};
 ghost use Rattle.dn_model.specs.Entry.{entries};
 ghost use Rattle.dn_model.specs.Query.{unknown_of};
-ghost use Rattle.dn_model.specs.Version.{Kept, KeptStandsFor, forwarding_of};
+ghost use Rattle.net_engine.specs.Version.{Kept, KeptStandsFor, forwarding_of};
 ghost use Rattle.dn_model.specs.declared.query.Ask.TheVariants.{Loops};
 ghost use Rattle.row_answers.specs.Looks.{most_looks};
 ghost use Rattle.version_store.specs.Asked.{IsAskRefusal};
@@ -97,7 +97,7 @@ impl Snapshot {
     /// are at most two for each different prefix that it ever set, and one more. It takes no memory.
     pub fn atoms(&self) -> u64
         ensures rows { (version : Kept) → KeptStandsFor version (entries self.now.history)
-            → result ≡ length (forwarding_of version.atoms) }
+            → result ≡ length (forwarding_of version) }
         ensures few { result ≤ most_rows (entries self.now.history) }
     {
         self.standing.atoms()

@@ -3,20 +3,20 @@
 ghost use Rattle.std.specs.Prelude.{◌≡◌, ℕ, ◌+◌, ◌<◌, ◌≤◌, ◌++◌, ◌∷◌, [], List, IfOk, IsFalse, IsTrue, None, OnOk, length};
 ghost use Rattle.std.specs.Arc.{arc_value};
 ghost use Rattle.dn_model.specs.Answer.{IsAnswer};
-ghost use Rattle.dn_model.specs.Delta.{IsDelta, IsDeltaOf};
-ghost use Rattle.dn_model.specs.Entry.{IsEntryOf};
-ghost use Rattle.dn_model.specs.Forwarding.{does};
+ghost use Rattle.base.specs.Delta.{IsDelta};
+ghost use Rattle.dn_model.specs.LastDelta.{IsDeltaOf};
+ghost use Rattle.base.specs.Forwarding.{does};
 ghost use Rattle.dn_model.specs.Query.{Question, unknown_of};
-ghost use Rattle.dn_model.specs.Version.{KeptStandsFor, forwarding_of};
+ghost use Rattle.net_engine.specs.Version.{KeptStandsFor, forwarding_of};
 ghost use Rattle.dn_model.specs.declared.entry.Entry.{Entry as EntryIs};
-ghost use Rattle.dn_model.specs.declared.ids.RouterId.{RouterId as RouterIs};
+ghost use Rattle.base.specs.declared.ids.RouterId.{RouterId as RouterIs};
 ghost use Rattle.dn_model.specs.declared.query.Ask.TheVariants.{Loops};
-ghost use Rattle.dn_model.specs.declared.target.Target.{Target as TargetIs};
+ghost use Rattle.base.specs.declared.target.Target.{Target as TargetIs};
 ghost use Rattle.dn_model.specs.declared.topology.Topology.{Topology as TopologyIs};
 ghost use Rattle.loop_keeper.specs.Kept.{AreKept};
 ghost use Rattle.row_answers.specs.Looks.{most_looks};
 ghost use Rattle.row_answers.specs.Shown.{AreToldIf};
-ghost use Rattle.version_store.specs.Kept.{IsStandingOf};
+ghost use Rattle.version_store.specs.Kept.{IsStandingOf, IsTaken};
 
 use delta_graph::Delta;
 use dn_model::{Answer, Ask, Change, Entry, OutOfMemory, Query, Topology};
@@ -48,7 +48,7 @@ fn update<L: Ledger>(
     requires name { blank.name ≡ L.name }
     requires parts { blank.parts ≡ L.parts }
     requires some { 0 < blank.parts }
-    requires entry { IsEntryOf version.topology entry.now }
+    requires entry { IsTaken version.topology entry.now }
     ensures topology { IfOk result (λ made. made.0.topology ≡ version.topology) }
     ensures stands { IfOk result (λ made. (history : List EntryIs) → KeptStandsFor version history
         → KeptStandsFor made.0 (history ++ entry.now ∷ [])) }
@@ -71,8 +71,8 @@ fn keep<L: Ledger>(
     requires parts { blank.parts ≡ L.parts }
     requires some { 0 < blank.parts }
     ensures { OnOk result ((before : RouterIs → ℕ → TargetIs) → AreKept before loops.old
-        → IsDelta before (does (forwarding_of version.now.atoms)) delta.now
-        → AreKept (does (forwarding_of version.now.atoms)) loops.new) }
+        → IsDelta before (does (forwarding_of version.now)) delta.now
+        → AreKept (does (forwarding_of version.now)) loops.new) }
 {
     let mut steps = Steps::<L>::new(blank);
     loops.advance(alloc, version, delta, &mut steps)
@@ -112,7 +112,7 @@ impl Standing {
         alloc: Global,
         entry: &Entry,
     ) -> Result<(Standing, Delta), OutOfMemory>
-        requires { IsEntryOf self.version.topology entry.now }
+        requires { IsTaken self.version.topology entry.now }
         ensures stands { IfOk result (λ made. (t : TopologyIs) → (history : List EntryIs) → IsStandingOf t history self
             → IsStandingOf t (history ++ entry.now ∷ []) made.0) }
         ensures delta { IfOk result (λ made. (t : TopologyIs) → (history : List EntryIs) → IsStandingOf t history self
@@ -155,7 +155,7 @@ impl Standing {
             AreToldIf topology.now history changes.now query.now.ask →
             IsAnswer topology.now history query.now answer) }
         ensures kept { query.now.ask ≡ Loops → query.now.without ≡ [] → steps.new ≡ steps.old }
-        ensures looks { steps.new ≤ steps.old + most_looks query.now.ask (length (forwarding_of self.now.version.atoms))
+        ensures looks { steps.new ≤ steps.old + most_looks query.now.ask (length (forwarding_of self.now.version))
             (length self.now.version.topology.routers) }
     {
         if asks_for_loops(query) {
@@ -196,7 +196,7 @@ impl Standing {
 
     /// How many rows its version has. It takes no memory.
     pub(crate) fn atoms(&self) -> u64
-        ensures { result ≡ length (forwarding_of self.now.version.atoms) }
+        ensures { result ≡ length (forwarding_of self.now.version) }
     {
         self.version.atoms()
     }

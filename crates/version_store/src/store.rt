@@ -2,9 +2,8 @@
 
 ghost use Rattle.std.specs.Prelude.{◌≡◌, ◌<◌, ◌≤◌, ◌++◌, ◌∷◌, [], All, IfOk, IfErr, OnOk, OnErr, length};
 ghost use Rattle.std.specs.Arc.{arc_value};
-ghost use Rattle.dn_model.specs.Entry.{IsEntryOf};
 ghost use Rattle.version_store.specs.Events.{IsEventOf, IsRefusedPlay, pins, posts};
-ghost use Rattle.version_store.specs.Kept.{AreOf};
+ghost use Rattle.version_store.specs.Kept.{AreOf, IsTaken};
 
 use crate::play::{Event, play_one};
 use crate::snapshot::Snapshot;
@@ -159,7 +158,7 @@ impl Store {
         Ok(List::from_vec(history))
     }
 
-    /// Plays events, of which each entry is one of the network's, under a seat's number: a snapshot for each Pin, in
+    /// Plays events, of which each entry is one that the store takes, under a seat's number: a snapshot for each Pin, in
     /// order, of the history after the events before it. The first event that is refused ends it, and the history is
     /// then that after the events before that one; `Full` comes exactly where an entry comes to a history that is as
     /// long as the limit.
@@ -187,7 +186,7 @@ impl Store {
     /// Adds an entry, and answers how many entries there are then. After `OutOfMemory`, for which alone it fails, the
     /// history is as before.
     fn add(&mut self, seat: u32, entry: &Entry) -> Result<u32, OutOfMemory>
-        requires entry { IsEntryOf self.old.basis.topology entry.now }
+        requires entry { IsTaken self.old.basis.topology entry.now }
         requires room { length self.old.history < self.old.basis.limit }
         ensures basis { self.new.basis ≡ self.old.basis }
         ensures ok { OnOk result (self.new.history
@@ -226,6 +225,8 @@ impl Book for Store {
     ghost shown = { λ s. s.history };
 
     ghost shown_topology = { λ s. s.topology };
+
+    ghost takes = { λ basis e. IsTaken basis.topology e };
 
     fn post(&mut self, seat: u32, entry: &Entry) -> Result<u32, PostRefused> {
         let limit = self.limit;

@@ -2,9 +2,9 @@
 
 ghost use Rattle.std.specs.Prelude.{◌≡◌, IfOk, IfSome};
 ghost use Rattle.std.specs.Arc.{arc_value};
-ghost use Rattle.dn_model.specs.Delta.{IsDeltaOf};
-ghost use Rattle.dn_model.specs.Entry.{IsEntryOf, entries};
-ghost use Rattle.version_store.specs.Kept.{AreOf, IsStandingOf, entries_with};
+ghost use Rattle.dn_model.specs.LastDelta.{IsDeltaOf};
+ghost use Rattle.dn_model.specs.Entry.{entries};
+ghost use Rattle.version_store.specs.Kept.{AreOf, IsStandingOf, IsTaken, entries_with};
 
 use crate::standing::Standing;
 use delta_graph::Delta;
@@ -61,7 +61,7 @@ pub(crate) fn next_standing(
 ) -> Result<(Standing, Delta), OutOfMemory>
     requires own { AreOf (arc_value topology.now) history.now }
     requires standing { IfSome standing (IsStandingOf (arc_value topology.now) (entries history.now)) }
-    requires entry { IsEntryOf (arc_value topology.now) entry.now }
+    requires entry { IsTaken (arc_value topology.now) entry.now }
     ensures standing { IfOk result (λ made. IsStandingOf (arc_value topology.now) (entries_with history.now entry.now) made.0) }
     ensures changes { IfOk result (λ made. IsDeltaOf (arc_value topology.now) (entries_with history.now entry.now) made.1) }
 {

@@ -2,13 +2,13 @@
 use Rattle.std.proofs.Common.{◌≡◌, ℕ, zero, suc, ◌<◌, ◌-◌, ◌==◌, ◌∙◌, ◌||◌, Bool, true, false, refl, ap, arith}
 use Rattle.std.specs.List.{list_any}
 use Rattle.std.proofs.lemmas.Bool.{eq-eqb, ne_eqb, or_left}
-use Rattle.dn_model.specs.Reach.{is_router}
-use Rattle.dn_model.specs.Walk.{walk}
-use Rattle.dn_model.specs.declared.ids.LinkId.{LinkId}
-use Rattle.dn_model.specs.declared.ids.RouterId.{RouterId}
-use Rattle.dn_model.specs.declared.target.Target.{Target}
-use Rattle.dn_model.specs.declared.target.Target.TheVariants.{To}
-use Rattle.dn_model.proofs.Walks.{walk-last, walk-to}
+use Rattle.base.specs.Reach.{is_router}
+use Rattle.base.specs.Walk.{walk}
+use Rattle.base.specs.declared.ids.LinkId.{LinkId}
+use Rattle.base.specs.declared.ids.RouterId.{RouterId}
+use Rattle.base.specs.declared.target.Target.{Target}
+use Rattle.base.specs.declared.target.Target.TheVariants.{To}
+use Rattle.base.proofs.Walks.{walk-last, walk-to}
 
 -- it is the first one
 pub met-here : (f : RouterId → Target) (n : ℕ) (r to : RouterId) → r.0 ≡ to.0 → list_any (is_router to) (walk f n r) ≡ true

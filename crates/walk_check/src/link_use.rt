@@ -1,12 +1,12 @@
 //! Which addresses go over a link.
 
 ghost use Rattle.std.specs.Prelude.{◌≡◌, ℕ, ◌+◌, ◌*◌, ◌<◌, ◌≤◌, IfOk, length};
-ghost use Rattle.dn_model.specs.Forwarding.{AreForwarding, does};
-ghost use Rattle.dn_model.specs.Reach.{goes_over, is_over};
-ghost use Rattle.dn_model.specs.Runs.{AreRuns};
+ghost use Rattle.base.specs.Forwarding.{AreForwarding, does};
+ghost use Rattle.base.specs.Reach.{goes_over, is_over};
+ghost use Rattle.base.specs.Runs.{AreRuns};
 ghost use Rattle.label_view.specs.Places.{IsInRow};
 
-use dn_model::{LinkId, List, OutOfMemory, RouterId, Run, Target};
+use base::{LinkId, List, OutOfMemory, RouterId, Run, Target};
 use label_view::LabelView;
 use label_view::runs::RunList;
 use std::alloc::Global;

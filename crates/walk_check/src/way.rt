@@ -1,10 +1,10 @@
 //! The way of one address.
 
 ghost use Rattle.std.specs.Prelude.{◌≡◌, ◌+◌, ◌<◌, ◌≤◌, IfOk};
-ghost use Rattle.dn_model.specs.Forwarding.{does};
-ghost use Rattle.dn_model.specs.Walk.{at_address, walk, walk_end};
+ghost use Rattle.base.specs.Forwarding.{does};
+ghost use Rattle.base.specs.Walk.{at_address, walk, walk_end};
 
-use dn_model::{List, OutOfMemory, PathEnd, RouterId, Target};
+use base::{List, OutOfMemory, PathEnd, RouterId, Target};
 use label_view::LabelView;
 use std::alloc::Global;
 use std::sync::ledger::Ledger;

@@ -1,13 +1,13 @@
 -- Whether a walk comes to a router before it meets a waypoint.
 use Rattle.std.proofs.Common.{◌≡◌, ℕ, zero, suc, ◌<◌, ◌≤◌, ◌-◌, ◌==◌, ◌∙◌, Bool, true, false, cond, List, [], ◌∷◌, refl, ap, arith}
 use Rattle.std.proofs.lemmas.Bool.{cond-false, cond-true, eq-eqb, ne_eqb}
-use Rattle.dn_model.specs.Reach.{comes_before}
-use Rattle.dn_model.specs.Walk.{walk}
-use Rattle.dn_model.specs.declared.ids.LinkId.{LinkId}
-use Rattle.dn_model.specs.declared.ids.RouterId.{RouterId}
-use Rattle.dn_model.specs.declared.target.Target.{Target}
-use Rattle.dn_model.specs.declared.target.Target.TheVariants.{To}
-use Rattle.dn_model.proofs.Walks.{walk-last, walk-to}
+use Rattle.base.specs.Reach.{comes_before}
+use Rattle.base.specs.Walk.{walk}
+use Rattle.base.specs.declared.ids.LinkId.{LinkId}
+use Rattle.base.specs.declared.ids.RouterId.{RouterId}
+use Rattle.base.specs.declared.target.Target.{Target}
+use Rattle.base.specs.declared.target.Target.TheVariants.{To}
+use Rattle.base.proofs.Walks.{walk-last, walk-to}
 
 -- the first one is the waypoint
 through-first : (r to through : RouterId) (rs : List RouterId) → r.0 ≡ through.0 → comes_before to through (r ∷ rs) ≡ false

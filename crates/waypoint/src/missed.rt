@@ -1,12 +1,12 @@
 //! Addresses that miss a waypoint.
 
 ghost use Rattle.std.specs.Prelude.{◌≡◌, ℕ, ◌+◌, ◌*◌, ◌<◌, ◌≤◌, IfOk, length};
-ghost use Rattle.dn_model.specs.Forwarding.{does};
-ghost use Rattle.dn_model.specs.Reach.{misses};
-ghost use Rattle.dn_model.specs.Runs.{AreRuns};
+ghost use Rattle.base.specs.Forwarding.{does};
+ghost use Rattle.base.specs.Reach.{misses};
+ghost use Rattle.base.specs.Runs.{AreRuns};
 ghost use Rattle.label_view.specs.Places.{IsInRow};
 
-use dn_model::{List, OutOfMemory, RouterId, Run, Target};
+use base::{List, OutOfMemory, RouterId, Run, Target};
 use label_view::LabelView;
 use label_view::runs::RunList;
 use std::alloc::Global;

@@ -1,8 +1,8 @@
 -- A view with links down.
 use Rattle.std.specs.Prelude.{List, map}
-use Rattle.dn_model.specs.Walk.{without}
-use Rattle.dn_model.specs.declared.forwarding_row.ForwardingRow.{ForwardingRow}
-use Rattle.dn_model.specs.declared.ids.LinkId.{LinkId}
+use Rattle.base.specs.Links.{without}
+use Rattle.base.specs.declared.forwarding_row.ForwardingRow.{ForwardingRow}
+use Rattle.base.specs.declared.ids.LinkId.{LinkId}
 
 -- a view, and the links that are down
 pub record Restricted (V : Type 0) : Type 0 where

@@ -1,9 +1,9 @@
 //! Links that are down.
 
 ghost use Rattle.std.specs.Prelude.{◌≡◌};
-ghost use Rattle.dn_model.specs.Walk.{is_down, without};
+ghost use Rattle.base.specs.Links.{is_down, without};
 
-use dn_model::{LinkId, Target};
+use base::{LinkId, Target};
 
 /// Whether a link is one of these.
 fn is_down_link(down: &[LinkId], link: LinkId) -> bool

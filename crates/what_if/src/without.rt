@@ -1,14 +1,14 @@
 //! A view with links down.
 
 ghost use Rattle.std.specs.Prelude.{◌≡◌, ℕ, length};
-ghost use Rattle.dn_model.specs.Forwarding.{does};
-ghost use Rattle.dn_model.specs.Walk.{with_down};
-ghost use Rattle.dn_model.specs.declared.ids.RouterId.{RouterId as RouterIs};
+ghost use Rattle.base.specs.Forwarding.{does};
+ghost use Rattle.base.specs.Walk.{with_down};
+ghost use Rattle.base.specs.declared.ids.RouterId.{RouterId as RouterIs};
 ghost use Rattle.label_view.specs.Places.{begin_of};
 ghost use Rattle.what_if.specs.Restricted.{rows_without};
 
 use crate::links::with_links_down;
-use dn_model::{LinkId, RouterId, Target};
+use base::{LinkId, RouterId, Target};
 use label_view::LabelView;
 use std::marker::Model;
 

@@ -6,8 +6,7 @@ ghost use Rattle.version_pages.specs.Changes.{Changes, ChangesRun};
 
 use super::own::unshare;
 use super::{Kid, Node, Tree, find, key_after};
-use crate::keyed::Keyed;
-use dn_model::OutOfMemory;
+use base::{Keyed, OutOfMemory};
 use std::alloc::Global;
 use std::sync::Arc;
 
@@ -28,7 +27,7 @@ fn call_on<T, R, F: FnOnce(&mut [T]) -> R>(change: F, run: &mut [T]) -> R
     change(run)
 }
 
-impl<T: Keyed + Clone> Tree<T> {
+impl<T: Keyed> Tree<T> {
     /// Has an element changed in its place. After `OutOfMemory` the list is as before, and the change was not called.
     fn change<R, F: FnOnce(&mut T) -> R>(
         &mut self,
@@ -37,7 +36,6 @@ impl<T: Keyed + Clone> Tree<T> {
         change: F,
     ) -> Result<R, OutOfMemory>
         requires inside { i < length self.old.items }
-        requires clones { (x y : T) → T.is_clone x y → y ≡ x }
         requires callable { F.IsAlwaysCallable change }
         ensures changed { IfOk result (Changes F.FnOnce change self.old.items self.new.items i) }
         ensures same { OnErr result (self.new.items ≡ self.old.items) }
@@ -73,7 +71,6 @@ impl<T: Keyed + Clone> Tree<T> {
         change: F,
     ) -> Result<R, OutOfMemory>
         requires inside { i < length self.old.items }
-        requires clones { (x y : T) → T.is_clone x y → y ≡ x }
         requires callable { F.IsAlwaysCallable change }
         ensures changed { IfOk result (ChangesRun F.FnOnce change self.old.items self.new.items i) }
         ensures same { OnErr result (self.new.items ≡ self.old.items) }
@@ -101,7 +98,7 @@ impl<T: Keyed + Clone> Tree<T> {
     }
 }
 
-impl<T: Keyed + Clone> Kid<T> {
+impl<T: Keyed> Kid<T> {
     /// Has an element changed in its place. After `OutOfMemory` the list is as before, and the change was not called.
     pub fn change<R, F: FnOnce(&mut T) -> R>(
         &mut self,
@@ -110,7 +107,6 @@ impl<T: Keyed + Clone> Kid<T> {
         change: F,
     ) -> Result<R, OutOfMemory>
         requires inside { i < length self.old.items }
-        requires clones { (x y : T) → T.is_clone x y → y ≡ x }
         requires callable { F.IsAlwaysCallable change }
         ensures changed { IfOk result (Changes F.FnOnce change self.old.items self.new.items i) }
         ensures same { OnErr result (self.new.items ≡ self.old.items) }
@@ -133,7 +129,6 @@ impl<T: Keyed + Clone> Kid<T> {
         change: F,
     ) -> Result<R, OutOfMemory>
         requires inside { i < length self.old.items }
-        requires clones { (x y : T) → T.is_clone x y → y ≡ x }
         requires callable { F.IsAlwaysCallable change }
         ensures changed { IfOk result (ChangesRun F.FnOnce change self.old.items self.new.items i) }
         ensures same { OnErr result (self.new.items ≡ self.old.items) }

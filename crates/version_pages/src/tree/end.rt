@@ -4,7 +4,7 @@ ghost use Rattle.std.specs.Prelude.{◌≡◌, ◌+◌, ◌<◌, ◌≤◌, ◌^
 ghost use Rattle.version_pages.specs.Shape.{IsDeep};
 
 use super::{FULL, Kid, Node, Tree, key_after};
-use crate::keyed::Keyed;
+use base::Keyed;
 use std::sync::Arc;
 
 /// Puts one more element at a page's end, or hands it back where there is no memory.

@@ -8,9 +8,8 @@ use super::own::unshare;
 use super::parts::{fork_kid, page_kid};
 use super::split::part;
 use super::{FULL, Kid, LONG, Node, Tree, WIDE, density_of, key_after, start};
-use crate::keyed::Keyed;
 use crate::page::{page_of_copies, page_of_one};
-use dn_model::OutOfMemory;
+use base::{Keyed, OutOfMemory};
 use std::alloc::Global;
 use std::sync::Arc;
 
@@ -30,7 +29,7 @@ impl<T: Keyed> Tree<T> {
 }
 
 /// Puts one more child behind the last.
-fn add_kid<T: Keyed + Drop>(
+fn add_kid<T: Keyed>(
     kids: &mut Vec<Kid<T>>,
     ends: &mut Vec<u64>,
     kid: Kid<T>,
@@ -54,7 +53,7 @@ fn add_kid<T: Keyed + Drop>(
 }
 
 /// Has the last child ready for a page more: a full one is parted before.
-fn ready_end<T: Keyed + Clone>(
+fn ready_end<T: Keyed>(
     alloc: Global,
     kids: &mut Vec<Kid<T>>,
     ends: &mut Vec<u64>,
@@ -62,7 +61,6 @@ fn ready_end<T: Keyed + Clone>(
     requires some { 0 < length kids.old.items }
     requires ends { AreEnds ends.old.items kids.old.items }
     requires few { length (joined kids.old.items) < 2 ^ 62 }
-    requires clones { (x y : T) → T.is_clone x y → y ≡ x }
     ensures same { joined kids.new.items ≡ joined kids.old.items }
     ensures under { (h : ℕ) → All (IsUnder h) kids.old.items → All (IsUnder h) kids.new.items }
     ensures ends { AreEnds ends.new.items kids.new.items }
@@ -80,7 +78,7 @@ fn ready_end<T: Keyed + Clone>(
     Ok(())
 }
 
-impl<T: Keyed + Clone> Tree<T> {
+impl<T: Keyed> Tree<T> {
     /// Puts a page behind the last one. After `OutOfMemory` the list is as before.
     #[cycle(graft)]
     fn graft(&mut self, alloc: Global, page: Kid<T>) -> Result<(), OutOfMemory>
@@ -89,7 +87,6 @@ impl<T: Keyed + Clone> Tree<T> {
         requires page { page.height ≡ 0 }
         requires deep { IsDeep page }
         requires few { length self.old.items + length page.items < 2 ^ 62 }
-        requires clones { (x y : T) → T.is_clone x y → y ≡ x }
         ensures items { OnOk result (self.new.items ≡ self.old.items ++ page.items) }
         ensures same { OnErr result (self.new.items ≡ self.old.items) }
         ensures level { self.new.height ≡ self.old.height }
@@ -120,7 +117,7 @@ impl<T: Keyed + Clone> Tree<T> {
     }
 }
 
-impl<T: Keyed + Clone> Kid<T> {
+impl<T: Keyed> Kid<T> {
     /// Puts a page behind the last one. After `OutOfMemory` the list is as before.
     #[cycle(graft)]
     fn graft(&mut self, alloc: Global, page: Kid<T>) -> Result<(), OutOfMemory>
@@ -129,7 +126,6 @@ impl<T: Keyed + Clone> Kid<T> {
         requires page { page.height ≡ 0 }
         requires deep { IsDeep page }
         requires few { length self.old.items + length page.items < 2 ^ 62 }
-        requires clones { (x y : T) → T.is_clone x y → y ≡ x }
         ensures items { OnOk result (self.new.items ≡ self.old.items ++ page.items) }
         ensures same { OnErr result (self.new.items ≡ self.old.items) }
         ensures level { self.new.height ≡ self.old.height }
@@ -166,7 +162,6 @@ impl<T: Keyed + Clone> Kid<T> {
     /// Has a tree ready for a page more: a full one is put under a fork of its two halves.
     fn ready_whole(&mut self, alloc: Global) -> Result<(), OutOfMemory>
         requires fork { 0 < self.old.height }
-        requires clones { (x y : T) → T.is_clone x y → y ≡ x }
         ensures items { self.new.items ≡ self.old.items }
         ensures room { OnOk result (0 < self.new.room) }
         ensures fork { OnOk result (0 < self.new.height) }
@@ -182,7 +177,6 @@ impl<T: Keyed + Clone> Kid<T> {
     pub fn graft_whole(&mut self, alloc: Global, page: Kid<T>) -> Result<(), OutOfMemory>
         requires page { page.height ≡ 0 }
         requires deep { IsDeep page }
-        requires clones { (x y : T) → T.is_clone x y → y ≡ x }
         ensures items { OnOk result (self.new.items ≡ self.old.items ++ page.items) }
         ensures same { OnErr result (self.new.items ≡ self.old.items) }
     {
@@ -268,7 +262,6 @@ impl<T: Keyed + Copy> Tree<T> {
         requires room { 0 < self.old.room }
         requires fork { 0 < self.old.height }
         requires few { length self.old.items + 8192 < 2 ^ 62 }
-        requires clones { (x y : T) → T.is_clone x y → y ≡ x }
         ensures some { IfOk result (λ count. 0 < count) }
         ensures within { IfOk result (λ count. count ≤ length items.now) }
         ensures items { IfOk result (λ count. self.new.items ≡ self.old.items ++ take count items.now) }
@@ -310,7 +303,6 @@ impl<T: Keyed + Copy> Kid<T> {
         requires room { 0 < self.old.room }
         requires fork { 0 < self.old.height }
         requires few { length self.old.items + 8192 < 2 ^ 62 }
-        requires clones { (x y : T) → T.is_clone x y → y ≡ x }
         ensures some { IfOk result (λ count. 0 < count) }
         ensures within { IfOk result (λ count. count ≤ length items.now) }
         ensures items { IfOk result (λ count. self.new.items ≡ self.old.items ++ take count items.now) }
@@ -333,7 +325,6 @@ impl<T: Keyed + Copy> Kid<T> {
     /// room. It answers how many. After `OutOfMemory` the list is as before.
     fn add_one(&mut self, alloc: Global, items: &[T]) -> Result<usize, OutOfMemory>
         requires some { 0 < length items.now }
-        requires clones { (x y : T) → T.is_clone x y → y ≡ x }
         ensures some { IfOk result (λ count. 0 < count) }
         ensures within { IfOk result (λ count. count ≤ length items.now) }
         ensures items { IfOk result (λ count. self.new.items ≡ self.old.items ++ take count items.now) }
@@ -349,7 +340,6 @@ impl<T: Keyed + Copy> Kid<T> {
     /// `OutOfMemory` the list is as before.
     pub fn add_some(&mut self, alloc: Global, items: &[T]) -> Result<usize, OutOfMemory>
         requires some { 0 < length items.now }
-        requires clones { (x y : T) → T.is_clone x y → y ≡ x }
         ensures some { IfOk result (λ count. 0 < count) }
         ensures within { IfOk result (λ count. count ≤ length items.now) }
         ensures items { IfOk result (λ count. self.new.items ≡ self.old.items ++ take count items.now) }

@@ -9,8 +9,7 @@ use super::own::unshare;
 use super::split::part;
 use super::{Kid, LONG, Node, Tree, density_of, find, key_after};
 use crate::growth::{Growth, grow_page};
-use crate::keyed::Keyed;
-use dn_model::OutOfMemory;
+use base::{Keyed, OutOfMemory};
 use std::alloc::Global;
 use std::sync::Arc;
 
@@ -29,7 +28,7 @@ pub fn lengthen(ends: &mut [u64], k: usize, count: u64)
 
 /// The child that has the element at a place, with the element's place in it. It has room for one more: a full one is
 /// parted before.
-pub fn ready<T: Keyed + Clone>(
+pub fn ready<T: Keyed>(
     alloc: Global,
     kids: &mut Vec<Kid<T>>,
     ends: &mut Vec<u64>,
@@ -39,7 +38,6 @@ pub fn ready<T: Keyed + Clone>(
     requires some { 0 < length kids.old.items }
     requires ends { AreEnds ends.old.items kids.old.items }
     requires few { length (joined kids.old.items) < 2 ^ 62 }
-    requires clones { (x y : T) → T.is_clone x y → y ≡ x }
     ensures same { joined kids.new.items ≡ joined kids.old.items }
     ensures under { (h : ℕ) → All (IsUnder h) kids.old.items → All (IsUnder h) kids.new.items }
     ensures ends { AreEnds ends.new.items kids.new.items }
@@ -61,14 +59,13 @@ pub fn ready<T: Keyed + Clone>(
     Ok((k + 1, j - len))
 }
 
-impl<T: Keyed + Clone> Kid<T> {
+impl<T: Keyed> Kid<T> {
     /// Grows by one element at a place. After `OutOfMemory` the list is as before.
     #[cycle(grow)]
     fn grow(&mut self, alloc: Global, i: u64, growth: Growth<T>) -> Result<(), OutOfMemory>
         requires inside { CanGrow growth self.old.items i }
         requires room { 0 < self.old.room }
         requires few { length self.old.items + 1 < 2 ^ 62 }
-        requires clones { (x y : T) → T.is_clone x y → y ≡ x }
         ensures items { self.new.items ≡ (if is_ok result then grown growth self.old.items i else self.old.items) }
         ensures level { self.new.height ≡ self.old.height }
         ensures deep { IsDeep self.old → IsDeep self.new }
@@ -92,7 +89,6 @@ impl<T: Keyed + Clone> Kid<T> {
         growth: Growth<T>,
     ) -> Result<(), OutOfMemory>
         requires inside { CanGrow growth self.old.items i }
-        requires clones { (x y : T) → T.is_clone x y → y ≡ x }
         ensures { self.new.items ≡ (if is_ok result then grown growth self.old.items i else self.old.items) }
     {
         let len = self.len;
@@ -107,14 +103,13 @@ impl<T: Keyed + Clone> Kid<T> {
     }
 }
 
-impl<T: Keyed + Clone> Tree<T> {
+impl<T: Keyed> Tree<T> {
     /// Grows by one element at a place. After `OutOfMemory` the list is as before.
     #[cycle(grow)]
     fn grow(&mut self, alloc: Global, i: u64, growth: Growth<T>) -> Result<(), OutOfMemory>
         requires inside { CanGrow growth self.old.items i }
         requires room { 0 < self.old.room }
         requires few { length self.old.items + 1 < 2 ^ 62 }
-        requires clones { (x y : T) → T.is_clone x y → y ≡ x }
         ensures items { self.new.items ≡ (if is_ok result then grown growth self.old.items i else self.old.items) }
         ensures level { self.new.height ≡ self.old.height }
     {

@@ -8,9 +8,8 @@ use super::grow::lengthen;
 use super::parts::page_kid;
 use super::split::{put_end, put_kid};
 use super::{FULL, Kid, WIDE, find};
-use crate::keyed::Keyed;
 use crate::page::page_of_copies;
-use dn_model::OutOfMemory;
+use base::{Keyed, OutOfMemory};
 use std::alloc::Global;
 
 /// The child before which a whole page may be hung for the elements that go in at a place: the fork stands right over

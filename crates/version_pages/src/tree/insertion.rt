@@ -8,8 +8,7 @@ use super::grow::{lengthen, ready};
 use super::hang::{hang, hangs_at};
 use super::own::unshare;
 use super::{FULL, Kid, LONG, Node, Tree, density_of, key_after};
-use crate::keyed::Keyed;
-use dn_model::OutOfMemory;
+use base::{Keyed, OutOfMemory};
 use std::alloc::Global;
 use std::sync::Arc;
 
@@ -42,7 +41,6 @@ impl<T: Keyed + Copy> Tree<T> {
         requires inside { i ≤ length self.old.items }
         requires room { 0 < self.old.room }
         requires few { length self.old.items + 64 < 2 ^ 62 }
-        requires clones { (x y : T) → T.is_clone x y → y ≡ x }
         ensures some { IfOk result (λ count. 0 < count) }
         ensures most { IfOk result (λ count. count ≤ FULL) }
         ensures within { IfOk result (λ count. count ≤ length items.now) }
@@ -83,7 +81,6 @@ impl<T: Keyed + Copy> Kid<T> {
         requires inside { i ≤ length self.old.items }
         requires room { 0 < self.old.room }
         requires few { length self.old.items + 64 < 2 ^ 62 }
-        requires clones { (x y : T) → T.is_clone x y → y ≡ x }
         ensures some { IfOk result (λ count. 0 < count) }
         ensures most { IfOk result (λ count. count ≤ FULL) }
         ensures within { IfOk result (λ count. count ≤ length items.now) }
@@ -108,7 +105,6 @@ impl<T: Keyed + Copy> Kid<T> {
     pub fn insert_whole(&mut self, alloc: Global, i: u64, items: &[T]) -> Result<usize, OutOfMemory>
         requires some { 0 < length items.now }
         requires inside { i ≤ length self.old.items }
-        requires clones { (x y : T) → T.is_clone x y → y ≡ x }
         ensures some { IfOk result (λ count. 0 < count) }
         ensures within { IfOk result (λ count. count ≤ length items.now) }
         ensures items { IfOk result (λ count. self.new.items ≡ take i self.old.items ++ take count items.now ++ drop i self.old.items) }

@@ -4,13 +4,12 @@ ghost use Rattle.std.specs.Prelude.{◌≡◌, IfOk};
 ghost use Rattle.std.specs.Arc.{arc_value};
 
 use super::{FULL, Kid, Node, Tree, WIDE};
-use crate::keyed::Keyed;
 use crate::page::page_of;
-use dn_model::OutOfMemory;
+use base::{Keyed, OutOfMemory};
 use std::alloc::{AllocError, Global};
 use std::sync::Arc;
 
-impl<T: Keyed + Drop> Clone for Kid<T> {
+impl<T: Keyed> Clone for Kid<T> {
     ghost is_clone = { λ kid copy. copy ≡ kid };
 
     fn clone(&self) -> Result<Kid<T>, AllocError> {
@@ -23,10 +22,9 @@ impl<T: Keyed + Drop> Clone for Kid<T> {
     }
 }
 
-impl<T: Keyed + Clone> Tree<T> {
+impl<T: Keyed> Tree<T> {
     /// The same tree again: a page of copies, or a fork that shares its children.
     fn duplicate(&self, alloc: Global) -> Result<Tree<T>, OutOfMemory>
-        requires { (x y : T) → T.is_clone x y → y ≡ x }
         ensures { IfOk result (λ tree. tree ≡ self.now) }
     {
         match &self.node {
@@ -61,11 +59,7 @@ impl<T: Keyed + Clone> Tree<T> {
 /// Puts a copy in the place of a pointer's tree.
 #[cold]
 #[inline(never)]
-fn copy_tree<T: Keyed + Clone>(
-    alloc: Global,
-    tree: &mut Arc<Tree<T>, Global>,
-) -> Result<(), OutOfMemory>
-    requires { (x y : T) → T.is_clone x y → y ≡ x }
+fn copy_tree<T: Keyed>(alloc: Global, tree: &mut Arc<Tree<T>, Global>) -> Result<(), OutOfMemory>
     ensures { arc_value tree.new ≡ arc_value tree.old }
 {
     let copy = tree.duplicate(alloc)?;
@@ -75,11 +69,7 @@ fn copy_tree<T: Keyed + Clone>(
 
 /// Makes a pointer the only one to its tree: where somebody else holds it too, this one gets a copy.
 #[inline(always)]
-pub fn unshare<T: Keyed + Clone>(
-    alloc: Global,
-    tree: &mut Arc<Tree<T>, Global>,
-) -> Result<(), OutOfMemory>
-    requires { (x y : T) → T.is_clone x y → y ≡ x }
+pub fn unshare<T: Keyed>(alloc: Global, tree: &mut Arc<Tree<T>, Global>) -> Result<(), OutOfMemory>
     ensures { arc_value tree.new ≡ arc_value tree.old }
 {
     if Arc::strong_count(tree) != 1 {

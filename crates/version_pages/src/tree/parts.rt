@@ -4,9 +4,8 @@ ghost use Rattle.std.specs.Prelude.{◌≡◌, ◌<◌, ◌≤◌, ◌^◌, ◌+
 ghost use Rattle.version_pages.specs.Shape.{AreHalves, IsDeep, IsUnder, AreKids, AreEnds, joined, page_shape, fork_shape};
 
 use super::{FULL, Kid, LONG, Node, Tree, WIDE, density_of};
-use crate::keyed::Keyed;
 use crate::page::{page_of, page_of_one};
-use dn_model::OutOfMemory;
+use base::{Keyed, OutOfMemory};
 use std::alloc::Global;
 use std::sync::Arc;
 
@@ -37,7 +36,7 @@ fn ends_of<T: Keyed>(alloc: Global, kids: &[Kid<T>]) -> Result<Vec<u64>, OutOfMe
 }
 
 /// A page, to be shared.
-pub fn page_kid<T: Keyed + Drop>(alloc: Global, items: Vec<T>) -> Result<Kid<T>, OutOfMemory>
+pub fn page_kid<T: Keyed>(alloc: Global, items: Vec<T>) -> Result<Kid<T>, OutOfMemory>
     requires some { 0 < length items.items }
     requires few { length items.items ≤ FULL }
     ensures page { IfOk result (λ kid. kid ≡ page_shape items.items) }
@@ -54,7 +53,7 @@ pub fn page_kid<T: Keyed + Drop>(alloc: Global, items: Vec<T>) -> Result<Kid<T>,
 }
 
 /// A fork, to be shared.
-pub fn fork_kid<T: Keyed + Drop>(
+pub fn fork_kid<T: Keyed>(
     alloc: Global,
     kids: Vec<Kid<T>>,
     height: u64,
@@ -93,12 +92,11 @@ impl<T: Keyed> Tree<T> {
     }
 }
 
-impl<T: Keyed + Clone> Tree<T> {
+impl<T: Keyed> Tree<T> {
     /// A full tree as two, of the same height. Where it grows at its end the first of them is nearly full.
     pub fn halves(&self, alloc: Global, at_end: bool) -> Result<(Kid<T>, Kid<T>), OutOfMemory>
         requires full { self.now.room ≡ 0 }
         requires few { length self.now.items < 2 ^ 62 }
-        requires clones { (x y : T) → T.is_clone x y → y ≡ x }
         ensures { IfOk result (λ p. AreHalves p.0 p.1 self.now) }
     {
         match &self.node {
@@ -120,11 +118,10 @@ impl<T: Keyed + Clone> Tree<T> {
     }
 }
 
-impl<T: Keyed + Clone> Kid<T> {
+impl<T: Keyed> Kid<T> {
     /// A full tree as two, of the same height. Where it grows at its end the first of them is nearly full.
     pub fn halves(&self, alloc: Global, at_end: bool) -> Result<(Kid<T>, Kid<T>), OutOfMemory>
         requires full { self.now.room ≡ 0 }
-        requires clones { (x y : T) → T.is_clone x y → y ≡ x }
         ensures { IfOk result (λ p. AreHalves p.0 p.1 self.now) }
     {
         let len = self.len;
@@ -135,7 +132,6 @@ impl<T: Keyed + Clone> Kid<T> {
     /// Puts a full tree under a fork of its two halves.
     pub fn raise(&mut self, alloc: Global, at_end: bool) -> Result<(), OutOfMemory>
         requires full { self.old.room ≡ 0 }
-        requires clones { (x y : T) → T.is_clone x y → y ≡ x }
         ensures items { self.new.items ≡ self.old.items }
         ensures room { OnOk result (0 < self.new.room) }
         ensures fork { OnOk result (0 < self.new.height) }

@@ -7,7 +7,7 @@ ghost use Rattle.version_pages.specs.Shape.{Shape};
 ghost use Rattle.version_pages.specs.Search.{EndsBelow, EndsIn};
 
 use super::{Kid, Node, Tree, start};
-use crate::keyed::Keyed;
+use base::Keyed;
 
 /// Where the elements of a page end that have a key below this one.
 fn search_page<T: Keyed>(items: &[T], key: u64) -> usize

@@ -7,9 +7,8 @@ ghost use Rattle.version_pages.specs.Shape.{Shape, AreEnds, AreHalves, AreKids, 
 use super::own::unshare;
 use super::parts::fork_kid;
 use super::{FULL, Kid, LONG, Node, Tree, WIDE};
-use crate::keyed::Keyed;
 use crate::page::page_of;
-use dn_model::OutOfMemory;
+use base::{Keyed, OutOfMemory};
 use std::alloc::Global;
 use std::sync::Arc;
 
@@ -27,7 +26,7 @@ impl<T: Keyed> Tree<T> {
 }
 
 /// A page, to be shared, or its elements where there is no memory.
-fn page_or_items<T: Keyed + Drop>(alloc: Global, items: Vec<T>) -> Result<Kid<T>, Vec<T>>
+fn page_or_items<T: Keyed>(alloc: Global, items: Vec<T>) -> Result<Kid<T>, Vec<T>>
     requires some { 0 < length items.items }
     requires few { length items.items ≤ FULL }
     ensures items { IfOk result (λ kid. kid.items ≡ items.items) }
@@ -59,11 +58,7 @@ fn put_back<T: Drop>(page: &mut Vec<T>, mut items: Vec<T>)
 }
 
 /// Takes the elements of a page from a place on off, as a page of their own. After `OutOfMemory` it is as before.
-fn split_page<T: Keyed + Drop>(
-    alloc: Global,
-    page: &mut Vec<T>,
-    at: usize,
-) -> Result<Kid<T>, OutOfMemory>
+fn split_page<T: Keyed>(alloc: Global, page: &mut Vec<T>, at: usize) -> Result<Kid<T>, OutOfMemory>
     requires some { 0 < at }
     requires inside { at < length page.old.items }
     requires few { length page.old.items ≤ FULL }
@@ -85,7 +80,7 @@ fn split_page<T: Keyed + Drop>(
 }
 
 /// Takes the children of a fork from a place on off, as a fork of their own. After `OutOfMemory` it is as before.
-fn split_fork<T: Keyed + Clone>(
+fn split_fork<T: Keyed>(
     alloc: Global,
     kids: &mut Vec<Kid<T>>,
     ends: &mut Vec<u64>,
@@ -113,7 +108,7 @@ fn split_fork<T: Keyed + Clone>(
     Ok(upper)
 }
 
-impl<T: Keyed + Clone> Tree<T> {
+impl<T: Keyed> Tree<T> {
     /// Takes the upper part of a full tree off: the last of it alone where it grows at its end. After `OutOfMemory` it is
     /// as before.
     fn split_off(&mut self, alloc: Global, at_end: bool) -> Result<Kid<T>, OutOfMemory>
@@ -145,12 +140,11 @@ impl<T: Keyed + Clone> Tree<T> {
     }
 }
 
-impl<T: Keyed + Clone> Kid<T> {
+impl<T: Keyed> Kid<T> {
     /// Takes the upper part of a full tree off, in its place where nobody else holds it: the last of it alone where it
     /// grows at its end. After `OutOfMemory` it is as before.
     fn split_off(&mut self, alloc: Global, at_end: bool) -> Result<Kid<T>, OutOfMemory>
         requires full { self.old.room ≡ 0 }
-        requires clones { (x y : T) → T.is_clone x y → y ≡ x }
         ensures halves { IfOk result (λ upper. AreHalves self.new upper self.old) }
         ensures same { OnErr result (self.new ≡ self.old) }
     {
@@ -168,7 +162,7 @@ impl<T: Keyed + Clone> Kid<T> {
 }
 
 /// Puts one more child in at a place, where there is memory for it.
-pub fn put_kid<T: Keyed + Drop>(kids: &mut Vec<Kid<T>>, k: usize, kid: Kid<T>)
+pub fn put_kid<T: Keyed>(kids: &mut Vec<Kid<T>>, k: usize, kid: Kid<T>)
     requires child { k ≤ length kids.old.items }
     requires memory { vec_len kids.old < vec_capacity kids.old }
     ensures { kids.new.items ≡ insert kids.old.items k kid }
@@ -191,7 +185,7 @@ pub fn put_end(ends: &mut Vec<u64>, k: usize, end: u64)
 
 /// Parts a full child in its place. It answers how many elements the first part has. After `OutOfMemory` the children
 /// are as before.
-pub fn part<T: Keyed + Clone>(
+pub fn part<T: Keyed>(
     alloc: Global,
     kids: &mut Vec<Kid<T>>,
     ends: &mut Vec<u64>,
@@ -204,7 +198,6 @@ pub fn part<T: Keyed + Clone>(
     requires ends { AreEnds ends.old.items kids.old.items }
     requires start { start ≡ length (joined (take k kids.old.items)) }
     requires few { length (joined kids.old.items) < 2 ^ 62 }
-    requires clones { (x y : T) → T.is_clone x y → y ≡ x }
     ensures parted { IfOk result (IsPartedAt kids.old.items kids.new.items k) }
     ensures same { OnErr result (kids.new.items ≡ kids.old.items) }
     ensures ends { AreEnds ends.new.items kids.new.items }

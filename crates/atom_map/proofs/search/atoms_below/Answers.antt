@@ -1,5 +1,5 @@
 use Rattle.std.proofs.Common.{map, drop, arith}
-use Rattle.dn_model.specs.Atoms.{atom_of}
+use Rattle.atom_map.specs.Atoms.{atom_of}
 use Rattle.atom_map.specs.Index.{first_below}
 use Rattle.atom_map.proofs.Meeting.{one-more-below, no-more-below, all-below}
 use Rattle.atom_map.proofs.search.atoms_below.Goals.{else-loop-i-test, then-loop-i-test+then-row-hi}

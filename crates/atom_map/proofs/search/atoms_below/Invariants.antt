@@ -1,5 +1,5 @@
 use Rattle.std.proofs.Common.{◌≡◌, ◌++◌, drop, map}
-use Rattle.dn_model.specs.Atoms.{atom_of}
+use Rattle.atom_map.specs.Atoms.{atom_of}
 use Rattle.atom_map.specs.Index.{first_below}
 use Rattle.atom_map.proofs.search.atoms_below.Given as goal
 

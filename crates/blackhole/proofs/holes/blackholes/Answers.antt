@@ -1,7 +1,6 @@
 use Rattle.std.proofs.Common.{◌≤◌, length, arith}
 use Rattle.std.proofs.lemmas.Result.{IfOk-weaker}
-use Rattle.dn_model.specs.Forwarding.{does}
-use Rattle.step_count.proofs.Counting.{steps_more}
+use Rattle.base.specs.Forwarding.{does}
 use Rattle.blackhole.proofs.Telling.{holes-are, none-yet}
 use Rattle.blackhole.proofs.holes.blackholes.Goals as goal
 

@@ -1,6 +1,6 @@
 use Rattle.std.proofs.Common.{◌+◌, ◌*◌, ◌≤◌}
-use Rattle.dn_model.specs.Forwarding.{does}
-use Rattle.dn_model.specs.Holes.{falls}
+use Rattle.base.specs.Forwarding.{does}
+use Rattle.base.specs.Holes.{falls}
 use Rattle.blackhole.specs.Gathering.{AreFalls}
 use Rattle.blackhole.proofs.holes.blackholes.Given as goal
 

@@ -1,9 +1,9 @@
 use Rattle.std.proofs.Common.{◌≡◌, ◌∙◌, ap, sym, arith}
-use Rattle.dn_model.specs.Forwarding.{does}
-use Rattle.dn_model.specs.Walk.{at_address}
-use Rattle.dn_model.specs.declared.ids.LinkId.{LinkId}
-use Rattle.dn_model.specs.declared.ids.RouterId.{RouterId}
-use Rattle.dn_model.specs.declared.target.Target.TheVariants.{To}
+use Rattle.base.specs.Forwarding.{does}
+use Rattle.base.specs.Walk.{at_address}
+use Rattle.base.specs.declared.ids.LinkId.{LinkId}
+use Rattle.base.specs.declared.ids.RouterId.{RouterId}
+use Rattle.base.specs.declared.target.Target.TheVariants.{To}
 use Rattle.label_view.proofs.InRow.{leads-within, target-is}
 use Rattle.blackhole.specs.Falls.{is_fall}
 use Rattle.blackhole.proofs.Falling.{falls-here, falls-later}

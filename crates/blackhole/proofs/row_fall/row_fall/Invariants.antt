@@ -1,9 +1,9 @@
 use Rattle.std.proofs.Common.{◌≡◌, ℕ, ◌+◌, ◌<◌}
-use Rattle.dn_model.specs.Forwarding.{does}
-use Rattle.dn_model.specs.Holes.{falls}
-use Rattle.dn_model.specs.Walk.{at_address}
-use Rattle.dn_model.specs.declared.ids.RouterId.{RouterId}
-use Rattle.dn_model.specs.declared.target.Target.{Target}
+use Rattle.base.specs.Forwarding.{does}
+use Rattle.base.specs.Holes.{falls}
+use Rattle.base.specs.Walk.{at_address}
+use Rattle.base.specs.declared.ids.RouterId.{RouterId}
+use Rattle.base.specs.declared.target.Target.{Target}
 use Rattle.label_view.specs.Places.{IsInRow}
 use Rattle.blackhole.proofs.Falling.{walk_falls}
 use Rattle.blackhole.proofs.row_fall.row_fall.Given as goal

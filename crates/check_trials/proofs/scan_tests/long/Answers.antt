@@ -1,7 +1,7 @@
 use Rattle.std.proofs.Common.{ℕ, ◌≡◌, ◌+◌, ◌*◌, ◌<◌, List, [], ◌∷◌, ◌++◌, append_assoc, arith, subst}
-use Rattle.dn_model.specs.Forwarding.{AreEachForwarding, AreForwarding, IsForwarding, row_low, row_past}
-use Rattle.dn_model.specs.Rows.{CoverFrom}
-use Rattle.dn_model.specs.declared.forwarding_row.ForwardingRow.{ForwardingRow}
+use Rattle.base.specs.Forwarding.{AreEachForwarding, AreForwarding, IsForwarding, row_low, row_past}
+use Rattle.base.specs.Rows.{CoverFrom}
+use Rattle.base.specs.declared.forwarding_row.ForwardingRow.{ForwardingRow}
 use Rattle.check_trials.proofs.scan_tests.long.Goals as goal
 
 -- a row more, and rows that go on where it ends

@@ -1,7 +1,7 @@
 use Rattle.std.proofs.Common.{◌-◌, ◌<◌, subst, arith}
 use Rattle.std.proofs.lemmas.List.{get_or_default}
-use Rattle.dn_model.specs.Delta.{GoesOn}
-use Rattle.dn_model.specs.declared.change.Change.{Change}
+use Rattle.base.specs.Delta.{GoesOn}
+use Rattle.base.specs.declared.change.Change.{Change}
 use Rattle.delta_graph.proofs.Joints.{left-none, left-one}
 use Rattle.delta_graph.proofs.Pushing.{ends-at}
 use Rattle.delta_graph.proofs.delta.join_left.Goals as goal

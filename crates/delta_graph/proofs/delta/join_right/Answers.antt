@@ -1,7 +1,7 @@
 use Rattle.std.proofs.Common.{subst}
 use Rattle.std.proofs.lemmas.List.{get_or_default}
-use Rattle.dn_model.specs.Delta.{GoesOn}
-use Rattle.dn_model.specs.declared.change.Change.{Change}
+use Rattle.base.specs.Delta.{GoesOn}
+use Rattle.base.specs.declared.change.Change.{Change}
 use Rattle.delta_graph.proofs.Joints.{right-none, right-one}
 use Rattle.delta_graph.proofs.Pushing.{first-at}
 use Rattle.delta_graph.proofs.delta.join_right.Goals as goal

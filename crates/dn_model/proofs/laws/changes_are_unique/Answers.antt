@@ -1,6 +1,6 @@
-use Rattle.dn_model.specs.Delta.{less_last}
+use Rattle.dn_model.specs.LastDelta.{less_last}
 use Rattle.dn_model.specs.Table.{does_after}
-use Rattle.dn_model.proofs.DeltaOnce.{delta-once}
+use Rattle.base.proofs.DeltaOnce.{delta-once}
 use Rattle.dn_model.proofs.laws.changes_are_unique.Goals as goal
 
 pub returns : goal.returns

@@ -1,48 +1,30 @@
-use Rattle.std.proofs.Common.{◌∙◌, ◌∷◌, [], sym}
-use Rattle.dn_model.specs.Query.{RouterName, LinkName}
-use Rattle.dn_model.specs.declared.query.Ask.TheVariants.{Path, Reach, Uses, Blackholes, Waypoint}
-use Rattle.dn_model.proofs.Best.{contains-here, contains-there}
-use Rattle.dn_model.proofs.Known.{router-known, link-known}
+use Rattle.std.proofs.Common.{◌≡◌, ◌∙◌, List, ap, sym, subst}
+use Rattle.std.proofs.lemmas.Result.{IfOk-weaker}
+use Rattle.dn_model.specs.Answer.{IsAnswerTo, links_of}
+use Rattle.dn_model.specs.Network.{IsNetwork, does_in}
+use Rattle.base.specs.declared.ids.LinkId.{LinkId}
+use Rattle.dn_model.specs.declared.query.Ask.{Ask}
+use Rattle.dn_model.proofs.Known.{asked-known}
+use Rattle.dn_model.proofs.Moments.{network-closed, network-does}
+use Rattle.dn_model.proofs.SameAnswers.{answer-over}
 use Rattle.dn_model.proofs.plain.plain_answer.Goals as goal
 
-pub plain_path-requires : goal.plain_path-requires
-plain_path-requires c =
-    router-known c.args.t.now c.args.query.now (Path c.in-Path.name c.in-Path.a) c.in-Path.name c.requires.names (sym c.ask.ensures.value ∙ c.in-Path.is) (contains-here (RouterName c.in-Path.name) [])
+pub answer_in-requires : goal.answer_in-requires
+answer_in-requires c = record {
+  count = c.in_ok-net.ensures.routers.count;
+  closed = network-closed c.args.t.now c.args.entries.now c.as_slice.result.now c.in_ok-net.net c.requires.entries c.in_ok-net.ensures;
+  known = λ n i. asked-known c.args.t.now c.args.query.now c.ask-ask.result.now n c.requires.names (sym c.ask-ask.ensures.value) i;
+  other = c.in_default.not-Delta;
+}
 
-pub plain_reach-requires-clause-from : goal.plain_reach-requires-clause-from
-plain_reach-requires-clause-from c =
-    router-known c.args.t.now c.args.query.now (Reach c.in-Reach.from c.in-Reach.to) c.in-Reach.from c.requires.names (sym c.ask.ensures.value ∙ c.in-Reach.is) (contains-here (RouterName c.in-Reach.from) (RouterName c.in-Reach.to ∷ []))
-
-pub plain_reach-requires-clause-to : goal.plain_reach-requires-clause-to
-plain_reach-requires-clause-to c =
-    router-known c.args.t.now c.args.query.now (Reach c.in-Reach.from c.in-Reach.to) c.in-Reach.to c.requires.names (sym c.ask.ensures.value ∙ c.in-Reach.is)
-    (contains-there (RouterName c.in-Reach.from) (RouterName c.in-Reach.to) (RouterName c.in-Reach.to ∷ []) (contains-here (RouterName c.in-Reach.to) []))
-
-pub plain_uses-requires-clause-name : goal.plain_uses-requires-clause-name
-plain_uses-requires-clause-name c =
-    link-known c.args.t.now c.args.query.now (Uses c.in-Uses.name) c.in-Uses.name c.requires.names (sym c.ask.ensures.value ∙ c.in-Uses.is) (contains-here (LinkName c.in-Uses.name) [])
-
-pub plain_waypoint-requires-clause-from : goal.plain_waypoint-requires-clause-from
-plain_waypoint-requires-clause-from c =
-    let ask = Waypoint c.in-Waypoint.from c.in-Waypoint.to c.in-Waypoint.through in
-    router-known c.args.t.now c.args.query.now ask c.in-Waypoint.from c.requires.names (sym c.ask.ensures.value ∙ c.in-Waypoint.is)
-    (contains-here (RouterName c.in-Waypoint.from) (RouterName c.in-Waypoint.to ∷ RouterName c.in-Waypoint.through ∷ []))
-
-pub plain_waypoint-requires-clause-to : goal.plain_waypoint-requires-clause-to
-plain_waypoint-requires-clause-to c =
-    let ask = Waypoint c.in-Waypoint.from c.in-Waypoint.to c.in-Waypoint.through in
-    router-known c.args.t.now c.args.query.now ask c.in-Waypoint.to c.requires.names (sym c.ask.ensures.value ∙ c.in-Waypoint.is)
-    (contains-there (RouterName c.in-Waypoint.from) (RouterName c.in-Waypoint.to) (RouterName c.in-Waypoint.to ∷ RouterName c.in-Waypoint.through ∷ [])
-    (contains-here (RouterName c.in-Waypoint.to) (RouterName c.in-Waypoint.through ∷ [])))
-
-pub plain_waypoint-requires-clause-through : goal.plain_waypoint-requires-clause-through
-plain_waypoint-requires-clause-through c =
-    let ask = Waypoint c.in-Waypoint.from c.in-Waypoint.to c.in-Waypoint.through in
-    router-known c.args.t.now c.args.query.now ask c.in-Waypoint.through c.requires.names (sym c.ask.ensures.value ∙ c.in-Waypoint.is)
-    (contains-there (RouterName c.in-Waypoint.from) (RouterName c.in-Waypoint.through) (RouterName c.in-Waypoint.to ∷ RouterName c.in-Waypoint.through ∷ [])
-    (contains-there (RouterName c.in-Waypoint.to) (RouterName c.in-Waypoint.through) (RouterName c.in-Waypoint.through ∷ [])
-    (contains-here (RouterName c.in-Waypoint.through) [])))
-
-pub plain_holes-requires-clause-name : goal.plain_holes-requires-clause-name
-plain_holes-requires-clause-name c =
-    router-known c.args.t.now c.args.query.now (Blackholes c.in-Blackholes.name) c.in-Blackholes.name c.requires.names (sym c.ask.ensures.value ∙ c.in-Blackholes.is) (contains-here (RouterName c.in-Blackholes.name) [])
+pub returns : goal.returns
+returns c =
+    let t = c.args.t.now in
+    let history = c.args.entries.now in
+    let links : List LinkId = links_of t c.args.query.now.without in
+    let named : c.as_slice.result.now ≡ links = c.as_slice.ensures.value ∙ c.in_ok-down.ensures ∙ ap (links_of t) c.without.ensures.value in
+    let net : IsNetwork t history links c.in_ok-net.net = subst (λ ls. IsNetwork t history ls c.in_ok-net.net) named c.in_ok-net.ensures in
+    IfOk-weaker c.answer_in.result _ _ (λ answer is.
+    subst (λ (ask : Ask). IsAnswerTo t history links ask answer) c.ask-ask.ensures.value
+    (answer-over t (does_in c.in_ok-net.net) history links c.ask-ask.result.now answer
+    (λ r a. network-does t history links c.in_ok-net.net r a c.requires.entries net) is)) c.answer_in.ensures

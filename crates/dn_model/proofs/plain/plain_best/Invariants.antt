@@ -1,5 +1,5 @@
 use Rattle.std.proofs.Common.{◌≡◌, fold, filter, drop}
-use Rattle.dn_model.specs.Cidr.{covers}
+use Rattle.base.specs.Cidr.{covers}
 use Rattle.dn_model.specs.Table.{better, best}
 use Rattle.dn_model.proofs.plain.plain_best.Given as goal
 

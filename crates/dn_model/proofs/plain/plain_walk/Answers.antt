@@ -1,21 +1,21 @@
 use Rattle.std.proofs.Common.{◌≡◌, ◌∙◌, sym, ap}
-use Rattle.dn_model.specs.declared.ids.RouterId.{RouterId}
-use Rattle.dn_model.specs.declared.ids.LinkId.{LinkId}
-use Rattle.dn_model.specs.declared.target.Target.TheVariants.{To}
-use Rattle.dn_model.specs.declared.answer.PathEnd.TheVariants.{At}
-use Rattle.dn_model.specs.Walk.{next}
-use Rattle.dn_model.proofs.Walks.{walk_end-to, walk_end-last, walked-to, walked-last}
+use Rattle.base.specs.declared.ids.RouterId.{RouterId}
+use Rattle.base.specs.declared.ids.LinkId.{LinkId}
+use Rattle.base.specs.declared.target.Target.TheVariants.{To}
+use Rattle.base.specs.declared.path_end.PathEnd.TheVariants.{At}
+use Rattle.dn_model.specs.Next.{next}
+use Rattle.base.proofs.Walks.{walk_end-to, walk_end-last, walked-to, walked-last}
 use Rattle.dn_model.proofs.plain.plain_walk.Goals as goal
 
 pub returns-in_default : goal.returns-in_default
 returns-in_default c =
-    let last : (s : RouterId) (l : LinkId) → next c.args.t.now c.args.entries.now c.args.down.now c.loop-left.router c.args.a ≡ To s l → ⊥ = λ s l e. c.in_default.not-To s l (c.in_ok-last.ensures c.args.t.now ∙ e) in
+    let last : (s : RouterId) (l : LinkId) → next c.args.t.now c.args.entries.now c.args.down.now c.loop-left.router c.args.a ≡ To s l → ⊥ = λ s l e. c.in_default.not-To s l (c.in_ok-last.ensures ∙ e) in
     record {
       routers = c.from_vec.ensures ∙ walked-last _ _ _ _ _ _ c.loop-left-test.true last c.in_ok-push.ensures.items c.loop-left.invariant.0;
-      end = ap At (c.in_ok-last.ensures c.args.t.now) ∙ sym (walk_end-last _ _ _ c.loop-left-test.true last) ∙ c.loop-left.invariant.1;
+      end = ap At (c.in_ok-last.ensures) ∙ sym (walk_end-last _ _ _ c.loop-left-test.true last) ∙ c.loop-left.invariant.1;
     }
 
 pub loop-left-preserved : goal.loop-left-preserved
 loop-left-preserved c =
-    let e = sym (c.in_ok-last.ensures c.args.t.now) ∙ c.in-To.is in
+    let e = sym (c.in_ok-last.ensures) ∙ c.in-To.is in
     (walked-to _ _ _ _ _ _ _ _ c.loop-left-test.true e c.in_ok-push.ensures.items c.loop-left.invariant.0, sym (walk_end-to _ _ _ _ _ c.loop-left-test.true e) ∙ c.loop-left.invariant.1)

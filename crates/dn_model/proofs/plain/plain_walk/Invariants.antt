@@ -1,5 +1,6 @@
 use Rattle.std.proofs.Common.{◌≡◌, ◌++◌, length}
-use Rattle.dn_model.specs.Walk.{at_address, next, walk, walk_end}
+use Rattle.base.specs.Walk.{at_address, walk, walk_end}
+use Rattle.dn_model.specs.Next.{next}
 use Rattle.dn_model.proofs.plain.plain_walk.Given as goal
 
 -- what was walked, and the walk from here on, make the whole walk

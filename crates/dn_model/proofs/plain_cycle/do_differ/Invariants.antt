@@ -1,6 +1,6 @@
 use Rattle.std.proofs.Common.{◌≡◌, length}
-use Rattle.dn_model.specs.Reach.{is_router}
-use Rattle.dn_model.specs.Topology.{all_differ}
+use Rattle.base.specs.Reach.{is_router}
+use Rattle.base.specs.Lists.{all_differ}
 use Rattle.dn_model.proofs.plain_cycle.do_differ.Given as goal
 
 -- what is left decides

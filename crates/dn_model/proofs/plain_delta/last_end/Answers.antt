@@ -1,5 +1,5 @@
 use Rattle.std.proofs.Common.{arith}
-use Rattle.dn_model.proofs.DeltaParts.{alike-step, target-alike}
+use Rattle.dn_model.proofs.Nowhere.{alike-step, target-alike}
 use Rattle.dn_model.proofs.plain_delta.last_end.Goals as goal
 
 pub loop-route-preserved : goal.loop-route-preserved
@@ -10,4 +10,4 @@ loop-route-preserved c = (
 )
 
 pub returns-clause-alike : goal.returns-clause-alike
-returns-clause-alike c = λ a from to. target-alike c.loop-route.last c.args.past a c.args.routes.now (λ k d l. c.loop-route.invariant.2 k d (omega arith)) from to
+returns-clause-alike c = λ objects a from to. target-alike objects c.loop-route.last c.args.past a c.args.routes.now (λ k d l. c.loop-route.invariant.2 k d (omega arith)) from to

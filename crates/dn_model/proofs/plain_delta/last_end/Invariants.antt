@@ -1,5 +1,5 @@
 use Rattle.std.proofs.Common.{ℕ, ◌<◌, ◌≤◌, get_or}
-use Rattle.dn_model.specs.DeltaFrom.{CoversAlike}
+use Rattle.base.specs.DeltaFrom.{CoversAlike}
 use Rattle.dn_model.specs.declared.entry.Route.{Route}
 use Rattle.dn_model.proofs.plain_delta.last_end.Given as goal
 

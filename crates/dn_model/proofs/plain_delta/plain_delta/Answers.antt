@@ -1,13 +1,22 @@
-use Rattle.std.proofs.Common.{List, ℕ, length, sym, subst}
-use Rattle.dn_model.specs.Delta.{less_last}
+use Rattle.std.proofs.Common.{◌-◌, List, length, subst}
+use Rattle.std.proofs.lemmas.List.Elements.{All-take}
+use Rattle.std.proofs.lemmas.Result.{IfOk-weaker}
+use Rattle.dn_model.specs.Entry.{IsEntryOf}
+use Rattle.dn_model.specs.LastDelta.{less_last}
+use Rattle.dn_model.specs.Network.{IsNetwork, does_in}
 use Rattle.dn_model.specs.Table.{does_after}
-use Rattle.dn_model.specs.DeltaFrom.{IsDeltaFrom}
-use Rattle.dn_model.specs.declared.change.Change.{Change}
-use Rattle.dn_model.proofs.DeltaParts.{from-none}
+use Rattle.dn_model.specs.declared.entry.Entry.{Entry}
+use Rattle.dn_model.proofs.Moments.{network-after}
+use Rattle.dn_model.proofs.SameAnswers.{delta-over}
 use Rattle.dn_model.proofs.plain_delta.plain_delta.Goals as goal
 
-pub loop-left-init : goal.loop-left-init
-loop-left-init c =
-    let P : ℕ → Type 0 = λ n. IsDeltaFrom (does_after c.args.t.now (less_last c.args.entries.now)) (does_after c.args.t.now c.args.entries.now) n 0 c.new-changes.result.items in
-    let Q : List Change → Type 0 = λ cs. IsDeltaFrom (does_after c.args.t.now (less_last c.args.entries.now)) (does_after c.args.t.now c.args.entries.now) (length c.args.t.now.routers) 0 cs in
-    subst P (sym c.router_count-left.ensures.value) (subst Q (sym c.new-changes.ensures.items) (from-none c.args.t.now c.args.entries.now c.requires))
+pub returns : goal.returns
+returns c =
+    let t = c.args.t.now in
+    let history = c.args.entries.now in
+    let first : IsNetwork t (less_last history) _ c.in_ok-before.before = subst (λ (es : List Entry). IsNetwork t es _ c.in_ok-before.before) c.all_but_last.ensures c.in_ok-before.ensures in
+    IfOk-weaker c.changes_between.result _ _ (λ changes is.
+    delta-over (does_in c.in_ok-before.before) (does_in c.in_ok-after.after) (does_after t (less_last history)) (does_after t history) changes
+    (λ r a. network-after t (less_last history) c.in_ok-before.before r a (All-take (IsEntryOf t) (length history - 1) history c.requires) first)
+    (λ r a. network-after t history c.in_ok-after.after r a c.requires c.in_ok-after.ensures)
+    is) c.changes_between.ensures

@@ -1,6 +1,6 @@
 use Rattle.std.proofs.Common.{arith, ◌≤◌}
 use Rattle.std.proofs.lemmas.Result.{on_ok_weaker}
-use Rattle.dn_model.proofs.DeltaParts.{part-none, part-put}
+use Rattle.base.proofs.DeltaParts.{part-none, part-put}
 use Rattle.dn_model.proofs.plain_delta.tell_run.Goals as goal
 
 pub returns-then-is_same : goal.returns-then-is_same

@@ -1,7 +1,7 @@
-use Rattle.std.proofs.Common.{ℕ, ◌≡◌, ◌<◌, ◌≤◌, ◌∙◌, false, List, IsTrue, length, slice_index_or, ap, sym, subst}
-use Rattle.dn_model.specs.HolesFrom.{is_before, IsPutAmong}
-use Rattle.dn_model.specs.declared.answer.Hole.{Hole}
-use Rattle.dn_model.proofs.HolesFrom.{put-among}
+use Rattle.std.proofs.Common.{ℕ, ◌≡◌, ◌<◌, ◌≤◌, false, List, IsTrue, length, slice_index_or, sym, subst}
+use Rattle.base.specs.HolesFrom.{is_before, IsPutAmong}
+use Rattle.base.specs.declared.hole.Hole.{Hole}
+use Rattle.base.proofs.HolesFrom.{put-among}
 use Rattle.dn_model.proofs.plain_holes.put_hole.Goals as goal
 
 pub returns : goal.returns

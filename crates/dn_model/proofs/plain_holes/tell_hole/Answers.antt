@@ -1,8 +1,8 @@
 use Rattle.std.proofs.Common.{◌∙◌, ◌<◌, ◌^◌, List, ap, sym, arith}
 use Rattle.std.specs.List.{list_any}
-use Rattle.dn_model.specs.HolesFrom.{is_hole_of}
-use Rattle.dn_model.specs.declared.answer.Hole.{Hole}
-use Rattle.dn_model.proofs.HolesFrom.{tell-old, tell-new}
+use Rattle.base.specs.HolesFrom.{is_hole_of}
+use Rattle.base.specs.declared.hole.Hole.{Hole}
+use Rattle.base.proofs.HolesFrom.{tell-old, tell-new}
 use Rattle.dn_model.proofs.plain_holes.tell_hole.Goals as goal
 
 pub returns-then-has_hole : goal.returns-then-has_hole

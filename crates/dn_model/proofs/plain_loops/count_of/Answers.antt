@@ -1,6 +1,6 @@
-use Rattle.std.proofs.Common.{◌≡◌, ◌≤◌, ◌+◌, ◌-◌, ◌^◌, get_or, arith}
-use Rattle.dn_model.specs.Runs.{run_length}
-use Rattle.dn_model.proofs.CyclesFrom.{few-more}
+use Rattle.std.proofs.Common.{◌≤◌, ◌+◌, ◌^◌, get_or, arith}
+use Rattle.base.specs.Runs.{run_length}
+use Rattle.base.proofs.CyclesFrom.{few-more}
 use Rattle.dn_model.proofs.plain_loops.count_of.Goals as goal
 
 pub overflow_add-count : goal.overflow_add-count

@@ -1,5 +1,5 @@
 use Rattle.std.proofs.Common.{◌≡◌, ℕ, ◌<◌, slice_index_or}
-use Rattle.dn_model.specs.declared.answer.Cycle.{Cycle}
+use Rattle.base.specs.declared.cycle.Cycle.{Cycle}
 use Rattle.dn_model.proofs.plain_loops.has_cycle.Given as goal
 
 -- none so far has these routers

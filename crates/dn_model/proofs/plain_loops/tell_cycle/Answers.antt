@@ -1,15 +1,14 @@
-use Rattle.std.proofs.Common.{◌≡◌, ◌∙◌, Option, Some, List, sym, subst}
+use Rattle.std.proofs.Common.{◌≡◌, ◌∙◌, Option, List, sym, subst}
 use Rattle.std.specs.List.{Contains}
-use Rattle.dn_model.specs.CyclesFrom.{IsCycleOf}
-use Rattle.dn_model.specs.Walk.{next}
-use Rattle.dn_model.specs.declared.answer.Cycle.{Cycle}
-use Rattle.dn_model.specs.declared.ids.RouterId.{RouterId}
-use Rattle.dn_model.proofs.CyclesFrom.{other-cycle, tell-new}
+use Rattle.base.specs.CyclesFrom.{IsCycleOf}
+use Rattle.dn_model.specs.Network.{does_in}
+use Rattle.base.specs.declared.cycle.Cycle.{Cycle}
+use Rattle.base.proofs.CyclesFrom.{other-cycle, tell-new}
 use Rattle.dn_model.proofs.plain_loops.tell_cycle.Goals as goal
 
 pub put_cycle-requires-clause-other : goal.put_cycle-requires-clause-other
 put_cycle-requires-clause-other c =
-    let does = next c.args.t.now c.args.entries.now c.args.down.now in
+    let does = does_in c.args.net.now in
     let P : Option Cycle → Type 0 = λ o. IsCycleOf does c.args.routers o in
     let Q : List Cycle → Type 0 = λ cs. (x : Cycle) → Contains cs x → x.routers ≡ c.args.routers → ⊥ in
     other-cycle does c.in-Some.cycle c.args.routers c.args.cycles.now.items c.requires.form (subst P c.in-Some.is c.in_ok-cycle.ensures)
@@ -17,6 +16,6 @@ put_cycle-requires-clause-other c =
 
 pub returns : goal.returns
 returns c =
-    let does = next c.args.t.now c.args.entries.now c.args.down.now in
+    let does = does_in c.args.net.now in
     let P : Option Cycle → Type 0 = λ o. IsCycleOf does c.args.routers o in
     tell-new does c.in-Some.cycle c.args.routers c.args.cycles.now.items c.put_cycle.new.cycles.items c.requires.form (subst P c.in-Some.is c.in_ok-cycle.ensures) c.in_ok-put_cycle.ensures

@@ -1,5 +1,5 @@
 use Rattle.std.proofs.Common.{◌≡◌, drop}
-use Rattle.dn_model.specs.Reach.{comes_before}
+use Rattle.base.specs.Reach.{comes_before}
 use Rattle.dn_model.proofs.plain_test.is_before_waypoint.Given as goal
 
 -- what is left decides

@@ -1,6 +1,6 @@
 use Rattle.std.specs.Arc.{arc_value}
 use Rattle.std.proofs.Common.{◌≡◌}
-use Rattle.dn_formats.specs.TopologyText.{parts}
+use Rattle.dn_model.specs.Tables.{parts}
 use Rattle.dn_run.specs.Made.{made_network}
 use Rattle.dn_run.proofs.MadeLemmas.{made-run}
 use Rattle.dn_run.proofs.made.run_made.Goals as goal

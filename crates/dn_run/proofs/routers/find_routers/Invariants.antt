@@ -1,5 +1,5 @@
 use Rattle.std.proofs.Common.{◌≡◌, ◌+◌, ◌<◌, map, length, All, true}
-use Rattle.dn_model.specs.Topology.{all_differ}
+use Rattle.base.specs.Lists.{all_differ}
 use Rattle.dn_run.specs.Jobs.{same_router}
 use Rattle.dn_run.specs.PartsRead.{feed_texts}
 use Rattle.dn_run.proofs.RoutersLemmas.{RoutersSoFar}

@@ -1,5 +1,5 @@
 use Rattle.std.proofs.Common.{◌≡◌, ◌+◌, ◌<◌, ◌≤◌, length, get_or, ap, arith}
-use Rattle.dn_model.specs.Forwarding.{row_past}
+use Rattle.base.specs.Forwarding.{row_past}
 use Rattle.label_view.proofs.Found.{next-inside, next-from}
 use Rattle.label_view.proofs.list_view.place_of.Goals as goal
 

@@ -1,5 +1,5 @@
 use Rattle.std.proofs.Common.{◌≤◌, ℕ, List, length}
-use Rattle.dn_model.specs.declared.forwarding_row.ForwardingRow.{ForwardingRow}
+use Rattle.base.specs.declared.forwarding_row.ForwardingRow.{ForwardingRow}
 use Rattle.loop_check.specs.Known.{AreKnownTo, HaveAllBefore}
 use Rattle.loop_check.proofs.Telling.{AreTold}
 use Rattle.loop_check.proofs.all_rows.told.Given as goal

@@ -1,5 +1,5 @@
 use Rattle.std.proofs.Common.{◌≡◌, ◌+◌, drop}
-use Rattle.dn_model.specs.Runs.{addresses_in}
+use Rattle.base.specs.Runs.{addresses_in}
 use Rattle.loop_check.proofs.cycle_order.count_of.Given as goal
 
 -- those so far and those that are left are all

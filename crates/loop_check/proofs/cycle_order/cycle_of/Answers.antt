@@ -1,6 +1,6 @@
 use Rattle.std.proofs.Common.{◌<◌, ◌≤◌, ◌∙◌, List, length, slice_index_or, refl, ap, arith}
-use Rattle.dn_model.specs.Runs.{addresses_in}
-use Rattle.dn_model.specs.declared.run.Run.{Run}
+use Rattle.base.specs.Runs.{addresses_in}
+use Rattle.base.specs.declared.run.Run.{Run}
 use Rattle.loop_check.proofs.Telling.{cycle-none, cycle-some}
 use Rattle.loop_check.proofs.cycle_order.cycle_of.Goals as goal
 

@@ -1,6 +1,6 @@
 use Rattle.std.proofs.Common.{ℕ, ◌<◌, IsTrue, slice_index_or}
-use Rattle.dn_model.specs.CyclesFrom.{is_before}
-use Rattle.dn_model.specs.declared.answer.Cycle.{Cycle}
+use Rattle.base.specs.CyclesFrom.{is_before}
+use Rattle.base.specs.declared.cycle.Cycle.{Cycle}
 use Rattle.loop_check.proofs.cycle_order.place_of.Given as goal
 
 -- all so far come before

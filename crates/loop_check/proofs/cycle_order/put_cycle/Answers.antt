@@ -1,7 +1,7 @@
 use Rattle.std.proofs.Common.{ℕ, ◌≡◌, ◌<◌, ◌≤◌, false, List, IsTrue, length, slice_index_or, sym, subst}
-use Rattle.dn_model.specs.CyclesFrom.{is_before, IsPutAmong}
-use Rattle.dn_model.specs.declared.answer.Cycle.{Cycle}
-use Rattle.dn_model.proofs.CyclesFrom.{put-among}
+use Rattle.base.specs.CyclesFrom.{is_before, IsPutAmong}
+use Rattle.base.specs.declared.cycle.Cycle.{Cycle}
+use Rattle.base.proofs.CyclesFrom.{put-among}
 use Rattle.loop_check.proofs.cycle_order.put_cycle.Goals as goal
 
 pub returns : goal.returns

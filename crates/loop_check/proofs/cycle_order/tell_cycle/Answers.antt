@@ -1,11 +1,11 @@
 use Rattle.std.proofs.Common.{◌≡◌, ◌∙◌, ◌≤◌, ℕ, Option, List, length, sym, subst}
 use Rattle.std.specs.List.{Contains}
 use Rattle.std.proofs.lemmas.Result.{on_ok_weaker}
-use Rattle.dn_model.specs.Cycles.{AreInOrder, first_router, goes_round}
-use Rattle.dn_model.specs.CyclesFrom.{AreSomeCycles, IsCycleOf, IsPutAmong, TellsCycle}
-use Rattle.dn_model.specs.Forwarding.{does}
-use Rattle.dn_model.specs.declared.answer.Cycle.{Cycle}
-use Rattle.dn_model.specs.declared.forwarding_row.ForwardingRow.{ForwardingRow}
+use Rattle.base.specs.Cycles.{AreInOrder, first_router, goes_round}
+use Rattle.base.specs.CyclesFrom.{AreSomeCycles, IsCycleOf, IsPutAmong, TellsCycle}
+use Rattle.base.specs.Forwarding.{does}
+use Rattle.base.specs.declared.cycle.Cycle.{Cycle}
+use Rattle.base.specs.declared.forwarding_row.ForwardingRow.{ForwardingRow}
 use Rattle.label_view.specs.Places.{AreGatheredTo}
 use Rattle.loop_check.proofs.Telling.{tell-put}
 use Rattle.loop_check.proofs.cycle_order.tell_cycle.Goals as goal

@@ -1,6 +1,6 @@
 use Rattle.std.proofs.Common.{ℕ, ◌<◌, List, slice_index_or}
-use Rattle.dn_model.specs.Cycles.{first_router}
-use Rattle.dn_model.specs.declared.ids.RouterId.{RouterId}
+use Rattle.base.specs.Cycles.{first_router}
+use Rattle.base.specs.declared.ids.RouterId.{RouterId}
 use Rattle.loop_check.proofs.first_order.place_of.Given as goal
 
 -- the first routers of all so far come before

@@ -1,8 +1,8 @@
 use Rattle.std.proofs.Common.{◌≡◌, ◌<◌, ◌≤◌, ◌∙◌, ⊎_elim, ℕ, List, length, slice_index_or, sym, subst, arith}
 use Rattle.std.specs.List.{insert}
 use Rattle.std.proofs.lemmas.Bool.{cases_eq}
-use Rattle.dn_model.specs.Cycles.{first_router}
-use Rattle.dn_model.specs.declared.ids.RouterId.{RouterId}
+use Rattle.base.specs.Cycles.{first_router}
+use Rattle.base.specs.declared.ids.RouterId.{RouterId}
 use Rattle.loop_check.specs.FirstOrder.{IsPutByFirst}
 use Rattle.loop_check.proofs.ByFirst.{put-new, put-there}
 use Rattle.loop_check.proofs.first_order.put_cycle.Goals as goal

@@ -1,5 +1,5 @@
 use Rattle.std.proofs.Common.{◌≡◌, true, subst}
-use Rattle.dn_model.specs.Cycles.{is_cycle}
+use Rattle.base.specs.Cycles.{is_cycle}
 use Rattle.loop_check.specs.Following.{IsFollowed, hops, is_among}
 use Rattle.loop_check.specs.declared.follow.Followed.{Followed}
 use Rattle.loop_check.proofs.Rounds.{one-shared}

@@ -1,8 +1,8 @@
 use Rattle.std.proofs.Common.{◌≡◌, ◌+◌, ◌<◌, ◌∙◌, sym, ap, length, List, [], ◌∷◌, arith}
 use Rattle.std.proofs.lemmas.List.{length-append}
-use Rattle.dn_model.specs.declared.ids.LinkId.{LinkId}
-use Rattle.dn_model.specs.declared.ids.RouterId.{RouterId}
-use Rattle.dn_model.specs.declared.target.Target.TheVariants.{To}
+use Rattle.base.specs.declared.ids.LinkId.{LinkId}
+use Rattle.base.specs.declared.ids.RouterId.{RouterId}
+use Rattle.base.specs.declared.target.Target.TheVariants.{To}
 use Rattle.loop_check.specs.Following.{hops}
 use Rattle.loop_check.proofs.Chains.{chain-next, chain-back, chain-earlier, chain-ends, chain-long}
 use Rattle.loop_check.proofs.follow.follow.Goals as goal

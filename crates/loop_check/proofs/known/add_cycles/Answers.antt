@@ -1,7 +1,7 @@
 use Rattle.std.proofs.Common.{◌∙◌, List, length, slice_index_or, sym, subst}
 use Rattle.std.proofs.lemmas.Bool.{eqb-true}
-use Rattle.dn_model.specs.Forwarding.{target_of}
-use Rattle.dn_model.specs.declared.ids.RouterId.{RouterId}
+use Rattle.base.specs.Forwarding.{target_of}
+use Rattle.base.specs.declared.ids.RouterId.{RouterId}
 use Rattle.label_view.proofs.InRow.{some_row}
 use Rattle.loop_check.specs.RowCycles.{AreCyclesOf}
 use Rattle.loop_check.proofs.Knowing.{before-none, known-skip}

@@ -1,7 +1,7 @@
 use Rattle.std.proofs.Common.{◌<◌, List, inl, ⊎_elim, length, slice_index_or, sym, subst, arith}
 use Rattle.std.specs.List.{Contains}
-use Rattle.dn_model.specs.Forwarding.{target_of}
-use Rattle.dn_model.specs.declared.ids.RouterId.{RouterId}
+use Rattle.base.specs.Forwarding.{target_of}
+use Rattle.base.specs.declared.ids.RouterId.{RouterId}
 use Rattle.label_view.proofs.InRow.{some_row}
 use Rattle.loop_check.specs.Known.{HasKnown}
 use Rattle.loop_check.proofs.Knowing.{before-kept, before-more, goes-less, told-less}

@@ -1,9 +1,9 @@
 use Rattle.std.proofs.Common.{◌+◌, ◌⊎◌, List, IsTrue, length, slice_index_or}
 use Rattle.std.specs.List.{Contains}
-use Rattle.dn_model.specs.Cycles.{is_cycle}
-use Rattle.dn_model.specs.Forwarding.{target_of}
-use Rattle.dn_model.specs.declared.forwarding_row.ForwardingRow.{ForwardingRow}
-use Rattle.dn_model.specs.declared.ids.RouterId.{RouterId}
+use Rattle.base.specs.Cycles.{is_cycle}
+use Rattle.base.specs.Forwarding.{target_of}
+use Rattle.base.specs.declared.forwarding_row.ForwardingRow.{ForwardingRow}
+use Rattle.base.specs.declared.ids.RouterId.{RouterId}
 use Rattle.label_view.proofs.InRow.{some_row}
 use Rattle.loop_check.specs.Known.{AreKnownTo, HasKnown, HaveAllBefore}
 use Rattle.loop_check.proofs.known.add_new.Given as goal

@@ -1,7 +1,7 @@
 use Rattle.std.proofs.Common.{◌<◌, ◌∙◌, Bool, List, length, slice_index_or, refl, ap, sym, arith}
-use Rattle.dn_model.specs.Cycles.{is_cycle}
-use Rattle.dn_model.specs.Forwarding.{target_of}
-use Rattle.dn_model.specs.declared.ids.RouterId.{RouterId}
+use Rattle.base.specs.Cycles.{is_cycle}
+use Rattle.base.specs.Forwarding.{target_of}
+use Rattle.base.specs.declared.ids.RouterId.{RouterId}
 use Rattle.label_view.proofs.InRow.{some_row}
 use Rattle.loop_check.specs.declared.known.KnownCycle.{KnownCycle}
 use Rattle.loop_check.proofs.Knowing.{done-more, known-start, left-less, listed-is, round, routers-same, row-round}

@@ -1,6 +1,6 @@
 use Rattle.std.proofs.Common.{◌≡◌, ℕ, ◌+◌, ◌<◌, ◌≤◌, length, slice_index_or}
-use Rattle.dn_model.specs.Cycles.{goes_round}
-use Rattle.dn_model.specs.Forwarding.{does}
+use Rattle.base.specs.Cycles.{goes_round}
+use Rattle.base.specs.Forwarding.{does}
 use Rattle.label_view.specs.Places.{AreGatheredTo}
 use Rattle.loop_check.specs.declared.known.KnownCycle.{KnownCycle}
 use Rattle.loop_check.proofs.known.add_row.Given as goal

@@ -1,8 +1,8 @@
 use Rattle.std.proofs.Common.{ap}
 use Rattle.std.proofs.lemmas.Bool.{eqb-true, eq-eqb, both_ways}
 use Rattle.std.proofs.lemmas.Slice.Eq.{slice_eq-Decides}
-use Rattle.dn_model.specs.declared.ids.RouterId.{RouterId}
-use Rattle.dn_model.proofs.DeltaParts.{same-router}
+use Rattle.base.specs.declared.ids.RouterId.{RouterId}
+use Rattle.base.proofs.DeltaParts.{same-router}
 use Rattle.loop_check.proofs.known.are_same_routers.Goals as goal
 
 pub returns-clause-yes : goal.returns-clause-yes

@@ -1,5 +1,5 @@
 use Rattle.std.proofs.Common.{◌+◌, ◌∙◌, List, refl, sym, subst}
-use Rattle.dn_model.specs.declared.ids.RouterId.{RouterId}
+use Rattle.base.specs.declared.ids.RouterId.{RouterId}
 use Rattle.label_view.specs.Places.{AreGatheredTo}
 use Rattle.label_view.proofs.InRow.{some_row}
 use Rattle.loop_check.specs.Known.{HasKnown}

@@ -1,6 +1,6 @@
 use Rattle.std.proofs.Common.{◌<◌, ◌∙◌, ℕ, refl, length, slice_index_or, arith}
 use Rattle.std.proofs.lemmas.List.{length-set}
-use Rattle.dn_model.specs.declared.target.Target.TheVariants.{NoRoute}
+use Rattle.base.specs.declared.target.Target.TheVariants.{NoRoute}
 use Rattle.loop_check.proofs.Reading.{read-more, read-all}
 use Rattle.loop_check.proofs.row.read_row.Goals as goal
 

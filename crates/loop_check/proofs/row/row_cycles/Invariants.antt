@@ -1,5 +1,5 @@
 use Rattle.std.proofs.Common.{◌≡◌, ◌<◌, length}
-use Rattle.dn_model.specs.declared.ids.RouterId.{RouterId}
+use Rattle.base.specs.declared.ids.RouterId.{RouterId}
 use Rattle.loop_check.specs.FirstOrder.{AreSomeOf, TellPassed}
 use Rattle.loop_check.specs.Following.{IsPassed, hops}
 use Rattle.loop_check.proofs.row.row_cycles.Given as goal

@@ -1,5 +1,5 @@
 use Rattle.std.proofs.Common.{Bool, true, List, subst}
-use Rattle.dn_model.specs.declared.ids.RouterId.{RouterId}
+use Rattle.base.specs.declared.ids.RouterId.{RouterId}
 use Rattle.loop_check.specs.Following.{IsCycleAt, hops}
 use Rattle.loop_check.specs.FirstOrder.{IsPutByFirst}
 use Rattle.loop_check.proofs.ByFirst.{some-put, told-put}

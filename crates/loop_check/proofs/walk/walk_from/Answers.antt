@@ -1,7 +1,7 @@
 use Rattle.std.proofs.Common.{◌≡◌, ◌<◌, ◌∙◌, length, true, refl, sym, inl, inr, ⊎_elim, subst, arith}
-use Rattle.dn_model.specs.declared.ids.LinkId.{LinkId}
-use Rattle.dn_model.specs.declared.ids.RouterId.{RouterId}
-use Rattle.dn_model.specs.declared.target.Target.TheVariants.{To}
+use Rattle.base.specs.declared.ids.LinkId.{LinkId}
+use Rattle.base.specs.declared.ids.RouterId.{RouterId}
+use Rattle.base.specs.declared.target.Target.TheVariants.{To}
 use Rattle.loop_check.specs.Following.{IsPassed, MeetsPassed, hops, is_among}
 use Rattle.loop_check.proofs.Passing.{passed-new, passed-kept, mark-old, meets-cases}
 use Rattle.loop_check.proofs.Rounds.{goes-there, in-none, step}

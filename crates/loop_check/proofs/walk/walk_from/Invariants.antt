@@ -1,8 +1,8 @@
 use Rattle.std.proofs.Common.{◌≡◌, ◌<◌, ◌⊎◌, List, None, Some, IsTrue, length, slice_index_or}
 use Rattle.std.specs.List.{count_by}
 use Rattle.std.specs.Option.{is_none}
-use Rattle.dn_model.specs.Cycles.{is_cycle}
-use Rattle.dn_model.specs.declared.ids.RouterId.{RouterId}
+use Rattle.base.specs.Cycles.{is_cycle}
+use Rattle.base.specs.declared.ids.RouterId.{RouterId}
 use Rattle.loop_check.specs.Following.{IsPassed, MeetsPassed, hops, is_among}
 use Rattle.loop_check.proofs.walk.walk_from.Given as goal
 

@@ -1,7 +1,7 @@
 use Rattle.std.proofs.Common.{◌+◌, ◌<◌, ◌≤◌, [], ◌∷◌, length, slice_index_or, take, arith}
-use Rattle.dn_model.specs.Forwarding.{does}
-use Rattle.dn_model.specs.declared.change.Change.{Change}
-use Rattle.dn_model.specs.declared.target.Target.TheVariants.{NoRoute}
+use Rattle.base.specs.Forwarding.{does}
+use Rattle.base.specs.declared.change.Change.{Change}
+use Rattle.base.specs.declared.target.Target.TheVariants.{NoRoute}
 use Rattle.loop_keeper.specs.Looks.{rows_met}
 use Rattle.loop_keeper.proofs.Meeting.{looks-more, met-front, met-take, touched-take}
 use Rattle.loop_keeper.proofs.Taking.{each-change}

@@ -1,5 +1,5 @@
 use Rattle.std.proofs.Common.{◌≤◌, ◌+◌, ◌*◌, take}
-use Rattle.dn_model.specs.Forwarding.{does}
+use Rattle.base.specs.Forwarding.{does}
 use Rattle.loop_keeper.specs.Finding.{AllGoRound, AllTellAfter, AllInside, FindTouched}
 use Rattle.loop_keeper.specs.Looks.{rows_met}
 use Rattle.loop_keeper.proofs.finding.find_all.Given as goal

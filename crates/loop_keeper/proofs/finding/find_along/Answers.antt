@@ -1,7 +1,7 @@
 use Rattle.std.proofs.Common.{◌+◌, ◌-◌, ◌<◌, ◌≤◌, ◌^◌, [], ◌∷◌, length, arith}
 use Rattle.std.proofs.lemmas.Result.{on_ok_weaker}
-use Rattle.dn_model.specs.Forwarding.{row_low, row_past}
-use Rattle.dn_model.proofs.Covers.{few-rows}
+use Rattle.base.specs.Forwarding.{row_low, row_past}
+use Rattle.base.proofs.Covers.{few-rows}
 use Rattle.loop_keeper.specs.Looks.{rows_met}
 use Rattle.loop_keeper.proofs.Meeting.{finds-along, looks-most, rows-between}
 use Rattle.loop_keeper.proofs.Starting.{does-after}

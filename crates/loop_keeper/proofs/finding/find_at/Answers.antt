@@ -1,6 +1,6 @@
 use Rattle.std.proofs.Common.{◌<◌, Bool, List, length, slice_index_or, sym, subst}
-use Rattle.dn_model.specs.Forwarding.{target_of}
-use Rattle.dn_model.specs.declared.ids.RouterId.{RouterId}
+use Rattle.base.specs.Forwarding.{target_of}
+use Rattle.base.specs.declared.ids.RouterId.{RouterId}
 use Rattle.loop_keeper.specs.Following.{IsFollowed, IsTurned}
 use Rattle.loop_keeper.proofs.Meeting.{finds-none, finds-one, inside-one}
 use Rattle.loop_keeper.proofs.finding.find_at.Goals as goal

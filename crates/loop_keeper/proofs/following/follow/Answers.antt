@@ -1,8 +1,8 @@
 use Rattle.std.proofs.Common.{◌≡◌, ◌≤◌, true, ◌+◌, ◌∙◌, sym, ap, subst, length, List, [], ◌∷◌, ◌++◌, slice_index_or, arith}
 use Rattle.std.proofs.lemmas.List.{get_or_default, length-append}
-use Rattle.dn_model.specs.Forwarding.{target_of}
-use Rattle.dn_model.specs.declared.forwarding_row.ForwardingRow.{ForwardingRow}
-use Rattle.dn_model.specs.declared.ids.RouterId.{RouterId}
+use Rattle.base.specs.Forwarding.{target_of}
+use Rattle.base.specs.declared.forwarding_row.ForwardingRow.{ForwardingRow}
+use Rattle.base.specs.declared.ids.RouterId.{RouterId}
 use Rattle.label_view.proofs.InRow.{leads-within, some_row}
 use Rattle.loop_check.specs.Following.{IsInNone, is_among}
 use Rattle.loop_keeper.specs.Following.{ComesBack, IsFollowed}

@@ -1,8 +1,8 @@
 use Rattle.std.proofs.Common.{◌≡◌, ◌+◌, ◌<◌, length, slice_index_or}
-use Rattle.dn_model.specs.Forwarding.{target_of}
-use Rattle.dn_model.specs.declared.ids.LinkId.{LinkId}
-use Rattle.dn_model.specs.declared.ids.RouterId.{RouterId}
-use Rattle.dn_model.specs.declared.target.Target.TheVariants.{To}
+use Rattle.base.specs.Forwarding.{target_of}
+use Rattle.base.specs.declared.ids.LinkId.{LinkId}
+use Rattle.base.specs.declared.ids.RouterId.{RouterId}
+use Rattle.base.specs.declared.target.Target.TheVariants.{To}
 use Rattle.label_view.proofs.InRow.{some_row}
 use Rattle.loop_keeper.specs.Starts.{DoesSo}
 use Rattle.loop_keeper.proofs.Ways.{HasWay}

@@ -1,6 +1,6 @@
 use Rattle.std.proofs.Common.{ℕ}
-use Rattle.dn_model.specs.declared.ids.RouterId.{RouterId}
-use Rattle.dn_model.specs.declared.target.Target.{Target}
+use Rattle.base.specs.declared.ids.RouterId.{RouterId}
+use Rattle.base.specs.declared.target.Target.{Target}
 use Rattle.loop_keeper.specs.Kept.{AreKept}
 use Rattle.loop_keeper.proofs.Told.{AreToldTo}
 use Rattle.loop_keeper.proofs.telling.cycles_of.Given as goal

@@ -1,11 +1,11 @@
 use Rattle.std.proofs.Common.{◌≡◌, ◌∙◌, ℕ, Option, List, sym, subst}
 use Rattle.std.specs.List.{Contains}
 use Rattle.std.proofs.lemmas.Result.{on_ok_weaker}
-use Rattle.dn_model.specs.Cycles.{AreInOrder, first_router}
-use Rattle.dn_model.specs.CyclesFrom.{AreSomeCycles, IsCycleOf, IsPutAmong, TellsCycle}
-use Rattle.dn_model.specs.declared.answer.Cycle.{Cycle}
-use Rattle.dn_model.specs.declared.ids.RouterId.{RouterId}
-use Rattle.dn_model.specs.declared.target.Target.{Target}
+use Rattle.base.specs.Cycles.{AreInOrder, first_router}
+use Rattle.base.specs.CyclesFrom.{AreSomeCycles, IsCycleOf, IsPutAmong, TellsCycle}
+use Rattle.base.specs.declared.cycle.Cycle.{Cycle}
+use Rattle.base.specs.declared.ids.RouterId.{RouterId}
+use Rattle.base.specs.declared.target.Target.{Target}
 use Rattle.loop_check.proofs.Telling.{tell-put}
 use Rattle.loop_keeper.specs.Kept.{IsKeptExactly}
 use Rattle.loop_keeper.proofs.telling.tell_cycle.Goals as goal

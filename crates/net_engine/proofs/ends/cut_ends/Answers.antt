@@ -1,5 +1,5 @@
 use Rattle.std.proofs.Common.{◌≡◌, ◌+◌, ◌<◌, ◌^◌, ◌∙◌, ap, arith, sym}
-use Rattle.dn_model.specs.Cidr.{size}
+use Rattle.base.specs.Cidr.{size}
 use Rattle.net_engine.specs.Net.{cut_atoms}
 use Rattle.net_engine.specs.Seen.{net_in}
 use Rattle.net_engine.proofs.Parting.{parted-once, parted-twice}

@@ -1,6 +1,6 @@
 use Rattle.std.proofs.Common.{◌+◌, ◌<◌, ◌≤◌, ◌^◌, length, arith, refl}
-use Rattle.dn_model.specs.Atoms.{atom_low, atom_past}
-use Rattle.dn_model.proofs.Covers.{few-rows}
+use Rattle.atom_map.specs.Atoms.{atom_low, atom_past}
+use Rattle.base.proofs.Covers.{few-rows}
 use Rattle.net_engine.proofs.Relabelling.{atom-begins, atoms-end}
 use Rattle.net_engine.proofs.relabel.places.Goals as goal
 

@@ -1,6 +1,6 @@
 use Rattle.std.proofs.Common.{◌∙◌, ◌+◌, List, sym, subst}
-use Rattle.dn_model.specs.Cycles.{AreCycles}
-use Rattle.dn_model.specs.declared.answer.Cycle.{Cycle}
+use Rattle.base.specs.Cycles.{AreCycles}
+use Rattle.base.specs.declared.cycle.Cycle.{Cycle}
 use Rattle.par_scan.specs.CyclesByRange.{AreCyclesWithin}
 use Rattle.par_scan.proofs.CycleParts.{all-cycles, all-next, none-told}
 use Rattle.par_scan.proofs.cycle_pieces.join_cycles.Goals as goal

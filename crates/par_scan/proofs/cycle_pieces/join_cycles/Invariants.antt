@@ -1,6 +1,6 @@
 use Rattle.std.proofs.Common.{ℕ}
-use Rattle.dn_model.specs.declared.ids.RouterId.{RouterId}
-use Rattle.dn_model.specs.declared.target.Target.{Target}
+use Rattle.base.specs.declared.ids.RouterId.{RouterId}
+use Rattle.base.specs.declared.target.Target.{Target}
 use Rattle.par_scan.specs.CyclesByRange.{AreCyclePieces}
 use Rattle.par_scan.proofs.CycleParts.{AreAllTold}
 use Rattle.par_scan.proofs.cycle_pieces.join_cycles.Given as goal

@@ -1,5 +1,5 @@
 use Rattle.std.proofs.Common.{◌≡◌, ℕ, ◌<◌, length, slice_index_or}
-use Rattle.dn_model.specs.declared.answer.Cycle.{Cycle}
+use Rattle.base.specs.declared.cycle.Cycle.{Cycle}
 use Rattle.par_scan.proofs.cycle_pieces.share_in.Given as goal
 
 -- none so far is of these routers

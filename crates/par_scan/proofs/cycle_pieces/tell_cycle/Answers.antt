@@ -1,11 +1,11 @@
 use Rattle.std.proofs.Common.{ℕ, ◌≡◌, ◌∙◌, List, refl, sym, subst}
 use Rattle.std.specs.List.{Contains}
 use Rattle.std.proofs.lemmas.Result.{on_ok_weaker}
-use Rattle.dn_model.specs.Cycles.{AreInOrder, HasCycle, first_router, goes_round}
-use Rattle.dn_model.specs.CyclesFrom.{AreSomeCycles, IsPutAmong}
-use Rattle.dn_model.specs.declared.answer.Cycle.{Cycle}
-use Rattle.dn_model.specs.declared.ids.RouterId.{RouterId}
-use Rattle.dn_model.specs.declared.target.Target.{Target}
+use Rattle.base.specs.Cycles.{AreInOrder, HasCycle, first_router, goes_round}
+use Rattle.base.specs.CyclesFrom.{AreSomeCycles, IsPutAmong}
+use Rattle.base.specs.declared.cycle.Cycle.{Cycle}
+use Rattle.base.specs.declared.ids.RouterId.{RouterId}
+use Rattle.base.specs.declared.target.Target.{Target}
 use Rattle.par_scan.specs.CyclesByRange.{AreCyclePieces, IsCycleWithin, IsShare, TellsCycleAt}
 use Rattle.par_scan.proofs.CycleParts.{told-already, told-new, whole-cycle}
 use Rattle.par_scan.proofs.cycle_pieces.tell_cycle.Goals as goal

@@ -1,7 +1,7 @@
 use Rattle.std.proofs.Common.{◌≡◌, subst, sym}
 use Rattle.std.specs.List.{Contains}
 use Rattle.std.proofs.lemmas.List.Elements.{Contains-get_or}
-use Rattle.dn_model.specs.declared.answer.Cycle.{Cycle}
+use Rattle.base.specs.declared.cycle.Cycle.{Cycle}
 use Rattle.par_scan.proofs.CycleParts.{told-next, told-none, told-piece}
 use Rattle.par_scan.proofs.cycle_pieces.tell_cycles.Goals as goal
 

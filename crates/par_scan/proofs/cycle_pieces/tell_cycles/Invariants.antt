@@ -1,7 +1,7 @@
 use Rattle.std.proofs.Common.{ℕ}
-use Rattle.dn_model.specs.CyclesFrom.{AreSomeCycles}
-use Rattle.dn_model.specs.declared.ids.RouterId.{RouterId}
-use Rattle.dn_model.specs.declared.target.Target.{Target}
+use Rattle.base.specs.CyclesFrom.{AreSomeCycles}
+use Rattle.base.specs.declared.ids.RouterId.{RouterId}
+use Rattle.base.specs.declared.target.Target.{Target}
 use Rattle.par_scan.specs.CyclesByRange.{AreCyclePieces, AreCyclesWithin}
 use Rattle.par_scan.proofs.CycleParts.{AreToldTo}
 use Rattle.par_scan.proofs.cycle_pieces.tell_cycles.Given as goal

@@ -1,7 +1,7 @@
 use Rattle.std.proofs.Common.{ℕ}
-use Rattle.dn_model.specs.Cycles.{goes_round}
-use Rattle.dn_model.specs.declared.ids.RouterId.{RouterId}
-use Rattle.dn_model.specs.declared.target.Target.{Target}
+use Rattle.base.specs.Cycles.{goes_round}
+use Rattle.base.specs.declared.ids.RouterId.{RouterId}
+use Rattle.base.specs.declared.target.Target.{Target}
 use Rattle.par_scan.specs.CyclesByRange.{AreCyclePieces, IsShare}
 use Rattle.par_scan.specs.Ranges.{only_within}
 use Rattle.par_scan.proofs.cycle_pieces.whole_share.Given as goal

@@ -1,6 +1,6 @@
 use Rattle.std.proofs.Common.{ℕ, ◌<◌, IsTrue, slice_index_or}
-use Rattle.dn_model.specs.HolesFrom.{is_before}
-use Rattle.dn_model.specs.declared.answer.Hole.{Hole}
+use Rattle.base.specs.HolesFrom.{is_before}
+use Rattle.base.specs.declared.hole.Hole.{Hole}
 use Rattle.par_scan.proofs.hole_order.place_of.Given as goal
 
 -- all so far come before

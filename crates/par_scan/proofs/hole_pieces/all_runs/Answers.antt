@@ -1,7 +1,7 @@
 use Rattle.std.proofs.Common.{◌≡◌, ◌∙◌, List, length, ap, sym, subst, arith}
-use Rattle.dn_model.specs.Holes.{falls}
-use Rattle.dn_model.specs.Runs.{AreRuns}
-use Rattle.dn_model.specs.declared.run.Run.{Run}
+use Rattle.base.specs.Holes.{falls}
+use Rattle.base.specs.Runs.{AreRuns}
+use Rattle.base.specs.declared.run.Run.{Run}
 use Rattle.par_scan.proofs.HoleParts.{more-within}
 use Rattle.par_scan.proofs.Joining.{all-within, no-runs}
 use Rattle.par_scan.proofs.hole_pieces.all_runs.Goals as goal

@@ -1,8 +1,8 @@
 use Rattle.std.proofs.Common.{ℕ}
-use Rattle.dn_model.specs.Holes.{falls}
-use Rattle.dn_model.specs.Runs.{AreRuns}
-use Rattle.dn_model.specs.declared.ids.RouterId.{RouterId}
-use Rattle.dn_model.specs.declared.target.Target.{Target}
+use Rattle.base.specs.Holes.{falls}
+use Rattle.base.specs.Runs.{AreRuns}
+use Rattle.base.specs.declared.ids.RouterId.{RouterId}
+use Rattle.base.specs.declared.target.Target.{Target}
 use Rattle.par_scan.specs.HolesByRange.{AreHolePieces}
 use Rattle.par_scan.specs.Ranges.{only_within}
 use Rattle.par_scan.proofs.hole_pieces.all_runs.Given as goal

@@ -1,6 +1,6 @@
 use Rattle.std.proofs.Common.{◌∙◌, ◌+◌, List, sym, subst}
-use Rattle.dn_model.specs.Holes.{AreHoles}
-use Rattle.dn_model.specs.declared.answer.Hole.{Hole}
+use Rattle.base.specs.Holes.{AreHoles}
+use Rattle.base.specs.declared.hole.Hole.{Hole}
 use Rattle.par_scan.specs.HolesByRange.{AreHolesWithin}
 use Rattle.par_scan.proofs.HoleParts.{all-holes, all-next, none-told}
 use Rattle.par_scan.proofs.hole_pieces.join_holes.Goals as goal

@@ -1,6 +1,6 @@
 use Rattle.std.proofs.Common.{ℕ}
-use Rattle.dn_model.specs.declared.ids.RouterId.{RouterId}
-use Rattle.dn_model.specs.declared.target.Target.{Target}
+use Rattle.base.specs.declared.ids.RouterId.{RouterId}
+use Rattle.base.specs.declared.target.Target.{Target}
 use Rattle.par_scan.specs.HolesByRange.{AreHolePieces}
 use Rattle.par_scan.proofs.HoleParts.{AreAllTold}
 use Rattle.par_scan.proofs.hole_pieces.join_holes.Given as goal

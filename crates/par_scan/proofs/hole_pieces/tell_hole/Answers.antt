@@ -1,11 +1,11 @@
 use Rattle.std.proofs.Common.{ℕ, ◌≡◌, ◌∙◌, false, List, ap, sym}
 use Rattle.std.specs.List.{list_any}
 use Rattle.std.proofs.lemmas.Result.{on_ok_weaker}
-use Rattle.dn_model.specs.Holes.{AreInOrder}
-use Rattle.dn_model.specs.HolesFrom.{AreSomeHoles, IsPutAmong, is_hole_of}
-use Rattle.dn_model.specs.declared.answer.Hole.{Hole}
-use Rattle.dn_model.specs.declared.ids.RouterId.{RouterId}
-use Rattle.dn_model.specs.declared.target.Target.{Target}
+use Rattle.base.specs.Holes.{AreInOrder}
+use Rattle.base.specs.HolesFrom.{AreSomeHoles, IsPutAmong, is_hole_of}
+use Rattle.base.specs.declared.hole.Hole.{Hole}
+use Rattle.base.specs.declared.ids.RouterId.{RouterId}
+use Rattle.base.specs.declared.target.Target.{Target}
 use Rattle.par_scan.specs.HolesByRange.{AreHolePieces, IsHoleWithin, TellsHoleAt}
 use Rattle.par_scan.proofs.HoleParts.{told-already, told-new, whole-hole}
 use Rattle.par_scan.proofs.hole_pieces.tell_hole.Goals as goal

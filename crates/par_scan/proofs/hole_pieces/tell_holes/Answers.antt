@@ -1,7 +1,7 @@
 use Rattle.std.proofs.Common.{refl, subst, sym}
 use Rattle.std.specs.List.{Contains}
 use Rattle.std.proofs.lemmas.List.Elements.{Contains-get_or}
-use Rattle.dn_model.specs.declared.answer.Hole.{Hole}
+use Rattle.base.specs.declared.hole.Hole.{Hole}
 use Rattle.par_scan.proofs.HoleParts.{told-next, told-none, told-piece}
 use Rattle.par_scan.proofs.hole_pieces.tell_holes.Goals as goal
 

@@ -1,7 +1,7 @@
 use Rattle.std.proofs.Common.{ℕ}
-use Rattle.dn_model.specs.HolesFrom.{AreSomeHoles}
-use Rattle.dn_model.specs.declared.ids.RouterId.{RouterId}
-use Rattle.dn_model.specs.declared.target.Target.{Target}
+use Rattle.base.specs.HolesFrom.{AreSomeHoles}
+use Rattle.base.specs.declared.ids.RouterId.{RouterId}
+use Rattle.base.specs.declared.target.Target.{Target}
 use Rattle.par_scan.specs.HolesByRange.{AreHolePieces, AreHolesWithin}
 use Rattle.par_scan.proofs.HoleParts.{AreToldTo}
 use Rattle.par_scan.proofs.hole_pieces.tell_holes.Given as goal

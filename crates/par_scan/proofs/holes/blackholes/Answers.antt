@@ -1,5 +1,5 @@
 use Rattle.std.proofs.lemmas.Result.{IfOk-weaker}
-use Rattle.dn_model.specs.Forwarding.{does}
+use Rattle.base.specs.Forwarding.{does}
 use Rattle.par_scan.proofs.HoleParts.{pieces-of-all}
 use Rattle.par_scan.proofs.holes.blackholes.Goals as goal
 

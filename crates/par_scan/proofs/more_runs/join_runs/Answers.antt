@@ -1,6 +1,6 @@
 use Rattle.std.proofs.Common.{◌≡◌, ◌∙◌, ℕ, List, length, sym, subst, arith}
-use Rattle.dn_model.specs.Runs.{AreRuns}
-use Rattle.dn_model.specs.declared.run.Run.{Run}
+use Rattle.base.specs.Runs.{AreRuns}
+use Rattle.base.specs.declared.run.Run.{Run}
 use Rattle.par_scan.specs.Ranges.{only_within}
 use Rattle.par_scan.proofs.Joining.{more-runs, no-runs}
 use Rattle.par_scan.proofs.more_runs.join_runs.Goals as goal

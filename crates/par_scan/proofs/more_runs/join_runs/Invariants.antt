@@ -1,5 +1,5 @@
 use Rattle.std.proofs.Common.{ℕ, Bool}
-use Rattle.dn_model.specs.Runs.{AreRuns}
+use Rattle.base.specs.Runs.{AreRuns}
 use Rattle.par_scan.specs.Ranges.{AreBounds, AreRunsByRange, only_within}
 use Rattle.par_scan.proofs.more_runs.join_runs.Given as goal
 

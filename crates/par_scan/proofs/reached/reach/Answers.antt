@@ -1,6 +1,6 @@
 use Rattle.std.proofs.lemmas.Result.{IfOk-weaker}
-use Rattle.dn_model.specs.Forwarding.{does}
-use Rattle.dn_model.specs.Reach.{reaches}
+use Rattle.base.specs.Forwarding.{does}
+use Rattle.base.specs.Reach.{reaches}
 use Rattle.par_scan.proofs.RangeBounds.{runs-of-all}
 use Rattle.par_scan.proofs.ReachParts.{reach-here}
 use Rattle.par_scan.proofs.reached.reach.Goals as goal

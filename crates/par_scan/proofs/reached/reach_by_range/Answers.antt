@@ -2,14 +2,14 @@ use Rattle.std.proofs.Common.{◌≡◌, ℕ, ◌<◌, ◌≤◌, ◌+◌, ◌*�
 use Rattle.rayon.proofs.ToStd.{nat_range-All}
 use Rattle.std.proofs.lemmas.Result.{IfOk-weaker}
 use Rattle.std.specs.List.{range_with_len}
-use Rattle.dn_model.specs.Forwarding.{does, row_low, row_past}
-use Rattle.dn_model.specs.Reach.{reaches}
-use Rattle.dn_model.specs.Runs.{AreRuns}
-use Rattle.dn_model.specs.declared.memory.OutOfMemory.{OutOfMemory}
-use Rattle.dn_model.specs.declared.run.Run.{Run}
+use Rattle.base.specs.Forwarding.{does, row_low, row_past}
+use Rattle.base.specs.Reach.{reaches}
+use Rattle.base.specs.Runs.{AreRuns}
+use Rattle.base.specs.declared.memory.OutOfMemory.{OutOfMemory}
+use Rattle.base.specs.declared.run.Run.{Run}
 use Rattle.par_scan.specs.Ranges.{only_within, range_begin}
 use Rattle.par_scan.proofs.RangeBounds.{each-range}
-use Rattle.dn_model.proofs.Covers.{few-rows}
+use Rattle.base.proofs.Covers.{few-rows}
 use Rattle.par_scan.proofs.reached.reach_by_range.Goals as goal
 
 pub count-requires : goal.count-requires

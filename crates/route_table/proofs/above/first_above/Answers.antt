@@ -1,6 +1,6 @@
 use Rattle.std.proofs.Common.{◌≡◌, ◌<◌, ℕ, ◌∙◌, true, false, sym, subst, get_or, arith}
 use Rattle.std.specs.Prelude.{slice_index_or}
-use Rattle.dn_model.specs.Cidr.{covers}
+use Rattle.base.specs.Cidr.{covers}
 use Rattle.route_table.specs.Above.{shares}
 use Rattle.route_table.specs.Ascending.{IsFound}
 use Rattle.route_table.specs.Rows.{slot_in, slots_in}

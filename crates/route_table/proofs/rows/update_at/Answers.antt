@@ -7,8 +7,8 @@ use Rattle.route_table.proofs.rows.update_at.Goals as goal
 
 pub returns-clause-ok : goal.returns-clause-ok
 returns-clause-ok c =
-    let made : (d : PrefixRow) → IfOk c.in_ok-change.field-0 (λ first. IsUpdatedIn (slot_in c.args.lane (get_or c.args.rows.now c.args.place d)) (slot_in c.args.lane c.in_ok-change.ensures.changed.value) c.args.op.now first) = λ d. let k = c.in_ok-change.ensures.changed.called d in search rules in
-    update-made c.in_ok-change.field-0 c.args.lane c.args.rows.now c.change.new.self c.args.place c.args.op.now c.in_ok-change.ensures.changed.value c.requires.inside made c.in_ok-change.ensures.changed.list
+    let made : (d : PrefixRow) → IfOk c.in_ok-change.field-0 (λ first. IsUpdatedIn (slot_in c.args.lane (get_or c.args.rows.now c.args.place d)) (slot_in c.args.lane c.in_ok-change.ensures.changed.value) c.args.update.now.alone c.args.update.now.op first) = λ d. let k = c.in_ok-change.ensures.changed.called d in search rules in
+    update-made c.in_ok-change.field-0 c.args.lane c.args.rows.now c.change.new.self c.args.place c.args.update.now.alone c.args.update.now.op c.in_ok-change.ensures.changed.value c.requires.inside made c.in_ok-change.ensures.changed.list
 
 pub returns-clause-others : goal.returns-clause-others
 returns-clause-others c =

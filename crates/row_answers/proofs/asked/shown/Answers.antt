@@ -1,7 +1,7 @@
 use Rattle.std.proofs.Common.{◌∙◌, ◌∷◌, [], sym}
 use Rattle.dn_model.specs.Query.{RouterName, LinkName}
 use Rattle.dn_model.specs.declared.query.Ask.TheVariants.{Path, Uses, Waypoint}
-use Rattle.dn_model.proofs.Best.{contains-here, contains-there}
+use Rattle.base.proofs.Elements.{contains-here, contains-there}
 use Rattle.dn_model.proofs.Known.{router-known, link-known}
 use Rattle.row_answers.proofs.NamesKnown.{holes-from, reach-from, reach-to}
 use Rattle.row_answers.proofs.asked.shown.Goals as goal

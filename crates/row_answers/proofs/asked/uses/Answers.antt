@@ -1,5 +1,5 @@
 use Rattle.std.proofs.Common.{◌*◌, ◌≤◌, length, arith}
-use Rattle.dn_model.specs.Forwarding.{does}
+use Rattle.base.specs.Forwarding.{does}
 use Rattle.row_answers.proofs.LinkEnds.{first-within, second-within, two-each, uses-is}
 use Rattle.row_answers.proofs.asked.uses.Goals as goal
 

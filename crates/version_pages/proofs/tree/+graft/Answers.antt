@@ -33,7 +33,7 @@ Tree::graft-graft-requires g t c κs within =
     let at : length c.ready_end.new.kids.items - 1 ≡ c.len-last.result - 1 = omega (arith, last) in
     let roomy : 0 < c.index_mut-kid.result.now.room = rw is (rw (← at) (c.in_ok-ready_end-in-Fork.ensures.room c.index_mut-kid.result.now)) in
     let higher : 0 < c.index_mut-kid.result.now.height = omega (arith, level, c.if-height-eq1.false) in
-    (search rules, (search rules, (roomy, (higher, (c.requires.page, (c.requires.deep, (omega arith, c.requires.clones)))))))
+    (search rules, (search rules, (roomy, (higher, (c.requires.page, (c.requires.deep, omega arith))))))
 
 pub Tree::graft-invariant_of-self-in_err-graft-in-Fork : goal.Tree::graft-invariant_of-self-in_err-graft-in-Fork
 Tree::graft-invariant_of-self-in_err-graft-in-Fork g t c =

@@ -79,7 +79,7 @@ Tree::grow-grow-requires g t c κs within =
     let few : length c.index_mut-kid.result.now.items ≤ length (joined c.ready.new.kids.items) = kid-few _ _ _ at.child is in
     let all : length (joined c.ready.new.kids.items) + 1 < 2 ^ 62 = omega (arith, ap length e, c.requires.few) in
     let roomy : 0 < c.index_mut-kid.result.now.room = rw is (c.in_ok-k-in-Fork.ensures.room c.index_mut-kid.result.now) in
-    (search rules, (search rules, (can, (roomy, (omega arith, c.requires.clones)))))
+    (search rules, (search rules, (can, (roomy, omega arith))))
 
 pub Kid::grow-key_after-self-inside-requires : goal.Kid::grow-key_after-self-inside-requires
 Kid::grow-key_after-self-inside-requires g t c =

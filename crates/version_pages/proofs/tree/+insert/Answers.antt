@@ -31,7 +31,7 @@ Tree::insert_some-insert_some-requires g t c κs within =
     let few : length c.index_mut-kid.result.now.items ≤ length (joined c.ready.new.kids.items) = kid-few _ _ _ at.child is in
     let all : length (joined c.ready.new.kids.items) + 64 < 2 ^ 62 = omega (arith, ap length e, c.requires.few) in
     let roomy : 0 < c.index_mut-kid.result.now.room = rw is (c.in_ok-k-in-Fork.ensures.room c.index_mut-kid.result.now) in
-    (search rules, (search rules, (c.requires.some, (inside, (roomy, (omega arith, c.requires.clones))))))
+    (search rules, (search rules, (c.requires.some, (inside, (roomy, omega arith)))))
 
 pub Tree::insert_some-invariant_of-self-in_err-count-in-Fork : goal.Tree::insert_some-invariant_of-self-in_err-count-in-Fork
 Tree::insert_some-invariant_of-self-in_err-count-in-Fork g t c =

@@ -33,7 +33,7 @@ Tree::add_pages-add_pages-requires g t c κs within =
     let at : length c.ready_end.new.kids.items - 1 ≡ c.len-last.result - 1 = omega (arith, last) in
     let roomy : 0 < c.index_mut-kid.result.now.room = rw is (rw (← at) (c.in_ok-ready_end-in-Fork.ensures.room c.index_mut-kid.result.now)) in
     let higher : 0 < c.index_mut-kid.result.now.height = omega (arith, level, c.if-height-eq1.false) in
-    (search rules, (search rules, (c.requires.some, (c.requires.most, (roomy, (higher, (omega arith, c.requires.clones)))))))
+    (search rules, (search rules, (c.requires.some, (c.requires.most, (roomy, (higher, omega arith))))))
 
 pub Tree::add_pages-invariant_of-self-in_err-count-in-Fork : goal.Tree::add_pages-invariant_of-self-in_err-count-in-Fork
 Tree::add_pages-invariant_of-self-in_err-count-in-Fork g t c =

@@ -1,6 +1,6 @@
 use Rattle.std.proofs.Common.{◌≤◌, length, arith}
-use Rattle.dn_model.specs.Forwarding.{does}
-use Rattle.dn_model.specs.Reach.{reaches}
+use Rattle.base.specs.Forwarding.{does}
+use Rattle.base.specs.Reach.{reaches}
 use Rattle.label_view.proofs.InRow.{gathered-all, gathered-start}
 use Rattle.step_count.proofs.Counting.{steps_more}
 use Rattle.walk_check.proofs.arrivals.reach.Goals as goal

@@ -1,6 +1,6 @@
 use Rattle.std.proofs.Common.{◌+◌, ◌*◌, ◌≤◌}
-use Rattle.dn_model.specs.Forwarding.{does}
-use Rattle.dn_model.specs.Reach.{reaches}
+use Rattle.base.specs.Forwarding.{does}
+use Rattle.base.specs.Reach.{reaches}
 use Rattle.label_view.specs.Places.{AreGatheredTo}
 use Rattle.walk_check.proofs.arrivals.reach.Given as goal
 

@@ -1,8 +1,8 @@
 use Rattle.std.proofs.Common.{◌≡◌, ℕ, ◌+◌, ◌<◌}
 use Rattle.std.specs.List.{list_any}
-use Rattle.dn_model.specs.Forwarding.{does}
-use Rattle.dn_model.specs.Reach.{is_router, reaches}
-use Rattle.dn_model.specs.Walk.{at_address, walk}
+use Rattle.base.specs.Forwarding.{does}
+use Rattle.base.specs.Reach.{is_router, reaches}
+use Rattle.base.specs.Walk.{at_address, walk}
 use Rattle.label_view.specs.Places.{IsInRow}
 use Rattle.walk_check.proofs.arrivals.row_reaches.Given as goal
 

@@ -1,5 +1,5 @@
 use Rattle.std.proofs.Common.{◌∙◌, ap, sym}
-use Rattle.dn_model.specs.Reach.{is_over}
+use Rattle.base.specs.Reach.{is_over}
 use Rattle.label_view.proofs.InRow.{target-is}
 use Rattle.walk_check.proofs.link_use.row_uses.Goals as goal
 

@@ -1,6 +1,6 @@
 use Rattle.std.proofs.Common.{◌+◌, ◌*◌, ◌≤◌}
-use Rattle.dn_model.specs.Forwarding.{does}
-use Rattle.dn_model.specs.Reach.{goes_over}
+use Rattle.base.specs.Forwarding.{does}
+use Rattle.base.specs.Reach.{goes_over}
 use Rattle.label_view.specs.Places.{AreGatheredTo}
 use Rattle.walk_check.proofs.link_use.uses.Given as goal
 

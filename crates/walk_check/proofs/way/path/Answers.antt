@@ -1,11 +1,11 @@
 use Rattle.std.proofs.Common.{◌≡◌, ◌∙◌, sym, ap, arith}
-use Rattle.dn_model.specs.Forwarding.{does}
-use Rattle.dn_model.specs.Walk.{at_address}
-use Rattle.dn_model.specs.declared.answer.PathEnd.TheVariants.{At}
-use Rattle.dn_model.specs.declared.ids.LinkId.{LinkId}
-use Rattle.dn_model.specs.declared.ids.RouterId.{RouterId}
-use Rattle.dn_model.specs.declared.target.Target.TheVariants.{To}
-use Rattle.dn_model.proofs.Walks.{walk_end-to, walk_end-last, walked-to, walked-last}
+use Rattle.base.specs.Forwarding.{does}
+use Rattle.base.specs.Walk.{at_address}
+use Rattle.base.specs.declared.path_end.PathEnd.TheVariants.{At}
+use Rattle.base.specs.declared.ids.LinkId.{LinkId}
+use Rattle.base.specs.declared.ids.RouterId.{RouterId}
+use Rattle.base.specs.declared.target.Target.TheVariants.{To}
+use Rattle.base.proofs.Walks.{walk_end-to, walk_end-last, walked-to, walked-last}
 use Rattle.label_view.proofs.InRow.{in-row, leads-within, target-is}
 use Rattle.walk_check.proofs.way.path.Goals as goal
 

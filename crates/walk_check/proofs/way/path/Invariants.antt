@@ -1,6 +1,6 @@
 use Rattle.std.proofs.Common.{◌≡◌, ◌+◌, ◌<◌, ◌++◌}
-use Rattle.dn_model.specs.Forwarding.{does}
-use Rattle.dn_model.specs.Walk.{at_address, walk, walk_end}
+use Rattle.base.specs.Forwarding.{does}
+use Rattle.base.specs.Walk.{at_address, walk, walk_end}
 use Rattle.walk_check.proofs.way.path.Given as goal
 
 -- what was walked, and the walk from here on, make the whole walk; each hop was a look

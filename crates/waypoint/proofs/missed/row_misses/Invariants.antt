@@ -1,7 +1,7 @@
 use Rattle.std.proofs.Common.{◌≡◌, ℕ, ◌+◌, ◌<◌}
-use Rattle.dn_model.specs.Forwarding.{does}
-use Rattle.dn_model.specs.Reach.{comes_before, misses}
-use Rattle.dn_model.specs.Walk.{at_address, walk}
+use Rattle.base.specs.Forwarding.{does}
+use Rattle.base.specs.Reach.{comes_before, misses}
+use Rattle.base.specs.Walk.{at_address, walk}
 use Rattle.label_view.specs.Places.{IsInRow}
 use Rattle.waypoint.proofs.missed.row_misses.Given as goal
 

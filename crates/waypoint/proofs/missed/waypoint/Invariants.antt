@@ -1,6 +1,6 @@
 use Rattle.std.proofs.Common.{◌+◌, ◌*◌, ◌≤◌}
-use Rattle.dn_model.specs.Forwarding.{does}
-use Rattle.dn_model.specs.Reach.{misses}
+use Rattle.base.specs.Forwarding.{does}
+use Rattle.base.specs.Reach.{misses}
 use Rattle.label_view.specs.Places.{AreGatheredTo}
 use Rattle.waypoint.proofs.missed.waypoint.Given as goal
 

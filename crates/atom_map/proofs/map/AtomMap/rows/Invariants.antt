@@ -1,5 +1,5 @@
 use Rattle.std.proofs.Common.{◌≡◌, ◌++◌, drop, map}
-use Rattle.dn_model.specs.Atoms.{bounds_of}
+use Rattle.atom_map.specs.Atoms.{bounds_of}
 use Rattle.atom_map.proofs.map.AtomMap.rows.Given as goal
 
 -- the rows so far and those that are left are all

@@ -1,5 +1,5 @@
 use Rattle.std.proofs.Common.{◌<◌, ◌≤◌, length, get_or}
-use Rattle.dn_model.specs.Delta.{GoesBefore}
+use Rattle.base.specs.Delta.{GoesBefore}
 use Rattle.delta_graph.proofs.delta.Delta.place_of.Given as goal
 
 -- the one at the place so far doesn't go before the change

@@ -1,4 +1,4 @@
-use Rattle.std.proofs.Common.{◌≡◌, ◌+◌, ◌<◌, ◌≤◌, ◌^◌, ◌∙◌, ap, sym, refl, List, Some, None, length, arith, ℕ}
+use Rattle.std.proofs.Common.{◌≡◌, ◌+◌, ◌<◌, ◌^◌, ◌∙◌, ap, sym, refl, List, Some, None, length, arith, ℕ}
 use Rattle.dn_model.specs.Query.{first_unknown, link_names, names_asked}
 use Rattle.dn_model.specs.declared.query.Ask.{Ask}
 use Rattle.dn_model.proofs.Known.{few-names, first-unknown}

@@ -1,4 +1,4 @@
-use Rattle.std.proofs.Common.{◌≡◌, ◌++◌, ◌∷◌, [], sym, subst}
+use Rattle.std.proofs.Common.{◌≡◌, ◌++◌, ◌∷◌, [], sym, subst, rules}
 use Rattle.std.specs.Arc.{arc_value}
 use Rattle.dn_model.specs.Entry.{IsEntryOf}
 use Rattle.engine_trials.specs.Past.{Past}
@@ -13,6 +13,6 @@ invariant_of-result c =
     let after = c.push.new.self.items in
     let old = c.self.inside.version in
     let version = c.in_ok-version.version in
-    let own : IsEntryOf was entry = subst (λ (p : Past). IsEntryOf p.topology entry) (sym c.self.view_is) c.requires in
-    let longer : after ≡ before ++ entry ∷ [] = c.in_ok-push.ensures.items in
+    let own : IsEntryOf was entry = subst (λ (p : Past). IsEntryOf p.topology entry) (sym c.self.view_is) c.requires.entry in
+    let longer : after ≡ before ++ entry ∷ [] = search rules in
     course-more was before after entry old version c.self.invariant own longer c.in_ok-version.ensures.topology c.in_ok-version.ensures.stands

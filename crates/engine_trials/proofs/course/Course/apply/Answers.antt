@@ -15,7 +15,7 @@ invariant_of-result c =
     let old = c.self.inside.version in
     let version = c.in_ok-version.version in
     let same : arc_value c.in_ok-topology.topology ≡ was = c.in_ok-topology.ensures in
-    let own : IsEntryOf was entry = subst (λ (p : Past). IsEntryOf p.topology entry) (sym c.self.view_is) c.requires in
+    let own : IsEntryOf was entry = subst (λ (p : Past). IsEntryOf p.topology entry) (sym c.self.view_is) c.requires.entry in
     let longer : after ≡ before ++ entry ∷ [] = search rules in
     subst (λ (t : Topology). IsCourse t after version) (sym same)
     (course-more was before after entry old version c.self.invariant own longer c.in_ok-version.ensures.topology c.in_ok-version.ensures.stands)

@@ -1,8 +1,8 @@
 use Rattle.std.proofs.Common.{◌≡◌, ◌∙◌, List, length, sym, subst, arith}
 use Rattle.std.proofs.lemmas.List.{nil_from_length}
 use Rattle.std.proofs.lemmas.Result.{on_ok_weaker}
-use Rattle.dn_model.specs.Forwarding.{does}
-use Rattle.dn_model.specs.declared.change.Change.{Change}
+use Rattle.base.specs.Forwarding.{does}
+use Rattle.base.specs.declared.change.Change.{Change}
 use Rattle.loop_keeper.specs.Edits.{AreEdited, AreTakenOut}
 use Rattle.loop_keeper.specs.Finding.{AllTellAfter, FindTouched}
 use Rattle.loop_keeper.specs.Kept.{Kept}

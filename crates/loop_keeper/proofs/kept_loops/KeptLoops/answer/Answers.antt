@@ -1,8 +1,8 @@
 use Rattle.std.proofs.Common.{ℕ, List, subst}
 use Rattle.std.specs.Prelude.{IfOk}
-use Rattle.dn_model.specs.Cycles.{AreCycles}
-use Rattle.dn_model.specs.declared.ids.RouterId.{RouterId}
-use Rattle.dn_model.specs.declared.target.Target.{Target}
+use Rattle.base.specs.Cycles.{AreCycles}
+use Rattle.base.specs.declared.ids.RouterId.{RouterId}
+use Rattle.base.specs.declared.target.Target.{Target}
 use Rattle.loop_keeper.specs.Kept.{AreKept, Kept}
 use Rattle.loop_keeper.proofs.kept_loops.KeptLoops.answer.Goals as goal
 

@@ -1,6 +1,6 @@
 use Rattle.std.proofs.Common.{◌+◌, ◌<◌, ◌≤◌, ◌^◌, None, Some, length, refl, arith}
-use Rattle.dn_model.specs.Atoms.{atom_low, atom_past}
-use Rattle.dn_model.proofs.Covers.{few-rows}
+use Rattle.atom_map.specs.Atoms.{atom_low, atom_past}
+use Rattle.base.proofs.Covers.{few-rows}
 use Rattle.atom_map.proofs.Answered.{from-spot, to-spot}
 use Rattle.net_engine.specs.Seen.{net_in}
 use Rattle.net_engine.proofs.Standing.{paired-again, there-below}

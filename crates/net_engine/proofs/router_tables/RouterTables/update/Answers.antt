@@ -1,14 +1,15 @@
 -- What the group's update makes of the router's table stands at the router's place in the list of all.
 use Rattle.std.proofs.Common.{ℕ, ◌≡◌, IfNone, IfOk, IfSome, IsPermutation, OnOk}
-use Rattle.dn_model.specs.Entry.{prefix_of_op}
+use Rattle.dn_model.specs.Table.{prefix_of_op}
 use Rattle.dn_model.specs.Routes.{IsTable}
-use Rattle.dn_model.specs.Table.{after_op, target_in}
+use Rattle.dn_model.specs.Table.{way_in}
 use Rattle.route_table.specs.Own.{AreOwnRuns, IsLooked, IsTurned, SetsOrHas}
+use Rattle.net_engine.specs.Updates.{after_update}
 use Rattle.net_engine.proofs.Grouped.{Finds, at-router, others-after}
 use Rattle.net_engine.proofs.router_tables.RouterTables.update.Given.{Over}
 use Rattle.net_engine.proofs.router_tables.RouterTables.update.Goals as goal
 
-found : (g : Over) (c : goal.After-self-1 g) → Finds c.self.inside.routers c.self.inside.groups.items c.args.self.now c.index_mut-group.result.now c.update.new.self c.args.r.0 c.from-place.result
+found : (g : Over) (c : goal.After-self-1 g) → Finds c.self.inside.routers c.self.inside.groups.items c.args.self.now c.index_mut-group.result.now c.update.new.self c.args.update.now.router.0 c.from-place.result
 found g c = record {
   are = c.self.invariant;
   seen = c.self.view_is;
@@ -19,25 +20,25 @@ found g c = record {
 }
 
 pub returns-clause-table : goal.returns-clause-table
-returns-clause-table g c = at-router _ _ _ _ _ _ _ (found g c) (λ old new. OnOk c.update.result (IsPermutation new (after_op old c.args.op.now))) c.update.ensures.table
+returns-clause-table g c = at-router _ _ _ _ _ _ _ (found g c) (λ old new. OnOk c.update.result (IsPermutation new (after_update c.args.update.now old))) c.update.ensures.table
 
 pub returns-clause-form : goal.returns-clause-form
 returns-clause-form g c = at-router _ _ _ _ _ _ _ (found g c) (λ old new. IsTable new) c.update.ensures.form
 
 pub returns-clause-same : goal.returns-clause-same
-returns-clause-same g c = at-router _ _ _ _ _ _ _ (found g c) (λ old new. IfOk c.update.result (λ after. IfNone after ((a : ℕ) → target_in new a ≡ target_in old a))) c.update.ensures.same
+returns-clause-same g c = at-router _ _ _ _ _ _ _ (found g c) (λ old new. IfOk c.update.result (λ after. IfNone after ((a : ℕ) → way_in new a ≡ way_in old a))) c.update.ensures.same
 
 pub returns-clause-turned : goal.returns-clause-turned
-returns-clause-turned g c = at-router _ _ _ _ _ _ _ (found g c) (λ old new. IfOk c.update.result (λ after. IfSome after (IsTurned old new (prefix_of_op c.args.op.now)))) c.update.ensures.turned
+returns-clause-turned g c = at-router _ _ _ _ _ _ _ (found g c) (λ old new. IfOk c.update.result (λ after. IfSome after (IsTurned old new (prefix_of_op c.args.update.now.table.op)))) c.update.ensures.turned
 
 pub returns-clause-runs : goal.returns-clause-runs
-returns-clause-runs g c = at-router _ _ _ _ _ _ _ (found g c) (λ old new. IfOk c.update.result (λ after. IfSome after (λ _. AreOwnRuns new (prefix_of_op c.args.op.now) c.update.new.runs.items))) c.update.ensures.runs
+returns-clause-runs g c = at-router _ _ _ _ _ _ _ (found g c) (λ old new. IfOk c.update.result (λ after. IfSome after (λ _. AreOwnRuns new (prefix_of_op c.args.update.now.table.op) c.update.new.runs.items))) c.update.ensures.runs
 
 pub returns-clause-had : goal.returns-clause-had
-returns-clause-had g c = at-router _ _ _ _ _ _ _ (found g c) (λ old new. IfOk c.update.result (λ after. IfSome after (λ _. SetsOrHas old c.args.op.now))) c.update.ensures.had
+returns-clause-had g c = at-router _ _ _ _ _ _ _ (found g c) (λ old new. IfOk c.update.result (λ after. IfSome after (λ _. SetsOrHas old c.args.update.now.table.op))) c.update.ensures.had
 
 pub returns-clause-cost : goal.returns-clause-cost
-returns-clause-cost g c = at-router _ _ _ _ _ _ _ (found g c) (λ old new. IsLooked old (prefix_of_op c.args.op.now) c.args.steps.now c.update.new.steps) c.update.ensures.cost
+returns-clause-cost g c = at-router _ _ _ _ _ _ _ (found g c) (λ old new. IsLooked old (prefix_of_op c.args.update.now.table.op) c.args.steps.now c.update.new.steps) c.update.ensures.cost
 
 pub returns-clause-others : goal.returns-clause-others
 returns-clause-others g c = others-after _ _ _ _ _ _ _ (found g c)

@@ -5,7 +5,7 @@ use Rattle.dn_model.specs.declared.entry.Route.{Route}
 use Rattle.net_engine.specs.Seen.{kept_in, net_in}
 use Rattle.net_engine.specs.Walked.{IsCutAt}
 use Rattle.net_engine.specs.Whole.{IsWhole}
-use Rattle.net_engine.proofs.Making.{cut-made, kept_of, targets-kept, whole-of}
+use Rattle.net_engine.proofs.Making.{cut-made, kept_of, ways-kept, whole-of}
 use Rattle.net_engine.proofs.state.State.cut.Goals as goal
 use Rattle.net_engine.proofs.state.State.cut.Goals.{In_ok-first}
 
@@ -13,7 +13,7 @@ whole : (c : In_ok-first) → IsWhole (kept_of (arc_value c.args.self.now.topolo
 whole c =
     whole-of (arc_value c.args.self.now.topology) c.cut_ends.new.net.routers c.cut_ends.new.net.atoms c.cut_ends.new.net.labels c.cut_ends.new.net.tables c.in_ok-first.ensures.paired
     (c.in_ok-first.ensures.routers ∙ c.requires.routers) c.requires.whole.few
-    (targets-kept (arc_value c.args.self.now.topology) (kept_in c.args.self.now) (net_in c.args.self.now.net).atoms c.args.self.now.net.tables c.cut_ends.new.net.tables refl c.requires.whole c.in_ok-first.ensures.tables)
+    (ways-kept (arc_value c.args.self.now.topology) (kept_in c.args.self.now) (net_in c.args.self.now.net).atoms c.args.self.now.net.tables c.cut_ends.new.net.tables refl c.requires.whole c.in_ok-first.ensures.tables)
 
 made : (c : In_ok-first) → IsCutAt (kept_in c.args.self.now) (kept_of (arc_value c.args.self.now.topology) (net_in c.cut_ends.new.net).atoms c.cut_ends.new.net.tables) c.args.prefix
 made c =

@@ -1,7 +1,7 @@
 -- The copy is the same version.
 use Rattle.std.proofs.Common.{◌++◌, ◌∷◌, [], List, IfOk, subst}
-use Rattle.dn_model.specs.Delta.{IsDeltaOf}
-use Rattle.dn_model.specs.Version.{Kept, KeptStandsFor}
+use Rattle.dn_model.specs.LastDelta.{IsDeltaOf}
+use Rattle.net_engine.specs.Version.{Kept, KeptStandsFor}
 use Rattle.dn_model.specs.declared.entry.Entry.{Entry}
 use Rattle.net_engine.proofs.version.Version.apply.Goals as goal
 

@@ -1,5 +1,5 @@
 use Rattle.std.proofs.Common.{◌≡◌, ◌<◌, ◌≤◌, ◌+◌, ◌^◌, ℕ, length, cond, ltb, refl, subst, sym, arith}
-use Rattle.dn_model.specs.declared.forwarding_row.ForwardingRow.{ForwardingRow}
+use Rattle.base.specs.declared.forwarding_row.ForwardingRow.{ForwardingRow}
 use Rattle.par_scan.specs.Parts.{part_of}
 use Rattle.par_scan.proofs.PartRows.{part-length, place-from, place-row, place-to}
 use Rattle.par_scan.proofs.part.PartLabelView.atom_of.Goals as goal

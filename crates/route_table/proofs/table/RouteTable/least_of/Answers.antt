@@ -1,6 +1,6 @@
 use Rattle.std.proofs.Common.{◌≤◌, ◌∙◌, subst, sym}
 use Rattle.std.specs.List.{Contains}
-use Rattle.route_table.specs.declared.targets.MetricTarget.{MetricTarget}
+use Rattle.route_table.specs.declared.targets.MetricWay.{MetricWay}
 use Rattle.route_table.specs.Rows.{slot_in, slots_in}
 use Rattle.route_table.specs.Slots.{key_of}
 use Rattle.route_table.proofs.SideBySide.{found-in, gap-in, slot-in}
@@ -23,4 +23,4 @@ pub returns-clause-table : goal.returns-clause-table
 returns-clause-table c = table-of (slots_in 0 c.self.inside.rows) c.args.self.now (c.self.invariant 0).form c.self.view_is
 
 pub returns-clause-some : goal.returns-clause-some
-returns-clause-some c = least-some (slots_in 0 c.self.inside.rows) c.args.self.now c.args.prefix c.place_of-place.result (slot_in 0 c.in-Some.row.now) c.in-Some-first.first c.route.result c.self.view_is (c.self.invariant 0).form c.place_of-place.ensures.sound (found-in 0 c.self.inside.rows (key_of c.args.prefix) c.place_of-place.result c.in-Some.ensures.found) (slot-in 0 c.self.inside.rows (key_of c.args.prefix) c.place_of-place.result c.in-Some.row.now (slot_in 0 c.in-Some.row.now) c.in-Some.ensures.found (c.in-Some.ensures.row c.in-Some.row.now)) (subst (λ xs. Contains xs c.in-Some-first.first × ((y : MetricTarget) → Contains xs y → c.in-Some-first.first.metric ≤ y.metric)) c.targets.ensures c.in-Some-first.ensures.some) c.route.ensures
+returns-clause-some c = least-some (slots_in 0 c.self.inside.rows) c.args.self.now c.args.prefix c.place_of-place.result (slot_in 0 c.in-Some.row.now) c.in-Some-first.first c.route.result c.self.view_is (c.self.invariant 0).form c.place_of-place.ensures.sound (found-in 0 c.self.inside.rows (key_of c.args.prefix) c.place_of-place.result c.in-Some.ensures.found) (slot-in 0 c.self.inside.rows (key_of c.args.prefix) c.place_of-place.result c.in-Some.row.now (slot_in 0 c.in-Some.row.now) c.in-Some.ensures.found (c.in-Some.ensures.row c.in-Some.row.now)) (subst (λ xs. Contains xs c.in-Some-first.first × ((y : MetricWay) → Contains xs y → c.in-Some-first.first.metric ≤ y.metric)) c.targets.ensures c.in-Some-first.ensures.some) c.route.ensures

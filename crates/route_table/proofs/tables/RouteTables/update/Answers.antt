@@ -1,7 +1,7 @@
 use Rattle.std.proofs.Common.{◌≡◌, ◌≤◌, ◌+◌, ◌∙◌, ℕ, ap, sym, subst, arith}
-use Rattle.dn_model.specs.Cidr.{IsCidr}
-use Rattle.dn_model.specs.Entry.{prefix_of_op}
-use Rattle.dn_model.specs.Table.{target_in}
+use Rattle.base.specs.Cidr.{IsCidr}
+use Rattle.dn_model.specs.Table.{prefix_of_op}
+use Rattle.dn_model.specs.Table.{way_in}
 use Rattle.route_table.specs.Above.{IsDoneAbove}
 use Rattle.route_table.specs.Made.{IsMade}
 use Rattle.route_table.specs.Own.{AreOwnRuns, IsTurned, SetsOrHas}
@@ -57,71 +57,71 @@ returns-clause-others g c =
 
 pub returns-then-eq-clause-table : goal.returns-then-eq-clause-table
 returns-then-eq-clause-table g c =
-    let made : IsMade (slots_in c.args.lane c.self.inside.rows) (slots_in c.args.lane c.make.new.rows) c.args.op.now c.in-Some.made.place c.in-Some.made.base c.in-Some.made.before c.in-Some.made.first =
-    where-there (λ m. IsMade (slots_in c.args.lane c.self.inside.rows) (slots_in c.args.lane c.make.new.rows) c.args.op.now m.place m.base m.before m.first) c.in_ok-made.field-0 c.in-Some.made c.in-Some.is c.in_ok-made.ensures.made in
-    permuted c.args.lane c.self.inside.rows c.args.self.now c.requires c.self.view_is c.make.new.rows c.args.op.now made.routes
+    let made : IsMade (slots_in c.args.lane c.self.inside.rows) (slots_in c.args.lane c.make.new.rows) c.args.update.now.alone c.args.update.now.op c.in-Some.made.place c.in-Some.made.base c.in-Some.made.before c.in-Some.made.first =
+    where-there (λ m. IsMade (slots_in c.args.lane c.self.inside.rows) (slots_in c.args.lane c.make.new.rows) c.args.update.now.alone c.args.update.now.op m.place m.base m.before m.first) c.in_ok-made.field-0 c.in-Some.made c.in-Some.is c.in_ok-made.ensures.made in
+    permuted c.args.lane c.self.inside.rows c.args.self.now c.requires c.self.view_is c.make.new.rows c.args.update.now.alone c.args.update.now.op made.routes
 
 pub returns-clause-table : goal.returns-clause-table
 returns-clause-table g c =
-    let made : IsMade (slots_in c.args.lane c.self.inside.rows) (slots_in c.args.lane c.make.new.rows) c.args.op.now c.in-Some.made.place c.in-Some.made.base c.in-Some.made.before c.in-Some.made.first =
-    where-there (λ m. IsMade (slots_in c.args.lane c.self.inside.rows) (slots_in c.args.lane c.make.new.rows) c.args.op.now m.place m.base m.before m.first) c.in_ok-made.field-0 c.in-Some.made c.in-Some.is c.in_ok-made.ensures.made in
-    permuted c.args.lane c.self.inside.rows c.args.self.now c.requires c.self.view_is c.make.new.rows c.args.op.now made.routes
+    let made : IsMade (slots_in c.args.lane c.self.inside.rows) (slots_in c.args.lane c.make.new.rows) c.args.update.now.alone c.args.update.now.op c.in-Some.made.place c.in-Some.made.base c.in-Some.made.before c.in-Some.made.first =
+    where-there (λ m. IsMade (slots_in c.args.lane c.self.inside.rows) (slots_in c.args.lane c.make.new.rows) c.args.update.now.alone c.args.update.now.op m.place m.base m.before m.first) c.in_ok-made.field-0 c.in-Some.made c.in-Some.is c.in_ok-made.ensures.made in
+    permuted c.args.lane c.self.inside.rows c.args.self.now c.requires c.self.view_is c.make.new.rows c.args.update.now.alone c.args.update.now.op made.routes
 
 pub returns-in_default-clause-table : goal.returns-in_default-clause-table
 returns-in_default-clause-table g c =
-    permuted-same c.args.lane c.self.inside.rows c.args.self.now c.requires c.self.view_is c.make.new.rows c.args.op.now (at-none c.in_ok-made.field-0 _ c.in_default.is c.in_ok-made.ensures.same) (at-none c.in_ok-made.field-0 _ c.in_default.is c.in_ok-made.ensures.none)
+    permuted-same c.args.lane c.self.inside.rows c.args.self.now c.requires c.self.view_is c.make.new.rows c.args.update.now.alone c.args.update.now.op (at-none c.in_ok-made.field-0 _ c.in_default.is c.in_ok-made.ensures.same) (at-none c.in_ok-made.field-0 _ c.in_default.is c.in_ok-made.ensures.none)
 
 pub returns-in_default-clause-same : goal.returns-in_default-clause-same
 returns-in_default-clause-same g c =
-    λ a. ap (λ rs. target_in rs a) (table-same c.args.lane c.self.inside.rows c.args.self.now c.requires c.self.view_is c.make.new.rows (at-none c.in_ok-made.field-0 _ c.in_default.is c.in_ok-made.ensures.same))
+    λ a. ap (λ rs. way_in rs a) (table-same c.args.lane c.self.inside.rows c.args.self.now c.requires c.self.view_is c.make.new.rows (at-none c.in_ok-made.field-0 _ c.in_default.is c.in_ok-made.ensures.same))
 
 pub returns-then-eq-clause-same : goal.returns-then-eq-clause-same
 returns-then-eq-clause-same g c =
-    let made : IsMade (slots_in c.args.lane c.self.inside.rows) (slots_in c.args.lane c.make.new.rows) c.args.op.now c.in-Some.made.place c.in-Some.made.base c.in-Some.made.before c.in-Some.made.first =
-    where-there (λ m. IsMade (slots_in c.args.lane c.self.inside.rows) (slots_in c.args.lane c.make.new.rows) c.args.op.now m.place m.base m.before m.first) c.in_ok-made.field-0 c.in-Some.made c.in-Some.is c.in_ok-made.ensures.made in
-    on-table c.args.lane c.make.new.rows c.requires (λ rs. (a : ℕ) → target_in rs a ≡ target_in (table_at c.args.self.now c.args.lane) a)
-    (update-same (slots_in c.args.lane c.self.inside.rows) (slots_in c.args.lane c.make.new.rows) (table_at c.args.self.now c.args.lane) c.args.op.now c.in-Some.made.place c.in-Some.made.base (was c.args.lane c.self.inside.rows c.args.self.now c.requires c.self.view_is) (c.self.invariant c.args.lane).form (c.make.ensures.whole c.args.lane).form c.in-Some.made.before c.in-Some.made.first made (sym c.is_some.ensures ∙ c.if-is_some.true) (sym c.eq.ensures ∙ c.if-eq.true))
+    let made : IsMade (slots_in c.args.lane c.self.inside.rows) (slots_in c.args.lane c.make.new.rows) c.args.update.now.alone c.args.update.now.op c.in-Some.made.place c.in-Some.made.base c.in-Some.made.before c.in-Some.made.first =
+    where-there (λ m. IsMade (slots_in c.args.lane c.self.inside.rows) (slots_in c.args.lane c.make.new.rows) c.args.update.now.alone c.args.update.now.op m.place m.base m.before m.first) c.in_ok-made.field-0 c.in-Some.made c.in-Some.is c.in_ok-made.ensures.made in
+    on-table c.args.lane c.make.new.rows c.requires (λ rs. (a : ℕ) → way_in rs a ≡ way_in (table_at c.args.self.now c.args.lane) a)
+    (update-same (slots_in c.args.lane c.self.inside.rows) (slots_in c.args.lane c.make.new.rows) (table_at c.args.self.now c.args.lane) c.args.update.now.alone c.args.update.now.op c.in-Some.made.place c.in-Some.made.base (was c.args.lane c.self.inside.rows c.args.self.now c.requires c.self.view_is) (c.self.invariant c.args.lane).form (c.make.ensures.whole c.args.lane).form c.in-Some.made.before c.in-Some.made.first made (sym c.is_some.ensures ∙ c.if-is_some.true) (sym c.eq.ensures ∙ c.if-eq.true))
 
 pub returns-in_err-push_own_runs-clause-cost : goal.returns-in_err-push_own_runs-clause-cost
 returns-in_err-push_own_runs-clause-cost g c =
-    let made : IsMade (slots_in c.args.lane c.self.inside.rows) (slots_in c.args.lane c.make.new.rows) c.args.op.now c.in-Some.made.place c.in-Some.made.base c.in-Some.made.before c.in-Some.made.first =
-    where-there (λ m. IsMade (slots_in c.args.lane c.self.inside.rows) (slots_in c.args.lane c.make.new.rows) c.args.op.now m.place m.base m.before m.first) c.in_ok-made.field-0 c.in-Some.made c.in-Some.is c.in_ok-made.ensures.made in
+    let made : IsMade (slots_in c.args.lane c.self.inside.rows) (slots_in c.args.lane c.make.new.rows) c.args.update.now.alone c.args.update.now.op c.in-Some.made.place c.in-Some.made.base c.in-Some.made.before c.in-Some.made.first =
+    where-there (λ m. IsMade (slots_in c.args.lane c.self.inside.rows) (slots_in c.args.lane c.make.new.rows) c.args.update.now.alone c.args.update.now.op m.place m.base m.before m.first) c.in_ok-made.field-0 c.in-Some.made c.in-Some.is c.in_ok-made.ensures.made in
     let few : c.match-made.steps ≤ c.args.steps.now + 2 =
     elim c.match-made.branch [
       | in-Some-first w ↦ omega (arith, w.steps-is, c.tick.ensures)
       | in-None w ↦ omega (arith, w.steps-is, c.tick.ensures, w.done_above-after.ensures.cost)
     ] in
-    update-cost (slots_in c.args.lane c.self.inside.rows) (slots_in c.args.lane c.make.new.rows) (table_at c.args.self.now c.args.lane) c.args.op.now c.in-Some.made.place c.in-Some.made.base (was c.args.lane c.self.inside.rows c.args.self.now c.requires c.self.view_is) (c.self.invariant c.args.lane).form (c.make.ensures.whole c.args.lane).form c.in-Some.made.before c.in-Some.made.first made c.args.steps.now c.match-made.steps c.push_own_runs.new.steps c.prefix-prefix.result c.prefix-prefix.ensures few c.push_own_runs.ensures.cost
+    update-cost (slots_in c.args.lane c.self.inside.rows) (slots_in c.args.lane c.make.new.rows) (table_at c.args.self.now c.args.lane) c.args.update.now.alone c.args.update.now.op c.in-Some.made.place c.in-Some.made.base (was c.args.lane c.self.inside.rows c.args.self.now c.requires c.self.view_is) (c.self.invariant c.args.lane).form (c.make.ensures.whole c.args.lane).form c.in-Some.made.before c.in-Some.made.first made c.args.steps.now c.match-made.steps c.push_own_runs.new.steps c.prefix-prefix.result c.prefix-prefix.ensures few c.push_own_runs.ensures.cost
 
 pub returns-clause-cost : goal.returns-clause-cost
 returns-clause-cost g c =
-    let made : IsMade (slots_in c.args.lane c.self.inside.rows) (slots_in c.args.lane c.make.new.rows) c.args.op.now c.in-Some.made.place c.in-Some.made.base c.in-Some.made.before c.in-Some.made.first =
-    where-there (λ m. IsMade (slots_in c.args.lane c.self.inside.rows) (slots_in c.args.lane c.make.new.rows) c.args.op.now m.place m.base m.before m.first) c.in_ok-made.field-0 c.in-Some.made c.in-Some.is c.in_ok-made.ensures.made in
+    let made : IsMade (slots_in c.args.lane c.self.inside.rows) (slots_in c.args.lane c.make.new.rows) c.args.update.now.alone c.args.update.now.op c.in-Some.made.place c.in-Some.made.base c.in-Some.made.before c.in-Some.made.first =
+    where-there (λ m. IsMade (slots_in c.args.lane c.self.inside.rows) (slots_in c.args.lane c.make.new.rows) c.args.update.now.alone c.args.update.now.op m.place m.base m.before m.first) c.in_ok-made.field-0 c.in-Some.made c.in-Some.is c.in_ok-made.ensures.made in
     let few : c.match-made.steps ≤ c.args.steps.now + 2 =
     elim c.match-made.branch [
       | in-Some-first w ↦ omega (arith, w.steps-is, c.tick.ensures)
       | in-None w ↦ omega (arith, w.steps-is, c.tick.ensures, w.done_above-after.ensures.cost)
     ] in
-    update-cost (slots_in c.args.lane c.self.inside.rows) (slots_in c.args.lane c.make.new.rows) (table_at c.args.self.now c.args.lane) c.args.op.now c.in-Some.made.place c.in-Some.made.base (was c.args.lane c.self.inside.rows c.args.self.now c.requires c.self.view_is) (c.self.invariant c.args.lane).form (c.make.ensures.whole c.args.lane).form c.in-Some.made.before c.in-Some.made.first made c.args.steps.now c.match-made.steps c.push_own_runs.new.steps c.prefix-prefix.result c.prefix-prefix.ensures few c.push_own_runs.ensures.cost
+    update-cost (slots_in c.args.lane c.self.inside.rows) (slots_in c.args.lane c.make.new.rows) (table_at c.args.self.now c.args.lane) c.args.update.now.alone c.args.update.now.op c.in-Some.made.place c.in-Some.made.base (was c.args.lane c.self.inside.rows c.args.self.now c.requires c.self.view_is) (c.self.invariant c.args.lane).form (c.make.ensures.whole c.args.lane).form c.in-Some.made.before c.in-Some.made.first made c.args.steps.now c.match-made.steps c.push_own_runs.new.steps c.prefix-prefix.result c.prefix-prefix.ensures few c.push_own_runs.ensures.cost
 
 pub returns-clause-turned : goal.returns-clause-turned
 returns-clause-turned g c =
-    let made : IsMade (slots_in c.args.lane c.self.inside.rows) (slots_in c.args.lane c.make.new.rows) c.args.op.now c.in-Some.made.place c.in-Some.made.base c.in-Some.made.before c.in-Some.made.first =
-    where-there (λ m. IsMade (slots_in c.args.lane c.self.inside.rows) (slots_in c.args.lane c.make.new.rows) c.args.op.now m.place m.base m.before m.first) c.in_ok-made.field-0 c.in-Some.made c.in-Some.is c.in_ok-made.ensures.made in
-    let sound : IsCidr (prefix_of_op c.args.op.now) = subst (λ p. IsCidr p) c.prefix-prefix.ensures c.push_own_runs.ensures.sound in
-    on-table c.args.lane c.make.new.rows c.requires (λ rs. IsTurned (table_at c.args.self.now c.args.lane) rs (prefix_of_op c.args.op.now) c.match-made.after)
+    let made : IsMade (slots_in c.args.lane c.self.inside.rows) (slots_in c.args.lane c.make.new.rows) c.args.update.now.alone c.args.update.now.op c.in-Some.made.place c.in-Some.made.base c.in-Some.made.before c.in-Some.made.first =
+    where-there (λ m. IsMade (slots_in c.args.lane c.self.inside.rows) (slots_in c.args.lane c.make.new.rows) c.args.update.now.alone c.args.update.now.op m.place m.base m.before m.first) c.in_ok-made.field-0 c.in-Some.made c.in-Some.is c.in_ok-made.ensures.made in
+    let sound : IsCidr (prefix_of_op c.args.update.now.op) = subst (λ p. IsCidr p) c.prefix-prefix.ensures c.push_own_runs.ensures.sound in
+    on-table c.args.lane c.make.new.rows c.requires (λ rs. IsTurned (table_at c.args.self.now c.args.lane) rs (prefix_of_op c.args.update.now.op) c.match-made.after)
     (elim c.match-made.branch [
-      | in-Some-first w ↦ update-first (slots_in c.args.lane c.self.inside.rows) (slots_in c.args.lane c.make.new.rows) (table_at c.args.self.now c.args.lane) c.args.op.now c.in-Some.made.place c.in-Some.made.base (was c.args.lane c.self.inside.rows c.args.self.now c.requires c.self.view_is) (c.self.invariant c.args.lane).form (c.make.ensures.whole c.args.lane).form c.in-Some.made.before c.in-Some.made.first made w.in-Some-first.target c.match-made.after sound w.in-Some-first.is w.after-is
-      | in-None w ↦ update-above (slots_in c.args.lane c.self.inside.rows) (slots_in c.args.lane c.make.new.rows) (table_at c.args.self.now c.args.lane) c.args.op.now c.in-Some.made.place c.in-Some.made.base (was c.args.lane c.self.inside.rows c.args.self.now c.requires c.self.view_is) (c.self.invariant c.args.lane).form (c.make.ensures.whole c.args.lane).form c.in-Some.made.before c.in-Some.made.first made w.done_above-after.result c.match-made.after sound w.in-None.is (subst (λ p. IsDoneAbove (slots_in c.args.lane c.make.new.rows) p w.done_above-after.result) c.prefix-prefix.ensures w.done_above-after.ensures.above) w.after-is
+      | in-Some-first w ↦ update-first (slots_in c.args.lane c.self.inside.rows) (slots_in c.args.lane c.make.new.rows) (table_at c.args.self.now c.args.lane) c.args.update.now.alone c.args.update.now.op c.in-Some.made.place c.in-Some.made.base (was c.args.lane c.self.inside.rows c.args.self.now c.requires c.self.view_is) (c.self.invariant c.args.lane).form (c.make.ensures.whole c.args.lane).form c.in-Some.made.before c.in-Some.made.first made w.in-Some-first.way c.match-made.after sound w.in-Some-first.is w.after-is
+      | in-None w ↦ update-above (slots_in c.args.lane c.self.inside.rows) (slots_in c.args.lane c.make.new.rows) (table_at c.args.self.now c.args.lane) c.args.update.now.alone c.args.update.now.op c.in-Some.made.place c.in-Some.made.base (was c.args.lane c.self.inside.rows c.args.self.now c.requires c.self.view_is) (c.self.invariant c.args.lane).form (c.make.ensures.whole c.args.lane).form c.in-Some.made.before c.in-Some.made.first made w.done_above-after.result c.match-made.after sound w.in-None.is (subst (λ p. IsDoneAbove (slots_in c.args.lane c.make.new.rows) p w.done_above-after.result) c.prefix-prefix.ensures w.done_above-after.ensures.above) w.after-is
     ])
 
 pub returns-clause-runs : goal.returns-clause-runs
 returns-clause-runs g c =
-    on-table c.args.lane c.make.new.rows c.requires (λ rs. AreOwnRuns rs (prefix_of_op c.args.op.now) c.push_own_runs.new.runs.items)
+    on-table c.args.lane c.make.new.rows c.requires (λ rs. AreOwnRuns rs (prefix_of_op c.args.update.now.op) c.push_own_runs.new.runs.items)
     (subst (λ p. AreOwnRuns (routes_of (slots_in c.args.lane c.make.new.rows)) p c.push_own_runs.new.runs.items) c.prefix-prefix.ensures c.in_ok-push_own_runs.ensures.own)
 
 pub returns-clause-had : goal.returns-clause-had
 returns-clause-had g c =
-    let made : IsMade (slots_in c.args.lane c.self.inside.rows) (slots_in c.args.lane c.make.new.rows) c.args.op.now c.in-Some.made.place c.in-Some.made.base c.in-Some.made.before c.in-Some.made.first =
-    where-there (λ m. IsMade (slots_in c.args.lane c.self.inside.rows) (slots_in c.args.lane c.make.new.rows) c.args.op.now m.place m.base m.before m.first) c.in_ok-made.field-0 c.in-Some.made c.in-Some.is c.in_ok-made.ensures.made in
-    subst (λ rs. SetsOrHas rs c.args.op.now) (was c.args.lane c.self.inside.rows c.args.self.now c.requires c.self.view_is) made.had
+    let made : IsMade (slots_in c.args.lane c.self.inside.rows) (slots_in c.args.lane c.make.new.rows) c.args.update.now.alone c.args.update.now.op c.in-Some.made.place c.in-Some.made.base c.in-Some.made.before c.in-Some.made.first =
+    where-there (λ m. IsMade (slots_in c.args.lane c.self.inside.rows) (slots_in c.args.lane c.make.new.rows) c.args.update.now.alone c.args.update.now.op m.place m.base m.before m.first) c.in_ok-made.field-0 c.in-Some.made c.in-Some.is c.in_ok-made.ensures.made in
+    subst (λ rs. SetsOrHas rs c.args.update.now.op) (was c.args.lane c.self.inside.rows c.args.self.now c.requires c.self.view_is) made.had

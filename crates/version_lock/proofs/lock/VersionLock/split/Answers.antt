@@ -4,7 +4,7 @@ use Rattle.atomic_table.specs.Table.{Me}
 use Rattle.atomic_table.specs.declared.badge.Badge.{Badge}
 use Rattle.version_lock.specs.declared.view.View.{View}
 use Rattle.version_lock.specs.Callers.{Caller}
-use Rattle.version_lock.proofs.SeatsKept.{seat_lower, seat_upper}
+use Rattle.version_lock.proofs.SeatsKept.{seat_lower}
 use Rattle.version_lock.proofs.lock.VersionLock.split.Goals as goal
 
 pub invariant_of-seat : goal.invariant_of-seat

@@ -1,10 +1,9 @@
 use Rattle.std.proofs.Common.{◌≡◌, ◌∙◌, ◌<◌, ◌++◌, ◌∷◌, [], List, Some, length, ap, sym, subst, rules}
 use Rattle.std.proofs.lemmas.Result.{err_from_is_err_and}
 use Rattle.std.specs.Arc.{arc_value}
-use Rattle.dn_model.specs.Entry.{IsEntryOf}
-use Rattle.dn_model.specs.declared.change.Change.{Change}
+use Rattle.base.specs.declared.change.Change.{Change}
 use Rattle.dn_model.specs.declared.entry.Posted.{Posted}
-use Rattle.version_store.specs.Kept.{IsKeptOf, Ledger}
+use Rattle.version_store.specs.Kept.{IsKeptOf, IsTaken, Ledger}
 use Rattle.version_store.proofs.GoingOn.{kept-more}
 use Rattle.version_store.proofs.store.Store.add.Goals as goal
 
@@ -17,7 +16,7 @@ invariant_of-self-2 c =
     (subst (λ (cs : List Change). kept (s.history ++ posted ∷ []) cs) (sym c.in_ok-post_with.ensures.changes)
     (kept-more (arc_value s.topology) s.limit s.history posted s.standing c.in_ok-standing.standing (arc_value s.changes) c.in_ok-standing.changes c.self.invariant
     (subst (λ (l : Ledger). length l.history < l.basis.limit) (sym c.self.view_is) c.requires.room)
-    (subst (λ (l : Ledger). IsEntryOf l.basis.topology c.args.entry.now) (sym c.self.view_is) c.requires.entry)
+    (subst (λ (l : Ledger). IsTaken l.basis.topology c.args.entry.now) (sym c.self.view_is) c.requires.entry)
     c.in_ok-standing.ensures.standing c.in_ok-standing.ensures.changes))
 
 pub returns-in_err-post_with-clause-ok : goal.returns-in_err-post_with-clause-ok

@@ -1,0 +1,16 @@
+pub mod Cidr
+pub mod Cycles
+pub mod CyclesFrom
+pub mod Delta
+pub mod DeltaFrom
+pub mod Forwarding
+pub mod Holes
+pub mod HolesFrom
+pub mod Links
+pub mod Lists
+pub mod Name
+pub mod Reach
+pub mod Rows
+pub mod Runs
+pub mod RunsFrom
+pub mod Walk

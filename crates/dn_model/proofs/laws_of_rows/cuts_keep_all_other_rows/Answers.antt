@@ -1,5 +1,0 @@
-use Rattle.dn_model.proofs.Cuts.{row-after-cut}
-use Rattle.dn_model.proofs.laws_of_rows.cuts_keep_all_other_rows.Goals as goal
-
-pub returns : goal.returns
-returns c = λ rows at new a h. row-after-cut 0 rows at new a h.cover

@@ -1,0 +1,42 @@
+//! A run that meets no fault, and the numbers of statuses.
+
+use crate::whole_run::{RING, TAKE_ALL, USUAL, set_frame, text, texts};
+use dn_io::{NoGate, SureFile, SureWorld};
+use dn_run::{Status, run_surely};
+use std::alloc::Global;
+use std::process::Abort;
+use std::sync::Wait;
+use std::thread::Threads;
+
+/// A file of a world without faults.
+fn sure_file(rt: &impl Abort, alloc: Global, name: &str, bytes: &[u8]) -> SureFile {
+    SureFile {
+        name: text(rt, alloc, name),
+        bytes: Vec::from_slice(alloc, bytes).expect(rt, "memory"),
+    }
+}
+
+/// The status of a run over the ring, a script and this feed of `r1`.
+fn status_of<R: Abort + Threads + Wait + Sync>(rt: &R, alloc: Global, feed: &[u8]) -> Status {
+    let files = [
+        sure_file(rt, alloc, "topology", RING.as_bytes()),
+        sure_file(rt, alloc, "script", TAKE_ALL.as_bytes()),
+        sure_file(rt, alloc, "f1", feed),
+    ];
+    let files = Vec::from_array(alloc, files).expect(rt, "memory");
+    let words = texts(rt, alloc, &USUAL);
+    let mut world = SureWorld::new(alloc, files);
+    run_surely(rt, alloc, words.as_slice(), &mut world, &NoGate)
+}
+
+#[test]
+fn a_run_without_faults(rt: HostRuntime) {
+    let alloc = rt.alloc();
+    let frame = set_frame(0, 8, 2);
+    let whole = status_of(&rt, alloc, &frame);
+    assert_eq!(rt; whole, Status::Done);
+    assert_eq!(rt; whole.number(), 0);
+    let cut = status_of(&rt, alloc, &frame[..63]);
+    assert_eq!(rt; cut, Status::Refusals);
+    assert_eq!(rt; cut.number(), 1);
+}

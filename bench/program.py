@@ -69,8 +69,7 @@ def flag(words, name):
 
 def build():
     """Builds the program where need be, and stops where it can't."""
-    # Called without words the program refuses at once.
-    subprocess.run([os.path.join(TOP, "deltanet")], stdin=subprocess.DEVNULL, stdout=subprocess.DEVNULL)
+    subprocess.run([os.path.join(TOP, "deltanet"), "build"], stdin=subprocess.DEVNULL, stdout=subprocess.DEVNULL)
     if not os.access(PROGRAM, os.X_OK):
         sys.exit("bench: the program isn't built")
 

@@ -13,7 +13,7 @@ import signal
 import sys
 from collections.abc import Callable, Iterable
 
-from network import Network, TopologyFault, is_name, read_topology
+from network import Network, TopologyFault, is_name, nearest_name, read_topology
 
 
 # How many of a list are told in a line.
@@ -98,7 +98,8 @@ def router_and_file(words: str) -> tuple[str, str]:
     if not equals or not file:
         raise ToolError(f"{words}: this isn't ROUTER=FILE")
     if not is_name(router):
-        raise ToolError(f"{words}: {router!r} isn't a router's name (1 to 32 of a to z, 0 to 9, _ and -)")
+        raise ToolError(f"{words}: {router!r} isn't a router's name (1 to 32 of a to z, 0 to 9, _ and -)"
+                        f"{nearest_name(router)}")
     return router, file
 
 

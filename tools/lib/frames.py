@@ -11,7 +11,8 @@ import ipaddress
 import struct
 from collections.abc import Callable, Iterator
 from dataclasses import dataclass, field
-from typing import BinaryIO
+from functools import lru_cache
+from typing import BinaryIO, NamedTuple
 
 LONGEST_FEED = 2 ** 30
 PIECE = 1 << 16
@@ -46,8 +47,7 @@ FAMILIES = {2: "IPv4", 7: "bridge", 10: "IPv6", 28: "MPLS"}
 HasInterface = Callable[[int], bool]
 
 
-@dataclass(frozen=True, order=True, slots=True)
-class Prefix:
+class Prefix(NamedTuple):
     """A range of addresses: its lowest address and the number of leading bits that all of them share."""
 
     address: int
@@ -56,12 +56,14 @@ class Prefix:
     def __str__(self) -> str:
         return f"{_dotted(self.address.to_bytes(4, 'big'))}/{self.length}"
 
+    def covers(self, address: int) -> bool:
+        return address >> (32 - self.length) == self.address >> (32 - self.length)
+
     def has_host_bits(self) -> bool:
         return self.address & ((1 << (32 - self.length)) - 1) != 0
 
 
-@dataclass(frozen=True, slots=True)
-class Frame:
+class Frame(NamedTuple):
     """A whole frame. Frames count from 1, offsets from the start of the feed; `kind` is the frame's type."""
 
     number: int
@@ -88,8 +90,7 @@ class FeedEnd:
         return " ".join(str(word) for word in (self.kind, self.offset, self.cause) if word is not None)
 
 
-@dataclass(frozen=True, slots=True)
-class Route:
+class Route(NamedTuple):
     """A message that sets or deletes a route; `at` is its place in the payload.
 
     A deletion without a metric, None, is of all routes of the prefix. `gateway` is None where there is neither a
@@ -144,7 +145,8 @@ class Cutter:
     """Cuts a stream that comes in pieces into frames, until the framing is lost."""
 
     def __init__(self) -> None:
-        self._rest = bytearray()
+        self._rest = b""
+        self._at = 0
         self._offset = 0
         self._number = 0
         self.lost: FeedEnd | None = None
@@ -157,7 +159,7 @@ class Cutter:
     def feed(self, piece: bytes) -> Iterator[Frame]:
         """The frames that are whole with this piece. They must all be taken before the next piece comes."""
         if self.lost is None:
-            self._rest += piece
+            self._rest, self._at = self._rest[self._at:] + piece, 0
         while self.lost is None:
             frame = self._next()
             if frame is None:
@@ -168,30 +170,31 @@ class Cutter:
         """How the stream ends, where nothing comes after what was fed."""
         if self.lost is not None:
             return self.lost
-        return FeedEnd("cutshort", self._offset) if self._rest else FeedEnd("end")
+        return FeedEnd("cutshort", self._offset) if self._at < len(self._rest) else FeedEnd("end")
 
     def _next(self) -> Frame | None:
-        rest = self._rest
-        if rest and rest[0] != 1:
+        rest, at = self._rest, self._at
+        left = len(rest) - at
+        if left and rest[at] != 1:
             self._lose("BadVersion")
             return None
-        if len(rest) < FRAME_HEADER:
+        if left < FRAME_HEADER:
             return None
-        length = rest[2] << 8 | rest[3]
+        length = rest[at + 2] << 8 | rest[at + 3]
         if length < FRAME_HEADER:
             self._lose("BadFrameLength")
             return None
-        if len(rest) < length:
+        if left < length:
             return None
         self._number += 1
-        frame = Frame(self._number, self._offset, rest[1], bytes(rest[FRAME_HEADER:length]))
-        del rest[:length]
+        frame = Frame(self._number, self._offset, rest[at + 1], rest[at + FRAME_HEADER:at + length])
+        self._at = at + length
         self._offset += length
         return frame
 
     def _lose(self, cause: str) -> None:
         self.lost = FeedEnd("lost", self._offset, cause)
-        self._rest.clear()
+        self._rest, self._at = b"", 0
 
 
 @dataclass
@@ -221,8 +224,7 @@ class Feed:
             self.end = FeedEnd("toolong")
 
 
-@dataclass(frozen=True, slots=True)
-class Decoded:
+class Decoded(NamedTuple):
     """What a frame comes to: its routes and skipped messages in order, or the refusal of the whole frame.
 
     Where it is refused, `messages` are those that stand before the refused one; the program counts none of them.
@@ -239,8 +241,47 @@ class Decoded:
         return [message for message in self.messages if isinstance(message, Route)]
 
 
+# What most frames are: one message with these attributes in this order, each of four bytes. The size of the payload, how it
+# is unpacked, the message's type, the heads of the attributes and where they stand among what is unpacked.
+USUAL = {
+    44: (struct.Struct("<IHHII8BIHH4sHHI"), DELETE_ROUTE, (14, 17), ((8, DST), (8, PRIORITY))),
+    52: (struct.Struct("<IHHII8BIHH4sHHIHHI"), NEW_ROUTE, (14, 17, 20), ((8, DST), (8, PRIORITY), (8, OIF))),
+    60: (struct.Struct("<IHHII8BIHH4sHHIHH4sHHI"), NEW_ROUTE, (14, 17, 20, 23),
+         ((8, DST), (8, PRIORITY), (8, GATEWAY), (8, OIF))),
+}
+
+
+def _usual_route(payload: bytes, has_interface: HasInterface | None) -> Route | None:
+    """The route of a payload that is one message of the usual forms and is accepted; None of all others, which are read
+    attribute by attribute."""
+    form = USUAL.get(len(payload))
+    if form is None:
+        return None
+    unpacker, message_type, places, heads = form
+    said = unpacker.unpack(payload)
+    length = said[6]
+    if (said[0] != len(payload) or said[1] != message_type or said[5] != IPV4 or length > 32 or said[7] or said[8]
+            or said[9] not in (0, MAIN_TABLE)):
+        return None
+    for place, head in zip(places, heads):
+        if said[place:place + 2] != head:
+            return None
+    prefix = Prefix(int.from_bytes(said[16], "big"), length)
+    if prefix.has_host_bits():
+        return None
+    if message_type == DELETE_ROUTE:
+        return Route(0, False, prefix, said[19], said[12], said[10], None, None, said[4])
+    interface = said[-1]
+    if said[12] != UNICAST or has_interface is not None and not has_interface(interface):
+        return None
+    gateway = _dotted(said[22]) if len(payload) == 60 else None
+    return Route(0, True, prefix, said[19], UNICAST, said[10], gateway, interface, said[4])
+
+
 def decode(frame: Frame, has_interface: HasInterface | None = None) -> Decoded:
     """What a frame comes to. Without `has_interface` no interface is unknown."""
+    if frame.kind == NETLINK and (usual := _usual_route(frame.payload, has_interface)) is not None:
+        return Decoded([usual])
     if frame.kind != NETLINK:
         return Decoded([], Refused(0, "FrameType"))
     messages: list[Route | Skipped] = []
@@ -359,6 +400,7 @@ def _gateway(attributes: dict[int, bytes]) -> str | None:
     return str(ipaddress.IPv6Address(address)) if len(address) == 16 else address.hex() or "empty"
 
 
+@lru_cache(maxsize=2**12)
 def _dotted(address: bytes) -> str:
     return ".".join(map(str, address))
 

@@ -124,6 +124,12 @@ def is_name(text: str) -> bool:
     return NAME.fullmatch(text) is not None
 
 
+def nearest_name(text: str) -> str:
+    """A name near to a text that isn't one, in words for an error."""
+    name = re.sub(r"[^a-z0-9_-]+", "-", text.lower()).strip("-")[:32]
+    return f"; {name} would be one" if is_name(name) and name != text else ""
+
+
 def read_topology(path: str) -> Network:
     """Reads a topology file. Raises TopologyFault with its first fault, or OSError."""
     with open(path, "rb") as file:
@@ -276,7 +282,8 @@ class _EntryReader:
 
     def _take_name(self, part: str, entry: int, name: str, taken: set[str]) -> None:
         if not is_name(name):
-            raise self.fault(part, entry, "BadName", f"{name!r} isn't 1 to 32 of a to z, 0 to 9, _ and -")
+            why = f"{name!r} isn't 1 to 32 of a to z, 0 to 9, _ and -{nearest_name(name)}"
+            raise self.fault(part, entry, "BadName", why)
         if name in taken:
             raise self.fault(part, entry, "TwiceNamed", f"an earlier one is named {name}")
         taken.add(name)

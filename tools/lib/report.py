@@ -22,12 +22,17 @@ HISTORY_LINE = re.compile(r"history (\d+)", re.ASCII)
 ENTRY_LINE = re.compile(
     rf"(\d+) feed (\d+) ({NAME}) (?:set ({PREFIX}) metric (\d+) (.+)|clear ({PREFIX})(?: metric (\d+))?)", re.ASCII
 )
+HISTORY_OF_TEXT = re.compile(rb"^history (\d+)\n", re.MULTILINE)
+AFTER_HISTORY = re.compile(rb"^(?:job 1|done)\n", re.MULTILINE)
 JOB_LINE = re.compile(r"job (\d+)", re.ASCII)
 ANSWERED_LINE = re.compile(r"line (\d+) at (\d+) (.+)", re.ASCII)
 UNKNOWN_LINE = re.compile(r"line (\d+) ([a-z].*)", re.ASCII)
 OCTET = r"(0|[1-9][0-9]{0,2})"
 ADDRESS = re.compile(rf"{OCTET}\.{OCTET}\.{OCTET}\.{OCTET}")
 LENGTHS = {str(length): length for length in range(33)}
+# What a target looks like, without names for its parts.
+TARGET_TEXT = (rf"noroute|local|dropped (?:blackhole|unreachable|prohibit)|(?:exit|onlink) \d+|to {NAME} by {NAME}"
+               rf"|linkdown {NAME}")
 TARGET = re.compile(
     rf"noroute|local|dropped (?:blackhole|unreachable|prohibit)|(?:exit|onlink) (?P<interface>\d+)"
     rf"|to (?P<router>{NAME}) by (?P<link>{NAME})|linkdown (?P<down>{NAME})",
@@ -150,13 +155,14 @@ class Answer:
 
 @dataclass
 class Report:
-    """A whole report."""
+    """A whole report; `length` is that of its history, also where the entries weren't read."""
 
     path: str
     feeds: list[Feed] = field(default_factory=list)
     entries: list[Entry] = field(default_factory=list)
     jobs: list[int] = field(default_factory=list)
     answers: list[Answer] = field(default_factory=list)
+    length: int = 0
 
     def feed_of(self, router: str) -> Feed | None:
         """The router's feed; a router has at most one in a run."""
@@ -214,12 +220,35 @@ def read_target(text: str) -> Target | None:
     return Target(text, match["router"], link, None if interface is None else int(interface))
 
 
+_kept_prefix = lru_cache(maxsize=2**20)(read_prefix)
+_kept_target = lru_cache(maxsize=2**16)(read_target)
+
+
+def read_entry(position: int, text: str) -> Entry:
+    """The entry at a position, from its words after the position: `feed K ROUTER OP`."""
+    match = ENTRY_LINE.fullmatch(f"{position} {text}")
+    metric = match[5] or match[8]
+    return Entry(position, int(match[2]), match[3], _kept_prefix(match[4] or match[7]),
+                 None if metric is None else int(metric), None if match[6] is None else _kept_target(match[6]))
+
+
 def read_report(path: str) -> Report:
     """Reads a report from a file, or from standard input where the path is `-`. Raises ReportError or OSError."""
     if path == "-":
         return _Reader("standard input", sys.stdin.buffer.read()).report()
     with open(path, "rb") as file:
         return parse_report(path, file.read())
+
+
+def parse_answers(path: str, text: bytes) -> Report:
+    """A report's feeds and answers without its history, of which the length alone is read; in a small part of the time."""
+    history = HISTORY_OF_TEXT.search(text)
+    following = AFTER_HISTORY.search(text, history.end()) if history else None
+    if history is None or following is None:
+        return parse_report(path, text)
+    reader = _Reader(path, text[:history.start()] + b"history 0\n" + text[following.start():])
+    reader.longest = int(history[1])
+    return reader.report()
 
 
 def parse_report(path: str, text: bytes) -> Report:
@@ -237,6 +266,7 @@ class _Reader:
         self.place = 0
         self.prefixes: dict[str, Prefix | None] = {}
         self.targets: dict[str, Target | None] = {}
+        self.longest: int | None = None
 
     def wrong(self, why: str) -> ReportError:
         """The error of the line that was read last."""
@@ -259,6 +289,7 @@ class _Reader:
         while self.peek().startswith("feed "):
             report.feeds.append(self.feed(len(report.feeds) + 1))
         self.read_history(report)
+        report.length = len(report.entries) if self.longest is None else self.longest
         while JOB_LINE.fullmatch(self.peek()):
             self.read_job(report)
         if self.take() != "done" or self.place != len(self.lines) or not self.is_whole:
@@ -324,7 +355,7 @@ class _Reader:
             raise self.wrong(f"this isn't the line of job {job}")
         report.jobs.append(job)
         while self.is_query(self.peek()):
-            report.answers.append(self.answer(job, len(report.entries)))
+            report.answers.append(self.answer(job, report.length))
 
     def answer(self, job: int, longest: int) -> Answer:
         line = self.take()

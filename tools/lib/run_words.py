@@ -8,7 +8,7 @@ from __future__ import annotations
 import os
 from dataclasses import dataclass, field
 
-from network import is_name
+from network import is_name, nearest_name
 
 MOST_FEEDS = 64
 MOST_SCRIPTS = 64
@@ -108,7 +108,8 @@ def _add_part(said: RunWords, part: int, word: str) -> None:
     if not equals:
         raise _part_refused(part, word, "BadPart", "a part is ROUTER=FILE, or @FILE for a script")
     if not is_name(router):
-        rule = f"before = stands a router's name, 1 to 32 of a to z, 0 to 9, _ and -, and {router!r} isn't one"
+        rule = (f"before = stands a router's name, 1 to 32 of a to z, 0 to 9, _ and -, and {router!r} isn't one"
+                f"{nearest_name(router)}")
         raise _part_refused(part, word, "BadPart", rule)
     if not file:
         raise _part_refused(part, word, "BadPart", "after = stands the feed's file")

@@ -7,17 +7,25 @@ connected prefixes of the router, not with the length of the recording.
 from __future__ import annotations
 
 import hashlib
-from collections import Counter, defaultdict
+import os
+from bisect import bisect_left
+from collections import defaultdict
+from concurrent.futures import ProcessPoolExecutor
 from dataclasses import dataclass, field
 
+from command import ToolError
 from frames import (DELETE_NEXTHOP, KERNEL, NEW_NEXTHOP, UNICAST, Decoded, Feed, FeedEnd, Frame, Prefix, Route, Skipped,
                     decode)
 from network import End, is_interface
+from progress import Progress
+from times import Moment, read_times
 
 # The metric that zebra's module dplane_fpm_nl gives to every route.
 MODULE_METRIC = 20
 # Routes that are kept in mind to see that a session begins anew. A walk of the table repeats them all, so some do.
 MOST_KEPT = 100_000
+# Bytes of feeds from which on they are read side by side.
+SIDE_BY_SIDE = 1 << 22
 # Prefixes and gateways kept of one interface.
 MOST_OF_INTERFACE = 1_000
 
@@ -41,12 +49,21 @@ class Sighting:
 
 
 @dataclass
+class Stay:
+    """A time through which a prefix is connected at an interface: the frame with which it begins, and the one with
+    which it ends, None where it lasts to the end of the feed."""
+
+    begin: int
+    end: int | None = None
+
+
+@dataclass
 class Interface:
-    """What a feed says of an interface: the prefixes connected there, and the gateways used there."""
+    """What a feed says of an interface: the prefixes connected there and when, and the gateways used there."""
 
     used: Sighting = field(default_factory=Sighting)
-    connected: set[Prefix] = field(default_factory=set)
-    gateways: Counter[str] = field(default_factory=Counter)
+    connected: dict[Prefix, list[Stay]] = field(default_factory=dict)
+    gateways: dict[str, Sighting] = field(default_factory=dict)
 
 
 @dataclass
@@ -67,15 +84,25 @@ class Survey:
     senders: dict[int, Sighting] = field(default_factory=dict)
     sender_changes: int = 0
     begun_anew: Sighting = field(default_factory=Sighting)
+    moments: list[Moment] = field(default_factory=list)
 
     @property
     def name(self) -> str:
         """The feed as the words of the command name it."""
         return f"{self.router}={self.path}"
 
+    def has_connected(self) -> bool:
+        """Whether any prefix was ever connected anywhere."""
+        return any(interface.connected for interface in self.interfaces.values())
+
     def connected(self, interface: int) -> set[Prefix]:
         """The prefixes that were ever connected at an interface."""
-        return self.interfaces[interface].connected if interface in self.interfaces else set()
+        return set(self.interfaces[interface].connected) if interface in self.interfaces else set()
+
+    def seconds(self, frame: int | None) -> float:
+        """When a frame came, as far as the file of times tells; None stands for what comes after the last."""
+        place = len(self.moments) if frame is None else bisect_left(self.moments, frame, key=lambda moment: moment.frames)
+        return self.moments[place].time.timestamp() if place < len(self.moments) else float("inf")
 
 
 class _Walks:
@@ -143,6 +170,33 @@ def _content(route: Route) -> int:
     return hash((route.metric, route.route_type, route.protocol, route.gateway, route.interface))
 
 
+class _Stays:
+    """Follows at which interface each prefix is connected."""
+
+    def __init__(self, survey: Survey) -> None:
+        self.interfaces = survey.interfaces
+        self.standing: dict[Prefix, tuple[int, Stay]] = {}
+
+    def take(self, frame: Frame, updates: list[Route]) -> None:
+        for route in updates:
+            held = self.standing.get(route.prefix)
+            if held is not None and (not route.is_connected or held[0] != route.interface):
+                held[1].end = frame.number
+                del self.standing[route.prefix]
+                held = None
+            if route.is_connected and held is None:
+                self._begin(frame, route.prefix, route.interface)
+
+    def _begin(self, frame: Frame, prefix: Prefix, interface: int) -> None:
+        connected = self.interfaces[interface].connected
+        if prefix in connected or len(connected) < MOST_OF_INTERFACE:
+            stays = connected.setdefault(prefix, [])
+            if len(stays) == MOST_OF_INTERFACE:
+                stays.pop()
+            stays.append(Stay(frame.number))
+            self.standing[prefix] = (interface, stays[-1])
+
+
 class _DigestedFile:
     """A file whose bytes are digested as they are read."""
 
@@ -156,35 +210,55 @@ class _DigestedFile:
         return piece
 
 
+def surveys(feeds: list[tuple[str, str]]) -> list[Survey]:
+    """Reads feeds, each once; several large ones side by side. On a terminal it tells how far it is."""
+    size = sum(os.path.getsize(path) for _router, path in feeds if os.path.isfile(path))
+    if len(feeds) < 2 or size < SIDE_BY_SIDE:
+        return [survey(router, path) for router, path in feeds]
+    with ProcessPoolExecutor(min(len(feeds), os.cpu_count() or 1)) as pool:
+        return list(pool.map(survey, *zip(*feeds)))
+
+
 def survey(router: str, path: str) -> Survey:
     """Reads a feed once. Raises OSError where it can't be opened."""
     result = Survey(router, path)
-    walks = _Walks()
+    walks, stays = _Walks(), _Stays(result)
     last_sender: int | None = None
     with open(path, "rb") as opened:
         file = _DigestedFile(opened)
-        feed = Feed(file)  # type: ignore[arg-type]
+        feed = Feed(Progress(file, path))  # type: ignore[arg-type]
         for frame in feed:
             decoded = decode(frame)
-            _take_frame(result, frame, decoded)
+            updates = decoded.updates
+            _take_frame(result, frame, decoded, updates)
             last_sender = _take_senders(result, frame, decoded, last_sender)
-            walks.take(frame, decoded.updates)
+            walks.take(frame, updates)
+            stays.take(frame, updates)
     result.end = feed.end or FeedEnd("end")
     result.digest = file.digest.hexdigest()
     result.begun_anew = walks.begun_anew()
+    result.moments = moments_beside(path)
     return result
 
 
-def _take_frame(result: Survey, frame: Frame, decoded: Decoded) -> None:
+def moments_beside(path: str) -> list[Moment]:
+    """What the file of times beside a recording says; nothing where there is none that can be read."""
+    try:
+        return read_times(f"{path}.times")
+    except (OSError, ToolError):
+        return []
+
+
+def _take_frame(result: Survey, frame: Frame, decoded: Decoded, updates: list[Route]) -> None:
     result.frames += 1
-    result.updates += len(decoded.updates)
+    result.updates += len(updates)
     for message in decoded.messages:
         if isinstance(message, Skipped) and message.message_type in (NEW_NEXTHOP, DELETE_NEXTHOP):
             result.next_hop_objects.see(frame, message.what)
     refused = decoded.refused
     if refused is not None:
         result.refused[refused.cause].see(frame, "" if refused.route is None else refused.route.prefix)
-    for route in decoded.updates:
+    for route in updates:
         _take_route(result, frame, route)
 
 
@@ -197,20 +271,25 @@ def _take_route(result: Survey, frame: Frame, route: Route) -> None:
         return
     interface = result.interfaces[route.interface]
     interface.used.see(frame, route.prefix)
-    if route.is_connected and len(interface.connected) < MOST_OF_INTERFACE:
-        interface.connected.add(route.prefix)
-    if route.gateway is not None and len(interface.gateways) < MOST_OF_INTERFACE:
-        interface.gateways[route.gateway] += 1
+    if route.gateway is None:
+        return
+    gateway = interface.gateways.get(route.gateway)
+    if gateway is None and len(interface.gateways) < MOST_OF_INTERFACE:
+        gateway = interface.gateways[route.gateway] = Sighting()
+    if gateway is not None:
+        gateway.see(frame, route.prefix)
 
 
 def _take_senders(result: Survey, frame: Frame, decoded: Decoded, last: int | None) -> int | None:
     for message in decoded.messages:
-        if last is not None and message.sender != last:
+        if message.sender == last:
+            continue
+        if last is not None:
             result.sender_changes += 1
         last = message.sender
-        result.senders.setdefault(message.sender, Sighting()).see(frame, "")
-        if len(result.senders) > MOST_OF_INTERFACE:
-            result.senders.popitem()
+        if last not in result.senders and len(result.senders) < MOST_OF_INTERFACE:
+            result.senders[last] = Sighting()
+            result.senders[last].see(frame, "")
     return last
 
 

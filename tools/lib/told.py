@@ -9,55 +9,62 @@ from __future__ import annotations
 from dataclasses import dataclass
 from typing import Iterator
 
+from brief import Brief
 from command import ToolError
 from evaluator import Hop, Table, Way, tables_after, way
 from network import Link, Network
-from report import Report, address_text, read_address
+from report import address_text, read_address
 
 
 @dataclass
 class Moment:
-    """A report up to a position of its history, and the tables there."""
+    """A report up to a position of its history, and the tables there as far as they have routes for one address."""
 
-    report: Report
+    report: Brief
     position: int
+    address: int
     tables: dict[str, Table]
 
     @staticmethod
-    def of(report: Report, word: str) -> Moment:
+    def of(report: Brief, word: str, address: int) -> Moment:
         position = read_position(report, word)
-        return Moment(report, position, tables_after(report.entries, position))
+        entries = [entry for entry in report.entries_about(address) if entry.position <= position]
+        return Moment(report, position, address, tables_after(entries, len(entries)))
 
-    def way(self, router: str, address: int) -> Way:
-        return way(self.tables, router, address)
+    def way(self, router: str) -> Way:
+        return way(self.tables, router, self.address)
 
-    def why_no_route(self, router: str, address: int) -> str:
+    def why_no_route(self, router: str) -> str:
         """Which of the meanings of `noroute` this one has."""
         if self.report.feed_of(router) is None:
             return "no feed in this run"
-        entries = [entry.position for entry in self.report.entries if entry.router == router]
-        if not entries:
+        first, table = None, Table()
+        for entry in self.report.entries_of(router):
+            first = first or entry.position
+            if entry.position > self.position:
+                break
+            table.apply(entry)
+        if first is None:
             return "its feed has no updates"
-        if entries[0] > self.position:
-            return f"nothing of its feed is taken yet: its first update is entry {entries[0]}"
-        routes = len(self.tables[router].routes())
+        if first > self.position:
+            return f"nothing of its feed is taken yet: its first update is entry {first}"
+        routes = len(table.routes())
         if routes == 0:
             return "its table is empty here"
-        return f"none of the {routes} in its table covers {address_text(address)}"
+        return f"none of the {routes} in its table covers {address_text(self.address)}"
 
 
-def check_fits(report: Report, network: Network, path: str) -> None:
+def check_fits(report: Brief, network: Network, path: str) -> None:
     """That a topology, read from `path`, may be the one of the report's run: it has its routers, and each route over
     a link goes to the link's far end."""
     links = {link.name: link for link in network.links}
     for router in [feed.router for feed in report.feeds]:
         if router not in network.routers:
             raise ToolError(f"{path}: it has no router {router}, of which {report.path} has a feed: another run's?")
-    over_links = {(entry.router, entry.target) for entry in report.entries if entry.target and entry.target.router}
-    for router, target in sorted(over_links, key=str):
-        link = links.get(target.link)
-        if link is None or {router, target.router} != {end[0] for end in link.ends}:
-            raise ToolError(f"{path}: it has no link {target.link} from {router} to {target.router}, by which"
+    for router, far, name in sorted(report.ways_on):
+        link = links.get(name)
+        if link is None or {router, far} != {end[0] for end in link.ends}:
+            raise ToolError(f"{path}: it has no link {name} from {router} to {far}, by which"
                             f" {report.path} has routes: another run's?")
 
 
@@ -67,9 +74,9 @@ def ends_from(link: Link, router: str) -> tuple[str, str]:
     return f"{near[0]}:{near[1]}", f"{far[0]}:{far[1]}"
 
 
-def read_position(report: Report, word: str) -> int:
+def read_position(report: Brief, word: str) -> int:
     """A position of the history, by its number or as `all`."""
-    length = len(report.entries)
+    length = report.length
     if word == "all":
         return length
     if not (word.isascii() and word.isdigit()) or int(word) > length:
@@ -99,7 +106,7 @@ def beside(moment: Moment, hop: Hop) -> Iterator[str]:
             yield f"beside it: metric {metric} {other.target} (entry {other.position})"
 
 
-def warnings(report: Report, routers: list[str]) -> Iterator[str]:
+def warnings(report: Brief, routers: list[str]) -> Iterator[str]:
     """What makes answers that go through these routers doubtful."""
     for router in dict.fromkeys(routers):
         feed = report.feed_of(router)

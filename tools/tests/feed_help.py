@@ -10,6 +10,8 @@ import io
 import os
 import struct
 import sys
+import tempfile
+from collections.abc import Callable
 from dataclasses import dataclass
 from unittest import mock
 
@@ -47,6 +49,17 @@ def tool(name: str, *words: str, folder: str = TRIANGLE) -> Ran:
         except SystemExit as end:
             status = end.code
     return Ran(0 if status is None else int(status), out.getvalue(), err.getvalue())
+
+
+def plain_program(add_cleanup: Callable[..., object]) -> str:
+    """A program that is the plain evaluator, without what it says on standard error."""
+    folder = tempfile.TemporaryDirectory()
+    add_cleanup(folder.cleanup)
+    path = os.path.join(folder.name, "plain")
+    with open(path, "w", encoding="utf-8") as file:
+        file.write(f'#!/bin/sh\nexec "{TOOLS}/plain" "$@" 2>/dev/null\n')
+    os.chmod(path, 0o755)
+    return path
 
 
 @functools.cache

@@ -5,9 +5,11 @@ from __future__ import annotations
 import json
 import os
 import re
+import tempfile
 import unittest
+from unittest import mock
 
-from feed_help import TOP, read, tool
+from feed_help import TOP, plain_program, read, tool
 
 LIVE = os.path.join(TOP, "examples", "live-triangle")
 FEEDS = ["r1=r1.1.fpm", "r2=r2.1.fpm", "r3=r3.1.fpm"]
@@ -81,12 +83,39 @@ class Steps(unittest.TestCase):
                              [line for line in takes if line.startswith(f"take {router} ")])
             self.assertNotIn("or up to", ran.out)
 
+    def test_the_script_is_the_one_for_these_times(self) -> None:
+        ways = re.findall("'(r\\d [0-9.]+)'", read(os.path.join(TOP, "docs", "FIRST-ANSWER.md")).decode())
+        words = [word for way in ways for word in ("--ask", f"path {way}")]
+        words += [word for time in ("12:54:40", "12:55:00", "12:55:20") for word in ("--at", time)]
+        ran = tool("moments", "topology.toml", *FEEDS, *words, "--print-script", folder=LIVE)
+        self.assertEqual((ran.status, ran.out), (0, text("script")))
+
     def test_outputs_that_the_document_shows(self) -> None:
         document = read(os.path.join(TOP, "docs", "FIRST-ANSWER.md")).decode()
         swapped = tool("check", "topology.toml", "r1=r2.1.fpm", "r2=r1.1.fpm", "r3=r3.1.fpm", folder=LIVE).lines()[:3]
         frames = tool("frames", "r1.1.fpm", folder=LIVE).lines()[12:20]
         for shown in (text("topology.toml"), text("script"), "\n".join(swapped), "\n".join(frames)):
             self.assertIn(shown, document)
+
+    def test_answers_over_time_that_the_document_shows(self) -> None:
+        document = read(os.path.join(TOP, "docs", "FIRST-ANSWER.md")).decode()
+        plain = plain_program(self.addCleanup)
+        for words in ((), ("--settled", "--ask", "path r1 10.2.0.9")):
+            with mock.patch.dict(os.environ, DELTANET=plain):
+                ran = tool("moments", "topology.toml", *FEEDS, *words, folder=LIVE)
+            self.assertIn(f"```\n{ran.out}```", document)
+            if not words:
+                self.assertIn(f"```\n{ran.out}```", read(os.path.join(TOP, "README.md")).decode())
+
+    def test_the_strip_that_the_document_shows(self) -> None:
+        queries = [word for query in ("loops", "path r1 10.2.0.9", "blackholes r3") for word in ("--ask", query)]
+        with mock.patch.dict(os.environ, DELTANET=plain_program(self.addCleanup)):
+            told = tool("moments", "topology.toml", *FEEDS, "--from", "12:54:31", "--json", *queries, folder=LIVE).out
+        with tempfile.NamedTemporaryFile("w") as file:
+            file.write(told)
+            file.flush()
+            drawn = tool("draw", "--strip", file.name).out
+        self.assertEqual(drawn, read(os.path.join(TOP, "docs", "pictures", "strip.svg")).decode())
 
 
 if __name__ == "__main__":

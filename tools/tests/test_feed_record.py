@@ -79,6 +79,10 @@ class Recording(unittest.TestCase):
         self.assertTrue(said.endswith("record r1: stopped\n"))
         moments = read_times(self.path("r1.1.fpm.times"))
         self.assertEqual((moments[0].bytes, moments[-1].bytes, moments[-1].frames), (0, 9420, 129))
+        self.assertEqual([read_times(self.path(f"r1.{count}.fpm.times"))[-1].end for count in (1, 2, 3)],
+                         ["zebra ended the session, whole",
+                          "the session broke (Connection reset by peer), cut short inside the frame at byte 348",
+                          "stopped here, cut short inside the frame at byte 56"])
 
     def test_times_come_at_most_once_a_second(self) -> None:
         with self.connect() as session:
@@ -92,7 +96,7 @@ class Recording(unittest.TestCase):
         self.end(self.recorder)
         moments = read_times(self.path("r1.1.fpm.times"))
         self.assertEqual((moments[-1].bytes, moments[-1].frames), (800, 13))
-        self.assertEqual(len(moments), 3)
+        self.assertEqual([bool(moment.end) for moment in moments], [False, False, False, True])
         self.assertGreaterEqual((moments[2].time - moments[1].time).total_seconds(), 0.9)
 
     def test_nothing_is_overwritten(self) -> None:

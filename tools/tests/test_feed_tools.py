@@ -2,6 +2,7 @@
 
 from __future__ import annotations
 
+import json
 import os
 import shutil
 import subprocess
@@ -98,7 +99,7 @@ class Check(InFolder):
         found = self.found(self.write("less.toml", self.topology().replace('[[edge]]\nat = "r2:4"\n', "")), *FEEDS)
         self.assertEqual(list(found), ["unknown-interface"])
         self.assertIn("unknown-interface r2=r2.fpm frame 3, offset 112: ", found["unknown-interface"][0])
-        self.assertIn('add an [[edge]] at "r2:4"', found["unknown-interface"][0])
+        self.assertIn('or an [[edge]] at "r2:4"', found["unknown-interface"][0])
 
     def test_link_left_out(self) -> None:
         text = self.topology().replace('[[link]]\nname = "a"\nends = ["r1:2", "r2:2"]\n',
@@ -177,6 +178,33 @@ class Check(InFolder):
                          ["broken-end r1=cut offset 720", "broken-end r2=lost offset 828"])
         self.assertIn("r3=empty", found["empty"][0])
 
+    def test_files_that_are_no_feeds(self) -> None:
+        for begin, told in ((b"\x1f\x8b\x08\0", "this is packed with gzip; no frame of it is read: unpack it"),
+                            (b"\xd4\xc3\xb2\xa1\2\0", "this is a packet capture;"),
+                            (b"routers = []\n", "this is a text, which begins 'routers = []';"),
+                            (b"\0\0", "this is no recording of zebra's, by its first byte;")):
+            self.write("other", begin)
+            found = self.found("topology.toml", "r1=other", "r2=r2.fpm", "r3=r3.fpm")
+            self.assertIn(f"other-file r1=other: {told}", found["other-file"][0])
+            why = self.run_tool_alone("why", "run", "topology.toml", "r1=other")
+            what = told.partition(";")[0]
+            self.assertIn(f"frames: other: {what}: ", self.run_tool("frames", "other").err)
+            self.assertIn(f"names an interface: {what}: ", self.run_tool("topology", "r1=other").err)
+            self.assertIn(f"note: part 1: r1=other: {what}; the report ends this feed in lost 0", why)
+
+    def run_tool_alone(self, name: str, *words: str) -> str:
+        return subprocess.run([f"{TOOLS}/{name}", *words], cwd=self.folder, capture_output=True, text=True,
+                              check=False).stdout
+
+    def test_names_that_are_near(self) -> None:
+        ran = self.run_tool("check", "topology.toml", "PE1.lon=r1.fpm")
+        self.assertIn("'PE1.lon' isn't a router's name (1 to 32 of a to z, 0 to 9, _ and -); pe1-lon would be one", ran.err)
+
+    def test_findings_for_a_program(self) -> None:
+        ran = self.run_tool("check", "--json", "topology.toml", "r1=r1.fpm", "r3=r3.fpm")
+        self.assertEqual([(one["kind"], one["where"]) for one in json.loads(ran.out)], [("no-feed", "topology.toml r2")])
+        self.assertEqual((ran.status, self.run_tool("check", "topology.toml", *FEEDS, "--json").out), (1, "[]\n"))
+
     def test_errors(self) -> None:
         bad = self.write("bad.toml", "routers = [")
         for words, told in (((bad,), "check: bad.toml: line 1: top: NotToml"),
@@ -209,6 +237,7 @@ class Topology(InFolder):
         ran = self.run_tool("topology", f"r1={data('first.fpm')}", "r3=r3.fpm", "--links", names)
         self.assertIn("# r1:3 (c) and r3:3 both have 10.0.13.0/30 connected.", ran.out)
         self.assertIn("# r1:5 (stub): connected 10.1.0.0/24, in no other feed.", ran.out)
+        self.assertIn('name = "r1-r3"', ran.out)
         self.assertIn("r1:4 (hosts)", ran.out)
         self.assertIn("topology: r1:2 (a) is written as an edge: connected 10.0.12.0/30; it leads to 10.0.12.2",
                       ran.err)
@@ -299,7 +328,9 @@ class Frames(InFolder):
         for text, told in ((b"now 1 1\n", "line 1: this isn't"), (b"\xff\n", "line 1: this isn't"),
                            (b"", "it has no whole line"),
                            (b"2026-11-27T12:27:45+00:00 5 5\n2026-11-27T12:27:46+00:00 4 5\n", "line 2: bytes or"),
-                           (b"2026-11-27T12:27:45 5 5\n", "line 1: this isn't")):
+                           (b"2026-11-27T12:27:45 5 5\n", "line 1: this isn't"),
+                           (b"2026-11-27T12:27:45+00:00 5 5 end \n", "line 1: this isn't"),
+                           (b"2026-11-27T12:27:45+00:00 5 5 end so\n2026-11-27T12:27:46+00:00 6 6\n", "line 2: it stands")):
             self.write("r1.1.fpm.times", text)
             ran = self.run_tool("frames", "r1.1.fpm", "--at", "+1")
             self.assertEqual((ran.status, ran.out), (1, ""))
@@ -382,7 +413,7 @@ class StaleRoutes(InFolder):
 
 
 class AllTools(unittest.TestCase):
-    NAMES = ("record", "frames", "topology", "check", "stale")
+    NAMES = ("record", "frames", "topology", "check", "stale", "moments", "expect", "watch")
 
     def test_help(self) -> None:
         for name in self.NAMES:

@@ -2,18 +2,26 @@
 
 from __future__ import annotations
 
+import io
+import json
 import random
 import re
 import subprocess
 import sys
+import tempfile
 import unittest
 from pathlib import Path
+from unittest import mock
 
 TOOLS = Path(__file__).resolve().parent.parent
 DATA = TOOLS / "tests" / "data"
 EXAMPLES = TOOLS.parent / "examples"
 sys.path.insert(0, str(TOOLS / "lib"))
 
+import frames
+import progress
+from brief import Brief
+from cidr import prefixes_of
 from evaluator import Table, changes, tables_after, way
 from network import read_topology
 from report import Entry, Prefix, ReportError, Target, address_text, read_address, read_prefix, read_report
@@ -210,7 +218,7 @@ class Words(unittest.TestCase):
         report = EXAMPLES / "first-path" / "report.txt"
         for words in (["way", 2, "r1", "10.0.0.1"], ["way", "x", "r1", "10.0.0.1"], ["way", 1, "r3", "10.0.0.1"],
                       ["way", 1, "r1", "10.0.0.01"], ["way", 1, "r1"], ["changes", 1, 0], ["where", "r1", "10.0.0.1"],
-                      ["where", "r1", "10.0.0.1/8"], ["which"], []):
+                      ["where", "r1", "10.0.0.1/8"], ["which"], ["answers", "x"]):
             self.refused(report, *words)
         self.assertIn("nowhere", self.refused("nowhere", "changes", 0, 0))
         self.assertIn("r9", self.refused(report, "--topology", EXAMPLES / "first-path" / "topology.toml",
@@ -255,6 +263,141 @@ class Words(unittest.TestCase):
         status, out, _ = look("--help")
         self.assertEqual(0, status)
         self.assertTrue(re.search("--topology", out))
+
+
+class Stale(unittest.TestCase):
+    """Whether a route is stale at a position, where the feed is given: in a recording two frames are refused as multipath."""
+
+    FEED = DATA / "feed" / "second.fpm"
+
+    def setUp(self) -> None:
+        folder = tempfile.TemporaryDirectory()
+        self.addCleanup(folder.cleanup)
+        self.folder = Path(folder.name)
+        topology = subprocess.run([TOOLS / "topology", f"r1={self.FEED}"], capture_output=True, text=True).stdout
+        (self.folder / "topology.toml").write_text(topology)
+        report = subprocess.run([TOOLS / "plain", "run", self.folder / "topology.toml", f"r1={self.FEED}"],
+                                capture_output=True, text=True)
+        (self.folder / "report").write_text(report.stdout)
+        with open(self.FEED, "rb") as file:
+            updates = [len(frames.decode(frame).updates) for frame in frames.Feed(file)]
+        self.after = {frame: sum(updates[:frame]) for frame in range(len(updates) + 1)}
+
+    def notes(self, position: int, address: str) -> list[str]:
+        status, out, err = look(self.folder / "report", "way", position, "r1", address, "--feed", f"r1={self.FEED}")
+        self.assertEqual((status, err), (0, ""))
+        return [line.removeprefix("note: r1: ") for line in out.splitlines() if line.startswith("note: ")]
+
+    def test_stale_from_the_refused_frame_to_the_next_of_its_route(self) -> None:
+        """10.3.0.0/24 is refused in frame 27 and sent again in frame 30."""
+        told = ("10.3.0.0/24 metric 20 {} stale here: frame 27 at offset 2092 is refused (Multipath), and frame 30 sends it "
+                "again")
+        none = ["2 frames of its feed refused, none of them about this address here"]
+        self.assertEqual(self.notes(self.after[25], "10.3.0.1"), none)
+        self.assertEqual(self.notes(self.after[26], "10.3.0.1"), [told.format("may be")])
+        self.assertEqual(self.notes(self.after[29], "10.3.0.1"), [told.format("is")])
+        self.assertEqual(self.notes(self.after[30], "10.3.0.1"), none)
+        self.assertEqual(self.notes(self.after[29], "10.2.0.1"), none)
+
+    def test_a_feed_of_another_run(self) -> None:
+        status, _out, err = look(self.folder / "report", "way", "all", "r1", "10.3.0.1", "--feed",
+                                 f"r1={DATA / 'feed' / 'nexthops.fpm'}")
+        self.assertEqual(status, 1)
+        self.assertIn("4 of its frames are refused, and 2 in", err)
+
+
+class Short(unittest.TestCase):
+    """A report in a few lines, and answers in prefixes."""
+
+    def test_summary(self) -> None:
+        status, out, _ = look(EXAMPLES / "triangle-ospf" / "report.txt")
+        lines = out.splitlines()
+        self.assertEqual((status, lines[0].partition(": ")[2]), (0, "whole, 297 entries, 1 jobs, 17 answers"))
+        self.assertEqual(lines[1:], [
+            "feed r1: 163 updates, none refused, read to its end", "feed r2: 79 updates, none refused, read to its end",
+            "feed r3: 55 updates, none refused, read to its end",
+            "path: 7 onlink, 3 exit, 1 noroute, 1 loop, 1 dropped blackhole, 1 dropped prohibit",
+            "path: line 10 at 46 path r1 10.2.0.1: hops r1 r3 r1 r3; end loop", "delta: 3 with changes"])
+
+    def test_summary_of_refusals(self) -> None:
+        _, out, _ = look(DATA / "made" / "report.txt")
+        self.assertIn("\nfeed r1: 20 updates, none refused, ends in cutshort 1040, so what came after is missing\n", out)
+        self.assertIn("\nfeed r4: 31 updates, 1 frames refused (1 RouteType), so its routes may be stale, read to", out)
+        self.assertIn("path: 11 onlink, 4 noroute, 4 exit, 1 loop, 1 local, 1 dropped blackhole, 1 with an unknown name\n", out)
+
+    def test_answers_in_prefixes(self) -> None:
+        path = EXAMPLES / "data-centre" / "report.txt"
+        _, out, _ = look(path, "answers")
+        self.assertIn("line 7 at 10 reach border servers\n    10.20.0.0/16\n", out)
+        _, out, _ = look(path, "answers", "--own", "10.20.0.0/16", "--own", "10.16.0.0/12", "--own", "192.0.2.0/24")
+        self.assertIn("line 7 at 10 reach border servers\n    all of 10.20.0.0/16\n    of 10.16.0.0/12 10.20.0.0/16\n"
+                      "    none of 192.0.2.0/24\n", out)
+        self.assertEqual(look(path, "answers", "--own", "10.0.0.1/8")[0], 1)
+
+    def test_prefixes_of_a_run_are_its_addresses(self) -> None:
+        source = random.Random(7)
+        runs = [(0, 2**32 - 1), (0, 0), (2**32 - 1, 2**32 - 1), (1, 2**32 - 2)]
+        runs += [tuple(sorted(source.randrange(2 ** source.choice((4, 16, 32))) for _ in range(2))) for _ in range(500)]
+        for low, high in runs:
+            parts = list(prefixes_of((low, high)))
+            self.assertEqual((parts[0].base, parts[-1].last), (low, high))
+            self.assertTrue(all(one.last + 1 == two.base for one, two in zip(parts, parts[1:])))
+            self.assertLessEqual(len(parts), 62)
+            self.assertTrue(all(one.base % (1 << (32 - one.length)) == 0 for one in parts))
+
+    def test_names_of_interfaces(self) -> None:
+        folder = EXAMPLES / "live-triangle"
+        names = ("--links", f"r2={folder / 'r2.links.json'}")
+        self.assertIn("onlink 5 (entry 16) (stub)", look(folder / "report.txt", "way", 68, "r1", "10.2.0.9", *names)[1])
+        self.assertIn("hops r1 r2\n    end onlink 5 (stub)\n", look(folder / "report.txt", "answers", *names)[1])
+
+    def test_data(self) -> None:
+        told = json.loads(look(EXAMPLES / "first-path" / "report.txt", "--json")[1])
+        self.assertEqual((told["entries"], told["feeds"][0]["router"], told["answers"]), (1, "r1", [
+            {"job": 1, "line": 2, "position": 1, "query": "path r1 10.1.2.3", "lines": ["hops r1 r2", "end noroute"]}]))
+
+
+class Histories(unittest.TestCase):
+    """A history that is looked through is as strictly read as one that is taken apart."""
+
+    def test_broken_histories(self) -> None:
+        whole = (EXAMPLES / "first-path" / "report.txt").read_text()
+        Brief("report", whole.encode())
+        for old, new in (("history 1", "history 2"), ("1 feed 1 r1", "2 feed 1 r1"), ("1 feed 1 r1", "1 feed 1 r2"),
+                         ("to r2 by a", "to r2"), ("set 10", "put 10"), ("metric 20 to", "metric to"), ("done\n", "")):
+            with self.assertRaises(ReportError, msg=new) as caught:
+                Brief("report", whole.replace(old, new, 1).encode())
+            self.assertRegex(str(caught.exception), r"report:\d+: ")
+
+    def test_entries_are_the_same(self) -> None:
+        for path in REPORTS:
+            report, brief = read_report(str(path)), Brief.read(str(path))
+            self.assertEqual((brief.length, brief.names()), (len(report.entries), report.names()))
+            for address in {entry.prefix.base for entry in report.entries[:40]}:
+                self.assertEqual(brief.entries_about(address),
+                                 [entry for entry in report.entries if entry.prefix.covers(address)])
+            for router in report.names():
+                self.assertEqual(list(brief.entries_of(router)),
+                                 [entry for entry in report.entries if entry.router == router])
+
+    def test_a_history_in_several_pieces(self) -> None:
+        with mock.patch("brief.LINES_AT_ONCE", 1):
+            self.test_broken_histories()
+            self.test_entries_are_the_same()
+
+
+class Progress(unittest.TestCase):
+    def test_only_a_terminal_is_told(self) -> None:
+        for is_terminal, due in ((True, "\r\033[Kname: 50 percent\r\033[K"), (False, "")):
+            errors = io.StringIO()
+            errors.isatty = lambda told=is_terminal: told
+            with mock.patch("sys.stderr", errors), mock.patch("progress.PATIENCE", -1.0):
+                teller = progress.Teller("name", 200)
+                teller.tell(100)
+                teller.tell(150)
+                teller.end()
+                teller.end()
+            self.assertEqual(errors.getvalue(), due)
 
 
 class Texts(unittest.TestCase):

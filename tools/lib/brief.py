@@ -1,0 +1,109 @@
+"""A report of which the history is looked through and not taken apart: for questions about one address or one prefix, and
+for what stands around the history. A million entries take a second or two.
+
+Each line of the history is looked at for its form and its position. Entries that are asked for are read as in report.py.
+"""
+
+from __future__ import annotations
+
+import re
+import sys
+from collections.abc import Iterable, Iterator
+from functools import cached_property
+
+from progress import Teller
+from report import (AFTER_HISTORY, HISTORY_OF_TEXT, NAME, PREFIX, TARGET_TEXT, Entry, Feed, Report, ReportError,
+                    address_text, parse_answers, parse_report, read_entry)
+
+FORM = re.compile(rf"^\d+ feed (\d+) ({NAME}) (?:set {PREFIX} metric \d+ (?:{TARGET_TEXT})|clear {PREFIX}(?: metric \d+)?)\n"
+                  .encode(), re.MULTILINE)
+LEADS_TO = re.compile(rf"^\d+ feed \d+ ({NAME}) set \S+ metric \d+ to ({NAME}) by ({NAME})\n".encode(), re.MULTILINE)
+LINES_AT_ONCE = 1 << 16
+
+
+class Brief:
+    """A report: its feeds and answers, and its history as text."""
+
+    def __init__(self, path: str, text: bytes) -> None:
+        self.path = path
+        self.text = text
+        self.report: Report = parse_answers(path, text)
+        match = HISTORY_OF_TEXT.search(text)
+        self.begin = match.end()
+        self.end = AFTER_HISTORY.search(text, self.begin).start()
+        self._check_history()
+
+    @staticmethod
+    def read(path: str) -> Brief:
+        """Raises ReportError or OSError."""
+        if path == "-":
+            return Brief("standard input", sys.stdin.buffer.read())
+        with open(path, "rb") as file:
+            return Brief(path, file.read())
+
+    def _check_history(self) -> None:
+        """That each line is an entry at its position, of a router's feed. Where one isn't, the strict reader says which."""
+        routers = {(str(feed.number).encode(), feed.router.encode()) for feed in self.feeds}
+        teller = Teller(self.path, len(self.text))
+        count = 0
+        at = self.begin
+        while at < self.end:
+            teller.tell(at)
+            stop = self._line_end(at)
+            lines = self.text[at:stop].splitlines()
+            formed = FORM.findall(self.text, at, stop)
+            numbered = all(map(bytes.startswith, lines, map(b"%d feed ".__mod__, range(count + 1, count + len(lines) + 1))))
+            if len(formed) != len(lines) or not numbered or not routers.issuperset(set(formed)):
+                parse_report(self.path, self.text)
+                raise ReportError(self.path, 1, "its history isn't one")
+            count += len(lines)
+            at = stop
+        teller.end()
+        if count != self.report.length:
+            parse_report(self.path, self.text)
+
+    def _line_end(self, at: int) -> int:
+        """The end of a line, a good many lines further on."""
+        end = self.text.find(b"\n", min(at + 64 * LINES_AT_ONCE, self.end) - 1, self.end)
+        return self.end if end < 0 else end + 1
+
+    @property
+    def feeds(self) -> list[Feed]:
+        return self.report.feeds
+
+    @property
+    def length(self) -> int:
+        return self.report.length
+
+    def feed_of(self, router: str) -> Feed | None:
+        return self.report.feed_of(router)
+
+    @cached_property
+    def entries(self) -> list[Entry]:
+        """All entries, taken apart."""
+        return parse_report(self.path, self.text).entries
+
+    @cached_property
+    def ways_on(self) -> set[tuple[str, str, str]]:
+        """Over which links routes lead: the router, the next one, the link."""
+        return {(near.decode(), far.decode(), link.decode())
+                for near, far, link in set(LEADS_TO.findall(self.text, self.begin, self.end))}
+
+    def names(self) -> set[str]:
+        """The routers that the report names: those with a feed, and those that some route leads to."""
+        return {feed.router for feed in self.feeds} | {far for _near, far, _link in self.ways_on}
+
+    def entries_about(self, address: int) -> list[Entry]:
+        """The entries of prefixes that cover an address."""
+        bases = (f"{address_text(address >> (32 - length) << (32 - length))}/{length}" for length in range(33))
+        return list(self._entries(bases))
+
+    def entries_of(self, router: str, prefixes: Iterable[str] = ()) -> Iterator[Entry]:
+        """A router's entries, of these prefixes or of all."""
+        return self._entries(prefixes, router)
+
+    def _entries(self, prefixes: Iterable[str], router: str = NAME) -> Iterator[Entry]:
+        wanted = "|".join(re.escape(prefix) for prefix in prefixes) or PREFIX
+        form = re.compile(rf"^(\d+) (feed \d+ {router} (?:set|clear) (?:{wanted})(?: [^\n]*)?)\n".encode(), re.MULTILINE)
+        for match in form.finditer(self.text, self.begin, self.end):
+            yield read_entry(int(match[1]), match[2].decode("ascii"))

@@ -1,0 +1,160 @@
+"""Which routes a refused frame leaves stale, and until when.
+
+A refused frame changes no table, though the router did what it says. So a route that it sets or deletes stands as it was
+before, until an accepted frame sets or deletes the same route: same prefix, same metric.
+"""
+
+from __future__ import annotations
+
+from collections import defaultdict, deque
+from collections.abc import Callable
+from dataclasses import dataclass, field
+
+from command import ToolError
+from frames import NETLINK, Decoded, Feed, Frame, HasInterface, Prefix, Refused, Route, Skipped, decode, read_messages
+
+# Refused frames that are held at a time, while it isn't known when their routes are as sent again.
+MOST_HELD = 200_000
+
+
+# A route's prefix and metric; a deletion without a metric is of all metrics, None.
+Key = tuple[Prefix, int | None]
+
+
+@dataclass
+class Stale:
+    """A refused frame and its routes: for each that was set or deleted again the frame with which it was. `taken` and
+    `until_taken` are how many updates of the feed come before these frames."""
+
+    frame: int
+    offset: int
+    cause: str
+    keys: list[Key]
+    is_readable: bool
+    taken: int = 0
+    until: dict[Key, int] = field(default_factory=dict)
+    until_taken: dict[Key, int] = field(default_factory=dict)
+
+    def is_settled(self) -> bool:
+        return self.is_readable and len(self.until) == len(self.keys)
+
+    def lines(self, name: str) -> list[str]:
+        begin = f"{name} frame {self.frame} offset {self.offset} {self.cause}"
+        lines = []
+        for prefix, metric in self.keys:
+            until = self.until.get((prefix, metric))
+            route = f"{prefix} {'all metrics' if metric is None else f'metric {metric}'}"
+            lines.append(f"{begin} {route} " + ("to the end" if until is None else f"until frame {until}"))
+        if not self.is_readable:
+            lines.append(f"{begin} a route that can't be read, to the end")
+        return lines
+
+
+class Watch:
+    """Follows a feed, and tells each refused frame once it is known until when its routes are stale."""
+
+    def __init__(self, name: str, tell: Callable[[Stale], None]) -> None:
+        self.name = name
+        self.tell = tell
+        self.found = 0
+        self._taken = 0
+        self._held: deque[Stale] = deque()
+        self._open: dict[Key, list[Stale]] = defaultdict(list)
+        self._metrics: dict[Prefix, set[int | None]] = defaultdict(set)
+
+    def take(self, frame: Frame, decoded: Decoded) -> None:
+        if decoded.refused is not None:
+            self._refuse(frame, decoded.refused)
+        for route in decoded.updates:
+            self._settle(route, frame.number)
+        self._taken += len(decoded.updates)
+        while self._held and self._held[0].is_settled():
+            self.tell(self._held.popleft())
+
+    def finish(self) -> None:
+        """Tells what is stale to the end of the feed."""
+        while self._held:
+            self.tell(self._held.popleft())
+
+    def _refuse(self, frame: Frame, refused: Refused) -> None:
+        self.found += 1
+        keys, is_readable = routes_of(frame)
+        stale = Stale(frame.number, frame.offset, refused.cause, keys, is_readable, self._taken)
+        self._held.append(stale)
+        if len(self._held) > MOST_HELD:
+            self.finish()
+            raise ToolError(f"{self.name}: more than {MOST_HELD} refused frames are stale at once, so none after frame "
+                            f"{frame.number} is looked at; docs/RECORDING.md has settings that avoid refusals")
+        for key in keys:
+            self._open[key].append(stale)
+            self._metrics[key[0]].add(key[1])
+
+    def _settle(self, route: Route, number: int) -> None:
+        """An accepted update makes its route as sent; a deletion without metric all routes of its prefix."""
+        metrics = self._metrics.get(route.prefix)
+        if metrics is None:
+            return
+        settled = set(metrics) if route.metric is None else metrics & {route.metric}
+        for metric in settled:
+            for stale in self._open.pop((route.prefix, metric)):
+                stale.until[route.prefix, metric] = number
+                stale.until_taken[route.prefix, metric] = self._taken
+        metrics -= settled
+        if not metrics:
+            del self._metrics[route.prefix]
+
+
+def routes_of(frame: Frame) -> tuple[list[Key], bool]:
+    """The routes that a refused frame would have set or deleted; False where some of it can't be read."""
+    if frame.kind != NETLINK:
+        return [], False
+    keys: dict[Key, None] = {}
+    is_readable = True
+    for message in read_messages(frame.payload):
+        route = message.route if isinstance(message, Refused) else message
+        if isinstance(route, Route):
+            keys[route.prefix, route.metric] = None
+        elif not isinstance(message, Skipped):
+            is_readable = False
+    return list(keys), is_readable
+
+
+def stale_routes(name: str, path: str, has_interface: HasInterface | None) -> list[Stale]:
+    """The refused frames of a feed."""
+    found: list[Stale] = []
+    watch = Watch(name, found.append)
+    with open(path, "rb") as file:
+        for frame in Feed(file):
+            watch.take(frame, decode(frame, has_interface))
+    watch.finish()
+    return found
+
+
+@dataclass(frozen=True)
+class Doubt:
+    """Whether the routes that a router has for an address are stale after so many updates of its feed."""
+
+    name: str
+    taken: int
+    address: int
+    least_length: int
+
+    def lines(self, found: list[Stale]) -> list[str]:
+        """A line for each route of a refused frame that may decide about the address and isn't as sent. A refused frame has
+        no updates, so where it is the next in the feed it can't be told whether it was taken."""
+        return [self._line(stale, key) for stale in found for key in stale.keys
+                if self._concerns(key) and stale.taken <= self.taken and not self._is_settled(stale, key)]
+
+    def _concerns(self, key: Key) -> bool:
+        return key[0].covers(self.address) and key[0].length >= self.least_length
+
+    def _is_settled(self, stale: Stale, key: Key) -> bool:
+        return key in stale.until_taken and stale.until_taken[key] < self.taken
+
+    def _line(self, stale: Stale, key: Key) -> str:
+        prefix, metric = key
+        is_sure = stale.taken < self.taken
+        until = f"frame {stale.until[key]} sends it again" if key in stale.until else "it isn't sent again"
+        return (f"{self.name}: {prefix} {'of all metrics' if metric is None else f'metric {metric}'} "
+                f"{'is' if is_sure else 'may be'} stale here: frame {stale.frame} at offset {stale.offset} is refused "
+                f"({stale.cause}), and {until}")

@@ -1,0 +1,109 @@
+"""What stands in a report, in a few lines: its feeds, what was refused, and the answers that tell of trouble."""
+
+from __future__ import annotations
+
+import re
+from collections import Counter
+from collections.abc import Iterator
+from dataclasses import asdict
+
+from cidr import Run, read_run, runs_as_prefixes
+from report import Answer, Feed, Prefix, Report, read_address
+
+CYCLE = re.compile(r"cycle (.+) least (\S+) addresses (\d+)")
+# Lines of one kind of trouble that are told.
+MOST_TOLD = 8
+
+
+def summary(report: Report) -> Iterator[str]:
+    answers = f"{len(report.jobs)} jobs, {len(report.answers)} answers"
+    yield f"{report.path}: whole, {report.length} entries, {answers}"
+    for feed in report.feeds:
+        yield feed_line(feed)
+    kinds = Counter(kind_of(answer.query) for answer in report.answers)
+    yield from (f"{kind}: {line}" for kind in kinds for line in kind_lines(report, kind))
+
+
+def feed_line(feed: Feed) -> str:
+    causes = Counter(refused.cause for refused in feed.refused)
+    refused = ", ".join(f"{count} {cause}" for cause, count in causes.items())
+    told = f"{feed.refused_count} frames refused ({refused}), so its routes may be stale" if causes else "none refused"
+    end = "read to its end" if feed.end == "end" else f"ends in {feed.end}, so what came after is missing"
+    return f"feed {feed.router}: {feed.updates} updates, {told}, {end}"
+
+
+def kind_of(query: str) -> str:
+    words = query.split()
+    return words[2] if words[0] == "without" else words[0]
+
+
+def kind_lines(report: Report, kind: str) -> Iterator[str]:
+    """How many answers of a kind of query there are, by what they say, and those that tell of loops or holes."""
+    answers = [answer for answer in report.answers if kind_of(answer.query) == kind]
+    unknown = [answer for answer in answers if answer.position is None]
+    answers = [answer for answer in answers if answer.position is not None]
+    says = Counter(short(kind, answer) for answer in answers)
+    told = ", ".join(f"{count} {what}" for what, count in says.most_common())
+    yield told + (f", {len(unknown)} with an unknown name" if unknown else "")
+    trouble = [answer for answer in answers if is_trouble(kind, answer)]
+    for answer in trouble[:MOST_TOLD]:
+        yield f"line {answer.line} at {answer.position} {answer.query}: {'; '.join(answer.lines[:2])}" + (
+            f" and {len(answer.lines) - 2} lines more" if len(answer.lines) > 2 else "")
+    if len(trouble) > MOST_TOLD:
+        yield f"and {len(trouble) - MOST_TOLD} more"
+
+
+def short(kind: str, answer: Answer) -> str:
+    """An answer in a word or two."""
+    if kind == "path":
+        end = answer.lines[-1].removeprefix("end ")
+        return end if end.startswith("dropped") else end.split()[0]
+    if answer.lines == ["none"]:
+        return "none"
+    if kind == "loops":
+        cycles = [CYCLE.fullmatch(line) for line in answer.lines]
+        return f"with {len(cycles)} cycles"
+    return "with addresses" if kind != "delta" else "with changes"
+
+
+def is_trouble(kind: str, answer: Answer) -> bool:
+    """Whether an answer tells of a loop, or of addresses that vanish or slip past a waypoint."""
+    if kind == "path":
+        return answer.lines[-1] == "end loop"
+    return kind in ("loops", "waypoint") and answer.lines != ["none"]
+
+
+def answer_lines(answer: Answer, own: list[Prefix], names: dict[tuple[str, int], str]) -> Iterator[str]:
+    """An answer with its runs as prefixes, or how much they have of one's own, and with the names of interfaces."""
+    yield answer.printed_lines()[0]
+    held: list[Run] = []
+    last = ""
+    for line in answer.lines:
+        run = read_run(line)
+        if run is not None:
+            held.append(run)
+            continue
+        yield from (f"    {text}" for text in runs_as_prefixes(held, own if held else []))
+        held = []
+        words = line.split()
+        last = words[-1] if words[0] == "hops" else last
+        name = names.get((last, int(words[2]))) if words[0] == "end" and words[-1].isdigit() else None
+        yield f"    {cycle_line(line, own)}" + ("" if name is None else f" ({name})")
+    yield from (f"    {text}" for text in runs_as_prefixes(held, own if held else []))
+
+
+def as_data(report: Report) -> dict[str, object]:
+    """A report without its history, for a program."""
+    return {"entries": report.length, "feeds": [
+        {"router": feed.router, "updates": feed.updates, "skipped": feed.skipped, "end": feed.end,
+         "refused": [{"offset": one.offset, "message": one.message, "cause": one.cause} for one in feed.refused]}
+        for feed in report.feeds], "answers": [asdict(answer) for answer in report.answers]}
+
+
+def cycle_line(line: str, own: list[Prefix]) -> str:
+    """A cycle's line tells its lowest address alone; where one's own prefix has it, that is said."""
+    match = CYCLE.fullmatch(line)
+    if match is None:
+        return line
+    least = read_address(match[2])
+    return line + "".join(f" (in {prefix})" for prefix in own if least is not None and prefix.covers(least))

@@ -149,7 +149,7 @@ fn a_topology_that_fails_is_told(rt: HostRuntime) {
 }
 
 /// All but the last byte.
-fn but_the_last(bytes: &[u8]) -> &[u8] {
+pub(crate) fn but_the_last(bytes: &[u8]) -> &[u8] {
     match bytes {
         [front @ .., _] => front,
         [] => bytes,

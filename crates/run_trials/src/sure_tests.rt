@@ -1,5 +1,6 @@
 //! A run that meets no fault, and the numbers of statuses.
 
+use crate::run_tests::but_the_last;
 use crate::whole_run::{RING, TAKE_ALL, USUAL, set_frame, text, texts};
 use dn_io::{NoGate, SureFile, SureWorld};
 use dn_run::{Status, run_surely};
@@ -29,14 +30,23 @@ fn status_of<R: Abort + Threads + Wait + Sync>(rt: &R, alloc: Global, feed: &[u8
     run_surely(rt, alloc, words.as_slice(), &mut world, &NoGate)
 }
 
+/// The run over this feed ends with this status, which has this number.
+fn compare_status<R: Abort + Threads + Wait + Sync>(
+    rt: &R,
+    alloc: Global,
+    feed: &[u8],
+    want: Status,
+    number: u8,
+) {
+    let status = status_of(rt, alloc, feed);
+    assert_eq!(rt; status, want);
+    assert_eq!(rt; status.number(), number);
+}
+
 #[test]
 fn a_run_without_faults(rt: HostRuntime) {
     let alloc = rt.alloc();
     let frame = set_frame(0, 8, 2);
-    let whole = status_of(&rt, alloc, &frame);
-    assert_eq!(rt; whole, Status::Done);
-    assert_eq!(rt; whole.number(), 0);
-    let cut = status_of(&rt, alloc, &frame[..63]);
-    assert_eq!(rt; cut, Status::Refusals);
-    assert_eq!(rt; cut.number(), 1);
+    compare_status(&rt, alloc, &frame, Status::Done, 0);
+    compare_status(&rt, alloc, but_the_last(&frame), Status::Refusals, 1);
 }

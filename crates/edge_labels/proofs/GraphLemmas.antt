@@ -8,13 +8,16 @@ use Rattle.std.proofs.lemmas.List.{get_or_append_left, get_or_default, get_or_pa
 use Rattle.std.proofs.lemmas.List.Folds.{list_any_at, list_any_none}
 use Rattle.std.proofs.lemmas.Nat.{div-add-mod', div_below, mod_below}
 use Rattle.base.specs.declared.target.Target.{Target}
-use Rattle.edge_labels.specs.declared.codes.Edge.{Edge}
+use Rattle.target_rows.specs.declared.codes.Edge.{Edge}
 use Rattle.edge_labels.specs.Atoms.{has_atom}
-use Rattle.edge_labels.specs.Codes.{edge_at, IsCoded}
-use Rattle.edge_labels.specs.Labels.{Labels, IsLabel, target_at}
-use Rattle.edge_labels.specs.Rows.{AreFirst, AreFirstSets, AreJoined, AreKept, AreLeft, AreReached, AreRowJoined, AreRows, code_at, codes_of, IsCodeOf, labels_of}
-use Rattle.edge_labels.proofs.RowLemmas.{length-row, row-at}
-use Rattle.edge_labels.proofs.TargetLemmas.{atoms-of, below-from, code-before, code-here, code-last, code-other, first-code, first-router, first-rows, inherited-rows, itself, moved-rows, same-from, still, target-now}
+use Rattle.target_rows.specs.Codes.{edge_at, IsCoded}
+use Rattle.edge_labels.specs.Labels.{IsLabel}
+use Rattle.target_rows.specs.Labels.{Labels, target_at}
+use Rattle.edge_labels.specs.Rows.{AreFirstSets, AreJoined, AreKept, AreLeft, AreReached, AreRowJoined}
+use Rattle.target_rows.specs.Rows.{AreFirst, AreRows, code_at, codes_of, IsCodeOf, labels_of}
+use Rattle.target_rows.proofs.RowLemmas.{length-row, row-at}
+use Rattle.edge_labels.proofs.MovedLemmas.{code-before, code-here, code-last, code-other, inherited-rows, moved-rows}
+use Rattle.target_rows.proofs.TargetLemmas.{atoms-of, below-from, first-code, first-router, first-rows, itself, same-from, still, target-now}
 
 edge-is : (e : Edge) (r : ℕ) (t : Target) → e.router ≡ r → e.target ≡ t → e ≡ record { router = r; target = t }
 edge-is e r t p q = let make : ℕ → Target → Edge = λ x y. record { router = x; target = y } in ap (λ x. make x e.target) p ∙ ap (λ y. make r y) q

@@ -1,31 +1,12 @@
--- Rows of codes in one list.
-use Rattle.std.proofs.Common.{◌≡◌, ℕ, zero, suc, ◌+◌, ◌-◌, ◌*◌, ◌/◌, ◌%◌, ◌<◌, ◌≤◌, ltb, Bool, true, false, List, [], ◌∷◌, ◌++◌, length, map, take, drop, get_or, set, refl, ap, sym, ◌∙◌, arith, length-append}
+-- Rows of codes in one list, where one code is written, or a row is added.
+use Rattle.std.proofs.Common.{◌≡◌, ℕ, zero, suc, ◌+◌, ◌-◌, ◌*◌, ◌<◌, ◌≤◌, ltb, Bool, true, false, List, ◌∷◌, ◌++◌, length, map, take, drop, get_or, set, refl, ap, ◌∙◌, arith}
 use Rattle.std.specs.List.{range_with_len}
 use Rattle.std.proofs.lemmas.Bool.Decides.{nat_tests}
-use Rattle.std.proofs.lemmas.List.{drop-append-le, drop-set-add, drop-set-lt, drop_at, get_or-append-add, get_or-drop, get_or-take, get_or_append_left, length-drop, length-take-le, take-append-le, take-set-le, take-take, take_all, drop-drop}
-use Rattle.std.proofs.lemmas.Nat.{div-mul-add, mod-mul-add, mul-le}
-use Rattle.std.proofs.Math.Seq.{take-add, take-set-lt}
-use Rattle.edge_labels.specs.Rows.{code_at, codes_of}
-
-pub row-fits : (a atoms n : ℕ) → a < atoms → a * n + n ≤ atoms * n
-row-fits a atoms n l = let m : (a + 1) * n ≤ atoms * n = mul-le (a + 1) n atoms n (omega arith) (omega arith) in omega arith
-
-pub length-row : (n atoms a : ℕ) (codes : List ℕ) → length codes ≡ atoms * n → a < atoms → length (codes_of n codes a) ≡ n
-length-row n atoms a codes long l = length-take-le n (drop (a * n) codes) (omega (arith, length-drop (a * n) codes, row-fits a atoms n l))
-
-pub row-at : (n a r : ℕ) (codes : List ℕ) → r < n → get_or (codes_of n codes a) r 0 ≡ code_at n codes a r
-row-at n a r codes l = get_or-take n (drop (a * n) codes) r 0 l ∙ get_or-drop (a * n) codes r 0
-
--- a place has one atom and one router
-pub place-router : (a b q r n : ℕ) → q < n → r < n → b * n + q ≡ a * n + r → q ≡ r
-place-router a b q r n lq lr e = sym (mod-mul-add b n q lq) ∙ ap (λ x. x % n) e ∙ mod-mul-add a n r lr
-
-pub place-atom : (a b q r n : ℕ) → q < n → r < n → b * n + q ≡ a * n + r → b ≡ a
-place-atom a b q r n lq lr e = sym (div-mul-add b n q lq) ∙ ap (λ x. x / n) e ∙ div-mul-add a n r lr
-
-pub map-agree : {X : Type 0} (f g : ℕ → X) (xs : List ℕ) → ((i : ℕ) → i < length xs → f (get_or xs i 0) ≡ g (get_or xs i 0)) → map f xs ≡ map g xs
-map-agree f g [] same = refl
-map-agree f g (x ∷ xs) same = ap (λ y. y ∷ map f xs) (same 0 (omega arith)) ∙ ap (λ ys. g x ∷ ys) (map-agree f g xs (λ i l. same (suc i) (omega arith)))
+use Rattle.std.proofs.lemmas.List.{drop-append-le, drop-set-add, drop-set-lt, drop_at, get_or-append-add, get_or_append_left, length-drop, take-append-le, take-set-le, take_all}
+use Rattle.std.proofs.lemmas.Nat.{mul-le}
+use Rattle.std.proofs.Math.Seq.{take-set-lt}
+use Rattle.target_rows.specs.Rows.{code_at, codes_of}
+use Rattle.target_rows.proofs.RowLemmas.{row-fits}
 
 pub map-along : {X : Type 0} (f g : ℕ → X) (a n : ℕ) → ((k : ℕ) → a ≤ k → k < a + n → f k ≡ g k) → map f (range_with_len a n) ≡ map g (range_with_len a n)
 map-along f g a zero same = refl
@@ -69,24 +50,6 @@ code-kept n atoms b q codes more long l m = get_or_append_left codes more 0 (b *
 pub code-added : (n atoms q : ℕ) (codes row : List ℕ) → length codes ≡ atoms * n → code_at n (codes ++ row) atoms q ≡ get_or row q 0
 code-added n atoms q codes row long = let at : atoms * n + q ≡ length codes + q = omega arith in ap (λ i. get_or (codes ++ row) i 0) at ∙ get_or-append-add codes row q 0
 
--- a row goes on with what a page has
-pub row-more : {X : Type 0} (codes row run : List X) (from more : ℕ) → row ≡ take (length row) (drop from codes) → take (length run) (drop (from + length row) codes) ≡ run → more ≤ length run → row ++ take more run ≡ take (length (row ++ take more run)) (drop from codes)
-row-more codes row run from more so page few =
-    let long : length (row ++ take more run) ≡ length row + more = omega (arith, length-append row (take more run), length-take-le more run few) in
-    let next : take more run ≡ take more (drop (length row) (drop from codes)) =
-    ap (take more) (sym page)
-    ∙ take-take more (length run) (drop (from + length row) codes) few
-    ∙ ap (take more) (sym (drop-drop (length row) from codes)) in
-    ap (λ xs. xs ++ take more run) so
-    ∙ ap (λ xs. take (length row) (drop from codes) ++ xs) next
-    ∙ sym (take-add (length row) more (drop from codes))
-    ∙ ap (λ n. take n (drop from codes)) (sym long)
-
--- ---- the codes of a row are joined
-
+-- where the row of an atom ends fits into 64 bits
 pub from-fits : (a n : ℕ) → a < 4294967296 → n < 4294967296 → a * n + n < 18446744073709551616
 from-fits a n la ln = let m : a * n ≤ 4294967295 * 4294967295 = mul-le a n 4294967295 4294967295 (omega arith) (omega arith) in omega arith
-
--- so does where the rows of all atoms end, with one more
-pub rows-fit : (a n : ℕ) → a ≤ 4294967296 → n ≤ 536870912 → a * n + n < 18446744073709551616
-rows-fit a n la ln = let m : a * n ≤ 4294967296 * 536870912 = mul-le a n 4294967296 536870912 la ln in omega arith

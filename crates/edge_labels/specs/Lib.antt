@@ -1,7 +1,4 @@
 pub mod Atoms
 pub mod Bits
-pub mod ChunkRows
-pub mod Codes
 pub mod Labels
 pub mod Rows
-pub mod SplitCodes

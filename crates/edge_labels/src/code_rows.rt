@@ -1,37 +1,10 @@
 //! Codes of what routers do with atoms, in rows: a row for each atom, by its number, with a code for each router.
 
 ghost use Rattle.std.specs.Prelude.{◌≡◌, ℕ, ◌+◌, ◌*◌, ◌^◌, ◌<◌, ◌≤◌, ◌++◌, length, take, drop, IfOk, IsTrue, OnOk, slice_index_or};
-ghost use Rattle.edge_labels.specs.Rows.{AreFirst};
 
-use crate::code_book::CodeBook;
-use crate::codes::Edge;
 use base::{AtomId, OutOfMemory, RouterId, Target};
 use std::alloc::Global;
 use version_pages::Pages;
-
-/// The first row, and what its codes stand for.
-#[derive(Drop)]
-pub struct FirstRow {
-    pub codes: Pages<u32>,
-    pub book: CodeBook,
-}
-
-/// A code for no route for each router.
-pub fn first_row(alloc: Global, routers: u32) -> Result<FirstRow, OutOfMemory>
-    ensures { IfOk result (λ first. AreFirst routers first.codes first.book) }
-{
-    let mut codes = Pages::new();
-    let mut book = CodeBook::new(alloc)?;
-    for r in 0..routers {
-        let edge = Edge {
-            router: r,
-            target: Target::NoRoute,
-        };
-        let code = book.code_of(alloc, edge)?;
-        codes.push(alloc, code)?;
-    }
-    Ok(FirstRow { codes, book })
-}
 
 /// Whether two targets are the same.
 pub fn is_same(first: &Target, second: &Target) -> bool

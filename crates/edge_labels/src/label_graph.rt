@@ -1,19 +1,17 @@
 //! The labels of all routers.
 
 ghost use Rattle.std.specs.Prelude.{◌≡◌, ◌<◌, length, IfOk};
-ghost use Rattle.edge_labels.specs.Labels.{first_labels, inherited, IsLabel, moved, target_at};
+ghost use Rattle.edge_labels.specs.Labels.{inherited, IsLabel, moved};
 ghost use Rattle.edge_labels.specs.Rows.{AreFirstSets};
+ghost use Rattle.target_rows.specs.Labels.{first_labels, target_at};
 
 use crate::atom_set::AtomSet;
-use crate::code_book::CodeBook;
-use crate::code_rows::{
-    FirstRow, codes_from, first_row, is_same, place_of, push_row, read, row_of,
-};
-use crate::codes::Edge;
+use crate::code_rows::{codes_from, is_same, place_of, push_row, read, row_of};
 use crate::sets::{join, join_row, leave, reach, set_of, swap};
 use base::{AtomId, OutOfMemory, RouterId, Target};
 use std::alloc::Global;
 use std::marker::Model;
+use target_rows::{CodeBook, Edge, FirstRow, first_row};
 use version_pages::Pages;
 
 /// What each router does with each atom, and for each router and target the set of the atoms that have it. A contract
@@ -30,8 +28,9 @@ pub struct LabelGraph {
 }
 
 impl Model for LabelGraph {
-    ghost use Rattle.edge_labels.specs.Labels.{Labels};
-    ghost use Rattle.edge_labels.specs.Rows.{AreKept, labels_of};
+    ghost use Rattle.edge_labels.specs.Rows.{AreKept};
+    ghost use Rattle.target_rows.specs.Labels.{Labels};
+    ghost use Rattle.target_rows.specs.Rows.{labels_of};
 
     ghost Value = { Labels };
 

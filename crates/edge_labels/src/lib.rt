@@ -5,16 +5,9 @@
 mod atom_set;
 mod bits;
 mod chunk;
-mod chunk_rows;
-mod code_book;
-mod code_chunk;
 mod code_rows;
-mod codes;
 mod label_graph;
 mod sets;
-mod split_codes;
-mod target_rows;
 
 pub use atom_set::AtomSet;
 pub use label_graph::LabelGraph;
-pub use target_rows::TargetRows;

@@ -4,7 +4,7 @@ use denote.Param.Send.{IsSend, IsSync, sendable}
 use Rattle.std.proofs.Crossing.{crosses}
 use Rattle.std.proofs.MapsCrossing as maps
 use Rattle.atom_map.proofs.Crossing.{AtomMap-send, AtomMap-sync}
-use Rattle.edge_labels.proofs.Crossing.{TargetRows-send, TargetRows-sync}
+use Rattle.target_rows.proofs.Crossing.{TargetRows-send, TargetRows-sync}
 use Rattle.route_table.proofs.Crossing.{RouteTables-send, RouteTables-sync}
 use Rattle.net_engine.specs.contracts.router_group.RouterGroup as RouterGroup
 use Rattle.net_engine.specs.contracts.router_tables.RouterTables as RouterTables

@@ -14,7 +14,7 @@ use Rattle.base.specs.declared.ids.RouterId.{RouterId}
 use Rattle.base.proofs.Covers.{few-rows, holder-first, holder-rest, low-at, within-above, within-below, within-yes}
 use Rattle.atom_map.proofs.Cuts.{boundary-parts, cut-first, cut-rest, length-after-cut}
 use Rattle.base.specs.declared.target.Target.{Target}
-use Rattle.edge_labels.specs.Labels.{Labels, parted, targets_of}
+use Rattle.target_rows.specs.Labels.{Labels, parted, targets_of}
 use Rattle.net_engine.specs.Net.{Net, between, cut_atoms}
 use Rattle.net_engine.specs.Paired.{ArePaired, atoms_with, does_at, net_of, owned, owners_at, rows_with}
 use Rattle.net_engine.proofs.Atoms.{cut-begins, cut-target}

@@ -17,7 +17,7 @@ use Rattle.base.specs.declared.ids.RouterId.{RouterId}
 use Rattle.dn_model.specs.declared.rule.Rule.{Rule}
 use Rattle.base.specs.declared.target.Target.{Target}
 use Rattle.base.proofs.Covers.{holder-first, holder-rest}
-use Rattle.edge_labels.specs.Labels.{Labels}
+use Rattle.target_rows.specs.Labels.{Labels}
 use Rattle.net_engine.specs.Paired.{ArePaired, GoAlong, atoms_with, does_at, does_in, owned, owners_at, rows_with}
 use Rattle.net_engine.specs.Routed.{ends_in, rules_covering}
 use Rattle.net_engine.specs.Whole.{HasEnds}

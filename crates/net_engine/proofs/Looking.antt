@@ -13,7 +13,7 @@ use Rattle.atom_map.specs.declared.atom_row.AtomRow.{AtomRow}
 use Rattle.dn_model.specs.declared.entry.Route.{Route}
 use Rattle.base.specs.declared.target.Target.{Target}
 use Rattle.base.proofs.Covers.{within-above, within-below, within-yes}
-use Rattle.edge_labels.specs.Labels.{Labels}
+use Rattle.target_rows.specs.Labels.{Labels}
 use Rattle.route_table.specs.Own.{BeginWithin}
 use Rattle.net_engine.specs.Looks.{atoms_begun, atoms_between, has_some, more_at}
 use Rattle.net_engine.specs.Net.{between, cut_atoms}

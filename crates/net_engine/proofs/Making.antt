@@ -16,7 +16,7 @@ use Rattle.dn_model.specs.declared.table_op.TableOp.TheVariants.{Put, Clear}
 use Rattle.dn_model.specs.declared.entry.Route.{Route}
 use Rattle.base.specs.declared.ids.RouterId.{RouterId}
 use Rattle.dn_model.specs.declared.topology.Topology.{Topology}
-use Rattle.edge_labels.specs.Labels.{Labels}
+use Rattle.target_rows.specs.Labels.{Labels}
 use Rattle.net_engine.specs.Looks.{atoms_met, atoms_put, more_at_ends}
 use Rattle.net_engine.specs.Net.{AreWide, first_atom}
 use Rattle.net_engine.specs.Paired.{ArePaired, GoAlong, atoms_with}

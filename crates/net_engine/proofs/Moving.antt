@@ -13,7 +13,7 @@ use Rattle.base.specs.declared.ids.RouterId.{RouterId}
 use Rattle.base.specs.declared.run.Run.{Run}
 use Rattle.base.specs.declared.target.Target.{Target}
 use Rattle.base.proofs.Covers.{within-above, within-below, within-yes}
-use Rattle.edge_labels.specs.Labels.{Labels}
+use Rattle.target_rows.specs.Labels.{Labels}
 use Rattle.net_engine.specs.Paired.{AreLabelled, does_at}
 use Rattle.net_engine.specs.Rerouted.{IsMoved, IsRelabelled, RunsOfAtoms}
 use Rattle.net_engine.specs.Walked.{IsTold}

@@ -9,8 +9,8 @@ use Rattle.base.specs.declared.target.Target.{Target}
 use Rattle.base.specs.declared.target.Target.TheVariants.{NoRoute}
 use Rattle.base.proofs.Covers.{high-at, holder-first, holder-rest, last-high, low-at, next-low, ordered-at, within-above, within-yes}
 use Rattle.atom_map.proofs.Cuts.{boundary-at}
-use Rattle.edge_labels.specs.Labels.{Labels, moved_run, target_at, targets_of}
-use Rattle.edge_labels.proofs.MovedRun.{moved_run-away, moved_run-here, moved_run-long, moved_run-others, moved_run-wide}
+use Rattle.target_rows.specs.Labels.{Labels, moved_run, target_at, targets_of}
+use Rattle.target_rows.proofs.MovedRun.{moved_run-away, moved_run-here, moved_run-long, moved_run-others, moved_run-wide}
 use Rattle.net_engine.specs.Paired.{AreLabelled, does_at, does_in, rows_with}
 use Rattle.net_engine.specs.Rerouted.{AtomBegins, AtomsEnd, IsRelabelled}
 use Rattle.net_engine.proofs.Held.{within-high, within-low}

@@ -25,7 +25,7 @@ use Rattle.base.specs.declared.ids.RouterId.{RouterId}
 use Rattle.base.specs.declared.run.Run.{Run}
 use Rattle.base.specs.declared.target.Target.{Target}
 use Rattle.base.proofs.Elements.{contains-here, contains-there}
-use Rattle.edge_labels.specs.Labels.{Labels}
+use Rattle.target_rows.specs.Labels.{Labels}
 use Rattle.route_table.specs.Own.{AreOwnRuns, EndAtEnds, IsLooked, IsTurned, SetsOrHas, is_end_in, is_own}
 use Rattle.net_engine.specs.Looks.{atoms_begun, atoms_between, atoms_met}
 use Rattle.net_engine.specs.Paired.{AreLabelled, ArePaired, GoAlong, atoms_with, does_at}

@@ -17,7 +17,7 @@ use Rattle.base.specs.declared.target.Target.{Target}
 use Rattle.base.specs.declared.target.Target.TheVariants.{NoRoute}
 use Rattle.atom_map.specs.Index.{one_atom}
 use Rattle.atom_map.proofs.Begun.{one-indexed}
-use Rattle.edge_labels.specs.Labels.{Labels, first_labels, target_at, targets_of}
+use Rattle.target_rows.specs.Labels.{Labels, first_labels, target_at, targets_of}
 use Rattle.net_engine.specs.Net.{AreWide, IsNet, IsWide, Net, first_atom}
 use Rattle.net_engine.specs.Paired.{ArePaired, GoAlong, atoms_with, does_at, does_in, net_of, owned, owners_at, rows_with}
 use Rattle.net_engine.specs.Seen.{IsPaired, net_in}

@@ -12,7 +12,7 @@ use Rattle.base.specs.declared.forwarding_row.ForwardingRow.{ForwardingRow}
 use Rattle.dn_model.specs.declared.rule.Rule.{Rule}
 use Rattle.base.specs.declared.target.Target.{Target}
 use Rattle.base.specs.declared.target.Target.TheVariants.{NoRoute}
-use Rattle.edge_labels.specs.Labels.{Labels, targets_of}
+use Rattle.target_rows.specs.Labels.{Labels, targets_of}
 use Rattle.net_engine.specs.Net.{Net}
 use Rattle.net_engine.specs.Routed.{ends_in, rules_covering}
 

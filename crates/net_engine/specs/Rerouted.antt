@@ -12,7 +12,7 @@ use Rattle.dn_model.specs.declared.entry.Route.{Route}
 use Rattle.base.specs.declared.ids.RouterId.{RouterId}
 use Rattle.base.specs.declared.run.Run.{Run}
 use Rattle.base.specs.declared.target.Target.{Target}
-use Rattle.edge_labels.specs.Labels.{Labels}
+use Rattle.target_rows.specs.Labels.{Labels}
 use Rattle.net_engine.specs.Paired.{AreLabelled, does_at}
 
 -- an atom begins at an address, and has this place

@@ -18,10 +18,10 @@ use crate::update::Update;
 use atom_map::{AtomMap, AtomSpot};
 use delta_graph::Delta;
 use dn_model::{OutOfMemory, RouterId, Run, Target, Way};
-use edge_labels::TargetRows;
 use std::alloc::Global;
 use std::sync::ledger::Ledger;
 use step_count::Steps;
+use target_rows::TargetRows;
 
 /// The atoms of a network, with what each router does there, which stands in the order of the atoms, and each router's
 /// routes, by prefix: they say which rules it has at an atom. A contract sees the fields, so that an update that finds no

@@ -13,8 +13,8 @@ ghost use Rattle.net_engine.specs.Walked.{IsTold};
 use atom_map::AtomMap;
 use delta_graph::Delta;
 use dn_model::{Change, OutOfMemory, RouterId, Run, Target};
-use edge_labels::TargetRows;
 use std::alloc::Global;
+use target_rows::TargetRows;
 
 /// What a router did somewhere before an update, and what it does after it.
 #[derive(Clone, Copy, Debug, PartialEq, Eq)]

@@ -2,12 +2,13 @@
 
 ghost use Rattle.std.specs.Prelude.{◌≡◌, ◌+◌, ◌<◌, ◌≤◌, ◌^◌, ◌∷◌, [], length, IfOk, OnOk};
 ghost use Rattle.base.specs.declared.target.Target.TheVariants.{Exit, Local};
-ghost use Rattle.edge_labels.specs.Labels.{Labels};
+ghost use Rattle.target_rows.specs.Labels.{Labels};
 
 use dn_model::{AtomId, OutOfMemory, RouterId, Target};
-use edge_labels::{AtomSet, LabelGraph, TargetRows};
+use edge_labels::{AtomSet, LabelGraph};
 use std::alloc::Global;
 use std::process::Abort;
+use target_rows::TargetRows;
 
 fn set_of(rt: &impl Abort, alloc: Global, atoms: &[AtomId]) -> AtomSet {
     AtomSet::of(alloc, atoms).expect(rt, "memory")

@@ -1,8 +1,9 @@
 use Rattle.std.proofs.Common.{◌<◌, set, subst, ap, ◌∙◌, arith}
 use Rattle.edge_labels.specs.Rows.{AreReached}
-use Rattle.edge_labels.proofs.RowLemmas.{row-fits}
+use Rattle.target_rows.proofs.RowLemmas.{row-fits}
 use Rattle.edge_labels.proofs.GraphLemmas.{moved-kept}
-use Rattle.edge_labels.proofs.TargetLemmas.{atoms-of, code-known, moved-labels, routers-of}
+use Rattle.edge_labels.proofs.MovedLemmas.{moved-labels}
+use Rattle.target_rows.proofs.TargetLemmas.{atoms-of, code-known, routers-of}
 use Rattle.edge_labels.proofs.label_graph.LabelGraph.change.Goals as goal
 
 pub place_of-place-requires : goal.place_of-place-requires

@@ -1,10 +1,12 @@
 use Rattle.std.proofs.Common.{◌≡◌, ◌<◌, ◌++◌, length, take, drop, subst, ap, sym, ◌∙◌, arith}
 use Rattle.std.specs.List.{All}
 use Rattle.std.proofs.lemmas.List.Elements.{All-drop, All-take}
-use Rattle.edge_labels.specs.Rows.{AreRowJoined, codes_of}
-use Rattle.edge_labels.proofs.RowLemmas.{row-fits}
+use Rattle.edge_labels.specs.Rows.{AreRowJoined}
+use Rattle.target_rows.specs.Rows.{codes_of}
+use Rattle.target_rows.proofs.RowLemmas.{row-fits}
 use Rattle.edge_labels.proofs.GraphLemmas.{codes-known, inherited-kept}
-use Rattle.edge_labels.proofs.TargetLemmas.{atoms-of, inherited-labels}
+use Rattle.edge_labels.proofs.MovedLemmas.{inherited-labels}
+use Rattle.target_rows.proofs.TargetLemmas.{atoms-of}
 use Rattle.edge_labels.proofs.label_graph.LabelGraph.inherit.Goals as goal
 
 pub codes_from-requires-clause-inside : goal.codes_from-requires-clause-inside

@@ -1,7 +1,7 @@
 use Rattle.std.proofs.Common.{◌<◌, [], ◌∙◌, subst, sym, arith}
 use Rattle.std.specs.List.Sorted.{IsStrictlyIncreasing}
 use Rattle.edge_labels.proofs.GraphLemmas.{label-found, label-none}
-use Rattle.edge_labels.proofs.TargetLemmas.{routers-of}
+use Rattle.target_rows.proofs.TargetLemmas.{routers-of}
 use Rattle.edge_labels.proofs.label_graph.LabelGraph.label.Goals as goal
 
 pub returns-in-None : goal.returns-in-None

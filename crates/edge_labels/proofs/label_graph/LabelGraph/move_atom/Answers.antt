@@ -1,5 +1,5 @@
 use Rattle.std.proofs.Common.{◌∙◌}
-use Rattle.edge_labels.proofs.TargetLemmas.{moved-same}
+use Rattle.edge_labels.proofs.MovedLemmas.{moved-same}
 use Rattle.edge_labels.proofs.label_graph.LabelGraph.move_atom.Goals as goal
 
 pub returns-then-is_same : goal.returns-then-is_same

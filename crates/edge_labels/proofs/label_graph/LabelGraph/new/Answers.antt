@@ -1,5 +1,5 @@
 use Rattle.edge_labels.proofs.GraphLemmas.{first-kept}
-use Rattle.edge_labels.proofs.TargetLemmas.{first-seen}
+use Rattle.target_rows.proofs.TargetLemmas.{first-seen}
 use Rattle.edge_labels.proofs.label_graph.LabelGraph.new.Goals as goal
 
 pub invariant_of-result : goal.invariant_of-result

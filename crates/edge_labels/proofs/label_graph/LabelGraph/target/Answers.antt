@@ -1,6 +1,6 @@
 use Rattle.std.proofs.Common.{◌<◌, ap, ◌∙◌, arith}
-use Rattle.edge_labels.proofs.RowLemmas.{row-fits}
-use Rattle.edge_labels.proofs.TargetLemmas.{atoms-of, code-known, routers-of}
+use Rattle.target_rows.proofs.RowLemmas.{row-fits}
+use Rattle.target_rows.proofs.TargetLemmas.{atoms-of, code-known, routers-of}
 use Rattle.edge_labels.proofs.label_graph.LabelGraph.target.Goals as goal
 
 pub place_of-requires : goal.place_of-requires

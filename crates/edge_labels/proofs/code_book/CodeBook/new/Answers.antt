@@ -1,6 +1,0 @@
-use Rattle.std.proofs.Common.{ap, ◌∙◌}
-use Rattle.edge_labels.proofs.EdgeOrder.{indexed-none}
-use Rattle.edge_labels.proofs.code_book.CodeBook.new.Goals as goal
-
-pub invariant_of-result : goal.invariant_of-result
-invariant_of-result c = indexed-none _ _ c.new-3.ensures (ap (λ m. m.entries) c.in_ok-index.ensures.ok ∙ c.new.ensures.empty)

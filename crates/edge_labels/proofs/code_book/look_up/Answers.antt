@@ -1,7 +1,0 @@
-use Rattle.std.proofs.Common.{◌∙◌}
-use Rattle.edge_labels.specs.Codes.{code_in}
-use Rattle.edge_labels.proofs.code_book.look_up.Goals as goal
-
-pub returns : goal.returns
-unfolding code_in
-returns c = c.copied.ensures ∙ c.get.ensures.value

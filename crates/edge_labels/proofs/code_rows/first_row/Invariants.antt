@@ -1,5 +1,0 @@
-use Rattle.edge_labels.specs.Rows.{AreFirst}
-use Rattle.edge_labels.proofs.code_rows.first_row.Given as goal
-
-abbrev pub invariant-loop-r : goal.invariant-loop-r
-invariant-loop-r l = AreFirst l.r l.codes l.book

@@ -1,8 +1,0 @@
-use Rattle.std.proofs.Common.{length, ap, ◌∙◌}
-use Rattle.std.proofs.lemmas.List.{length-replicate}
-use Rattle.edge_labels.specs.ChunkRows.{no_codes}
-use Rattle.edge_labels.proofs.SplitLemmas.{sides-long}
-use Rattle.edge_labels.proofs.split_codes.SplitCodes.empty.Goals as goal
-
-pub returns : goal.returns
-returns c = sides-long c.in_ok-low.low c.new.result ∙ ap length c.in_ok-low.ensures ∙ length-replicate c.args.count no_codes

@@ -1,0 +1,9 @@
+pub mod ChunkLemmas
+pub mod Crossing
+pub mod EdgeOrder
+pub mod MovedRun
+pub mod Patched
+pub mod RowLemmas
+pub mod RunLemmas
+pub mod SplitLemmas
+pub mod TargetLemmas

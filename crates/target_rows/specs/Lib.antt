@@ -1,0 +1,5 @@
+pub mod ChunkRows
+pub mod Codes
+pub mod Labels
+pub mod Rows
+pub mod SplitCodes

@@ -1,0 +1,213 @@
+//! Halves of codes of what routers do with atoms, in rows of chunks of eight: for each atom, in order, stands a row of so
+//! many whole chunks that each router has a place in it. What stands behind the last router's means nothing. What is said
+//! of codes here holds of lower halves as of upper ones.
+
+ghost use Rattle.std.specs.Prelude.{◌≡◌, ◌+◌, ◌*◌, ◌/◌, ◌%◌, ◌<◌, ◌^◌, ◌≤◌, ◌++◌, length, replicate, take, drop, IfOk, OnOk, OnErr};
+ghost use Rattle.target_rows.specs.ChunkRows.{AreWritten, IsColumnWritten, IsWritten, lane_at, no_codes, repeated, stride_of};
+
+use crate::code_chunk::CodeChunk;
+use base::{OutOfMemory, RouterId};
+use std::alloc::Global;
+use version_pages::Pages;
+
+/// Where a code stands: the place of its chunk, and its place in the chunk.
+#[derive(Clone, Copy, Debug, PartialEq, Eq)]
+pub struct Place {
+    pub chunk: u64,
+    pub lane: u32,
+}
+
+/// The codes of a router at so many atoms, from the one of a place on, in rows of this number of routers.
+#[derive(Clone, Copy, Debug, PartialEq, Eq)]
+pub struct Column {
+    pub routers: u32,
+    pub r: RouterId,
+    pub first: u64,
+    pub count: u64,
+}
+
+/// How many chunks a row has.
+pub fn stride(routers: u32) -> u64
+    ensures { result ≡ stride_of routers }
+{
+    (routers as u64 + 7) / 8
+}
+
+/// Where the row of the atom at a place begins, or all rows end.
+pub fn start_of(routers: u32, atom: u64) -> u64
+    requires { atom ≤ 2 ^ 32 }
+    ensures at { result ≡ atom * stride_of routers }
+    ensures fits { result + stride_of routers < 2 ^ 64 }
+{
+    atom * stride(routers)
+}
+
+/// Where the code of a router stands at the atom of a place.
+pub fn place_in(routers: u32, r: RouterId, atom: u64) -> Place
+    requires router { r.0 < routers }
+    requires atom { atom < 2 ^ 32 }
+    ensures chunk { result.chunk ≡ atom * stride_of routers + r.0 / 8 }
+    ensures lane { result.lane ≡ r.0 % 8 }
+{
+    Place {
+        chunk: start_of(routers, atom) + r.0 as u64 / 8,
+        lane: r.0 as u32 % 8,
+    }
+}
+
+/// The code at a place.
+pub fn code_at(chunks: &Pages<CodeChunk>, place: Place) -> u16
+    requires chunk { place.chunk < length chunks.now }
+    requires lane { place.lane < 8 }
+    ensures { result ≡ lane_at chunks.now place.chunk place.lane }
+{
+    match chunks.get(place.chunk) {
+        Some(chunk) => chunk.codes[place.lane as usize],
+        None => unreachable!(),
+    }
+}
+
+/// Puts a code at a place. After `OutOfMemory`, for which alone it fails, all codes are as before.
+pub fn write(
+    alloc: Global,
+    chunks: &mut Pages<CodeChunk>,
+    place: Place,
+    code: u16,
+) -> Result<(), OutOfMemory>
+    requires chunk { place.chunk < length chunks.old }
+    requires lane { place.lane < 8 }
+    ensures ok { OnOk result (IsWritten chunks.old chunks.new place.chunk place.lane code) }
+    ensures err { OnErr result (chunks.new ≡ chunks.old) }
+{
+    let lane = place.lane;
+    chunks.change(alloc, place.chunk, |chunk: &mut CodeChunk| {
+        chunk.put(lane, code)
+    })?;
+    Ok(())
+}
+
+/// So many chunks whose codes are all 0.
+pub fn empty_chunks(alloc: Global, count: u64) -> Result<Pages<CodeChunk>, OutOfMemory>
+    ensures { IfOk result (λ chunks. chunks ≡ replicate count no_codes) }
+{
+    let mut chunks = Pages::new();
+    for _chunk in 0..count {
+        chunks.push(alloc, CodeChunk::empty())?;
+    }
+    Ok(chunks)
+}
+
+/// So many chunks from a place on. It goes down to each page of them once.
+fn chunks_from(
+    alloc: Global,
+    chunks: &Pages<CodeChunk>,
+    from: u64,
+    count: u64,
+) -> Result<Vec<CodeChunk>, OutOfMemory>
+    requires inside { from + count ≤ length chunks.now }
+    requires fits { from + count < 2 ^ 64 }
+    ensures { IfOk result (λ row. row.items ≡ take count (drop from chunks.now)) }
+{
+    let count = count as usize;
+    let mut row = Vec::with_capacity(alloc, count)?;
+    'pages: while row.len() < count {
+        let run = chunks.run_from(from + row.len() as u64);
+        let more = run.len().min(count - row.len());
+        row.extend_from_slice(&run[..more])?;
+    }
+    Ok(row)
+}
+
+/// So many chunks from a place on come to stand once more, before the one that stands at another place, or at the end.
+/// After `OutOfMemory` the first of them may be there.
+pub fn repeat(
+    alloc: Global,
+    chunks: &mut Pages<CodeChunk>,
+    from: u64,
+    count: u64,
+    next: u64,
+) -> Result<(), OutOfMemory>
+    requires inside { from + count ≤ length chunks.old }
+    requires fits { from + count < 2 ^ 64 }
+    requires place { next ≤ length chunks.old }
+    ensures { OnOk result (chunks.new ≡ repeated chunks.old from count next) }
+{
+    let row = chunks_from(alloc, chunks, from, count)?;
+    chunks.insert_all(alloc, next, &row)
+}
+
+/// Puts a code into a chunk of a run, and into each one that stands so much further on than the one before, from the
+/// first chunk on and in at most so many. It answers in how many.
+fn put_each(run: &mut [CodeChunk], stride: u64, lane: u32, code: u16, most: u64) -> u64
+    requires some { 0 < stride }
+    requires few { stride < 2 ^ 32 }
+    requires lane { lane < 8 }
+    ensures some { 0 < length run.old → 0 < most → 0 < result }
+    ensures few { result ≤ most }
+    ensures written { AreWritten run.old run.new 0 stride lane result code }
+{
+    let mut at = 0;
+    let mut count = 0;
+    'chunks: while count < most && at < run.len() {
+        run[at].put(lane, code);
+        at += stride as usize;
+        count += 1;
+    }
+    count
+}
+
+/// Puts a code at a place, and at the same place of each chunk that stands so much further on than the one before, up to
+/// the end of the first one's page and at most so often. It answers how often. After `OutOfMemory`, for which alone it
+/// fails, all codes are as before.
+fn write_some(
+    alloc: Global,
+    chunks: &mut Pages<CodeChunk>,
+    place: Place,
+    stride: u64,
+    code: u16,
+    most: u64,
+) -> Result<u64, OutOfMemory>
+    requires chunk { place.chunk < length chunks.old }
+    requires lane { place.lane < 8 }
+    requires apart { 0 < stride }
+    requires near { stride < 2 ^ 32 }
+    requires some { 0 < most }
+    ensures some { IfOk result (λ count. 0 < count) }
+    ensures few { IfOk result (λ count. count ≤ most) }
+    ensures written { IfOk result (λ count. AreWritten chunks.old chunks.new place.chunk stride place.lane count code) }
+    ensures same { OnErr result (chunks.new ≡ chunks.old) }
+{
+    let lane = place.lane;
+    chunks.change_run(alloc, place.chunk, |run: &mut [CodeChunk]| {
+        put_each(run, stride, lane, code, most)
+    })
+}
+
+/// Puts a code at each place of a column, page by page. Where it fails, for which want of memory is the one cause, it
+/// may stand at the first of them.
+pub fn write_column(
+    alloc: Global,
+    chunks: &mut Pages<CodeChunk>,
+    column: Column,
+    code: u16,
+) -> Result<(), OutOfMemory>
+    requires router { column.r.0 < column.routers }
+    requires atoms { column.first + column.count ≤ 2 ^ 32 }
+    requires inside { (column.first + column.count) * stride_of column.routers ≤ length chunks.old }
+    ensures all { OnOk result
+        (IsColumnWritten column.routers column.r.0 column.first chunks.old chunks.new column.count code) }
+    ensures long { length chunks.new ≡ length chunks.old }
+{
+    let Column {
+        routers,
+        r,
+        first,
+        count,
+    } = column;
+    let mut done = 0;
+    'pages: while done < count {
+        let place = place_in(routers, r, first + done);
+        done += write_some(alloc, chunks, place, stride(routers), code, count - done)?;
+    }
+    Ok(())
+}

@@ -1,0 +1,138 @@
+//! What each router does with each atom.
+
+ghost use Rattle.std.specs.Prelude.{◌≡◌, ◌<◌, ◌≤◌, ◌^◌, length, IfOk, OnOk};
+ghost use Rattle.target_rows.specs.Labels.{first_labels, moved_run, parted, target_at};
+
+use crate::chunk_rows::{Column, place_in, start_of, stride};
+use crate::code_book::CodeBook;
+use crate::code_rows::{FirstRow, first_row};
+use crate::codes::Edge;
+use crate::split_codes::SplitCodes;
+use base::{OutOfMemory, RouterId, Target};
+use std::alloc::Global;
+use std::marker::Model;
+
+/// What each router does with each atom, as a row of codes by the atom's place in the list of all atoms. A contract sees
+/// the number of routers and, for each atom in order, the targets by router. Rows stand in the order of addresses, so
+/// that a walk over the atoms of a prefix, or over all, reads and writes memory in order. Each router with a target has a
+/// code. No set of atoms is kept, so that a move writes one code for each atom, and a cut one row. A row has whole chunks
+/// of eight codes: a page has 64 chunks, so few forks stand above each code. A code takes two bytes, and four once one of
+/// 65,536 or more was written. A copy is a few counts. The code that was written last is a guess of the next one, since an
+/// update writes the same at many atoms; no clause and no invariant speaks of it.
+#[derive(Drop)]
+pub struct TargetRows {
+    routers: u32,
+    atoms: u64,
+    chunks: SplitCodes,
+    book: CodeBook,
+    last: u32,
+}
+
+impl Model for TargetRows {
+    ghost use Rattle.target_rows.specs.Labels.{Labels};
+    ghost use Rattle.target_rows.specs.ChunkRows.{AreChunkRows, labels_in};
+
+    ghost Value = { Labels };
+
+    ghost view = { λ t. labels_in t.routers t.atoms t.chunks t.book };
+
+    ghost invariant = { λ t. AreChunkRows t.routers t.atoms t.chunks t.book };
+}
+
+impl TargetRows {
+    /// The rows of this number of routers, which have no route for the one atom 0.
+    pub fn new(alloc: Global, routers: u32) -> Result<TargetRows, OutOfMemory>
+        ensures { IfOk result (λ rows. rows ≡ first_labels routers) }
+    {
+        let FirstRow { codes, book } = first_row(alloc, routers)?;
+        let chunks = SplitCodes::of(alloc, &codes, routers)?;
+        Ok(TargetRows {
+            routers,
+            atoms: 1,
+            chunks,
+            book,
+            last: 0,
+        })
+    }
+
+    /// What a router does with the atom at a place. It takes no memory.
+    pub fn target(&self, r: RouterId, place: u64) -> Target
+        requires router { r.0 < self.now.routers }
+        requires place { place < length self.now.rows }
+        ensures { result ≡ target_at self.now r.0 place }
+    {
+        let code = self.chunks.code_at(place_in(self.routers, r, place));
+        self.book.edge(code).target
+    }
+
+    /// A router does something else with the atoms at the places from `first` up to, and without, `past`: it goes down
+    /// to each page of their codes once. It fails for want of memory alone, and then nothing is said of the rows.
+    pub fn move_run(
+        &mut self,
+        alloc: Global,
+        r: RouterId,
+        first: u64,
+        past: u64,
+        after: Target,
+    ) -> Result<(), OutOfMemory>
+        requires router { r.0 < self.old.routers }
+        requires order { first ≤ past }
+        requires inside { past ≤ length self.old.rows }
+        ensures { OnOk result (self.new ≡ moved_run self.old r.0 first past after) }
+    {
+        let edge = Edge {
+            router: r.0 as u32,
+            target: after,
+        };
+        let code = self.book.code_near(alloc, edge, self.last)?;
+        self.last = code;
+        let column = Column {
+            routers: self.routers,
+            r,
+            first,
+            count: past - first,
+        };
+        match self.chunks.write_column(alloc, column, code) {
+            Ok(()) => Ok(()),
+            Err(OutOfMemory) => {
+                self.atoms = 0;
+                self.chunks = SplitCodes::new();
+                Err(OutOfMemory)
+            }
+        }
+    }
+
+    /// The row at a place comes to stand twice, side by side, as its atom is cut in two. It fails for want of memory
+    /// alone, and then the rows may be gone, since a part of a row can't be taken away again.
+    pub fn part(&mut self, alloc: Global, place: u64) -> Result<(), OutOfMemory>
+        requires place { place < length self.old.rows }
+        requires room { length self.old.rows < 2 ^ 32 }
+        ensures { OnOk result (self.new ≡ parted self.old place) }
+    {
+        let from = start_of(self.routers, place);
+        let next = start_of(self.routers, place + 1);
+        match self.chunks.repeat(alloc, from, stride(self.routers), next) {
+            Ok(()) => {
+                self.atoms += 1;
+                Ok(())
+            }
+            Err(OutOfMemory) => {
+                self.atoms = 0;
+                Err(OutOfMemory)
+            }
+        }
+    }
+
+    /// The same rows again, which share all that they keep with these.
+    pub fn copy(&self) -> Result<TargetRows, OutOfMemory>
+        ensures { IfOk result (λ rows. rows ≡ self.now) }
+    {
+        Ok(TargetRows {
+            routers: self.routers,
+            atoms: self.atoms,
+            chunks: self.chunks.copy()?,
+            book: self.book.copy()?,
+            last: self.last,
+        })
+    }
+}

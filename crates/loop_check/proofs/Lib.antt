@@ -4,4 +4,5 @@ pub mod Knowing
 pub mod Passing
 pub mod Reading
 pub mod Rounds
+pub mod Sorting
 pub mod Telling

@@ -1,3 +1,4 @@
+pub mod CycleOrder
 pub mod FirstOrder
 pub mod Following
 pub mod Known

@@ -11,6 +11,6 @@ mod row;
 mod walk;
 
 pub use all_rows::loops;
-pub use cycle_order::{has_cycle, put_cycle};
+pub use cycle_order::{has_cycle, push_cycle, put_cycle, sort_cycles};
 pub use known::are_same_routers;
 pub use row::cycles_of_atom;

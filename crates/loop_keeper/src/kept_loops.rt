@@ -12,11 +12,11 @@ ghost use Rattle.loop_keeper.specs.Finding.{AllInside};
 ghost use Rattle.loop_keeper.specs.Kept.{AreKept, IsLoopFree};
 ghost use Rattle.loop_keeper.specs.Looks.{rows_met};
 
+use crate::answer::cycles_of;
 use crate::editing::{leave_empty_out, put_all_in, take_all_out};
 use crate::finding::find_all;
 use crate::found::Found;
 use crate::kept_cycle::KeptCycle;
-use crate::telling::cycles_of;
 use base::{Change, Cycle, List, OutOfMemory};
 use delta_graph::Delta;
 use label_view::LabelView;

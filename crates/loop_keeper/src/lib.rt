@@ -3,6 +3,7 @@
 #![tactic(auto)]
 
 mod address_set;
+mod answer;
 mod editing;
 mod finding;
 mod following;
@@ -10,6 +11,5 @@ mod found;
 mod kept_cycle;
 mod kept_loops;
 mod number_set;
-mod telling;
 
 pub use kept_loops::KeptLoops;

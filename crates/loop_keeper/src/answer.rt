@@ -1,15 +1,17 @@
 //! Kept cycles as an answer: by least address, then by first router.
 
-ghost use Rattle.std.specs.Prelude.{ℕ, IfOk, OnOk};
+ghost use Rattle.std.specs.Prelude.{◌≡◌, ℕ, IfOk, OnOk, Contains};
 ghost use Rattle.base.specs.Cycles.{AreCycles};
-ghost use Rattle.base.specs.CyclesFrom.{AreSomeCycles, IsCycleOf, TellsCycle};
+ghost use Rattle.base.specs.CyclesFrom.{IsCycleOf};
+ghost use Rattle.base.specs.declared.cycle.Cycle.{Cycle as CycleIs};
 ghost use Rattle.base.specs.declared.ids.RouterId.{RouterId as Router};
 ghost use Rattle.base.specs.declared.target.Target.{Target as TargetIs};
+ghost use Rattle.loop_check.specs.CycleOrder.{AddsCycle, AreUnsorted};
 ghost use Rattle.loop_keeper.specs.Kept.{AreKept, IsKeptExactly};
 
 use crate::kept_cycle::KeptCycle;
 use base::{Cycle, List, OutOfMemory};
-use loop_check::{has_cycle, put_cycle};
+use loop_check::{push_cycle, sort_cycles};
 use std::alloc::Global;
 
 /// The cycle that is kept, as it is told; None where it has no address.
@@ -29,28 +31,25 @@ fn cycle_of(alloc: Global, one: &KeptCycle) -> Result<Option<Cycle>, OutOfMemory
     }))
 }
 
-/// Tells a cycle that is kept beside others, if it isn't among them.
-fn tell_cycle(alloc: Global, cycles: &mut Vec<Cycle>, one: &KeptCycle) -> Result<(), OutOfMemory>
+/// Puts a cycle that is kept behind others.
+fn push_kept(alloc: Global, cycles: &mut Vec<Cycle>, one: &KeptCycle) -> Result<(), OutOfMemory>
     ensures { OnOk result ((does : Router → ℕ → TargetIs) → IsKeptExactly does one.now
-        → AreSomeCycles does cycles.old.items
-        → TellsCycle does one.now.routers cycles.old.items cycles.new.items) }
+        → AreUnsorted does cycles.old.items
+        → ((x : CycleIs) → Contains cycles.old.items x → x.routers ≡ one.now.routers → ⊥)
+        → AddsCycle does one.now.routers cycles.old.items cycles.new.items) }
 {
-    if has_cycle(cycles.as_slice(), one.routers()) {
-        return Ok(());
-    }
-    let Some(cycle) = cycle_of(alloc, one)? else {
-        return Ok(());
-    };
-    put_cycle(cycles, cycle)
+    let cycle = cycle_of(alloc, one)?;
+    push_cycle(cycles, cycle)
 }
 
 /// The cycles that are kept, in order.
 pub(crate) fn cycles_of(alloc: Global, kept: &[KeptCycle]) -> Result<List<Cycle>, OutOfMemory>
     ensures { IfOk result (λ cycles. (does : Router → ℕ → TargetIs) → AreKept does kept.now → AreCycles does cycles) }
 {
-    let mut cycles = Vec::new(alloc);
+    let mut cycles = Vec::with_capacity(alloc, kept.len())?;
     for one in kept {
-        tell_cycle(alloc, &mut cycles, one)?;
+        push_kept(alloc, &mut cycles, one)?;
     }
+    sort_cycles(&mut cycles);
     Ok(List::from_vec(cycles))
 }

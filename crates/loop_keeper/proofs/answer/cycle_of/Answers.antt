@@ -1,7 +1,7 @@
 use Rattle.std.proofs.Common.{◌≡◌, ◌∙◌, None, Some, ap, subst}
 use Rattle.loop_keeper.specs.Numbers.{IsLeast, IsSound, Numbers, size_of}
 use Rattle.loop_keeper.proofs.Runs.{cycle-none, cycle-some}
-use Rattle.loop_keeper.proofs.telling.cycle_of.Goals as goal
+use Rattle.loop_keeper.proofs.answer.cycle_of.Goals as goal
 
 pub returns-in_default : goal.returns-in_default
 returns-in_default c = λ does exact.

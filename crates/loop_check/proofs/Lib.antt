@@ -1,8 +1,9 @@
+pub mod AllCycles
 pub mod ByFirst
 pub mod Chains
-pub mod Knowing
 pub mod Passing
 pub mod Reading
 pub mod Rounds
+pub mod RowRuns
+pub mod RunsUnder
 pub mod Sorting
-pub mod Telling

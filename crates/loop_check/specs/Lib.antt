@@ -1,5 +1,5 @@
 pub mod CycleOrder
+pub mod CycleRuns
 pub mod FirstOrder
 pub mod Following
-pub mod Known
 pub mod RowCycles

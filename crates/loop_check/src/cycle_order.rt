@@ -1,21 +1,24 @@
 //! Cycles in the order in which they are told: by least address, then by first router.
 
-ghost use Rattle.std.specs.Prelude.{◌≡◌, ◌<◌, ◌≤◌, ◌++◌, ℕ, List as Listed, IfOk, OnOk, IsTrue, IsFalse, Contains, false, length, slice_index_or};
+ghost use Rattle.std.specs.Prelude.{◌≡◌, ◌<◌, ◌≤◌, ◌++◌, ℕ, OnOk, IsTrue, IsFalse, Contains, false, length, slice_index_or};
 ghost use Rattle.std.specs.List.Sorted.{IsPermutation};
-ghost use Rattle.base.specs.Cycles.{AreInOrder, HasCycle, first_router, goes_round};
-ghost use Rattle.base.specs.CyclesFrom.{is_before, AreSomeCycles, IsCycleOf, IsPutAmong, TellsCycle};
-ghost use Rattle.base.specs.Forwarding.{does};
-ghost use Rattle.base.specs.Runs.{AreApart, addresses_in};
+ghost use Rattle.base.specs.Cycles.{AreInOrder, HasCycle, first_router};
+ghost use Rattle.base.specs.CyclesFrom.{is_before, IsPutAmong};
 ghost use Rattle.base.specs.declared.cycle.Cycle.{Cycle as CycleIs};
-ghost use Rattle.base.specs.declared.forwarding_row.ForwardingRow.{ForwardingRow as Row};
 ghost use Rattle.base.specs.declared.ids.RouterId.{RouterId as Router};
 ghost use Rattle.base.specs.declared.target.Target.{Target as TargetIs};
-ghost use Rattle.label_view.specs.Places.{AreGatheredTo};
 ghost use Rattle.loop_check.specs.CycleOrder.{AreUnsorted, listed_cycle, order_key};
 
 use crate::first_order::first_number;
-use crate::known::{KnownCycle, are_same_routers};
-use base::{Cycle, OutOfMemory, RouterId, Run};
+use base::{Cycle, OutOfMemory, RouterId};
+
+/// Whether two lists of routers are the same: as many, and the same one at each place.
+pub fn are_same_routers(x: &[RouterId], y: &[RouterId]) -> bool
+    ensures yes { IsTrue result → x.now ≡ y.now }
+    ensures refused { IsFalse result → x.now ≡ y.now → ⊥ }
+{
+    x == y
+}
 
 /// Whether a cycle comes before another: by least address, then by first router.
 fn comes_before(x: &Cycle, y: &Cycle) -> bool
@@ -90,50 +93,4 @@ pub fn push_cycle(cycles: &mut Vec<Cycle>, cycle: Option<Cycle>) -> Result<(), O
         cycles.push(cycle)?;
     }
     Ok(())
-}
-
-/// How many addresses runs that don't touch have.
-fn count_of(runs: &[Run]) -> u64
-    requires { AreApart runs.now }
-    ensures { result ≡ addresses_in runs.now }
-{
-    let mut count = 0;
-    for run in runs {
-        count += (u64::from(run.hi) + 1).saturating_sub(u64::from(run.lo));
-    }
-    count
-}
-
-/// A cycle that is known of all rows, with its least address and the number of its addresses; None if there is none.
-fn cycle_of(known: KnownCycle) -> Result<Option<Cycle>, OutOfMemory>
-    ensures { IfOk result (λ cycle. (rows : Listed Row) (i : ℕ) → length rows ≤ i
-        → AreGatheredTo known.runs rows i (goes_round (does rows) known.routers)
-        → IsCycleOf (does rows) known.routers cycle) }
-{
-    let KnownCycle { routers, runs } = known;
-    let runs = runs.finish()?;
-    let [first, ..] = runs.as_slice() else {
-        return Ok(None);
-    };
-    Ok(Some(Cycle {
-        routers,
-        least: first.lo,
-        addresses: count_of(runs.as_slice()),
-    }))
-}
-
-/// Tells a cycle that is known of all rows beside others, if it isn't among them.
-pub(crate) fn tell_cycle(cycles: &mut Vec<Cycle>, known: KnownCycle) -> Result<(), OutOfMemory>
-    ensures { OnOk result ((rows : Listed Row) (i : ℕ) → length rows ≤ i
-        → AreGatheredTo known.runs rows i (goes_round (does rows) known.routers)
-        → AreSomeCycles (does rows) cycles.old.items
-        → TellsCycle (does rows) known.routers cycles.old.items cycles.new.items) }
-{
-    if has_cycle(cycles.as_slice(), known.routers.as_slice()) {
-        return Ok(());
-    }
-    let Some(cycle) = cycle_of(known)? else {
-        return Ok(());
-    };
-    put_cycle(cycles, cycle)
 }

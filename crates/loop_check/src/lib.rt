@@ -2,15 +2,14 @@
 //! are told.
 #![tactic(auto)]
 
-mod all_rows;
 mod cycle_order;
+mod cycle_runs;
+mod cycles;
 mod first_order;
 mod follow;
-mod known;
 mod row;
 mod walk;
 
-pub use all_rows::loops;
-pub use cycle_order::{has_cycle, push_cycle, put_cycle, sort_cycles};
-pub use known::are_same_routers;
+pub use cycle_order::{are_same_routers, has_cycle, push_cycle, put_cycle, sort_cycles};
+pub use cycles::loops;
 pub use row::cycles_of_atom;

@@ -5,6 +5,8 @@
 #[cfg(test)]
 mod error_tests;
 #[cfg(test)]
+mod long_line_tests;
+#[cfg(test)]
 mod print_tests;
 #[cfg(test)]
 mod query_tests;

@@ -11,7 +11,7 @@ from report import Answer, address_text, read_address
 from summary import CYCLE
 from told import Moment
 
-# Runs of an answer of which the way of one address each is drawn, and lines that stand above the picture.
+# Runs of an answer for which the way of one address each is drawn, and lines that stand above the picture.
 MOST_WAYS = 6
 MOST_LINES = 8
 

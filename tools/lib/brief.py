@@ -1,4 +1,4 @@
-"""A report of which the history is looked through and not taken apart: for questions about one address or one prefix, and
+"""A report whose history is looked through and not taken apart: for questions about one address or one prefix, and
 for what stands around the history. A million entries take a second or two.
 
 Each line of the history is looked at for its form and its position. Entries that are asked for are read as in report.py.
@@ -15,10 +15,12 @@ from progress import Teller
 from report import (AFTER_HISTORY, HISTORY_OF_TEXT, NAME, PREFIX, TARGET_TEXT, Entry, Feed, Report, ReportError,
                     address_text, parse_answers, parse_report, read_entry)
 
-FORM = re.compile(rf"^\d+ feed (\d+) ({NAME}) (?:set {PREFIX} metric \d+ (?:{TARGET_TEXT})|clear {PREFIX}(?: metric \d+)?)\n"
-                  .encode(), re.MULTILINE)
-LEADS_TO = re.compile(rf"^\d+ feed \d+ ({NAME}) set \S+ metric \d+ to ({NAME}) by ({NAME})\n".encode(), re.MULTILINE)
+# An entry: its feed and router, and, where it leads on, the next router and the link.
+FORM = re.compile(rf"^\d+ feed (\d+) ({NAME}) (?:set {PREFIX} metric \d+ (?:to ({NAME}) by ({NAME})|{TARGET_TEXT})"
+                  rf"|clear {PREFIX}(?: metric \d+)?)\n".encode(), re.MULTILINE)
 LINES_AT_ONCE = 1 << 16
+# Entries whose first octet is that of a prefix asked for, up to which they are found by this octet.
+MOST_NEAR = 1 << 16
 
 
 class Brief:
@@ -31,6 +33,8 @@ class Brief:
         match = HISTORY_OF_TEXT.search(text)
         self.begin = match.end()
         self.end = AFTER_HISTORY.search(text, self.begin).start()
+        # Over which links routes lead: the router, the next one, the link.
+        self.ways_on: set[tuple[str, str, str]] = set()
         self._check_history()
 
     @staticmethod
@@ -44,6 +48,7 @@ class Brief:
     def _check_history(self) -> None:
         """That each line is an entry at its position, of a router's feed. Where one isn't, the strict reader says which."""
         routers = {(str(feed.number).encode(), feed.router.encode()) for feed in self.feeds}
+        found: set[tuple[bytes, ...]] = set()
         teller = Teller(self.path, len(self.text))
         count = 0
         at = self.begin
@@ -53,12 +58,14 @@ class Brief:
             lines = self.text[at:stop].splitlines()
             formed = FORM.findall(self.text, at, stop)
             numbered = all(map(bytes.startswith, lines, map(b"%d feed ".__mod__, range(count + 1, count + len(lines) + 1))))
-            if len(formed) != len(lines) or not numbered or not routers.issuperset(set(formed)):
+            found.update(formed)
+            if len(formed) != len(lines) or not numbered or not routers.issuperset(one[:2] for one in found):
                 parse_report(self.path, self.text)
                 raise ReportError(self.path, 1, "its history isn't one")
             count += len(lines)
             at = stop
         teller.end()
+        self.ways_on = {(near.decode(), far.decode(), link.decode()) for _feed, near, far, link in found if far}
         if count != self.report.length:
             parse_report(self.path, self.text)
 
@@ -83,12 +90,6 @@ class Brief:
         """All entries, taken apart."""
         return parse_report(self.path, self.text).entries
 
-    @cached_property
-    def ways_on(self) -> set[tuple[str, str, str]]:
-        """Over which links routes lead: the router, the next one, the link."""
-        return {(near.decode(), far.decode(), link.decode())
-                for near, far, link in set(LEADS_TO.findall(self.text, self.begin, self.end))}
-
     def names(self) -> set[str]:
         """The routers that the report names: those with a feed, and those that some route leads to."""
         return {feed.router for feed in self.feeds} | {far for _near, far, _link in self.ways_on}
@@ -103,7 +104,23 @@ class Brief:
         return self._entries(prefixes, router)
 
     def _entries(self, prefixes: Iterable[str], router: str = NAME) -> Iterator[Entry]:
-        wanted = "|".join(re.escape(prefix) for prefix in prefixes) or PREFIX
+        asked = list(prefixes)
+        wanted = "|".join(map(re.escape, asked)) or PREFIX
         form = re.compile(rf"^(\d+) (feed \d+ {router} (?:set|clear) (?:{wanted})(?: [^\n]*)?)\n".encode(), re.MULTILINE)
-        for match in form.finditer(self.text, self.begin, self.end):
+        near = self._lines_with({prefix.partition(".")[0] for prefix in asked}) if asked else None
+        found = form.finditer(self.text, self.begin, self.end) if near is None else (
+            form.match(self.text, at, self.end) for at in near)
+        for match in filter(None, found):
             yield read_entry(int(match[1]), match[2].decode("ascii"))
+
+    def _lines_with(self, octets: set[str]) -> list[int] | None:
+        """Where the entries begin whose prefix has one of these first octets; None where they are many."""
+        begins = []
+        for word in (f" {octet}.".encode() for octet in octets):
+            at = self.text.find(word, self.begin, self.end)
+            while at >= 0:
+                begins.append(self.text.rfind(b"\n", 0, at) + 1)
+                if len(begins) > MOST_NEAR:
+                    return None
+                at = self.text.find(word, at + 1, self.end)
+        return sorted(begins)

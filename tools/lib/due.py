@@ -1,6 +1,6 @@
 """What a run of `deltanet` has to print for some words and files, and what is wrong with what it printed.
 
-Where the words, the topology or a script are refused, the text is one error line. Otherwise it is a report, of which
+Where the words, the topology or a script are refused, the text is one error line. Otherwise it is a report, in which
 the feeds' lines are known, and the history and the answers are not: jobs run side by side. So a report is judged. Its
 history is a shuffle of the feeds' updates, each job's own in the order in which the job takes them; each position fits
 what its job had taken; and each answer is the one that the plain evaluator gives over the entries that it names.

@@ -78,7 +78,7 @@ class Hop:
 
 @dataclass
 class Way:
-    """The routers of a way in order, and whether it goes round: then its last router was met before."""
+    """The routers of a way in order, and whether it loops: then its last router was met before."""
 
     hops: list[Hop]
     is_loop: bool

@@ -242,46 +242,59 @@ class Decoded(NamedTuple):
 
 
 # What most frames are: one message with these attributes in this order, each of four bytes. The size of the payload, how it
-# is unpacked, the message's type, the heads of the attributes and where they stand among what is unpacked.
+# is unpacked, and what stands in it whatever the route: the size, the type, the family, no source length and type of service,
+# and the heads of the attributes.
+NO_SOURCE = bytes(2)
+HOST_BITS = [(1 << (32 - length)) - 1 for length in range(33)]
+HEADS = {kind: struct.pack("<HH", 8, kind) for kind in (DST, PRIORITY, GATEWAY, OIF)}
 USUAL = {
-    44: (struct.Struct("<IHHII8BIHH4sHHI"), DELETE_ROUTE, (14, 17), ((8, DST), (8, PRIORITY))),
-    52: (struct.Struct("<IHHII8BIHH4sHHIHHI"), NEW_ROUTE, (14, 17, 20), ((8, DST), (8, PRIORITY), (8, OIF))),
-    60: (struct.Struct("<IHHII8BIHH4sHHIHH4sHHI"), NEW_ROUTE, (14, 17, 20, 23),
-         ((8, DST), (8, PRIORITY), (8, GATEWAY), (8, OIF))),
+    44: (struct.Struct("<IH6xIBB2sBBxB4x4s4s4sI"), (44, DELETE_ROUTE, IPV4, NO_SOURCE, HEADS[DST], HEADS[PRIORITY])),
+    52: (struct.Struct("<IH6xIBB2sBBxB4x4s4s4sI4sI"),
+         (52, NEW_ROUTE, IPV4, NO_SOURCE, HEADS[DST], HEADS[PRIORITY], HEADS[OIF])),
+    60: (struct.Struct("<IH6xIBB2sBBxB4x4s4s4sI4s4s4sI"),
+         (60, NEW_ROUTE, IPV4, NO_SOURCE, HEADS[DST], HEADS[PRIORITY], HEADS[GATEWAY], HEADS[OIF])),
 }
+# A change is mostly a deletion of the usual form, and then a set.
+DELETION = 44
 
 
-def _usual_route(payload: bytes, has_interface: HasInterface | None) -> Route | None:
+def _usual_change(payload: bytes, has_interface: HasInterface | None) -> list[Route | Skipped] | None:
+    """The two routes of a payload that is a deletion and a set of the usual forms, both accepted; None of all others."""
+    if len(payload) - DELETION not in USUAL:
+        return None
+    first = _usual_route(payload[:DELETION], None)
+    second = None if first is None else _usual_route(payload[DELETION:], has_interface, DELETION)
+    return None if second is None else [first, second]
+
+
+def _usual_route(payload: bytes, has_interface: HasInterface | None, at: int = 0) -> Route | None:
     """The route of a payload that is one message of the usual forms and is accepted; None of all others, which are read
-    attribute by attribute."""
+    attribute by attribute. `at` is its place in the frame's payload."""
     form = USUAL.get(len(payload))
     if form is None:
         return None
-    unpacker, message_type, places, heads = form
-    said = unpacker.unpack(payload)
-    length = said[6]
-    if (said[0] != len(payload) or said[1] != message_type or said[5] != IPV4 or length > 32 or said[7] or said[8]
-            or said[9] not in (0, MAIN_TABLE)):
+    size, kind, sender, family, length, source, table, protocol, route_type, head, address, next_head, metric, *rest = (
+        form[0].unpack(payload))
+    if (size, kind, family, source, head, next_head, *rest[::2]) != form[1] or table not in (0, MAIN_TABLE) or length > 32:
         return None
-    for place, head in zip(places, heads):
-        if said[place:place + 2] != head:
-            return None
-    prefix = Prefix(int.from_bytes(said[16], "big"), length)
-    if prefix.has_host_bits():
+    prefix = Prefix(int.from_bytes(address, "big"), length)
+    if prefix.address & HOST_BITS[length]:
         return None
-    if message_type == DELETE_ROUTE:
-        return Route(0, False, prefix, said[19], said[12], said[10], None, None, said[4])
-    interface = said[-1]
-    if said[12] != UNICAST or has_interface is not None and not has_interface(interface):
+    if kind == DELETE_ROUTE:
+        return Route(at, False, prefix, metric, route_type, protocol, None, None, sender)
+    interface = rest[-1]
+    if route_type != UNICAST or has_interface is not None and not has_interface(interface):
         return None
-    gateway = _dotted(said[22]) if len(payload) == 60 else None
-    return Route(0, True, prefix, said[19], UNICAST, said[10], gateway, interface, said[4])
+    gateway = _dotted(rest[1]) if len(rest) == 4 else None
+    return Route(at, True, prefix, metric, UNICAST, protocol, gateway, interface, sender)
 
 
 def decode(frame: Frame, has_interface: HasInterface | None = None) -> Decoded:
     """What a frame comes to. Without `has_interface` no interface is unknown."""
     if frame.kind == NETLINK and (usual := _usual_route(frame.payload, has_interface)) is not None:
         return Decoded([usual])
+    if frame.kind == NETLINK and (change := _usual_change(frame.payload, has_interface)) is not None:
+        return Decoded(change)
     if frame.kind != NETLINK:
         return Decoded([], Refused(0, "FrameType"))
     messages: list[Route | Skipped] = []

@@ -3,13 +3,13 @@
 from __future__ import annotations
 
 import math
-from dataclasses import dataclass, field
+from dataclasses import dataclass, field, replace
 from html import escape
 
 from layout import Place, layout
 from network import End, Link, Network
 
-WAY, DOWN, PLAIN, FAINT = "#c62828", "#9e9e9e", "#37474f", "#90a4ae"
+WAY, BEFORE, DOWN, PLAIN, FAINT = "#c62828", "#1565c0", "#9e9e9e", "#37474f", "#90a4ae"
 CYCLES = ("#c62828", "#6a1b9a", "#ef6c00", "#00695c", "#283593")
 RADIUS, STUB, MARGIN, LINE = 20, 34, 90, 16
 
@@ -27,7 +27,8 @@ class Hop:
 
 @dataclass
 class Panel:
-    """What one picture shows over the network: hops, what becomes of addresses at routers, links that are down."""
+    """What one picture shows over the network: hops, what becomes of addresses at routers, links that are down. Ends and
+    marked routers are red where `colours` has no other colour for them."""
 
     title: str
     lines: list[str] = field(default_factory=list)
@@ -36,6 +37,27 @@ class Panel:
     down: set[str] = field(default_factory=set)
     marked: set[str] = field(default_factory=set)
     unfed: set[str] = field(default_factory=set)
+    colours: dict[str | tuple[str, str], str] = field(default_factory=dict)
+
+
+def difference(before: Panel, after: Panel) -> Panel:
+    """Two moments in one picture: what both have in grey, what the moment before alone has in blue, after alone in red."""
+    panel = Panel("Two moments, blue and then red", unfed=before.unfed & after.unfed, down=before.down | after.down)
+    for colour, one in (("blue", before), ("red", after)):
+        panel.lines += [f"{colour}: {one.title}", *(f"{colour}: {line}" for line in one.lines)]
+    was, now = ({(hop.near, hop.far, hop.link) for hop in one.hops} for one in (before, after))
+    for hop, seen, colour in [(hop, now, BEFORE) for hop in before.hops] + [(hop, was, WAY) for hop in after.hops]:
+        step = (hop.near, hop.far, hop.link)
+        if step not in seen:
+            panel.hops.append(replace(hop, colour=colour))
+        elif colour == WAY:
+            panel.hops.append(replace(hop, colour=PLAIN))
+    panel.ends = after.ends + [end for end in before.ends if end not in after.ends]
+    panel.marked = before.marked | after.marked
+    for what, was_there, is_there in [(end, end in before.ends, end in after.ends) for end in panel.ends] + [
+            (router, router in before.marked, router in after.marked) for router in panel.marked]:
+        panel.colours[what] = WAY if not was_there else PLAIN if is_there else BEFORE
+    return panel
 
 
 class Picture:
@@ -70,8 +92,9 @@ class Picture:
         parts += [part for end in self.network.edges for part in self._edge(end, panel)]
         parts += [part for router in self.network.routers for part in self._router(router, panel)]
         at_edges = {(router, f"{kind} {index}") for router, index in self.network.edges for kind in ("exit", "onlink")}
-        notes = [(router, text) for router, text in panel.ends if (router, text) not in at_edges]
-        return parts + [self._note(router, text) for router, text in notes]
+        notes = [end for end in panel.ends if end not in at_edges]
+        return parts + [self._note(end, panel.colours.get(end, WAY), sum(other[0] == end[0] for other in notes[:place]))
+                        for place, end in enumerate(notes)]
 
     def _link(self, link: Link, panel: Panel) -> list[str]:
         (first, first_index), (second, second_index) = link.ends
@@ -107,6 +130,7 @@ class Picture:
         """An edge as a stub; an address that leaves or ends there shows it in red with what becomes of it."""
         router, index = end
         text = next((text for at, text in panel.ends if at == router and text in (f"exit {index}", f"onlink {index}")), "")
+        colour = panel.colours.get((router, text), WAY)
         if not text and not self.has_labels:
             return []
         x, y = self.spots[router]
@@ -114,24 +138,27 @@ class Picture:
         turn = (own.index(index) - (len(own) - 1) / 2) * min(0.7, 4 / len(own))
         away = math.atan2(y - self.middle, x - self.middle) + turn
         tip = x + math.cos(away) * (RADIUS + STUB), y + math.sin(away) * (RADIUS + STUB)
-        style = f'stroke="{WAY}" stroke-width="2.5"' if text else f'stroke="{FAINT}" stroke-dasharray="2 3"'
+        style = f'stroke="{colour}" stroke-width="2.5"' if text else f'stroke="{FAINT}" stroke-dasharray="2 3"'
         label = _off(tip, math.cos(away) * 10, math.sin(away) * 10 + 4)
         parts = [f'<line x1="{x:.1f}" y1="{y:.1f}" x2="{tip[0]:.1f}" y2="{tip[1]:.1f}" {style}/>',
-                 _text(*label, text or str(index), WAY if text else FAINT, f'{MIDDLE} font-size="{12 if text else 9}"')]
-        return [*parts, _arrow((x, y), tip, WAY)] if text else parts
+                 _text(*label, text or str(index), colour if text else FAINT, f'{MIDDLE} font-size="{12 if text else 9}"')]
+        return [*parts, _arrow((x, y), tip, colour)] if text else parts
 
     def _router(self, router: str, panel: Panel) -> list[str]:
         x, y = self.spots[router]
         is_met = router in panel.marked
+        colour = panel.colours.get(router, WAY) if is_met else PLAIN
         dashes = ' stroke-dasharray="4 3"' if router in panel.unfed else ""
-        circle = (f'<circle cx="{x:.1f}" cy="{y:.1f}" r="{RADIUS}" fill="white" stroke="{WAY if is_met else PLAIN}" '
+        circle = (f'<circle cx="{x:.1f}" cy="{y:.1f}" r="{RADIUS}" fill="white" stroke="{colour}" '
                   f'stroke-width="{2.5 if is_met else 1.5}"{dashes}/>')
         size = 12 if len(router) <= 5 else 9
-        return [circle, _text(x, y + 4, router, WAY if is_met else PLAIN, f'{MIDDLE} font-size="{size}"')]
+        return [circle, _text(x, y + 4, router, colour, f'{MIDDLE} font-size="{size}"')]
 
-    def _note(self, router: str, text: str) -> str:
+    def _note(self, end: tuple[str, str], colour: str, above: int) -> str:
+        """What becomes of addresses at a router, below it and below so many other notes."""
+        router, text = end
         x, y = self.spots[router]
-        return _text(x, y + RADIUS + 14, text, WAY, f'{MIDDLE} font-weight="bold"')
+        return _text(x, y + RADIUS + 14 + LINE * above, text, colour, f'{MIDDLE} font-weight="bold"')
 
 
 MIDDLE = 'text-anchor="middle"'

@@ -121,7 +121,7 @@ class Refused:
 
 @dataclass
 class Feed:
-    """What is told of one feed."""
+    """What is printed of one feed."""
 
     number: int
     router: str
@@ -139,7 +139,7 @@ class Feed:
 
 @dataclass
 class Answer:
-    """What is told of one query line of a script; `position` is None where a name of the query is unknown."""
+    """What is printed of one query line of a script; `position` is None where a name of the query is unknown."""
 
     job: int
     line: int
@@ -241,7 +241,7 @@ def read_report(path: str) -> Report:
 
 
 def parse_answers(path: str, text: bytes) -> Report:
-    """A report's feeds and answers without its history, of which the length alone is read; in a small part of the time."""
+    """A report's feeds and answers without its history, whose length alone is read; in a small part of the time."""
     history = HISTORY_OF_TEXT.search(text)
     following = AFTER_HISTORY.search(text, history.end()) if history else None
     if history is None or following is None:

@@ -11,17 +11,43 @@ from cidr import Run, read_run, runs_as_prefixes
 from report import Answer, Feed, Prefix, Report, read_address
 
 CYCLE = re.compile(r"cycle (.+) least (\S+) addresses (\d+)")
+# The comment by which `moments --print-script` says the time of the lines below it.
+TIME_COMMENT = re.compile(r"#\s*(\d{4}-\d\d-\d\dT[\d:.]+(?:[+-]\d\d:\d\d|Z)?)\s*")
+# The time of a line of a job's script: by job and line.
+Times = dict[tuple[int, int], str]
 # Lines of one kind of trouble that are told.
 MOST_TOLD = 8
 
 
-def summary(report: Report) -> Iterator[str]:
+def times_of(scripts: list[str]) -> Times:
+    """The times that the texts of a run's scripts, in their order, say of their lines."""
+    times: Times = {}
+    for job, text in enumerate(scripts, 1):
+        time = ""
+        for number, line in enumerate(text.split("\n"), 1):
+            match = TIME_COMMENT.fullmatch(line)
+            time = match[1] if match else time
+            if time and not line.startswith("#"):
+                times[job, number] = time
+    return times
+
+
+def time_of(answer: Answer, times: Times) -> str:
+    """The time of an answer's line, to be put behind its position; nothing where none is known."""
+    time = times.get((answer.job, answer.line))
+    return "" if time is None else f" ({time})"
+
+
+def summary(report: Report, times: Times) -> Iterator[str]:
     answers = f"{len(report.jobs)} jobs, {len(report.answers)} answers"
     yield f"{report.path}: whole, {report.length} entries, {answers}"
     for feed in report.feeds:
         yield feed_line(feed)
     kinds = Counter(kind_of(answer.query) for answer in report.answers)
-    yield from (f"{kind}: {line}" for kind in kinds for line in kind_lines(report, kind))
+    told = [times[answer.job, answer.line] for answer in report.answers if (answer.job, answer.line) in times]
+    if told:
+        yield f"times: from {told[0]} to {told[-1]}"
+    yield from (f"{kind}: {line}" for kind in kinds for line in kind_lines(report, kind, times))
 
 
 def feed_line(feed: Feed) -> str:
@@ -37,7 +63,7 @@ def kind_of(query: str) -> str:
     return words[2] if words[0] == "without" else words[0]
 
 
-def kind_lines(report: Report, kind: str) -> Iterator[str]:
+def kind_lines(report: Report, kind: str, times: Times) -> Iterator[str]:
     """How many answers of a kind of query there are, by what they say, and those that tell of loops or holes."""
     answers = [answer for answer in report.answers if kind_of(answer.query) == kind]
     unknown = [answer for answer in answers if answer.position is None]
@@ -47,7 +73,8 @@ def kind_lines(report: Report, kind: str) -> Iterator[str]:
     yield told + (f", {len(unknown)} with an unknown name" if unknown else "")
     trouble = [answer for answer in answers if is_trouble(kind, answer)]
     for answer in trouble[:MOST_TOLD]:
-        yield f"line {answer.line} at {answer.position} {answer.query}: {'; '.join(answer.lines[:2])}" + (
+        place = f"line {answer.line} at {answer.position}{time_of(answer, times)}"
+        yield f"{place} {answer.query}: {'; '.join(answer.lines[:2])}" + (
             f" and {len(answer.lines) - 2} lines more" if len(answer.lines) > 2 else "")
     if len(trouble) > MOST_TOLD:
         yield f"and {len(trouble) - MOST_TOLD} more"
@@ -73,9 +100,9 @@ def is_trouble(kind: str, answer: Answer) -> bool:
     return kind in ("loops", "waypoint") and answer.lines != ["none"]
 
 
-def answer_lines(answer: Answer, own: list[Prefix], names: dict[tuple[str, int], str]) -> Iterator[str]:
+def answer_lines(answer: Answer, own: list[Prefix], names: dict[tuple[str, int], str], times: Times) -> Iterator[str]:
     """An answer with its runs as prefixes, or how much they have of one's own, and with the names of interfaces."""
-    yield answer.printed_lines()[0]
+    yield answer.printed_lines()[0] + time_of(answer, times)
     held: list[Run] = []
     last = ""
     for line in answer.lines:
@@ -92,12 +119,13 @@ def answer_lines(answer: Answer, own: list[Prefix], names: dict[tuple[str, int],
     yield from (f"    {text}" for text in runs_as_prefixes(held, own if held else []))
 
 
-def as_data(report: Report) -> dict[str, object]:
+def as_data(report: Report, times: Times) -> dict[str, object]:
     """A report without its history, for a program."""
     return {"entries": report.length, "feeds": [
         {"router": feed.router, "updates": feed.updates, "skipped": feed.skipped, "end": feed.end,
          "refused": [{"offset": one.offset, "message": one.message, "cause": one.cause} for one in feed.refused]}
-        for feed in report.feeds], "answers": [asdict(answer) for answer in report.answers]}
+        for feed in report.feeds], "answers": [asdict(answer) | ({"time": times[answer.job, answer.line]} if (answer.job, answer.line) in times else {})
+                                           for answer in report.answers]}
 
 
 def cycle_line(line: str, own: list[Prefix]) -> str:

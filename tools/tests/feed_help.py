@@ -65,7 +65,7 @@ def plain_program(add_cleanup: Callable[..., object]) -> str:
 @functools.cache
 def load_tool(name: str):
     """A tool as a module."""
-    loader = importlib.machinery.SourceFileLoader(f"tool_{name}", os.path.join(TOOLS, name))
+    loader = importlib.machinery.SourceFileLoader(f"tool_{os.path.basename(name)}", os.path.join(TOOLS, name))
     module = importlib.util.module_from_spec(importlib.util.spec_from_loader(loader.name, loader))
     sys.modules[loader.name] = module
     loader.exec_module(module)

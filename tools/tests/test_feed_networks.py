@@ -52,7 +52,7 @@ class Network(unittest.TestCase):
 
 
 class Segment(Network):
-    """Three routers on one segment, over which 10.77.0.0/16 goes round."""
+    """Three routers on one segment, over which 10.77.0.0/16 loops."""
 
     name = "lan"
 
@@ -184,7 +184,7 @@ class Anew(Network):
 
 
 class Again(Network):
-    """Two sessions of r2, in the second of which 10.9.0.0/24 goes back to r1."""
+    """Two sessions of r2, in the second one 10.9.0.0/24 goes back to r1."""
 
     name = "again"
 

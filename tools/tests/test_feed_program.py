@@ -24,7 +24,7 @@ MORE = [attribute(0x8009, bytes(8)), attribute(22, b""), attribute(21, b"ab"), a
 
 
 def turned(text: bytes, source: random.Random, most: int) -> bytes:
-    """A text of which some bytes are others."""
+    """A text with some bytes changed."""
     turned_text = bytearray(text)
     for _ in range(source.randrange(most)):
         turned_text[source.randrange(len(text))] = source.choice((0, 1, 4, 8, 254, 255, source.randrange(256)))

@@ -18,9 +18,9 @@ from unittest import mock
 
 from feed_help import TOP, load_tool, read
 
-FUZZ = load_tool("fuzz")
-HOSTILE = load_tool("hostile")
-GROWTHS = load_tool("refuse-growths")
+FUZZ = load_tool("dev/fuzz")
+HOSTILE = load_tool("dev/hostile")
+GROWTHS = load_tool("dev/refuse-growths")
 
 # The tools have put their folder of modules on the path.
 import run_words  # noqa: E402
@@ -196,7 +196,7 @@ class Programs(unittest.TestCase):
 
     def fuzz(self, product: str, *words: str) -> tuple[int, str]:
         self.kept = self.enterContext(tempfile.TemporaryDirectory())
-        came = subprocess.run([sys.executable, os.path.join(TOP, "tools", "fuzz"), "--product", product, "--keep",
+        came = subprocess.run([sys.executable, os.path.join(TOP, "tools", "dev", "fuzz"), "--product", product, "--keep",
                                self.kept, "--runs", "6", "--most-wrong", "2", *words], capture_output=True, text=True)
         self.assertEqual("", came.stderr)
         return came.returncode, came.stdout
@@ -224,7 +224,7 @@ class Programs(unittest.TestCase):
 
     def test_no_program(self) -> None:
         for tool in ("fuzz", "hostile"):
-            came = subprocess.run([sys.executable, os.path.join(TOP, "tools", tool), "--product", "nowhere"],
+            came = subprocess.run([sys.executable, os.path.join(TOP, "tools", "dev", tool), "--product", "nowhere"],
                                   capture_output=True, text=True)
             self.assertEqual((1, ""), (came.returncode, came.stdout))
             self.assertIn("nowhere: there is no such program", came.stderr)
@@ -232,7 +232,7 @@ class Programs(unittest.TestCase):
     def test_hostile_finds(self) -> None:
         """A program that says nothing, whatever it is given, is wrong on each trial of these groups but those where
         status 6 is due and no text is compared. A reader that takes all is one of the wrong ones."""
-        came = subprocess.run([sys.executable, os.path.join(TOP, "tools", "hostile"), "files", "outputs", "--product",
+        came = subprocess.run([sys.executable, os.path.join(TOP, "tools", "dev", "hostile"), "files", "outputs", "--product",
                                self.program("exit 6")], capture_output=True, text=True)
         self.assertEqual((1, ""), (came.returncode, came.stderr))
         self.assertIn("hostile: 12 trials, 6 WRONG", came.stdout)

@@ -118,7 +118,7 @@ class OverTime(InFolder):
 
 
 class TwoSessions(InFolder):
-    """Before r2's zebra began anew 10.9.0.9 ended at r2, and afterwards it goes round between the two."""
+    """Before r2's zebra began anew 10.9.0.9 ended at r2, and afterwards it loops between the two."""
 
     origin = AGAIN
 

@@ -100,6 +100,27 @@ class Pictures(unittest.TestCase):
         self.assertEqual(places[:3], places[3:])
         self.assertEqual(places[:3], self.places(self.drawn(TRIANGLE / "topology.toml")))
 
+    def test_a_difference(self) -> None:
+        """What one moment alone has is blue or red, what both have grey."""
+        live = EXAMPLES / "live-triangle"
+        ways = self.drawn(live / "topology.toml", live / "report.txt", "41-68", "r1", "10.2.0.9")
+        answers = self.drawn(live / "topology.toml", live / "report.txt", "line", "5-15")
+        for picture in (ways, answers):
+            colours = [arrow.get("fill") for arrow in picture.iter(SVG + "polygon")]
+            # The direct hop before, the two hops after, and the end at r2's edge, which both have.
+            self.assertEqual(sorted(colours), ["#1565c0", "#37474f", "#c62828", "#c62828"])
+        self.assertIn("blue: 10.2.0.9 from r1 at 41 of 92", self.texts(ways))
+        self.assertIn("red: hops r1 r3 r2", self.texts(answers))
+        circles = [circle.get("stroke") for circle in ways.iter(SVG + "circle")]
+        self.assertEqual(sorted(circles), ["#37474f", "#37474f", "#c62828"])
+        # The same moment twice has no blue and no red hop.
+        same = self.drawn(live / "topology.toml", live / "report.txt", "68-68", "r1", "10.2.0.9")
+        self.assertEqual([arrow.get("fill") for arrow in same.iter(SVG + "polygon")], ["#37474f", "#37474f", "#37474f"])
+        # An end of the moment before alone, at a router, stands in blue.
+        gone = self.drawn(TRIANGLE / "topology.toml", TRIANGLE / "report.txt", "13-85", "r1", "10.2.0.1")
+        blue = [text.text for text in gone.iter(SVG + "text") if text.get("fill") == "#1565c0"]
+        self.assertIn("noroute", blue)
+
     def test_answers(self) -> None:
         folder = EXAMPLES / "data-centre"
         for line, arrows, due in ((8, 2, "loops at 10 of 13"), (7, 3, "10.20.0.0/16"), (18, 3, "10.20.9.0/24"),
@@ -140,6 +161,8 @@ class Pictures(unittest.TestCase):
         """They are what the tool draws of the examples."""
         live, centre = EXAMPLES / "live-triangle", EXAMPLES / "data-centre"
         for name, folder, words in (("failed-link", live, ("line", 5, "report.txt", "line", 15)),
+                                    ("difference", live, ("line", "5-15")),
+                                    ("passing-loop", live, (41, "r2", "10.1.0.9", "report.txt", 60, "r2", "10.1.0.9")),
                                     ("loop", centre, ("line", 8, "report.txt", "line", 22))):
             came = subprocess.run([sys.executable, TOOLS / "draw", "--svg", "topology.toml", "report.txt", *map(str, words)],
                                   capture_output=True, text=True, cwd=folder)
@@ -155,6 +178,8 @@ class Words(unittest.TestCase):
                       [triangle, DATA / "odd.report", 1, "r2", "10.0.0.1"], [triangle, report, "line", 8],
                       [triangle, report, 1, "r1", "10.0.0.1", report, 2, "r1", "10.0.0.1"], ["--strip", report],
                       ["--svg", triangle, report, "line", 1], ["--svg", triangle, report, "line"],
+                      [triangle, report, "1-2", "r1", "10.0.0.1"], ["--svg", triangle, report, "1-", "r1", "10.0.0.1"],
+                      ["--svg", triangle, report, "1-2-3", "r1", "10.0.0.1"],
                       ["--strip", report, triangle]):
             status, out, err = draw(*words)
             self.assertEqual((1, ""), (status, out), words)

@@ -345,6 +345,17 @@ class Short(unittest.TestCase):
             self.assertLessEqual(len(parts), 62)
             self.assertTrue(all(one.base % (1 << (32 - one.length)) == 0 for one in parts))
 
+    def test_times(self) -> None:
+        """The times that a script has from `moments --print-script` stand behind the positions."""
+        folder = EXAMPLES / "live-triangle"
+        words = (folder / "report.txt", "--script", folder / "script")
+        self.assertIn("\ntimes: from 2026-11-27T12:54:40.000+00:00 to 2026-11-27T12:55:20.000+00:00\n", look(*words)[1])
+        self.assertIn("\nline 15 at 68 path r1 10.2.0.9 (2026-11-27T12:55:00.000+00:00)\n", look(words[0], "answers", *words[1:])[1])
+        told = json.loads(look(*words, "--json")[1])
+        self.assertEqual(told["answers"][0]["time"], "2026-11-27T12:54:40.000+00:00")
+        plain = look(EXAMPLES / "first-path" / "report.txt", "--script", EXAMPLES / "first-path" / "script")
+        self.assertEqual(plain, look(EXAMPLES / "first-path" / "report.txt"))
+
     def test_names_of_interfaces(self) -> None:
         folder = EXAMPLES / "live-triangle"
         names = ("--links", f"r2={folder / 'r2.links.json'}")

@@ -16,7 +16,7 @@ from frames import Cutter
 from network import Network, parse_topology
 from report import address_text
 
-TOP = Path(__file__).resolve().parent.parent.parent
+TOP = Path(__file__).resolve().parents[3]
 RECORDED = ("triangle-ospf", "live-triangle", "data-centre")
 MOST_FRAMES = 30
 MOST_LINES = 14

@@ -230,6 +230,36 @@ class Hostile(unittest.TestCase):
             self.take(bytes(text[:source.randrange(len(text))]))
 
 
+class Usual(unittest.TestCase):
+    """The messages that most frames have are read in one go, and alike."""
+
+    @staticmethod
+    def by_attributes(payload: bytes, has_interface) -> frames.Decoded:
+        messages: list = []
+        for one in frames.read_messages(payload, has_interface):
+            if isinstance(one, Refused):
+                return frames.Decoded(messages, one)
+            messages.append(one)
+        return frames.Decoded(messages)
+
+    def test_spoiled_or_whole_they_are_read_alike(self) -> None:
+        source = random.Random(3)
+        with open(os.path.join(TRIANGLE, "r1.fpm"), "rb") as file:
+            payloads = [one.payload for one in Feed(file)]
+        usual = 0
+        for payload in source.sample(payloads, 60):
+            for _ in range(8):
+                spoiled = bytearray(payload)
+                for place in source.sample(range(len(payload)), source.choice((0, 1, 2))):
+                    spoiled[place] = source.choice((0, 1, 2, 8, 24, 25, 255, spoiled[place] ^ 1 << source.randrange(8)))
+                text = bytes(spoiled)
+                for has_interface in (None, lambda index: index % 2 == 0):
+                    self.assertEqual(decode(Frame(1, 0, 1, text), has_interface), self.by_attributes(text, has_interface),
+                                     text.hex())
+                    usual += (frames._usual_route(text, has_interface) or frames._usual_change(text, has_interface)) is not None
+        self.assertGreater(usual, 200)
+
+
 class StoredFeeds(unittest.TestCase):
     """Recordings of FRR 8.4.4 that are not in the profile."""
 

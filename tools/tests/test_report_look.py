@@ -391,6 +391,11 @@ class Histories(unittest.TestCase):
                 self.assertEqual(list(brief.entries_of(router)),
                                  [entry for entry in report.entries if entry.router == router])
 
+    def test_entries_that_are_near_or_many(self) -> None:
+        """Those of a prefix are found by its first octet, or, where many have it, by looking at each line."""
+        with mock.patch("brief.MOST_NEAR", 0):
+            self.test_entries_are_the_same()
+
     def test_a_history_in_several_pieces(self) -> None:
         with mock.patch("brief.LINES_AT_ONCE", 1):
             self.test_broken_histories()

@@ -12,6 +12,8 @@ from dataclasses import dataclass, field
 from functools import lru_cache
 from typing import Iterator, NamedTuple
 
+from progress import Teller
+
 NAME = r"[a-z0-9_-]{1,32}"
 PREFIX = r"\d+\.\d+\.\d+\.\d+/\d+"
 END = r"end|cutshort \d+|lost \d+ (?:BadVersion|BadFrameLength)|toolong|full|readfault"
@@ -30,6 +32,8 @@ UNKNOWN_LINE = re.compile(r"line (\d+) ([a-z].*)", re.ASCII)
 OCTET = r"(0|[1-9][0-9]{0,2})"
 ADDRESS = re.compile(rf"{OCTET}\.{OCTET}\.{OCTET}\.{OCTET}")
 LENGTHS = {str(length): length for length in range(33)}
+# Entries after which it is told again, on a terminal, how far a reader is.
+ENTRIES_BETWEEN_TELLING = 1 << 12
 # What a target looks like, without names for its parts.
 TARGET_TEXT = (rf"noroute|local|dropped (?:blackhole|unreachable|prohibit)|(?:exit|onlink) \d+|to {NAME} by {NAME}"
                rf"|linkdown {NAME}")
@@ -322,8 +326,12 @@ class _Reader:
         if match is None:
             raise self.wrong("the line 'history N' has to stand here")
         routers = {feed.number: feed.router for feed in report.feeds}
+        teller = Teller(self.path, int(match[1]))
         for position in range(1, int(match[1]) + 1):
             report.entries.append(self.entry(position, routers))
+            if position % ENTRIES_BETWEEN_TELLING == 0:
+                teller.tell(position)
+        teller.end()
 
     def entry(self, position: int, routers: dict[int, str]) -> Entry:
         match = ENTRY_LINE.fullmatch(self.take())

@@ -416,6 +416,15 @@ class Progress(unittest.TestCase):
             self.assertEqual(errors.getvalue(), due)
 
 
+    def test_a_reader_of_each_entry_tells(self) -> None:
+        errors = io.StringIO()
+        errors.isatty = lambda: True
+        with mock.patch("sys.stderr", errors), mock.patch("progress.PATIENCE", -1.0), mock.patch("progress.PAUSE", -1.0), (
+                mock.patch("report.ENTRIES_BETWEEN_TELLING", 100)):
+            read_report(str(EXAMPLES / "triangle-ospf" / "report.txt"))
+        self.assertRegex(errors.getvalue(), r"report\.txt: 33 percent.*: 67 percent.*\r\033\[K$")
+
+
 class Texts(unittest.TestCase):
     def test_prefixes(self) -> None:
         self.assertEqual(Prefix(10 << 24, 8), read_prefix("10.0.0.0/8"))

@@ -60,7 +60,7 @@ def check_fits(report: Brief, network: Network, path: str) -> None:
     links = {link.name: link for link in network.links}
     for router in [feed.router for feed in report.feeds]:
         if router not in network.routers:
-            raise ToolError(f"{path}: it has no router {router}, of which {report.path} has a feed: another run's?")
+            raise ToolError(f"{path}: it has no router {router}, whose feed is in {report.path}: another run's?")
     for router, far, name in sorted(report.ways_on):
         link = links.get(name)
         if link is None or {router, far} != {end[0] for end in link.ends}:

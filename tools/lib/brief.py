@@ -15,9 +15,11 @@ from progress import Teller
 from report import (AFTER_HISTORY, HISTORY_OF_TEXT, NAME, PREFIX, TARGET_TEXT, Entry, Feed, Report, ReportError,
                     address_text, parse_answers, parse_report, read_entry)
 
-# An entry: its feed and router, and, where it leads on, the next router and the link.
-FORM = re.compile(rf"^\d+ feed (\d+) ({NAME}) (?:set {PREFIX} metric \d+ (?:to ({NAME}) by ({NAME})|{TARGET_TEXT})"
+# An entry, with its feed and router.
+FORM = re.compile(rf"^\d+ (feed \d+ {NAME}) (?:set {PREFIX} metric \d+ (?:to {NAME} by {NAME}|{TARGET_TEXT})"
                   rf"|clear {PREFIX}(?: metric \d+)?)\n".encode(), re.MULTILINE)
+# Of an entry of this form that leads on: its router, the next one and the link.
+LEADS_ON = re.compile(rb" feed \d+ (\S+ set )\S+ metric \d+ (to [^\n]+)\n")
 LINES_AT_ONCE = 1 << 16
 # Entries whose first octet is that of a prefix asked for, up to which they are found by this octet.
 MOST_NEAR = 1 << 16
@@ -33,8 +35,6 @@ class Brief:
         match = HISTORY_OF_TEXT.search(text)
         self.begin = match.end()
         self.end = AFTER_HISTORY.search(text, self.begin).start()
-        # Over which links routes lead: the router, the next one, the link.
-        self.ways_on: set[tuple[str, str, str]] = set()
         self._check_history()
 
     @staticmethod
@@ -47,8 +47,7 @@ class Brief:
 
     def _check_history(self) -> None:
         """That each line is an entry at its position, of a router's feed. Where one isn't, the strict reader says which."""
-        routers = {(str(feed.number).encode(), feed.router.encode()) for feed in self.feeds}
-        found: set[tuple[bytes, ...]] = set()
+        routers = {f"feed {feed.number} {feed.router}".encode() for feed in self.feeds}
         teller = Teller(self.path, len(self.text))
         count = 0
         at = self.begin
@@ -58,14 +57,12 @@ class Brief:
             lines = self.text[at:stop].splitlines()
             formed = FORM.findall(self.text, at, stop)
             numbered = all(map(bytes.startswith, lines, map(b"%d feed ".__mod__, range(count + 1, count + len(lines) + 1))))
-            found.update(formed)
-            if len(formed) != len(lines) or not numbered or not routers.issuperset(one[:2] for one in found):
+            if len(formed) != len(lines) or not numbered or not routers.issuperset(formed):
                 parse_report(self.path, self.text)
                 raise ReportError(self.path, 1, "its history isn't one")
             count += len(lines)
             at = stop
         teller.end()
-        self.ways_on = {(near.decode(), far.decode(), link.decode()) for _feed, near, far, link in found if far}
         if count != self.report.length:
             parse_report(self.path, self.text)
 
@@ -89,6 +86,13 @@ class Brief:
     def entries(self) -> list[Entry]:
         """All entries, taken apart."""
         return parse_report(self.path, self.text).entries
+
+    @cached_property
+    def ways_on(self) -> set[tuple[str, str, str]]:
+        """Over which links routes lead: the router, the next one, the link."""
+        found = set(LEADS_ON.findall(self.text, self.begin, self.end))
+        said = [(near.split(), on.split()) for near, on in found]
+        return {(near[0].decode(), on[1].decode(), on[3].decode()) for near, on in said}
 
     def names(self) -> set[str]:
         """The routers that the report names: those with a feed, and those that some route leads to."""

@@ -1,5 +1,5 @@
 #!/usr/bin/env python3
-"""Time, memory and growth over inputs like those of a provider's network: N updates, in three networks.
+"""Time, memory and growth over inputs like those of a provider's network: N updates, in four ways.
 
 Prefixes come by length as in a full table of the Internet, and six of ten are sought inside another. Each leaves the network at
 one router, an edge there, and every other router sends it on by a way of least cost.
@@ -9,6 +9,9 @@ one router, an edge there, and every other router sends it on by a way of least 
     ring   64 routers in a ring with chords; half of the updates set all prefixes, and the others withdraw some, set them again,
            move their exits, and set and delete routes of a worse metric
     tree   64 routers, of which 16 are joined to four each of the others; as in the mesh
+    failover
+           16 routers as in the mesh; a quarter of the updates set all prefixes, and then one link after the other fails and
+           comes back: where that changes a router's way, it sets the prefix anew, or deletes it where no way is left
 
 The script takes the feeds by turns, so that a prefix's updates at all routers stand near each other, and asks for `loops` at
 the end. There are none.
@@ -111,15 +114,17 @@ class Network:
         lines += [f'[[edge]]\nat = "m{i}:{EDGE}"' for i in range(self.routers)]
         return "\n".join(lines) + "\n"
 
-    def ways(self, exit):
-        """The interface at which each router sends on what leaves the network at one of them."""
-        costs, interfaces, waiting = {exit: 0}, [EDGE] * self.routers, [(0, exit)]
+    def ways(self, exit, down=None):
+        """The interface at which each router sends on what leaves the network at one of them, None where there is no way
+        without the link that is down."""
+        costs, interfaces, waiting = {exit: 0}, [None] * self.routers, [(0, exit)]
+        interfaces[exit] = EDGE
         while waiting:
             cost, router = heapq.heappop(waiting)
             if cost > costs[router]:
                 continue
             for far, interface, more in self.beside[router]:
-                if cost + more < costs.get(far, math.inf):
+                if interface != down and cost + more < costs.get(far, math.inf):
                     costs[far], interfaces[far] = cost + more, interface
                     heapq.heappush(waiting, (cost + more, far))
         return interfaces
@@ -152,11 +157,11 @@ class Feeds:
 class Updates:
     """The updates of a network by chance, about so many in all."""
 
-    def __init__(self, source, network, count):
+    def __init__(self, source, network, count, share):
         self.source, self.network, self.count = source, network, count
         self.feeds = Feeds(network.routers)
         self.ways = [network.ways(exit) for exit in range(network.routers)]
-        self.prefixes = prefixes(source, max(1, count // 2 // network.routers))
+        self.prefixes = prefixes(source, max(1, count // share // network.routers))
         self.exits = [source.randrange(network.routers) for _ in self.prefixes]
         turns = max(1, MOST_TURNS // network.routers)
         self.each = -(-2 * len(self.prefixes) // turns)
@@ -187,6 +192,14 @@ class Updates:
         for router in range(self.network.routers):
             self.feeds.add(router, deletion_frame(*self.prefixes[k], METRIC))
 
+    def change_way(self, k, before, after):
+        """Sets a prefix anew, or deletes it, at the routers whose way changes."""
+        for router, (old, new) in enumerate(zip(before[self.exits[k]], after[self.exits[k]])):
+            if new is None and old is not None:
+                self.feeds.add(router, deletion_frame(*self.prefixes[k], METRIC))
+            elif new != old:
+                self.feeds.add(router, set_frame(*self.prefixes[k], METRIC, new))
+
     def set_and_delete(self):
         self.in_any_order(self.set)
         self.in_any_order(self.delete)
@@ -198,6 +211,18 @@ class Updates:
             self.change_one(self.source.randrange(len(self.prefixes)), withdrawn, worse)
             self.end_event()
         self.feeds.end_turn()
+
+    def fail_and_come_back(self):
+        self.in_any_order(self.set)
+        order = sorted(range(len(self.prefixes)), key=lambda k: self.prefixes[k])
+        links, down = range(2, 2 + len(self.network.pairs)), None
+        while self.feeds.count < self.count:
+            down = self.source.choice(links) if down is None else None
+            ways = [self.network.ways(exit, down) for exit in range(self.network.routers)]
+            for k in order:
+                self.change_way(k, self.ways, ways)
+            self.ways = ways
+            self.feeds.end_turn()
 
     def change_one(self, k, withdrawn, worse):
         chance = self.source.random()
@@ -217,19 +242,21 @@ class Updates:
             worse.symmetric_difference_update({one})
 
 
+# Routers, the links between them, which part of the updates sets all prefixes, and what comes.
 INPUTS = {
-    "mesh": (16, mesh, Updates.set_and_delete),
-    "ring": (64, ring, Updates.change_again_and_again),
-    "tree": (64, tree, Updates.set_and_delete),
+    "mesh": (16, mesh, 2, Updates.set_and_delete),
+    "ring": (64, ring, 2, Updates.change_again_and_again),
+    "tree": (64, tree, 2, Updates.set_and_delete),
+    "failover": (16, mesh, 4, Updates.fail_and_come_back),
 }
 
 
 def write_input(folder, name, count):
     """Writes topology, feeds and script, and answers how many updates there are, the words of the run, and the head and the
     end of the report."""
-    routers, pairs, change = INPUTS[name]
+    routers, pairs, share, change = INPUTS[name]
     source = random.Random(f"{name} {count}")
-    updates = Updates(source, Network(source, routers, pairs(source, routers)), count)
+    updates = Updates(source, Network(source, routers, pairs(source, routers)), count, share)
     change(updates)
     feeds = updates.feeds
     with open(os.path.join(folder, "topology.toml"), "w") as out:

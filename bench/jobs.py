@@ -107,7 +107,7 @@ class Pipe:
             self.thread.join(0.1)
 
 
-def measure_beside(folder, count, asked):
+def measure_beside(folder, count, asked, one=None):
     """Seconds until m0's updates are taken, after two other jobs have taken half as many each and begun to ask."""
     half = count // 2
     frames = [b"".join(frame(j, MAIN) for j in range(first, past)) for first, past in ((0, half), (half, 2 * half))]
@@ -116,7 +116,7 @@ def measure_beside(folder, count, asked):
     for i in (1, 2):
         write(folder, f"ask{i}", f"take m{i} all\n" + f"{QUERY}\n" * asked)
     words = [f"m{i}={folder}/m{i}.pipe" for i in range(3)] + [f"@{folder}/ask{i}" for i in (1, 2)]
-    words = [program.PROGRAM, "run", os.path.join(folder, "topology.toml"), *words]
+    words = [one or program.PROGRAM, "run", os.path.join(folder, "topology.toml"), *words]
     report = os.path.join(folder, "report")
     with open(report, "wb") as out:
         child = subprocess.Popen(words, stdin=subprocess.DEVNULL, stdout=out)

@@ -93,19 +93,37 @@ def run(folder, words, head, end):
     return run_command(folder, ["run", *words], head, end)
 
 
+def launch(words, out, program=None):
+    """Starts `deltanet`, or another program, with these words from a small process. Answers its status and what it took."""
+    reader, writer = os.pipe()
+    launcher = [sys.executable, "-I", "-S", "-c", LAUNCHER, str(writer)]
+    subprocess.run([*launcher, program or PROGRAM, *words], stdin=subprocess.DEVNULL, stdout=out, pass_fds=[writer])
+    os.close(writer)
+    with open(reader, "rb") as it:
+        status, clock, user, system, memory = it.read().split()
+    return int(status), Cost(float(clock), float(user), float(system), int(memory))
+
+
+def count(words, out, program=None):
+    """The same under valgrind's cachegrind: its status and how many instructions it took, which other work on the machine
+    doesn't change."""
+    counter = ["valgrind", "--tool=cachegrind", "--cache-sim=no", "--cachegrind-out-file=/dev/null"]
+    done = subprocess.run([*counter, program or PROGRAM, *words], stdin=subprocess.DEVNULL, stdout=out, stderr=subprocess.PIPE,
+                          text=True)
+    counted = re.search(r"I\s+refs:\s+([\d,]+)", done.stderr)
+    if not counted:
+        sys.exit(f"bench: valgrind failed: {done.stderr[-500:]}")
+    return done.returncode, int(counted[1].replace(",", ""))
+
+
 def run_command(folder, words, head, end, program=None):
     """Runs `deltanet`, or another program, with these words, and stops where it fails or its report hasn't this head and
     this end. Answers what it took. The report is left in the folder."""
     report = os.path.join(folder, "report")
-    reader, writer = os.pipe()
-    launcher = [sys.executable, "-I", "-S", "-c", LAUNCHER, str(writer)]
     with open(report, "wb") as out:
-        subprocess.run([*launcher, program or PROGRAM, *words], stdin=subprocess.DEVNULL, stdout=out, pass_fds=[writer])
-    os.close(writer)
-    with open(reader, "rb") as it:
-        status, clock, user, system, memory = it.read().split()
-    check(report, int(status), words, head, end)
-    return Cost(float(clock), float(user), float(system), int(memory))
+        status, cost = launch(words, out, program)
+    check(report, status, words, head, end)
+    return cost
 
 
 def check(report, status, words, head, end):
@@ -126,12 +144,9 @@ def sum_of(folder):
 
 
 def instructions(folder, words, head, end, program=None):
-    """How many instructions a run takes, as valgrind's cachegrind counts them: other work on the machine doesn't change
-    it."""
+    """How many instructions a run takes. The report is checked as by `run_command`."""
     report = os.path.join(folder, "report")
-    counter = ["valgrind", "--tool=cachegrind", "--cache-sim=no", "--cachegrind-out-file=/dev/null"]
     with open(report, "wb") as out:
-        done = subprocess.run([*counter, program or PROGRAM, *words], stdin=subprocess.DEVNULL, stdout=out,
-                              stderr=subprocess.PIPE, text=True)
-    check(report, done.returncode, words, head, end)
-    return int(re.search(r"I\s+refs:\s+([\d,]+)", done.stderr)[1].replace(",", ""))
+        status, counted = count(words, out, program)
+    check(report, status, words, head, end)
+    return counted

@@ -1,8 +1,8 @@
 #!/usr/bin/env python3
-"""What the program is held to, row by row, turn about with another program in plain Rust that knows no proof.
+"""What the program is held to, row by row, turn about with another program that prints the same and isn't proved.
 
 Usage: bench/bounds.py PROGRAM PEER [ROW[:INPUT]..] [--old PROGRAM] [--copies PROGRAM] [--rounds N] [--instructions]
-       PROGRAM, PEER: two programs that print the same report. What PEER doesn't know, PROGRAM is held against itself in
+       PROGRAM, PEER: two programs that print the same reports
        ROW: a word below (all), with `:INPUT` for one of its lines alone, as bgp-5:mesh
        --old: another program, which runs turn about with both: its ratios are told, and those of PROGRAM over it
        --copies: a program that holds copies, without which the row `copies` is left out

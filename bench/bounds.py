@@ -28,6 +28,7 @@ fails, it ends at once. Inputs are made by code, by seed; they take up to 2 GB i
 """
 
 import os
+import signal
 import sys
 import tempfile
 from collections.abc import Callable
@@ -214,6 +215,7 @@ def parse(given):
 
 def main():
     programs, rows, rounds, is_counted = parse(sys.argv[1:])
+    signal.signal(signal.SIGTERM, lambda *_: sys.exit("bounds.py: ended"))  # so that no input is left behind
     print(f"{os.cpu_count()} processors, load {os.getloadavg()[0]:.1f}; {rounds} rounds\n\n{head()}", flush=True)
     with tempfile.TemporaryDirectory() as folder:
         bench = Bench(folder, programs, rounds, is_counted)

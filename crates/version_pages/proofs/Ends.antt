@@ -179,3 +179,11 @@ ends-at ends new kids more k end kid lower upper at l is halves made noted sum =
     subst (λ t. AreEnds t more) (sym noted)
     (subst (AreEnds (insert ends k end)) (sym (made ∙ set-insert kids k (k + 1) lower upper (add-one k) l))
     (ends-parted ends kids k end lower upper at l (halves-at kids k kid lower upper l is halves) sum))
+
+-- one more of the first ends noted
+pub noted-step : {T : Type 0} (ends : List ℕ) (kids : List (Shape T)) (n e : ℕ) (kid : Shape T) → length ends ≡ length kids → n < length kids → kid ≡ get_or kids n kid → e ≡ length (joined (take n kids)) + length (items_of kid) → ((k d : ℕ) → k < n → get_or ends k d ≡ length (joined (take (k + 1) kids))) → (k d : ℕ) → k < n + 1 → get_or (set ends n e) k d ≡ length (joined (take (k + 1) kids))
+noted-step ends kids n e kid long l is sum noted k d b = ⊎_elim
+    (λ (y : k < n). get_or-set_other ends n k e d (λ q. omega (arith, q)) ∙ noted k d y)
+    (λ (y : n ≤ k). let q : k ≡ n = omega arith in
+    ap (λ j. get_or (set ends n e) j d) q ∙ get_or-set_same ends n e d (omega (arith, long)) ∙ omega (arith, sum, joined-more kids n kid l, ap (λ (t : Shape _). length (items_of t)) is, ap (λ j. length (joined (take (j + 1) kids))) q))
+    (cases_lt k n)

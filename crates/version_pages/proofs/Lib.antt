@@ -1,9 +1,11 @@
 pub mod Appended
+pub mod Cut
 pub mod Deep
 pub mod Edits
 pub mod Ending
 pub mod Ends
 pub mod FirstKeys
+pub mod Gone
 pub mod Grows
 pub mod Hung
 pub mod Inserted

@@ -7,7 +7,7 @@ use std::alloc::Global;
 use std::vec::VecCloneMethods;
 
 /// Adds copies of elements at a page's end.
-fn add_copies<T: Clone>(page: &mut Vec<T>, items: &[T]) -> Result<(), OutOfMemory>
+pub fn add_copies<T: Clone>(page: &mut Vec<T>, items: &[T]) -> Result<(), OutOfMemory>
     requires { (x y : T) → T.is_clone x y → y ≡ x }
     ensures { OnOk result (page.new.items ≡ page.old.items ++ items.now) }
 {

@@ -6,6 +6,8 @@ ghost use Rattle.version_pages.specs.Changes.{Changes, ChangesRun, IsExtended, I
 ghost use Rattle.version_pages.specs.Growth.{grown, CanGrow};
 ghost use Rattle.version_pages.specs.Search.{EndsBelow};
 
+mod removal;
+
 use crate::growth::Growth;
 use crate::page::{page_of_copies, page_of_one};
 use crate::tree::{FULL, Kid, LONG, page_kid};

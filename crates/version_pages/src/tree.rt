@@ -7,13 +7,16 @@ ghost use Rattle.version_pages.specs.Shape.{Shape, IsDeep, IsUnder, AreKids, Are
 ghost use Rattle.version_pages.specs.Keys.{first_key};
 
 mod change;
+mod cut;
 mod end;
 mod graft;
 mod grow;
 mod hang;
 mod insertion;
+mod joining;
 mod own;
 mod parts;
+mod removal;
 mod search;
 mod split;
 

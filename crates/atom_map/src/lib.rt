@@ -3,12 +3,14 @@
 #![tactic(auto)]
 
 mod atom_row;
+mod bounds;
 mod guide;
 mod laws;
 mod map;
 mod search;
 
 pub use atom_row::AtomRow;
+pub use bounds::{BoundSpot, Bounds};
 pub use guide::Guide;
 pub use laws::{
     addresses_have_one_place, cuts_keep_all_other_rows, cuts_part_one_row, meeting_is_sharing,

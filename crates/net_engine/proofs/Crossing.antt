@@ -3,7 +3,7 @@
 use denote.Param.Send.{IsSend, IsSync, sendable}
 use Rattle.std.proofs.Crossing.{crosses}
 use Rattle.std.proofs.MapsCrossing as maps
-use Rattle.atom_map.proofs.Crossing.{AtomMap-send, AtomMap-sync}
+use Rattle.atom_map.proofs.Crossing.{Bounds-send, Bounds-sync}
 use Rattle.target_rows.proofs.Crossing.{TargetRows-send, TargetRows-sync}
 use Rattle.route_table.proofs.Crossing.{RouteTables-send, RouteTables-sync}
 use Rattle.net_engine.specs.contracts.router_group.RouterGroup as RouterGroup
@@ -23,7 +23,7 @@ RouterTables-sync : IsSync RouterTables.the_row
 RouterTables-sync = search (RouterGroup-sync, sendable, crosses) depth 40
 
 pub Version-send : IsSend Version.the_row
-Version-send = search (AtomMap-send, RouterTables-send, TargetRows-send, sendable, crosses, maps.crosses) depth 40
+Version-send = search (Bounds-send, RouterTables-send, TargetRows-send, sendable, crosses, maps.crosses) depth 40
 
 pub Version-sync : IsSync Version.the_row
-Version-sync = search (AtomMap-sync, RouterTables-sync, TargetRows-sync, sendable, crosses, maps.crosses) depth 40
+Version-sync = search (Bounds-sync, RouterTables-sync, TargetRows-sync, sendable, crosses, maps.crosses) depth 40

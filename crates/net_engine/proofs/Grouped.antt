@@ -1,10 +1,17 @@
 -- A router's table stands in its group, at its place there.
-use Rattle.std.proofs.Common.{◌≡◌, ℕ, zero, suc, ◌+◌, ◌-◌, ◌*◌, ◌/◌, ◌%◌, ◌<◌, ◌≤◌, ◌∙◌, List, [], ◌∷◌, ◌++◌, length, get_or, set, take, replicate, refl, ap, sym, subst, arith}
-use Rattle.std.specs.List.{All, flat_map}
-use Rattle.std.proofs.lemmas.List.{get_or-append-add, get_or-set_same, get_or-take, get_or_append_left, get_or_default, length-append, length-take-le, replicate-append-replicate, set-append_left, set-append_right, take-replicate}
-use Rattle.std.proofs.lemmas.List.Elements.{All-head, All-tail}
+use Rattle.std.proofs.Common.{◌≡◌, ◌≢◌, Bool, true, false, ⊎_elim, ℕ, zero, suc, ◌+◌, ◌-◌, ◌*◌, ◌/◌, ◌%◌, ◌<◌, ◌≤◌, ◌∙◌, List, [], ◌∷◌, ◌++◌, length, get_or, set, take, replicate, refl, ap, sym, subst, arith}
+use Rattle.std.specs.List.{All, flat_map, list_any}
+use Rattle.std.proofs.lemmas.Bool.{both_ways, or_cases, or_left, or_right}
+use Rattle.std.proofs.lemmas.List.Folds.{list_any-append}
+use Rattle.std.proofs.lemmas.List.{get_or-append-add, get_or-set_other, get_or-set_same, get_or-take, get_or_append_left, get_or_default, length-append, length-replicate, length-set, length-take-le, replicate-append-replicate, set-append_left, set-append_right, take-replicate}
+use Rattle.std.proofs.lemmas.List.Elements.{All-get_or, All-head, All-replicate, All-set, All-tail}
 use Rattle.std.proofs.lemmas.Nat.{div-add-mod', mod_below}
+use Rattle.base.specs.Cidr.{Cidr}
+use Rattle.dn_model.specs.Table.{is_of_prefix}
 use Rattle.dn_model.specs.declared.entry.Route.{Route}
+use Rattle.dn_model.specs.declared.table_op.TableOp.{TableOp}
+use Rattle.dn_model.specs.declared.table_op.TableOp.TheVariants.{Put, Clear}
+use Rattle.route_table.specs.Own.{TellsNew, is_held}
 use Rattle.net_engine.specs.Grouped.{AreGroups, tables_in}
 use Rattle.net_engine.proofs.Standing.{AllRoutes}
 
@@ -70,6 +77,51 @@ tables-replicate routers k h =
     ap (λ (ts : AllRoutes). take routers ts) (joined-replicate k [])
     ∙ take-replicate routers (k * 4) [] h
 
+-- the groups of routers without a route
+pub groups-replicate : (routers k : ℕ) → routers ≤ k * 4 → AreGroups routers (replicate k (replicate 4 []))
+groups-replicate routers k h = record {
+  four = All-replicate IsFour k (replicate 4 []) refl;
+  enough = subst (λ n. routers ≤ n * 4) (sym (length-replicate k (replicate 4 []))) h;
+  rest = λ r l.
+      ap (λ (ts : AllRoutes). get_or ts r []) (joined-replicate k [])
+      ∙ none-of_none (k * 4) r;
+}
+  where
+    no_route : List Route
+    no_route = []
+
+    none-of_none : (n r : ℕ) → get_or (replicate n no_route) r no_route ≡ no_route
+    none-of_none zero r = refl
+    none-of_none (suc n) zero = refl
+    none-of_none (suc n) (suc r) = none-of_none n r
+
+-- a table of a group that has a route of a prefix is one of all tables
+held-joined : (p : Cidr) (groups : List AllRoutes) (g : ℕ) → is_held (get_or groups g []) p ≡ true → is_held (joined groups) p ≡ true
+held-joined p [] g h = h
+held-joined p (x ∷ xs) zero h = list_any-append (λ (routes : List Route). list_any (is_of_prefix p) routes) x (joined xs) ∙ or_left (is_held x p) (is_held (joined xs) p) h
+held-joined p (x ∷ xs) (suc g) h = list_any-append (λ (routes : List Route). list_any (is_of_prefix p) routes) x (joined xs) ∙ or_right (is_held x p) (is_held (joined xs) p) (held-joined p xs g h)
+
+-- and, since those beyond so many routers have none, one of theirs
+held-taken : (p : Cidr) (routers : ℕ) (tables : AllRoutes) → ((r : ℕ) → routers ≤ r → get_or tables r [] ≡ []) → is_held tables p ≡ true → is_held (take routers tables) p ≡ true
+held-taken p routers [] rest h = absurd (let f : false ≡ true = h in cc)
+held-taken p zero (x ∷ xs) rest h = ⊎_elim
+    (λ (t : list_any (is_of_prefix p) x ≡ true).
+    let none : list_any (is_of_prefix p) x ≡ false = ap (λ (routes : List Route). list_any (is_of_prefix p) routes) (rest 0 (omega arith)) in
+    absurd (both_ways (list_any (is_of_prefix p) x) none t))
+    (λ (t : is_held xs p ≡ true). held-taken p zero xs (λ r l. rest (suc r) (omega arith)) t)
+    (or_cases (list_any (is_of_prefix p) x) (is_held xs p) h)
+held-taken p (suc routers) (x ∷ xs) rest h = ⊎_elim
+    (λ (t : list_any (is_of_prefix p) x ≡ true). or_left (list_any (is_of_prefix p) x) (is_held (take routers xs) p) t)
+    (λ (t : is_held xs p ≡ true). or_right (list_any (is_of_prefix p) x) (is_held (take routers xs) p) (held-taken p routers xs (λ r l. rest (suc r) (omega arith)) t))
+    (or_cases (list_any (is_of_prefix p) x) (is_held xs p) h)
+
+-- what is told of a group is told of all
+new-of-group : (routers : ℕ) (groups : List AllRoutes) (g : ℕ) (op : TableOp) (is_new : Bool) → AreGroups routers groups → TellsNew (get_or groups g []) op is_new → TellsNew (tables_in routers groups) op is_new
+new-of-group routers groups g (Put p m w) true h t = tt
+new-of-group routers groups g (Put p m w) false h t = held-taken p routers (joined groups) h.rest (held-joined p groups g t)
+new-of-group routers groups g (Clear p m) true h t = t
+new-of-group routers groups g (Clear p m) false h t = tt
+
 -- what is found and made at a router: its group, and what the update makes of that
 pub record Finds (routers : ℕ) (groups : List AllRoutes) (tables group made : AllRoutes) (r n : ℕ) : Type 0 where
   pub are : AreGroups routers groups
@@ -123,3 +175,29 @@ module _ (routers : ℕ) (groups : List AllRoutes) (tables group made : AllRoute
   -- and the others' are as before
   pub others-after : tables_in routers (set groups (n / 4) made) ≡ set tables r (get_or (tables_in routers (set groups (n / 4) made)) r [])
   others-after = placed ∙ ap (λ (t : List Route). set tables r t) (sym after)
+
+  -- the groups with the group that was made
+  pub groups-after : AreGroups routers (set groups (n / 4) made)
+  groups-after =
+      let four : length (get_or groups (n / 4) []) ≡ 4 = All-get_or IsFour groups (n / 4) [] there h.are.four in
+      let made_four : length made ≡ 4 =
+      ap (λ (ts : AllRoutes). length ts) h.others
+      ∙ length-set group (n % 4) (get_or made (n % 4) [])
+      ∙ ap (λ (ts : AllRoutes). length ts) group-is
+      ∙ four in
+      record {
+        four = All-set IsFour groups (n / 4) made made_four h.are.four;
+        enough = subst (λ k. routers ≤ k * 4) (sym (length-set groups (n / 4) made)) h.are.enough;
+        rest = λ k l.
+            let apart : k ≢ r = λ e. let b : r < routers = below in omega arith in
+            ap (λ (ts : AllRoutes). get_or (joined (set groups (n / 4) ts)) k []) (h.others ∙ ap (λ (ts : AllRoutes). set ts (n % 4) (get_or made (n % 4) [])) group-is)
+            ∙ ap (λ (ts : AllRoutes). get_or ts k []) (joined-set groups (n / 4) (n % 4) r (get_or made (n % 4) []) h.are.four lane parts)
+            ∙ get_or-set_other (joined groups) r k (get_or made (n % 4) []) [] apart
+            ∙ h.are.rest k l;
+      }
+
+  -- what is told of a prefix in the group
+  pub new-at-router : (op : TableOp) (is_new : Bool) → TellsNew group op is_new → TellsNew tables op is_new
+  new-at-router op is_new t =
+      subst (λ (ts : AllRoutes). TellsNew ts op is_new) h.seen
+      (new-of-group routers groups (n / 4) op is_new h.are (subst (λ (ts : AllRoutes). TellsNew ts op is_new) group-is t))

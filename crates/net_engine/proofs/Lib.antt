@@ -13,6 +13,7 @@ pub mod Moving
 pub mod Owned
 pub mod Parting
 pub mod PrefixEnds
+pub mod Ready
 pub mod Relabelling
 pub mod Rerouting
 pub mod RowsOfAtoms

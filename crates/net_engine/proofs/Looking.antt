@@ -5,11 +5,10 @@ use Rattle.std.specs.List.{list_any}
 use Rattle.std.proofs.lemmas.Bool.{and_from, and_left, and_right, cases_Bool, cases_eq, cases_lt, eq-eqb, eqb-true, le-leb, le-ltb, lt-leb, lt-ltb, ne_eqb, or_cases, or_from, or_left, or_right}
 use Rattle.std.proofs.lemmas.List.Sums.{sum_by-cons}
 use Rattle.std.proofs.lemmas.Nat.{pow_pos}
-use Rattle.atom_map.specs.Atoms.{atom_low, atom_past, is_boundary}
+use Rattle.atom_map.specs.Spans.{Span, is_boundary, span_low, span_past}
 use Rattle.base.specs.Cidr.{Cidr, size}
 use Rattle.base.specs.Rows.{is_within, CoverFrom}
 use Rattle.net_engine.specs.Version.{Atom, begins_at, first_of, past_of}
-use Rattle.atom_map.specs.declared.atom_row.AtomRow.{AtomRow}
 use Rattle.dn_model.specs.declared.entry.Route.{Route}
 use Rattle.base.specs.declared.target.Target.{Target}
 use Rattle.base.proofs.Covers.{within-above, within-below, within-yes}
@@ -36,7 +35,7 @@ ends-apart p = let some : 0 < 2 ^ (32 - p.len) = pow_pos (32 - p.len) in omega a
 
 -- ---- how many a cut adds
 
-more-begun : (xs : List Atom) (at : ℕ) → begins_at xs at ≡ true → more_at xs at ≡ 0
+pub more-begun : (xs : List Atom) (at : ℕ) → begins_at xs at ≡ true → more_at xs at ≡ 0
 more-begun xs at b = ap (λ c. cond (c || leb (2 ^ 32) at) 0 1) b
 
 more-new : (xs : List Atom) (at : ℕ) → begins_at xs at ≡ false → at < 2 ^ 32 → more_at xs at ≡ 1
@@ -148,23 +147,23 @@ cut-meets (x ∷ xs) at lo past o end =
 -- ---- by the rows of the atoms
 
 -- whether the atom of a row has one of the addresses of a span
-abbrev row_has_some : ℕ → ℕ → AtomRow → Bool
+abbrev row_has_some : ℕ → ℕ → Span → Bool
 row_has_some lo past r = has_some lo past (record { row = record { low = r.low; past = r.past; targets = [] }; owners = [] })
 
-meets-owned : (owners : AllRoutes) (rows : List AtomRow) (tss : List (List Target)) (lo past : ℕ) → atoms_between (map (owned owners) (rows_with rows tss)) lo past ≡ count_by (row_has_some lo past) rows
+meets-owned : (owners : AllRoutes) (rows : List Span) (tss : List (List Target)) (lo past : ℕ) → atoms_between (map (owned owners) (rows_with rows tss)) lo past ≡ count_by (row_has_some lo past) rows
 meets-owned owners [] tss lo past = refl
 meets-owned owners (r ∷ rs) tss lo past =
     count-cons (has_some lo past) (owned owners (row_with r (get_or tss 0 []))) (map (owned owners) (rows_with rs (drop 1 tss)))
     ∙ ap (λ n. as_one (row_has_some lo past r) + n) (meets-owned owners rs (drop 1 tss) lo past)
     ∙ sym (count-cons (row_has_some lo past) r rs)
 
-pub meets-paired : (labels : Labels) (owners : AllRoutes) (rows : List AtomRow) (lo past : ℕ) → atoms_between (atoms_with rows labels owners) lo past ≡ count_by (row_has_some lo past) rows
+pub meets-paired : (labels : Labels) (owners : AllRoutes) (rows : List Span) (lo past : ℕ) → atoms_between (atoms_with rows labels owners) lo past ≡ count_by (row_has_some lo past) rows
 meets-paired labels owners rows lo past = meets-owned owners rows labels.rows lo past
 
-begun-cons : (r : AtomRow) (rs : List AtomRow) (lo past : ℕ) → atoms_begun (r ∷ rs) lo past ≡ as_one (is_within lo past r.low) + atoms_begun rs lo past
-begun-cons r rs lo past = count-cons (λ (row : AtomRow). is_within lo past row.low) r rs
+begun-cons : (r : Span) (rs : List Span) (lo past : ℕ) → atoms_begun (r ∷ rs) lo past ≡ as_one (is_within lo past r.low) + atoms_begun rs lo past
+begun-cons r rs lo past = count-cons (λ (row : Span). is_within lo past row.low) r rs
 
-begun-owned : (owners : AllRoutes) (start : ℕ) (rows : List AtomRow) (tss : List (List Target)) (lo past : ℕ) → CoverFrom atom_low atom_past start rows → atoms_begun rows lo past ≤ atoms_between (map (owned owners) (rows_with rows tss)) lo past
+begun-owned : (owners : AllRoutes) (start : ℕ) (rows : List Span) (tss : List (List Target)) (lo past : ℕ) → CoverFrom span_low span_past start rows → atoms_begun rows lo past ≤ atoms_between (map (owned owners) (rows_with rows tss)) lo past
 begun-owned owners start [] tss lo past h = omega arith
 begun-owned owners start (r ∷ rs) tss lo past h =
     let atom : Atom = owned owners (row_with r (get_or tss 0 [])) in
@@ -188,7 +187,7 @@ begun-owned owners start (r ∷ rs) tss lo past h =
     (cases_Bool (is_within lo past r.low))
 
 -- those that begin in a span have addresses of it
-pub begun-meet : (labels : Labels) (owners : AllRoutes) (start : ℕ) (rows : List AtomRow) (lo past : ℕ) → CoverFrom atom_low atom_past start rows → atoms_begun rows lo past ≤ atoms_between (atoms_with rows labels owners) lo past
+pub begun-meet : (labels : Labels) (owners : AllRoutes) (start : ℕ) (rows : List Span) (lo past : ℕ) → CoverFrom span_low span_past start rows → atoms_begun rows lo past ≤ atoms_between (atoms_with rows labels owners) lo past
 begun-meet labels owners start rows lo past h = begun-owned owners start rows labels.rows lo past h
 
 -- ---- at some addresses of a span, in order
@@ -209,7 +208,7 @@ within-rest lo at past a o = ⊎_elim
     omega arith)
     (cases_Bool (is_within at past a))
 
-begun-rest : (rows : List AtomRow) (lo at past : ℕ) → lo ≤ at → atoms_begun rows at past ≤ atoms_begun rows lo past
+begun-rest : (rows : List Span) (lo at past : ℕ) → lo ≤ at → atoms_begun rows at past ≤ atoms_begun rows lo past
 begun-rest [] lo at past o = omega arith
 begun-rest (r ∷ rs) lo at past o =
     let rest : atoms_begun rs at past ≤ atoms_begun rs lo past = begun-rest rs lo at past o in
@@ -219,7 +218,7 @@ begun-rest (r ∷ rs) lo at past o =
     omega arith
 
 -- where an atom begins there is one more than behind it
-begun-behind : (rows : List AtomRow) (lo at past : ℕ) → lo ≤ at → at < past → is_boundary rows at ≡ true → atoms_begun rows (at + 1) past + 1 ≤ atoms_begun rows lo past
+begun-behind : (rows : List Span) (lo at past : ℕ) → lo ≤ at → at < past → is_boundary rows at ≡ true → atoms_begun rows (at + 1) past + 1 ≤ atoms_begun rows lo past
 begun-behind [] lo at past l m b = absurd (none b)
   where
     none : false ≡ true → ⊥
@@ -241,7 +240,7 @@ begun-behind (r ∷ rs) lo at past l m b =
     (or_cases (eqb r.low at) (is_boundary rs at) b)
 
 -- so many addresses of a span at which atoms begin are no more than these
-pub begun-many : (rows : List AtomRow) (routes : List Route) (lo past : ℕ) (begun : List ℕ) → BeginWithin routes lo past begun → ((c : ℕ) → c < past → list_any (λ (x : Route). eqb x.prefix.base c) routes ≡ true → is_boundary rows c ≡ true) → length begun ≤ atoms_begun rows lo past
+pub begun-many : (rows : List Span) (routes : List Route) (lo past : ℕ) (begun : List ℕ) → BeginWithin routes lo past begun → ((c : ℕ) → c < past → list_any (λ (x : Route). eqb x.prefix.base c) routes ≡ true → is_boundary rows c ≡ true) → length begun ≤ atoms_begun rows lo past
 begun-many rows routes lo past [] h bound = omega arith
 begun-many rows routes lo past (a ∷ more) h bound =
     let rest : length more ≤ atoms_begun rows (a + 1) past = begun-many rows routes (a + 1) past more h.3 bound in

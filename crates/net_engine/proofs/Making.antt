@@ -1,33 +1,25 @@
 -- What an update makes of a version.
-use Rattle.std.proofs.Common.{◌≡◌, ◌≢◌, ℕ, ◌+◌, ◌<◌, ◌≤◌, ◌∙◌, ◌||◌, ⊎_elim, Bool, true, false, List, [], ◌∷◌, length, replicate, get_or, refl, ap, sym, subst, arith}
+use Rattle.std.proofs.Common.{◌≡◌, ◌≢◌, ℕ, ◌<◌, ◌≤◌, ◌∙◌, ⊎_elim, List, [], ◌∷◌, length, replicate, get_or, refl, ap, sym, subst}
 use Rattle.std.specs.List.{Contains}
 use Rattle.std.proofs.lemmas.Bool.{cases_eq}
 use Rattle.std.proofs.lemmas.List.{get_or-set_other, get_or-set_same}
-use Rattle.base.specs.Cidr.{Cidr, IsCidr, size}
-use Rattle.base.specs.Delta.{TellsChange, change_at}
-use Rattle.dn_model.specs.Entry.{is_bound_of}
-use Rattle.dn_model.specs.Table.{prefix_of_op}
 use Rattle.dn_model.specs.Rules.{OwnersOf}
-use Rattle.net_engine.specs.Version.{Atom, Kept, KeptStandsFor, begins_at, target_at}
-use Rattle.atom_map.specs.declared.atom_row.AtomRow.{AtomRow}
+use Rattle.net_engine.specs.Version.{Atom, Kept, KeptStandsFor}
+use Rattle.atom_map.specs.Spans.{Span}
 use Rattle.base.specs.declared.change.Change.{Change}
-use Rattle.dn_model.specs.declared.table_op.TableOp.{TableOp}
-use Rattle.dn_model.specs.declared.table_op.TableOp.TheVariants.{Put, Clear}
 use Rattle.dn_model.specs.declared.entry.Route.{Route}
 use Rattle.base.specs.declared.ids.RouterId.{RouterId}
 use Rattle.dn_model.specs.declared.topology.Topology.{Topology}
 use Rattle.target_rows.specs.Labels.{Labels}
-use Rattle.net_engine.specs.Looks.{atoms_met, atoms_put, more_at_ends}
 use Rattle.net_engine.specs.Net.{AreWide, first_atom}
 use Rattle.net_engine.specs.Paired.{ArePaired, GoAlong, atoms_with}
-use Rattle.net_engine.specs.Updates.{IsClear, IsPut, IsTableOpOf, IsWayOf, puts_end}
-use Rattle.net_engine.specs.Walked.{BeginsAtEnds, IsCutAt, IsParted, IsRemade, IsRetold, IsUpdated, UpdatesAt}
+use Rattle.net_engine.specs.Updates.{IsTableOpOf, IsWayOf}
+use Rattle.net_engine.specs.Walked.{AreUpdated, IsUpdated, UpdatesAt}
 use Rattle.net_engine.specs.declared.update.Update.{Update}
 use Rattle.net_engine.specs.Whole.{IsWhole}
 use Rattle.net_engine.proofs.Begun.{first_kept, first-stands, first-whole}
 use Rattle.net_engine.proofs.Does.{has-ends, rules-paired, target-paired}
 use Rattle.net_engine.proofs.Owned.{owners-covering, ways-after}
-use Rattle.net_engine.proofs.Parting.{parted-ends}
 use Rattle.net_engine.proofs.Standing.{AllRoutes, is-net}
 
 abbrev pub kept_of : Topology → List Atom → List (List Route) → Kept
@@ -36,7 +28,7 @@ kept_of t atoms routes = record { topology = t; atoms = atoms; routes = routes; 
 -- ---- what is kept
 
 -- a network whose atoms stand beside what routers do, with ways that it has, is whole
-pub whole-of : (t : Topology) (routers : ℕ) (rows : List AtomRow) (labels : Labels) (tables : AllRoutes) → ArePaired routers rows labels tables → routers ≡ length t.routers → length t.routers ≤ 1024 → ((r : RouterId) (x : Route) → r.0 < length t.routers → Contains (get_or tables r.0 []) x → IsWayOf t x.way) → IsWhole (kept_of t (atoms_with rows labels tables) tables)
+pub whole-of : (t : Topology) (routers : ℕ) (rows : List Span) (labels : Labels) (tables : AllRoutes) → ArePaired routers rows labels tables → routers ≡ length t.routers → length t.routers ≤ 1024 → ((r : RouterId) (x : Route) → r.0 < length t.routers → Contains (get_or tables r.0 []) x → IsWayOf t x.way) → IsWhole (kept_of t (atoms_with rows labels tables) tables)
 whole-of t routers rows labels tables h count few ways = record {
   few = few;
   cover = (is-net routers rows labels tables h).cover;
@@ -75,94 +67,22 @@ ways-updated t old new u made own ways q x i k = ⊎_elim
     ways q x i (subst (λ (rs : List Route). Contains rs x) here k))
     (cases_eq q.0 u.router.0)
 
--- ---- clearings, and routes that are put
-
--- a clearing cuts nothing
-clears-no_end : (op : TableOp) (a : ℕ) → IsClear op → puts_end a op ≡ false
-clears-no_end (Put q m w) a h = absurd h
-clears-no_end (Clear q m) a h = refl
-
-or-none : (x y : Bool) → y ≡ false → x ≡ (x || y)
-or-none true y e = refl
-or-none false y e = sym e
-
--- and adds no atom
-clears-adds_none : (atoms : List Atom) (op : TableOp) → IsClear op → length atoms ≡ length atoms + atoms_put atoms op
-clears-adds_none atoms (Put q m w) h = absurd h
-clears-adds_none atoms (Clear q m) h = omega arith
-
-pub cleared : (old new : Kept) (u : Update) (changes : List Change) → IsClear u.table.op → IsRemade old new u changes → IsUpdated old new u changes
-cleared old new u changes c h = record {
-  whole = h.whole;
-  topology = h.topology;
-  routes = h.routes;
-  begins = λ a l. h.begins a ∙ or-none (begins_at old.atoms a) (puts_end a u.table.op) (clears-no_end u.table.op a c);
-  form = h.form;
-  tells = h.tells;
-  added = h.long ∙ clears-adds_none old.atoms u.table.op c;
-  met = h.met;
-}
-
--- and puts nothing
-pub clears-not_puts : (atoms : List Atom) (op : TableOp) → IsClear op → IsPut op → BeginsAtEnds atoms (prefix_of_op op)
-clears-not_puts atoms (Put p m w) c s = absurd c
-clears-not_puts atoms (Clear p m) c s = absurd s
-
--- where a route is put atoms are cut first
-puts-ends : (op : TableOp) (a : ℕ) → IsPut op → is_bound_of (prefix_of_op op) a ≡ puts_end a op
-puts-ends (Put q m w) a h = refl
-puts-ends (Clear q m) a h = absurd h
-
-puts-more : (atoms : List Atom) (op : TableOp) → IsPut op → more_at_ends atoms (prefix_of_op op) ≡ atoms_put atoms op
-puts-more atoms (Put q m w) h = refl
-puts-more atoms (Clear q m) h = absurd h
-
-pub put-after_cut : (old mid new : Kept) (u : Update) (p : Cidr) (changes : List Change) → IsPut u.table.op → p ≡ prefix_of_op u.table.op → IsCutAt old mid p → IsRemade mid new u changes → IsUpdated old new u changes
-put-after_cut old mid new u p changes s is cut h = record {
-  whole = h.whole;
-  topology = h.topology ∙ cut.topology;
-  routes = subst (λ rs. UpdatesAt u rs new.routes) cut.routes h.routes;
-  begins = λ a l. h.begins a ∙ cut.parted.begins a l ∙ ap (λ b. begins_at old.atoms a || b) (ap (λ (q : Cidr). is_bound_of q a) is ∙ puts-ends u.table.op a s);
-  form = h.form;
-  tells = λ q a l. subst (λ x. TellsChange x (target_at new.atoms q a) (change_at changes q a)) (cut.parted.targets q a l) (h.tells q a l);
-  added = h.long ∙ cut.parted.more ∙ ap (λ n. length old.atoms + n) (ap (more_at_ends old.atoms) is ∙ puts-more old.atoms u.table.op s);
-  met = h.met ∙ subst (λ (q : Cidr). atoms_met mid.atoms q ≡ atoms_met old.atoms q) is cut.parted.met;
-}
-
--- the ends of a prefix are those of an update that has it
-pub ends-of_update : (atoms : List Atom) (p : Cidr) (op : TableOp) → p ≡ prefix_of_op op → BeginsAtEnds atoms p → BeginsAtEnds atoms (prefix_of_op op)
-ends-of_update atoms p op is ends = subst (λ (q : Cidr). BeginsAtEnds atoms q) is ends
-
 -- ---- as the fields of a version are
 
 pub wide-for : (n m : ℕ) (atoms : List Atom) → n ≡ m → AreWide n atoms → AreWide m atoms
 wide-for n m atoms e h = subst (λ k. AreWide k atoms) e h
 
-pub cut-made : (now : Kept) (t : Topology) (old new : List Atom) (routes : List (List Route)) (p : Cidr) → kept_of t old routes ≡ now → IsWhole (kept_of t new routes) → IsCidr p → IsParted old new p → IsCutAt now (kept_of t new routes) p
-cut-made now t old new routes p view whole cidr parted = subst (λ (k : Kept). IsCutAt k (kept_of t new routes) p) view (record {
-  whole = whole;
-  topology = refl;
-  routes = refl;
-  parted = parted;
-  ends = parted-ends old new p cidr parted;
-})
-
-pub update-made : (now : Kept) (t : Topology) (old new : List Atom) (routes made : List (List Route)) (u : Update) (changes : List Change) → kept_of t old routes ≡ now → IsWhole (kept_of t new made) → UpdatesAt u routes made → IsRetold old new changes → IsRemade now (kept_of t new made) u changes
-update-made now t old new routes made u changes view whole made_at told = subst (λ (k : Kept). IsRemade k (kept_of t new made) u changes) view (record {
+pub update-made : (now : Kept) (t : Topology) (old new : List Atom) (routes made : List (List Route)) (u : Update) (changes : List Change) → kept_of t old routes ≡ now → IsWhole (kept_of t new made) → UpdatesAt u routes made → AreUpdated old new u.table.op changes → IsUpdated now (kept_of t new made) u changes
+update-made now t old new routes made u changes view whole made_at told = subst (λ (k : Kept). IsUpdated k (kept_of t new made) u changes) view (record {
   whole = whole;
   topology = refl;
   routes = made_at;
   begins = told.begins;
   form = told.form;
   tells = told.tells;
-  long = told.long;
-  met = told.met (prefix_of_op u.table.op).base ((prefix_of_op u.table.op).base + size (prefix_of_op u.table.op));
+  added = told.added;
+  met = told.met;
 })
-
-pub looks-after_cut : (old mid : Kept) (op : TableOp) (p : Cidr) (was is : ℕ) → p ≡ prefix_of_op op → IsCutAt old mid p → is ≤ was + 2 + atoms_met mid.atoms (prefix_of_op op) → is ≤ was + 2 + atoms_met old.atoms (prefix_of_op op)
-looks-after_cut old mid op p was is of cut cost =
-    let same : atoms_met mid.atoms (prefix_of_op op) ≡ atoms_met old.atoms (prefix_of_op op) = subst (λ (q : Cidr). atoms_met mid.atoms q ≡ atoms_met old.atoms q) of cut.parted.met in
-    omega arith
 
 -- ---- the first version
 

@@ -3,11 +3,10 @@ use Rattle.std.proofs.Common.{◌≡◌, ℕ, ◌+◌, ◌<◌, ◌≤◌, ◌^�
 use Rattle.std.specs.List.{list_any}
 use Rattle.std.proofs.Math.Seq.{take-suc}
 use Rattle.std.proofs.lemmas.Bool.{and_from, and_left, and_parts, and_right, both_ways, cases_Bool, cases_lt, le-leb, leb-true, lt-leb, ne_eqb, or_cases, or_from, or_left, or_parts, or_right}
-use Rattle.atom_map.specs.Atoms.{is_boundary}
+use Rattle.atom_map.specs.Spans.{Span, is_boundary}
 use Rattle.base.specs.Delta.{TellsChange, change_at}
 use Rattle.base.specs.Rows.{is_within}
 use Rattle.base.specs.Runs.{AreApart, holds}
-use Rattle.atom_map.specs.declared.atom_row.AtomRow.{AtomRow}
 use Rattle.base.specs.declared.change.Change.{Change}
 use Rattle.base.specs.declared.ids.RouterId.{RouterId}
 use Rattle.base.specs.declared.run.Run.{Run}
@@ -26,6 +25,9 @@ holds-low a run h = leb-true run.lo a (and_parts (leb run.lo a) (leb a run.hi) h
 
 pub holds-high : (a : ℕ) (run : Run) → holds a run ≡ true → a ≤ run.hi
 holds-high a run h = leb-true a run.hi (and_parts (leb run.lo a) (leb a run.hi) h).1
+
+pub holds-from : (a : ℕ) (run : Run) → run.lo ≤ a → a ≤ run.hi → holds a run ≡ true
+holds-from a run l h = and_from (leb run.lo a) (leb a run.hi) (le-leb run.lo a l) (le-leb a run.hi h)
 
 pub holds-first : (run : Run) → run.lo ≤ run.hi → holds run.lo run ≡ true
 holds-first run l = and_from (leb run.lo run.lo) (leb run.lo run.hi) (le-leb run.lo run.lo (omega arith)) (le-leb run.lo run.hi l)
@@ -116,13 +118,22 @@ run-among [] k d a l h = absurd (omega arith)
 run-among (x ∷ runs) zero d a l h = or_left (holds a x) (list_any (holds a) runs) h
 run-among (x ∷ runs) (suc k) d a l h = or_right (holds a x) (list_any (holds a) runs) (run-among runs k d a (omega arith) h)
 
+-- an address of none of them is one of none of the first
+pub none-first : (runs : List Run) (k a : ℕ) → list_any (holds a) runs ≡ false → list_any (holds a) (take k runs) ≡ false
+none-first [] zero a n = refl
+none-first [] (suc k) a n = refl
+none-first (x ∷ runs) zero a n = refl
+none-first (x ∷ runs) (suc k) a n =
+    let parts : (holds a x ≡ false) × (list_any (holds a) runs ≡ false) = or_parts (holds a x) (list_any (holds a) runs) n in
+    or_from (holds a x) (list_any (holds a) (take k runs)) parts.0 (none-first runs k a parts.1)
+
 -- atoms begin where each begins, and where it ends
-pub run-low : (rows : List AtomRow) (runs : List Run) (k : ℕ) (d : Run) → RunsOfAtoms rows runs → k < length runs → is_boundary rows (get_or runs k d).lo ≡ true
+pub run-low : (rows : List Span) (runs : List Run) (k : ℕ) (d : Run) → RunsOfAtoms rows runs → k < length runs → is_boundary rows (get_or runs k d).lo ≡ true
 run-low rows [] k d h l = absurd (omega arith)
 run-low rows (x ∷ runs) zero d h l = h.0
 run-low rows (x ∷ runs) (suc k) d h l = run-low rows runs k d h.2 (omega arith)
 
-pub run-past : (rows : List AtomRow) (runs : List Run) (k : ℕ) (d : Run) → RunsOfAtoms rows runs → k < length runs → (get_or runs k d).hi + 1 < 2 ^ 32 → is_boundary rows ((get_or runs k d).hi + 1) ≡ true
+pub run-past : (rows : List Span) (runs : List Run) (k : ℕ) (d : Run) → RunsOfAtoms rows runs → k < length runs → (get_or runs k d).hi + 1 < 2 ^ 32 → is_boundary rows ((get_or runs k d).hi + 1) ≡ true
 run-past rows [] k d h l = absurd (omega arith)
 run-past rows (x ∷ runs) zero d h l = h.1
 run-past rows (x ∷ runs) (suc k) d h l = run-past rows runs k d h.2 (omega arith)
@@ -135,7 +146,7 @@ untold t None h = refl
 untold t (Some p) h = absurd (h.1 refl)
 
 -- where what is to be done is done already
-pub moved-same : (rows : List AtomRow) (x : Labels) (now : List Change) (r : RouterId) (runs : List Run) (after : Target) → AreLabelled rows x → now ≡ [] → ((a : ℕ) → list_any (holds a) runs ≡ true → does_at rows x r.0 a ≡ after) → IsMoved rows x x now r runs after
+pub moved-same : (rows : List Span) (x : Labels) (now : List Change) (r : RouterId) (runs : List Run) (after : Target) → AreLabelled rows x → now ≡ [] → ((a : ℕ) → list_any (holds a) runs ≡ true → does_at rows x r.0 a ≡ after) → IsMoved rows x x now r runs after
 moved-same rows x now r runs after h none here =
     subst (λ (cs : List Change). IsMoved rows x x cs r runs after) (sym none) (record {
       labelled = h;
@@ -148,15 +159,15 @@ moved-same rows x now r runs after h none here =
       changes = λ q a n. refl;
     })
 
-pub moved-none : (rows : List AtomRow) (x : Labels) (now : List Change) (r : RouterId) (after : Target) → AreLabelled rows x → now ≡ [] → IsMoved rows x x now r [] after
+pub moved-none : (rows : List Span) (x : Labels) (now : List Change) (r : RouterId) (after : Target) → AreLabelled rows x → now ≡ [] → IsMoved rows x x now r [] after
 moved-none rows x now r after h none = moved-same rows x now r [] after h none (λ a t. absurd (let f : false ≡ true = t in cc))
 
 -- where the runs haven't come nothing is told
-pub untold-there : (rows : List AtomRow) (x y : Labels) (now : List Change) (r : RouterId) (runs : List Run) (after : Target) (a : ℕ) → IsMoved rows x y now r runs after → list_any (holds a) runs ≡ false → change_at now r a ≡ None
+pub untold-there : (rows : List Span) (x y : Labels) (now : List Change) (r : RouterId) (runs : List Run) (after : Target) (a : ℕ) → IsMoved rows x y now r runs after → list_any (holds a) runs ≡ false → change_at now r a ≡ None
 untold-there rows x y now r runs after a m n =
     untold (does_at rows x r.0 a) (change_at now r a) (subst (λ t. TellsChange (does_at rows x r.0 a) t (change_at now r a)) (m.away a n) (m.tells a))
 
-module _ (rows : List AtomRow) (x y z : Labels) (was now : List Change) (r : RouterId) (runs : List Run) (run : Run) (before after : Target) (m : IsMoved rows x y was r runs after) (k : IsRelabelled rows y z r.0 run.lo (run.hi + 1) after) (t : IsTold was now r run.lo (run.hi + 1) before after) (fresh : (a : ℕ) → holds a run ≡ true → list_any (holds a) runs ≡ false) (did : (a : ℕ) → holds a run ≡ true → does_at rows x r.0 a ≡ before) where
+module _ (rows : List Span) (x y z : Labels) (was now : List Change) (r : RouterId) (runs : List Run) (run : Run) (before after : Target) (m : IsMoved rows x y was r runs after) (k : IsRelabelled rows y z r.0 run.lo (run.hi + 1) after) (t : IsTold was now r run.lo (run.hi + 1) before after) (fresh : (a : ℕ) → holds a run ≡ true → list_any (holds a) runs ≡ false) (did : (a : ℕ) → holds a run ≡ true → does_at rows x r.0 a ≡ before) where
   here-more : (a : ℕ) → holds a run ≡ true → does_at rows z r.0 a ≡ after
   here-more a h = let high : a ≤ run.hi = holds-high a run h in k.here a (holds-low a run h) (omega arith)
 
@@ -195,14 +206,65 @@ module _ (rows : List AtomRow) (x y z : Labels) (was now : List Change) (r : Rou
   }
 
 -- the front of a list with one run more
-pub moved-next : (rows : List AtomRow) (x y : Labels) (now : List Change) (r : RouterId) (runs : List Run) (k : ℕ) (d : Run) (after : Target) → k < length runs → IsMoved rows x y now r (take k runs ++ get_or runs k d ∷ []) after → IsMoved rows x y now r (take (k + 1) runs) after
+pub moved-next : (rows : List Span) (x y : Labels) (now : List Change) (r : RouterId) (runs : List Run) (k : ℕ) (d : Run) (after : Target) → k < length runs → IsMoved rows x y now r (take k runs ++ get_or runs k d ∷ []) after → IsMoved rows x y now r (take (k + 1) runs) after
 moved-next rows x y now r runs k d after l m =
     let next : k + 1 ≡ suc k = omega arith in
     subst (λ (xs : List Run). IsMoved rows x y now r xs after) (sym (ap (λ n. take n runs) next ∙ take-suc runs k d l)) m
 
 -- a step of the loop over them
-pub moved-step : (rows : List AtomRow) (x y z : Labels) (was now : List Change) (r : RouterId) (runs : List Run) (k : ℕ) (d : Run) (before after : Target) → AreApart runs → k < length runs → ((a : ℕ) → list_any (holds a) runs ≡ true → does_at rows x r.0 a ≡ before) → IsMoved rows x y was r (take k runs) after → IsRelabelled rows y z r.0 (get_or runs k d).lo ((get_or runs k d).hi + 1) after → IsTold was now r (get_or runs k d).lo ((get_or runs k d).hi + 1) before after → IsMoved rows x z now r (take (k + 1) runs) after
+pub moved-step : (rows : List Span) (x y z : Labels) (was now : List Change) (r : RouterId) (runs : List Run) (k : ℕ) (d : Run) (before after : Target) → AreApart runs → k < length runs → ((a : ℕ) → list_any (holds a) runs ≡ true → does_at rows x r.0 a ≡ before) → IsMoved rows x y was r (take k runs) after → IsRelabelled rows y z r.0 (get_or runs k d).lo ((get_or runs k d).hi + 1) after → IsTold was now r (get_or runs k d).lo ((get_or runs k d).hi + 1) before after → IsMoved rows x z now r (take (k + 1) runs) after
 moved-step rows x y z was now r runs k d before after apart l did m moved told =
     moved-next rows x z now r runs k d after l (moved-more rows x y z was now r (take k runs) (get_or runs k d) before after m moved told
     (λ a h. apart-fresh runs k d a apart l (holds-low a (get_or runs k d) h))
     (λ a h. did a (run-among runs k d a l h)))
+
+-- where the runs haven't come the router does what it did
+module _ (rows : List Span) (x y : Labels) (was : List Change) (r : RouterId) (runs : List Run) (k : ℕ) (d : Run) (after : Target) (apart : AreApart runs) (l : k < length runs) (same : (a b : ℕ) → list_any (holds a) runs ≡ true → list_any (holds b) runs ≡ true → does_at rows x r.0 a ≡ does_at rows x r.0 b) (m : IsMoved rows x y was r (take k runs) after) where
+  untouched : (a : ℕ) → holds a (get_or runs k d) ≡ true → does_at rows y r.0 a ≡ does_at rows x r.0 a
+  untouched a h = m.away a (apart-fresh runs k d a apart l (holds-low a (get_or runs k d) h))
+
+  first-held : holds (get_or runs k d).lo (get_or runs k d) ≡ true
+  first-held = holds-first (get_or runs k d) (apart-order runs k d apart l)
+
+  pub same-still : (a : ℕ) → holds a (get_or runs k d) ≡ true → does_at rows y r.0 a ≡ does_at rows y r.0 (get_or runs k d).lo
+  same-still a h =
+      untouched a h
+      ∙ same a (get_or runs k d).lo (run-among runs k d a l h) (run-among runs k d (get_or runs k d).lo l first-held)
+      ∙ sym (untouched (get_or runs k d).lo first-held)
+
+-- what it did with a run it did with all
+pub was-there : (rows : List Span) (x y : Labels) (was : List Change) (r : RouterId) (runs : List Run) (k : ℕ) (d : Run) (before after : Target) → AreApart runs → k < length runs → ((a b : ℕ) → list_any (holds a) runs ≡ true → list_any (holds b) runs ≡ true → does_at rows x r.0 a ≡ does_at rows x r.0 b) → IsMoved rows x y was r (take k runs) after → before ≡ does_at rows y r.0 (get_or runs k d).lo → (a : ℕ) → list_any (holds a) runs ≡ true → does_at rows x r.0 a ≡ before
+was-there rows x y was r runs k d before after apart l same m is a h =
+    let held : holds (get_or runs k d).lo (get_or runs k d) ≡ true = first-held rows x y was r runs k d after apart l same m in
+    same a (get_or runs k d).lo h (run-among runs k d (get_or runs k d).lo l held)
+    ∙ sym (untouched rows x y was r runs k d after apart l same m (get_or runs k d).lo held)
+    ∙ sym is
+
+-- and where that is what it is to do, nothing is left
+pub moved-already : (rows : List Span) (x y z : Labels) (was : List Change) (r : RouterId) (runs : List Run) (k : ℕ) (d : Run) (after : Target) → AreApart runs → k < length runs → ((a : ℕ) → list_any (holds a) runs ≡ true → does_at rows x r.0 a ≡ after) → IsMoved rows x y was r (take k runs) after → IsRelabelled rows y z r.0 (get_or runs k d).lo ((get_or runs k d).hi + 1) after → IsMoved rows x z was r runs after
+moved-already rows x y z was r runs k d after apart l did m moved = record {
+  labelled = moved.labelled;
+  routers = moved.routers ∙ m.routers;
+  here = λ a h. as-then a ∙ ⊎_elim
+      (λ (b : list_any (holds a) (take k runs) ≡ true). m.here a b)
+      (λ (b : list_any (holds a) (take k runs) ≡ false). m.away a b ∙ did a h)
+      (cases_Bool (list_any (holds a) (take k runs)));
+  away = λ a n. as-then a ∙ m.away a (none-first runs k a n);
+  others = λ q a n. moved.others q a n ∙ m.others q a n;
+  form = m.form;
+  tells = λ a. subst (λ t. TellsChange (does_at rows x r.0 a) t (change_at was r a)) (sym (as-then a)) (m.tells a);
+  changes = m.changes;
+}
+  where
+    run : Run
+    run = get_or runs k d
+
+    as-then : (a : ℕ) → does_at rows z r.0 a ≡ does_at rows y r.0 a
+    as-then a = ⊎_elim
+        (λ (h : holds a run ≡ true).
+        let high : a ≤ run.hi = holds-high a run h in
+        moved.here a (holds-low a run h) (omega arith)
+        ∙ sym (did a (run-among runs k d a l h))
+        ∙ sym (m.away a (apart-fresh runs k d a apart l (holds-low a run h))))
+        (λ (n : holds a run ≡ false). moved.away a (holds-without a run n))
+        (cases_Bool (holds a run))

@@ -6,7 +6,7 @@ use Rattle.std.specs.Option.{IfNone, IfSome}
 use Rattle.std.proofs.lemmas.Bool.{and_parts, cases_Bool, cases_eq, eqb-true, or_cases, or_left, or_right}
 use Rattle.std.proofs.lemmas.List.{get_or-set_other, get_or-set_same, length-set}
 use Rattle.std.proofs.lemmas.List.Sorted.{Contains-permutation}
-use Rattle.atom_map.specs.Atoms.{is_boundary}
+use Rattle.atom_map.specs.Spans.{Span, is_boundary}
 use Rattle.base.specs.Cidr.{Cidr, size}
 use Rattle.base.specs.Delta.{TellsChange, change_at}
 use Rattle.dn_model.specs.Entry.{is_bound_of}
@@ -15,7 +15,6 @@ use Rattle.dn_model.specs.Routes.{IsTable}
 use Rattle.base.specs.Runs.{AreApart, holds}
 use Rattle.dn_model.specs.Table.{after_table_op, followed, is_of_prefix, target_in, way_in}
 use Rattle.net_engine.specs.Version.{target_at}
-use Rattle.atom_map.specs.declared.atom_row.AtomRow.{AtomRow}
 use Rattle.base.specs.declared.change.Change.{Change}
 use Rattle.dn_model.specs.declared.table_op.TableOp.{TableOp}
 use Rattle.dn_model.specs.declared.table_op.TableOp.TheVariants.{Put, Clear}
@@ -51,7 +50,7 @@ end-of-prefix p x c same e =
     subst (E x.prefix.base) len (subst (λ b. E b p.len) base e)
 
 -- atoms begin at the ends of an update's prefix, below the end of all addresses
-pub prefix-ends : (rows : List AtomRow) (x : Labels) (tables : AllRoutes) (own : List Route) (r : ℕ) (op : TableOp) → GoAlong rows x r own → (IsPut op → BeginsAtEnds (atoms_with rows x tables) (prefix_of_op op)) → SetsOrHas own op → (c : ℕ) → c < 2 ^ 32 → is_bound_of (prefix_of_op op) c ≡ true → is_boundary rows c ≡ true
+pub prefix-ends : (rows : List Span) (x : Labels) (tables : AllRoutes) (own : List Route) (r : ℕ) (op : TableOp) → GoAlong rows x r own → (IsPut op → BeginsAtEnds (atoms_with rows x tables) (prefix_of_op op)) → SetsOrHas own op → (c : ℕ) → c < 2 ^ 32 → is_bound_of (prefix_of_op op) c ≡ true → is_boundary rows c ≡ true
 prefix-ends rows x tables own r (Put p m w) along puts had c l e =
     let ends : BeginsAtEnds (atoms_with rows x tables) p = puts tt in
     ⊎_elim
@@ -65,7 +64,7 @@ prefix-ends rows x tables own r (Clear p m) along puts had c l e =
     along.ends c l (any-weaker (is_of_prefix p) (λ (y : Route). is_bound_of y.prefix c) own (λ y same. end-of-prefix p y c same e) had)
 
 -- one that passes a test
-any-one : (q : Route → Bool) (xs : List Route) → list_any q xs ≡ true → (x : Route) × Contains xs x × (q x ≡ true)
+pub any-one : (q : Route → Bool) (xs : List Route) → list_any q xs ≡ true → (x : Route) × Contains xs x × (q x ≡ true)
 any-one q [] t = absurd (let f : false ≡ true = t in cc)
 any-one q (x ∷ xs) t = ⊎_elim
     (λ (h : q x ≡ true). (x, contains-here x xs, h))
@@ -73,7 +72,7 @@ any-one q (x ∷ xs) t = ⊎_elim
     (or_cases (q x) (list_any q xs) t)
 
 -- the routes after an update end where atoms begin: those before did, and where a route is set atoms were cut
-pub made-ends : (rows : List AtomRow) (x : Labels) (tables : AllRoutes) (own made : List Route) (r : ℕ) (alone : Bool) (op : TableOp) → GoAlong rows x r own → (IsPut op → BeginsAtEnds (atoms_with rows x tables) (prefix_of_op op)) → IsPermutation made (after_table_op alone own op) → (c : ℕ) → c < 2 ^ 32 → ends_in made c ≡ true → is_boundary rows c ≡ true
+pub made-ends : (rows : List Span) (x : Labels) (tables : AllRoutes) (own made : List Route) (r : ℕ) (alone : Bool) (op : TableOp) → GoAlong rows x r own → (IsPut op → BeginsAtEnds (atoms_with rows x tables) (prefix_of_op op)) → IsPermutation made (after_table_op alone own op) → (c : ℕ) → c < 2 ^ 32 → ends_in made c ≡ true → is_boundary rows c ≡ true
 made-ends rows x tables own made r alone op along puts moved c l e =
     let w : (y : Route) × Contains made y × (is_bound_of y.prefix c ≡ true) = any-one (λ (y : Route). is_bound_of y.prefix c) made e in
     after-cases (λ (y : Route). is_bound_of y.prefix c ≡ true → is_boundary rows c ≡ true) alone own op
@@ -94,13 +93,13 @@ made-ends rows x tables own made r alone op along puts moved c l e =
         (or_cases (eqb p.base c) (eqb (p.base + size p) c) t)
 
 -- and so do the runs of its prefix's own addresses
-end-boundary : (rows : List AtomRow) (made : List Route) (p : Cidr) → ((c : ℕ) → c < 2 ^ 32 → is_bound_of p c ≡ true → is_boundary rows c ≡ true) → ((c : ℕ) → c < 2 ^ 32 → ends_in made c ≡ true → is_boundary rows c ≡ true) → (c : ℕ) → c < 2 ^ 32 → is_end_in made p c ≡ true → is_boundary rows c ≡ true
+end-boundary : (rows : List Span) (made : List Route) (p : Cidr) → ((c : ℕ) → c < 2 ^ 32 → is_bound_of p c ≡ true → is_boundary rows c ≡ true) → ((c : ℕ) → c < 2 ^ 32 → ends_in made c ≡ true → is_boundary rows c ≡ true) → (c : ℕ) → c < 2 ^ 32 → is_end_in made p c ≡ true → is_boundary rows c ≡ true
 end-boundary rows made p ends more c l e = ⊎_elim
     (λ (h : is_bound_of p c ≡ true). ends c l h)
     (λ (h : ends_in made c ≡ true). more c l h)
     (or_cases (is_bound_of p c) (ends_in made c) e)
 
-runs-between : (rows : List AtomRow) (made : List Route) (p : Cidr) (runs : List Run) → ((c : ℕ) → c < 2 ^ 32 → is_end_in made p c ≡ true → is_boundary rows c ≡ true) → ((a : ℕ) → list_any (holds a) runs ≡ true → a < 2 ^ 32) → AreApart runs → EndAtEnds made p runs → RunsOfAtoms rows runs
+runs-between : (rows : List Span) (made : List Route) (p : Cidr) (runs : List Run) → ((c : ℕ) → c < 2 ^ 32 → is_end_in made p c ≡ true → is_boundary rows c ≡ true) → ((a : ℕ) → list_any (holds a) runs ≡ true → a < 2 ^ 32) → AreApart runs → EndAtEnds made p runs → RunsOfAtoms rows runs
 runs-between rows made p [] at below apart h = tt
 runs-between rows made p (y ∷ runs) at below apart h = (
   at y.lo (below y.lo (or_left (holds y.lo y) (list_any (holds y.lo) runs) (holds-first y (apart-first y runs apart)))) h.0,
@@ -108,7 +107,7 @@ runs-between rows made p (y ∷ runs) at below apart h = (
   runs-between rows made p runs at (λ a t. below a (or_right (holds a y) (list_any (holds a) runs) t)) (apart-rest y runs apart) h.2,
 )
 
-pub runs-of-atoms : (rows : List AtomRow) (x : Labels) (tables : AllRoutes) (own made : List Route) (r : ℕ) (alone : Bool) (op : TableOp) (runs : List Run) → GoAlong rows x r own → (IsPut op → BeginsAtEnds (atoms_with rows x tables) (prefix_of_op op)) → SetsOrHas own op → IsPermutation made (after_table_op alone own op) → AreOwnRuns made (prefix_of_op op) runs → RunsOfAtoms rows runs
+pub runs-of-atoms : (rows : List Span) (x : Labels) (tables : AllRoutes) (own made : List Route) (r : ℕ) (alone : Bool) (op : TableOp) (runs : List Run) → GoAlong rows x r own → (IsPut op → BeginsAtEnds (atoms_with rows x tables) (prefix_of_op op)) → SetsOrHas own op → IsPermutation made (after_table_op alone own op) → AreOwnRuns made (prefix_of_op op) runs → RunsOfAtoms rows runs
 runs-of-atoms rows x tables own made r alone op runs along puts had moved h =
     runs-between rows made (prefix_of_op op) runs
     (end-boundary rows made (prefix_of_op op) (prefix-ends rows x tables own r op along puts had) (made-ends rows x tables own made r alone op along puts moved))
@@ -117,7 +116,7 @@ runs-of-atoms rows x tables own made r alone op runs along puts had moved h =
 -- ---- what is done
 
 -- before the update one and the same was done at a prefix's own addresses
-pub same-before : (rows : List AtomRow) (x : Labels) (own made : List Route) (p : Cidr) (after : Way) (runs : List Run) (r : ℕ) → GoAlong rows x r own → IsTurned own made p after → AreOwnRuns made p runs → (a b : ℕ) → list_any (holds a) runs ≡ true → list_any (holds b) runs ≡ true → does_at rows x r a ≡ does_at rows x r b
+pub same-before : (rows : List Span) (x : Labels) (own made : List Route) (p : Cidr) (after : Way) (runs : List Run) (r : ℕ) → GoAlong rows x r own → IsTurned own made p after → AreOwnRuns made p runs → (a b : ℕ) → list_any (holds a) runs ≡ true → list_any (holds b) runs ≡ true → does_at rows x r a ≡ does_at rows x r b
 same-before rows x own made p after runs r along turned runs_are a b u v =
     let below_a : a < 2 ^ 32 = apart-below runs a runs_are.runs_are.apart u in
     let below_b : b < 2 ^ 32 = apart-below runs b runs_are.runs_are.apart v in
@@ -125,7 +124,7 @@ same-before rows x own made p after runs r along turned runs_are a b u v =
     ∙ ap (followed []) (turned.before a b (sym (runs_are.runs_are.exact a below_a) ∙ u) (sym (runs_are.runs_are.exact b below_b) ∙ v))
     ∙ sym (along.does b below_b)
 
-pub rerouted-turned : (rows : List AtomRow) (x y : Labels) (own made : List Route) (p : Cidr) (after : Way) (runs : List Run) (now : List Change) (r : RouterId) → GoAlong rows x r.0 own → IsTurned own made p after → AreOwnRuns made p runs → IsMoved rows x y now r runs (followed [] after) → IsRerouted rows x y own made now r
+pub rerouted-turned : (rows : List Span) (x y : Labels) (own made : List Route) (p : Cidr) (after : Way) (runs : List Run) (now : List Change) (r : RouterId) → GoAlong rows x r.0 own → IsTurned own made p after → AreOwnRuns made p runs → IsMoved rows x y now r runs (followed [] after) → IsRerouted rows x y own made now r
 rerouted-turned rows x y own made p after runs now r along turned runs_are m =
     let does : (a : ℕ) → a < 2 ^ 32 → does_at rows y r.0 a ≡ target_in [] made a = λ a l. ⊎_elim
     (λ (h : is_own made p a ≡ true). m.here a (runs_are.runs_are.exact a l ∙ h) ∙ sym (ap (followed []) (turned.here a h)))
@@ -144,7 +143,7 @@ rerouted-turned rows x y own made p after runs now r along turned runs_are m =
       changes = m.changes;
     }
 
-pub rerouted-same : (rows : List AtomRow) (x : Labels) (own made : List Route) (now : List Change) (r : RouterId) → AreLabelled rows x → GoAlong rows x r.0 own → ((a : ℕ) → way_in made a ≡ way_in own a) → now ≡ [] → IsRerouted rows x x own made now r
+pub rerouted-same : (rows : List Span) (x : Labels) (own made : List Route) (now : List Change) (r : RouterId) → AreLabelled rows x → GoAlong rows x r.0 own → ((a : ℕ) → way_in made a ≡ way_in own a) → now ≡ [] → IsRerouted rows x x own made now r
 rerouted-same rows x own made now r labelled along same none =
     subst (λ (cs : List Change). IsRerouted rows x x own made cs r) (sym none) (record {
       labelled = labelled;
@@ -159,7 +158,7 @@ rerouted-same rows x own made now r labelled along same none =
 -- ---- in the atoms
 
 -- what the calls found and made: a router's routes, and what the update makes of them
-pub record Makes (routers : ℕ) (rows : List AtomRow) (x y : Labels) (tables : AllRoutes) (own made : List Route) (now : List Change) (r : RouterId) (alone : Bool) (op : TableOp) : Type 0 where
+pub record Makes (routers : ℕ) (rows : List Span) (x y : Labels) (tables : AllRoutes) (own made : List Route) (now : List Change) (r : RouterId) (alone : Bool) (op : TableOp) : Type 0 where
   pub inside : r.0 < routers
   pub own_is : own ≡ get_or tables r.0 []
   pub table : IsTable made
@@ -167,7 +166,7 @@ pub record Makes (routers : ℕ) (rows : List AtomRow) (x y : Labels) (tables : 
   pub ends : (c : ℕ) → c < 2 ^ 32 → ends_in made c ≡ true → is_boundary rows c ≡ true
   pub rerouted : IsRerouted rows x y own made now r
 
-module _ (routers : ℕ) (rows : List AtomRow) (x y : Labels) (tables : AllRoutes) (own made : List Route) (now : List Change) (r : RouterId) (alone : Bool) (op : TableOp) (h : ArePaired routers rows x tables) (k : Makes routers rows x y tables own made now r alone op) where
+module _ (routers : ℕ) (rows : List Span) (x y : Labels) (tables : AllRoutes) (own made : List Route) (now : List Change) (r : RouterId) (alone : Bool) (op : TableOp) (h : ArePaired routers rows x tables) (k : Makes routers rows x y tables own made now r alone op) where
   w : IsRerouted rows x y own made now r
   w = k.rerouted
 
@@ -235,13 +234,13 @@ begins-end : (routes : List Route) (c : ℕ) → list_any (λ (x : Route). eqb x
 begins-end routes c h = any-weaker (λ (x : Route). eqb x.prefix.base c) (λ (x : Route). is_bound_of x.prefix c) routes (λ x e. or_left (eqb x.prefix.base c) (eqb (x.prefix.base + size x.prefix) c) e) h
 
 -- and below the end of all addresses
-begins-below : (rows : List AtomRow) (x : Labels) (r : ℕ) (own : List Route) (c : ℕ) → GoAlong rows x r own → list_any (λ (y : Route). eqb y.prefix.base c) own ≡ true → c < 2 ^ 32
+begins-below : (rows : List Span) (x : Labels) (r : ℕ) (own : List Route) (c : ℕ) → GoAlong rows x r own → list_any (λ (y : Route). eqb y.prefix.base c) own ≡ true → c < 2 ^ 32
 begins-below rows x r own c along h =
     let w : (y : Route) × Contains own y × (eqb y.prefix.base c ≡ true) = any-one (λ (y : Route). eqb y.prefix.base c) own h in
     let base : w.0.prefix.base < 2 ^ 32 = (along.table.prefixes w.0 w.1).base in
     subst (λ n. n < 2 ^ 32) (eqb-true w.0.prefix.base c w.2) base
 
-pub looks-paired : (routers : ℕ) (rows : List AtomRow) (x : Labels) (tables : AllRoutes) (own : List Route) (r : ℕ) (p : Cidr) (was is : ℕ) → ArePaired routers rows x tables → GoAlong rows x r own → IsLooked own p was is → is ≤ was + 2 + atoms_met (atoms_with rows x tables) p
+pub looks-paired : (routers : ℕ) (rows : List Span) (x : Labels) (tables : AllRoutes) (own : List Route) (r : ℕ) (p : Cidr) (was is : ℕ) → ArePaired routers rows x tables → GoAlong rows x r own → IsLooked own p was is → is ≤ was + 2 + atoms_met (atoms_with rows x tables) p
 looks-paired routers rows x tables own r p was is h along looked =
     let many : length looked.begun ≤ atoms_begun rows p.base (p.base + size p) = begun-many rows own p.base (p.base + size p) looked.begun looked.within (λ c l e. along.ends c (begins-below rows x r own c along e) (begins-end own c e)) in
     let meet : atoms_begun rows p.base (p.base + size p) ≤ atoms_between (atoms_with rows x tables) p.base (p.base + size p) = begun-meet x tables 0 rows p.base (p.base + size p) h.labelled.atoms.cover in
@@ -260,7 +259,7 @@ at-some P None t e h = absurd (let f : None ≡ Some t = e in cc)
 at-some P (Some u) t e h = let same : u ≡ t = cc in subst P same h
 
 -- the calls' answers, where nothing is done otherwise
-pub makes-same : (routers : ℕ) (rows : List AtomRow) (x : Labels) (tables : AllRoutes) (made : List Route) (now : List Change) (r : RouterId) (alone : Bool) (op : TableOp) → ArePaired routers rows x tables → r.0 < routers → (IsPut op → BeginsAtEnds (atoms_with rows x tables) (prefix_of_op op)) → IsTable made → IsPermutation made (after_table_op alone (get_or tables r.0 []) op) → ((a : ℕ) → way_in made a ≡ way_in (get_or tables r.0 []) a) → now ≡ [] → Makes routers rows x x tables (get_or tables r.0 []) made now r alone op
+pub makes-same : (routers : ℕ) (rows : List Span) (x : Labels) (tables : AllRoutes) (made : List Route) (now : List Change) (r : RouterId) (alone : Bool) (op : TableOp) → ArePaired routers rows x tables → r.0 < routers → (IsPut op → BeginsAtEnds (atoms_with rows x tables) (prefix_of_op op)) → IsTable made → IsPermutation made (after_table_op alone (get_or tables r.0 []) op) → ((a : ℕ) → way_in made a ≡ way_in (get_or tables r.0 []) a) → now ≡ [] → Makes routers rows x x tables (get_or tables r.0 []) made now r alone op
 makes-same routers rows x tables made now r alone op h l puts table moved same none = record {
   inside = l;
   own_is = refl;
@@ -271,7 +270,7 @@ makes-same routers rows x tables made now r alone op h l puts table moved same n
 }
 
 -- and where something is
-pub makes-turned : (routers : ℕ) (rows : List AtomRow) (x y : Labels) (tables : AllRoutes) (made : List Route) (now : List Change) (r : RouterId) (alone : Bool) (op : TableOp) (after : Way) (runs : List Run) → ArePaired routers rows x tables → r.0 < routers → (IsPut op → BeginsAtEnds (atoms_with rows x tables) (prefix_of_op op)) → IsTable made → IsPermutation made (after_table_op alone (get_or tables r.0 []) op) → IsTurned (get_or tables r.0 []) made (prefix_of_op op) after → AreOwnRuns made (prefix_of_op op) runs → IsMoved rows x y now r runs (followed [] after) → Makes routers rows x y tables (get_or tables r.0 []) made now r alone op
+pub makes-turned : (routers : ℕ) (rows : List Span) (x y : Labels) (tables : AllRoutes) (made : List Route) (now : List Change) (r : RouterId) (alone : Bool) (op : TableOp) (after : Way) (runs : List Run) → ArePaired routers rows x tables → r.0 < routers → (IsPut op → BeginsAtEnds (atoms_with rows x tables) (prefix_of_op op)) → IsTable made → IsPermutation made (after_table_op alone (get_or tables r.0 []) op) → IsTurned (get_or tables r.0 []) made (prefix_of_op op) after → AreOwnRuns made (prefix_of_op op) runs → IsMoved rows x y now r runs (followed [] after) → Makes routers rows x y tables (get_or tables r.0 []) made now r alone op
 makes-turned routers rows x y tables made now r alone op after runs h l puts table moved turned runs_are m = record {
   inside = l;
   own_is = refl;
@@ -282,8 +281,8 @@ makes-turned routers rows x y tables made now r alone op after runs h l puts tab
 }
 
 -- the router's list is put at its place
-pub paired-now : (routers : ℕ) (rows : List AtomRow) (x y : Labels) (tables new : AllRoutes) (own made : List Route) (now : List Change) (r : RouterId) (alone : Bool) (op : TableOp) → new ≡ set tables r.0 made → ArePaired routers rows x tables → Makes routers rows x y tables own made now r alone op → ArePaired routers rows y new
+pub paired-now : (routers : ℕ) (rows : List Span) (x y : Labels) (tables new : AllRoutes) (own made : List Route) (now : List Change) (r : RouterId) (alone : Bool) (op : TableOp) → new ≡ set tables r.0 made → ArePaired routers rows x tables → Makes routers rows x y tables own made now r alone op → ArePaired routers rows y new
 paired-now routers rows x y tables new own made now r alone op e h k = subst (λ (ts : AllRoutes). ArePaired routers rows y ts) (sym e) (paired-after-update routers rows x y tables own made now r alone op h k)
 
-pub retold-now : (routers : ℕ) (rows : List AtomRow) (x y : Labels) (tables new : AllRoutes) (own made : List Route) (now : List Change) (r : RouterId) (alone : Bool) (op : TableOp) → new ≡ set tables r.0 made → ArePaired routers rows x tables → Makes routers rows x y tables own made now r alone op → IsRetold (atoms_with rows x tables) (atoms_with rows y new) now
+pub retold-now : (routers : ℕ) (rows : List Span) (x y : Labels) (tables new : AllRoutes) (own made : List Route) (now : List Change) (r : RouterId) (alone : Bool) (op : TableOp) → new ≡ set tables r.0 made → ArePaired routers rows x tables → Makes routers rows x y tables own made now r alone op → IsRetold (atoms_with rows x tables) (atoms_with rows y new) now
 retold-now routers rows x y tables new own made now r alone op e h k = subst (λ (ts : AllRoutes). IsRetold (atoms_with rows x tables) (atoms_with rows y ts) now) (sym e) (retold-after-update routers rows x y tables own made now r alone op h k)

@@ -1,3 +1,4 @@
+pub mod Cuts
 pub mod Followed
 pub mod Grouped
 pub mod Looks

@@ -3,7 +3,7 @@ use Rattle.std.specs.Prelude.{ℕ, List, Bool, Option, None, Some, ◌+◌, ◌^
 use Rattle.base.specs.Cidr.{Cidr, size}
 use Rattle.base.specs.Rows.{is_within}
 use Rattle.net_engine.specs.Version.{Atom, begins_at, first_of, past_of}
-use Rattle.atom_map.specs.declared.atom_row.AtomRow.{AtomRow}
+use Rattle.atom_map.specs.Spans.{Span}
 use Rattle.dn_model.specs.Entry.{prefix_set}
 use Rattle.dn_model.specs.declared.entry.Entry.{Entry}
 use Rattle.dn_model.specs.declared.entry.Entry.TheVariants.{Route, Link}
@@ -60,5 +60,5 @@ prefix_of_entry (Route r n op) = prefix_touched op
 prefix_of_entry (Link j l down) = None
 
 -- how many atoms begin at one of the addresses from `lo` up to, and without, `past`
-abbrev pub atoms_begun : List AtomRow → ℕ → ℕ → ℕ
+abbrev pub atoms_begun : List Span → ℕ → ℕ → ℕ
 atoms_begun rows lo past = count_by (λ r. is_within lo past r.low) rows

@@ -51,11 +51,6 @@ pub record IsOwnUpdate (t : Topology) (u : Update) : Type 0 where
   pub router : u.router.0 < length t.routers
   pub op : IsTableOpOf t u.table.op
 
--- an update clears routes
-abbrev pub IsClear : TableOp → Type 0
-IsClear (Put p m w) = ⊥
-IsClear (Clear p m) = Unit {0}
-
 -- an update puts a route
 abbrev pub IsPut : TableOp → Type 0
 IsPut (Put p m w) = Unit {0}

@@ -8,6 +8,7 @@ use Rattle.base.specs.Rows.{is_within}
 use Rattle.net_engine.specs.Version.{Atom, Kept, begins_at, rules_at, target_at}
 use Rattle.base.specs.declared.change.Change.{Change}
 use Rattle.dn_model.specs.declared.entry.Route.{Route}
+use Rattle.dn_model.specs.declared.table_op.TableOp.{TableOp}
 use Rattle.base.specs.declared.ids.RouterId.{RouterId}
 use Rattle.base.specs.declared.target.Target.{Target}
 use Rattle.net_engine.specs.Looks.{atoms_between, atoms_met, atoms_put, more_at_ends}
@@ -55,25 +56,14 @@ pub record BeginsAtEnds (atoms : List Atom) (p : Cidr) : Type 0 where
   pub first : begins_at atoms p.base ≡ true
   pub past : p.base + size p < 2 ^ 32 → begins_at atoms (p.base + size p) ≡ true
 
--- a version whose atoms were cut at the ends of a prefix
-pub record IsCutAt (old new : Kept) (p : Cidr) : Type 0 where
-  pub whole : IsWhole new
-  pub topology : new.topology ≡ old.topology
-  pub routes : new.routes ≡ old.routes
-  pub parted : IsParted old.atoms new.atoms p
-  pub ends : BeginsAtEnds new.atoms p
-
--- An update of one router was made where atoms begin at its prefix's ends already: its routes are what the update makes
--- of them, and it is told where a router does something else than before.
-pub record IsRemade (old new : Kept) (u : Update) (changes : List Change) : Type 0 where
-  pub whole : IsWhole new
-  pub topology : new.topology ≡ old.topology
-  pub routes : UpdatesAt u old.routes new.routes
-  pub begins : (a : ℕ) → begins_at new.atoms a ≡ begins_at old.atoms a
+-- An update was made: atoms begin at the ends of a prefix that it puts too, and it is told where a router does something else
+-- than before. As many atoms as before have addresses of its prefix.
+pub record AreUpdated (old new : List Atom) (op : TableOp) (changes : List Change) : Type 0 where
+  pub begins : (a : ℕ) → a < 2 ^ 32 → begins_at new a ≡ (begins_at old a || puts_end a op)
   pub form : AreChanges changes
-  pub tells : (q : RouterId) (a : ℕ) → a < 2 ^ 32 → TellsChange (target_at old.atoms q a) (target_at new.atoms q a) (change_at changes q a)
-  pub long : length new.atoms ≡ length old.atoms
-  pub met : atoms_met new.atoms (prefix_of_op u.table.op) ≡ atoms_met old.atoms (prefix_of_op u.table.op)
+  pub tells : (q : RouterId) (a : ℕ) → a < 2 ^ 32 → TellsChange (target_at old q a) (target_at new q a) (change_at changes q a)
+  pub added : length new ≡ length old + atoms_put old op
+  pub met : atoms_met new (prefix_of_op op) ≡ atoms_met old (prefix_of_op op)
 
 -- An update of one router was made: its routes are what the update makes of them, atoms begin at the ends of a prefix
 -- that it puts too, and it is told where a router does something else than before.

@@ -1,21 +1,20 @@
 //! Atoms with what each router does there and the rules that it has there.
 
 ghost use Rattle.std.specs.Prelude.{◌≡◌, ◌+◌, ◌<◌, ◌≤◌, ◌^◌, ◌∷◌, [], IfOk, OnOk, length, slice_index_or, replicate};
-ghost use Rattle.atom_map.specs.Index.{IsAtomAt};
 ghost use Rattle.dn_model.specs.Table.{prefix_of_op};
 ghost use Rattle.base.specs.Forwarding.{target_of};
 ghost use Rattle.dn_model.specs.Table.{followed};
-ghost use Rattle.net_engine.specs.Updates.{IsPut};
 ghost use Rattle.net_engine.specs.Version.{Atom, first_of, past_of};
 ghost use Rattle.net_engine.specs.Looks.{atoms_met};
-ghost use Rattle.net_engine.specs.Net.{cut_atoms, first_atom};
+ghost use Rattle.net_engine.specs.Net.{first_atom};
 ghost use Rattle.net_engine.specs.Seen.{IsPaired, net_in};
-ghost use Rattle.net_engine.specs.Walked.{BeginsAtEnds, IsRetold, UpdatesAt};
+ghost use Rattle.net_engine.specs.Walked.{AreUpdated, UpdatesAt};
 
+use crate::ends::cut_if_new;
 use crate::relabel::reroute;
 use crate::router_tables::RouterTables;
 use crate::update::Update;
-use atom_map::{AtomMap, AtomSpot};
+use atom_map::Bounds;
 use delta_graph::Delta;
 use dn_model::{OutOfMemory, RouterId, Run, Target, Way};
 use std::alloc::Global;
@@ -29,7 +28,7 @@ use target_rows::TargetRows;
 #[derive(Drop)]
 pub struct Net {
     routers: u32,
-    atoms: AtomMap,
+    atoms: Bounds,
     labels: TargetRows,
     tables: RouterTables,
     /// The runs of an update, in the memory of those of the one before.
@@ -44,7 +43,7 @@ impl Net {
         ensures paired { IfOk result IsPaired }
         ensures tables { IfOk result (λ net. net.tables ≡ replicate routers []) }
     {
-        let atoms = AtomMap::new(alloc)?;
+        let atoms = Bounds::new(alloc)?;
         let labels = TargetRows::new(alloc, routers)?;
         let tables = RouterTables::new(alloc, routers)?;
         Ok(Net {
@@ -56,48 +55,34 @@ impl Net {
         })
     }
 
-    /// Cuts the atom that has an address in two there, if it doesn't begin there: both parts have what the whole has.
-    /// No router's routes are touched. It looks for the atom first near a place that may be at hand, and answers the
-    /// place of the atom that begins at the address then. It fails for want of memory alone, and then nothing is said of
-    /// it.
-    pub fn cut(&mut self, alloc: Global, at: u32, near: Option<u64>) -> Result<u64, OutOfMemory>
-        requires { IsPaired self.old }
-        ensures routers { OnOk result (self.new.routers ≡ self.old.routers) }
-        ensures atoms { OnOk result ((net_in self.new).atoms ≡ cut_atoms (net_in self.old).atoms at) }
-        ensures paired { OnOk result (IsPaired self.new) }
-        ensures tables { OnOk result (self.new.tables ≡ self.old.tables) }
-    {
-        let spot = spot_near(&self.atoms, near, at);
-        let next = spot.place + 1;
-        let Some(_parts) = self.atoms.cut_at(alloc, spot, at)? else {
-            return Ok(spot.place);
-        };
-        self.labels.part(alloc, spot.place)?;
-        Ok(next)
-    }
-
     /// Makes an update of a router, and tells where it does something else than before. Where it puts a route, atoms begin
-    /// at the ends of its prefix. The atom that begins where the prefix does is looked for first near a place that may be
-    /// at hand. It fails for want of memory alone, and then nothing is said of it.
+    /// at the ends of its prefix then: they are cut there where the router and its neighbours had no route of the
+    /// prefix, and else begin there already. It fails for want of memory alone, and then nothing is said of it.
     pub fn update<L: Ledger>(
         &mut self,
         alloc: Global,
         update: &Update,
-        near: Option<u64>,
         steps: &mut Steps<L>,
     ) -> Result<Delta, OutOfMemory>
         requires paired { IsPaired self.old }
         requires router { update.now.router.0 < self.old.routers }
-        requires ends { IsPut update.now.table.op →
-            BeginsAtEnds (net_in self.old).atoms (prefix_of_op update.now.table.op) }
         ensures routers { OnOk result (self.new.routers ≡ self.old.routers) }
         ensures paired { OnOk result (IsPaired self.new) }
         ensures tables { OnOk result (UpdatesAt update.now self.old.tables self.new.tables) }
-        ensures told { IfOk result (IsRetold (net_in self.old).atoms (net_in self.new).atoms) }
+        ensures told { IfOk result (AreUpdated (net_in self.old).atoms (net_in self.new).atoms update.now.table.op) }
         ensures cost { steps.new ≤
             steps.old + 2 + atoms_met (net_in self.old).atoms (prefix_of_op update.now.table.op) }
     {
-        let Some(way) = self.tables.update(alloc, update, &mut self.runs, steps)? else {
+        let told = self.tables.update(alloc, update, &mut self.runs, steps)?;
+        let prefix = update.table.op.prefix();
+        let near = cut_if_new(
+            alloc,
+            &mut self.atoms,
+            &mut self.labels,
+            told.is_new,
+            prefix,
+        )?;
+        let Some(way) = told.after else {
             return Ok(Delta::new(alloc));
         };
         let delta = reroute(
@@ -159,8 +144,7 @@ impl Net {
         ensures low { (d : Atom) → result.0 ≡ first_of (slice_index_or (net_in self.now).atoms i d) }
         ensures past { (d : Atom) → result.1 ≡ past_of (slice_index_or (net_in self.now).atoms i d) }
     {
-        let row = self.atoms.at(i);
-        (row.low, row.past)
+        self.atoms.bounds(i)
     }
 
     /// What a router does with the addresses of the atom at a place. The atom itself is not looked at.
@@ -181,15 +165,5 @@ fn done_by(way: Way) -> Target
     match way {
         Way::Straight(target) => target,
         Way::By(_) => Target::NoRoute,
-    }
-}
-
-/// The atom of an address, and its place. It looks first near a place that may be at hand.
-fn spot_near(atoms: &AtomMap, near: Option<u64>, at: u32) -> AtomSpot
-    ensures { IsAtomAt atoms.now result.place at result.row }
-{
-    match near {
-        Some(place) => atoms.spot_from(place, at),
-        None => atoms.spot_of(at),
     }
 }

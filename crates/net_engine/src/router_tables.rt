@@ -6,12 +6,12 @@ ghost use Rattle.dn_model.specs.Table.{prefix_of_op};
 ghost use Rattle.dn_model.specs.Routes.{IsTable};
 ghost use Rattle.dn_model.specs.Table.{way_in};
 ghost use Rattle.net_engine.specs.Updates.{after_update, its_routes};
-ghost use Rattle.route_table.specs.Own.{AreOwnRuns, IsLooked, IsTurned, SetsOrHas};
+ghost use Rattle.route_table.specs.Own.{AreOwnRuns, IsLooked, IsTurned, SetsOrHas, TellsNew};
 
 use crate::router_group::RouterGroup;
 use crate::update::Update;
-use dn_model::{OutOfMemory, Run, Way};
-use route_table::LANES;
+use dn_model::{OutOfMemory, Run};
+use route_table::{LANES, Told};
 use std::alloc::Global;
 use std::marker::Model;
 use std::sync::ledger::Ledger;
@@ -49,29 +49,31 @@ impl RouterTables {
 
     /// Makes an update of a router, and tells the runs of the own addresses of its prefix, at which the router has no
     /// route of a longer one: it answers what the router does there after it. Where it answers nothing, the router does
-    /// the same everywhere. It fails for want of memory alone, and then the router's routes may be changed. Its steps
-    /// are those of `RouteTables::update`.
+    /// the same everywhere. It tells beside that whether it put a route of a prefix of which neither the router nor its
+    /// neighbours had one. It fails for want of memory alone, and then the router's routes may be changed. Its steps are
+    /// those of `RouteTables::update`.
     pub fn update<L: Ledger>(
         &mut self,
         alloc: Global,
         update: &Update,
         runs: &mut Vec<Run>,
         steps: &mut Steps<L>,
-    ) -> Result<Option<Way>, OutOfMemory>
+    ) -> Result<Told, OutOfMemory>
         requires { update.now.router.0 < length self.old }
         ensures table { OnOk result (
             IsPermutation (its_routes update.now self.new) (after_update update.now (its_routes update.now self.old))) }
         ensures others { self.new ≡ slice_set self.old update.now.router.0 (its_routes update.now self.new) }
         ensures form { IsTable (its_routes update.now self.new) }
-        ensures same { IfOk result (λ after. IfNone after ((a : ℕ) →
+        ensures same { IfOk result (λ told. IfNone told.after ((a : ℕ) →
             way_in (its_routes update.now self.new) a ≡ way_in (its_routes update.now self.old) a)) }
-        ensures turned { IfOk result (λ after. IfSome after (
+        ensures turned { IfOk result (λ told. IfSome told.after (
             IsTurned (its_routes update.now self.old) (its_routes update.now self.new)
             (prefix_of_op update.now.table.op))) }
-        ensures runs { IfOk result (λ after. IfSome after (λ _.
+        ensures runs { IfOk result (λ told. IfSome told.after (λ _.
             AreOwnRuns (its_routes update.now self.new) (prefix_of_op update.now.table.op) runs.new.items)) }
-        ensures had { IfOk result (λ after. IfSome after (λ _.
+        ensures had { IfOk result (λ told. IfSome told.after (λ _.
             SetsOrHas (its_routes update.now self.old) update.now.table.op)) }
+        ensures new { IfOk result (λ told. TellsNew self.old update.now.table.op told.is_new) }
         ensures cost { IsLooked (its_routes update.now self.old) (prefix_of_op update.now.table.op)
             steps.old steps.new }
     {

@@ -6,18 +6,17 @@ ghost use Rattle.dn_model.specs.LastDelta.{IsDeltaOf};
 ghost use Rattle.dn_model.specs.Entry.{IsEntryOf};
 ghost use Rattle.dn_model.specs.Table.{prefix_of_op};
 ghost use Rattle.net_engine.specs.Followed.{IsFollowed};
-ghost use Rattle.net_engine.specs.Updates.{IsClear, IsOwnUpdate, IsPut};
+ghost use Rattle.net_engine.specs.Updates.{IsOwnUpdate};
 ghost use Rattle.net_engine.specs.Version.{KeptStandsFor};
 ghost use Rattle.dn_model.specs.declared.entry.Entry.{Entry as EntryIs};
 ghost use Rattle.net_engine.specs.Looks.{atoms_added, atoms_met, prefix_of_entry};
 ghost use Rattle.net_engine.specs.Seen.{IsSound, kept_in};
-ghost use Rattle.net_engine.specs.Walked.{BeginsAtEnds, IsCutAt, IsRemade, IsUpdated};
+ghost use Rattle.net_engine.specs.Walked.{IsUpdated};
 
-use crate::ends::cut_ends;
 use crate::net::Net;
 use crate::update::{Update, update_of};
 use delta_graph::Delta;
-use dn_model::{Entry, OutOfMemory, Prefix, TableOp, Topology};
+use dn_model::{Entry, OutOfMemory, Topology};
 use std::alloc::Global;
 use std::sync::Arc;
 use std::sync::ledger::Ledger;
@@ -43,93 +42,22 @@ impl State {
         Ok(State { topology: t, net })
     }
 
-    /// Makes atoms begin at the ends of a prefix too, and answers the place of the one that begins where the prefix does.
-    fn cut(&mut self, alloc: Global, prefix: Prefix) -> Result<u64, OutOfMemory>
-        requires { IsSound self.old }
-        ensures made { OnOk result (IsCutAt (kept_in self.old) (kept_in self.new) prefix) }
-        ensures sound { OnOk result (IsSound self.new) }
-    {
-        let first = cut_ends(&mut self.net, alloc, prefix)?;
-        Ok(first)
-    }
-
-    /// Makes an update of one of the routers. Where it puts a route, atoms begin at the ends of its prefix. There may be a
-    /// place near which to look first for the atom that begins where the prefix does.
+    /// Makes an update of one of the routers. Where it puts a route, atoms begin at the ends of its prefix then.
     fn update<L: Ledger>(
         &mut self,
         alloc: Global,
         update: &Update,
-        near: Option<u64>,
         steps: &mut Steps<L>,
     ) -> Result<Delta, OutOfMemory>
         requires sound { IsSound self.old }
         requires own { IsOwnUpdate (kept_in self.old).topology update.now }
-        requires ends { IsPut update.now.table.op →
-            BeginsAtEnds (kept_in self.old).atoms (prefix_of_op update.now.table.op) }
-        ensures made { IfOk result (λ delta. IsRemade (kept_in self.old) (kept_in self.new) update.now delta) }
+        ensures made { IfOk result (λ delta. IsUpdated (kept_in self.old) (kept_in self.new) update.now delta) }
         ensures sound { OnOk result (IsSound self.new) }
         ensures cost { steps.new ≤
             steps.old + 2 + atoms_met (kept_in self.old).atoms (prefix_of_op update.now.table.op) }
     {
-        let delta = self.net.update(alloc, update, near, steps)?;
+        let delta = self.net.update(alloc, update, steps)?;
         Ok(delta)
-    }
-
-    /// Makes a clearing, which cuts no atom.
-    fn clear<L: Ledger>(
-        &mut self,
-        alloc: Global,
-        update: &Update,
-        steps: &mut Steps<L>,
-    ) -> Result<Delta, OutOfMemory>
-        requires sound { IsSound self.old }
-        requires own { IsOwnUpdate (kept_in self.old).topology update.now }
-        requires clears { IsClear update.now.table.op }
-        ensures made { IfOk result (λ delta. IsUpdated (kept_in self.old) (kept_in self.new) update.now delta) }
-        ensures sound { OnOk result (IsSound self.new) }
-        ensures cost { steps.new ≤
-            steps.old + 2 + atoms_met (kept_in self.old).atoms (prefix_of_op update.now.table.op) }
-    {
-        self.update(alloc, update, None, steps)
-    }
-
-    /// Puts a route, for which atoms are cut at the ends of its prefix.
-    fn put<L: Ledger>(
-        &mut self,
-        alloc: Global,
-        update: &Update,
-        steps: &mut Steps<L>,
-    ) -> Result<Delta, OutOfMemory>
-        requires sound { IsSound self.old }
-        requires own { IsOwnUpdate (kept_in self.old).topology update.now }
-        requires puts { IsPut update.now.table.op }
-        ensures made { IfOk result (λ delta. IsUpdated (kept_in self.old) (kept_in self.new) update.now delta) }
-        ensures sound { OnOk result (IsSound self.new) }
-        ensures cost { steps.new ≤
-            steps.old + 2 + atoms_met (kept_in self.old).atoms (prefix_of_op update.now.table.op) }
-    {
-        let first = self.cut(alloc, update.table.op.prefix())?;
-        self.update(alloc, update, Some(first), steps)
-    }
-
-    /// Makes an update of one of the routers.
-    fn updated<L: Ledger>(
-        &mut self,
-        alloc: Global,
-        update: &Update,
-        steps: &mut Steps<L>,
-    ) -> Result<Delta, OutOfMemory>
-        requires sound { IsSound self.old }
-        requires own { IsOwnUpdate (kept_in self.old).topology update.now }
-        ensures made { IfOk result (λ delta. IsUpdated (kept_in self.old) (kept_in self.new) update.now delta) }
-        ensures sound { OnOk result (IsSound self.new) }
-        ensures cost { steps.new ≤
-            steps.old + 2 + atoms_met (kept_in self.old).atoms (prefix_of_op update.now.table.op) }
-    {
-        match update.table.op {
-            TableOp::Put { .. } => self.put(alloc, update, steps),
-            TableOp::Clear { .. } => self.clear(alloc, update, steps),
-        }
     }
 
     /// Makes an update of one of the routers, and tells where that changes what the router does. It fails for want of
@@ -158,7 +86,7 @@ impl State {
             steps.new ≤ steps.old + 2 + atoms_met (kept_in self.old).atoms p) }
     {
         let update = update_of(&self.topology, entry);
-        let delta = self.updated(alloc, &update, steps)?;
+        let delta = self.update(alloc, &update, steps)?;
         Ok(delta)
     }
 

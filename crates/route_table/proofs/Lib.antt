@@ -4,6 +4,7 @@ pub mod Blocks
 pub mod Changing
 pub mod Crossing
 pub mod Kept
+pub mod Known
 pub mod Listed
 pub mod Made
 pub mod OwnRuns

@@ -108,7 +108,7 @@ update-whole slots new lengths alone op i first h sound f u =
     (put-whole slots lengths p i u.slot h sound f ((u.made u.slot).same ∙ found-prefix slots p i u.slot h.form sound f) (u.made u.slot).metrics)
 
 -- where there are some in the slot the prefix has a route
-slot-has : (slots : List PrefixRoutes) (op : TableOp) (i : ℕ) (s : PrefixRoutes) → AreSlots slots → IsCidr (prefix_of_op op) → IsFound slot_key slots (key_of (prefix_of_op op)) i → s ≡ get_or slots i s → SetsOrHasSome s.targets op → SetsOrHas (routes_of slots) op
+pub slot-has : (slots : List PrefixRoutes) (op : TableOp) (i : ℕ) (s : PrefixRoutes) → AreSlots slots → IsCidr (prefix_of_op op) → IsFound slot_key slots (key_of (prefix_of_op op)) i → s ≡ get_or slots i s → SetsOrHasSome s.targets op → SetsOrHas (routes_of slots) op
 slot-has slots (Put p m t) i s h sound f is some = tt
 slot-has slots (Clear p m) i s h sound f is some =
     let x : MetricWay = get_or s.targets 0 (entry 0 (Straight NoRoute)) in

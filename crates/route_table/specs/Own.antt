@@ -46,6 +46,18 @@ abbrev pub SetsOrHas : List Route → TableOp → Type 0
 SetsOrHas routes (Put p m t) = Unit {0}
 SetsOrHas routes (Clear p m) = list_any (is_of_prefix p) routes ≡ true
 
+-- whether one of some tables has a route of a prefix
+abbrev pub is_held : List (List Route) → Cidr → Bool
+is_held tables p = list_any (λ routes. list_any (is_of_prefix p) routes) tables
+
+-- what is told of an update: that it puts a route, whose prefix may be new to all of some tables; or that it puts one whose
+-- prefix one of them has a route of, or clears
+abbrev pub TellsNew : List (List Route) → TableOp → Bool → Type 0
+TellsNew tables (Put p m w) true = Unit {0}
+TellsNew tables (Put p m w) false = is_held tables p ≡ true
+TellsNew tables (Clear p m) true = ⊥
+TellsNew tables (Clear p m) false = Unit {0}
+
 -- addresses in order, from `lo` up to, and without, `past`, at each of which a route's prefix begins
 abbrev pub BeginWithin : List Route → ℕ → ℕ → List ℕ → Type 0
 BeginWithin routes lo past [] = Unit {0}

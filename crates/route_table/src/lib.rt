@@ -16,5 +16,5 @@ mod update;
 
 pub use rows::LANES;
 pub use table::RouteTable;
-pub use table_update::TableUpdate;
+pub use table_update::{TableUpdate, Told};
 pub use tables::RouteTables;

@@ -3,7 +3,7 @@
 ghost use Rattle.std.specs.Prelude.{◌≡◌, ◌≢◌, ◌<◌, ◌≤◌, ◌∷◌, ℕ, [], None, OnOk, OnErr, IfOk, IfSome, IfNone, IsFalse, IsTrue, IsPermutation, length, slice_index_or};
 ghost use Rattle.base.specs.Cidr.{IsCidr};
 ghost use Rattle.route_table.specs.Ascending.{AscendsFrom, IsFound, IsGap, IsPlace};
-ghost use Rattle.route_table.specs.Rows.{row_key, slot_in, slots_in, AddsSlots, KeepsSlots};
+ghost use Rattle.route_table.specs.Rows.{row_key, slot_in, slots_in, AddsSlots, IsHeld, KeepsSlots, TellsFirst};
 ghost use Rattle.route_table.specs.Slots.{key_of, AreSlots, IsAddedAt, IsUnchangedBy, IsUpdatedAt, IsUpdatedIn, SetsOrHasSome, updated_targets};
 ghost use Rattle.route_table.specs.Targets.{metric_of, IsFirst};
 ghost use Rattle.route_table.specs.declared.rows.PrefixRow.{PrefixRow as Row};
@@ -111,6 +111,28 @@ pub fn first_of(row: &PrefixRow, lane: usize) -> Option<Way>
 {
     let first = row.targets(lane).first()?;
     Some(first.way)
+}
+
+/// Whether one of the tables has a route in a row.
+fn is_held(row: &PrefixRow) -> bool
+    ensures { IsTrue result → IsHeld row.now }
+{
+    'lanes: for lane in 0..LANES {
+        if row.targets(lane).has(None) {
+            return true;
+        }
+    }
+    false
+}
+
+/// Whether an update puts a route into a row in which none of the tables has one.
+pub fn is_first(row: &PrefixRow, op: &TableOp) -> bool
+    ensures { TellsFirst row.now op.now result }
+{
+    match op {
+        TableOp::Put { .. } => !is_held(row),
+        TableOp::Clear { .. } => false,
+    }
 }
 
 /// Whether an update of its prefix changes anything in a slot.

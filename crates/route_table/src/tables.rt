@@ -4,15 +4,15 @@ ghost use Rattle.std.specs.Prelude.{◌≡◌, ◌<◌, ℕ, [], OnOk, IfOk, IfS
 ghost use Rattle.dn_model.specs.Table.{prefix_of_op};
 ghost use Rattle.dn_model.specs.Routes.{IsTable};
 ghost use Rattle.dn_model.specs.Table.{after_table_op, way_in};
-ghost use Rattle.route_table.specs.Own.{AreOwnRuns, IsLooked, IsTurned, SetsOrHas};
+ghost use Rattle.route_table.specs.Own.{AreOwnRuns, IsLooked, IsTurned, SetsOrHas, TellsNew};
 ghost use Rattle.route_table.specs.Tables.{table_at};
 
 use crate::lengths::Lengths;
 use crate::own::push_own_runs;
 use crate::rows::PrefixRow;
-use crate::table_update::TableUpdate;
+use crate::table_update::{TableUpdate, Told};
 use crate::update::{done_above, make};
-use dn_model::{OutOfMemory, Run, Way};
+use dn_model::{OutOfMemory, Run};
 use std::alloc::Global;
 use std::marker::Model;
 use std::sync::ledger::Ledger;
@@ -64,9 +64,10 @@ impl RouteTables {
 
     /// Makes an update of the router that has this number, from 0 to 3, and tells the runs of the own addresses of its
     /// prefix, at which the router has no route of a longer one: it answers what the router does there after it. Where
-    /// it answers nothing, the router does the same everywhere. The other routers' tables stay as they are. The row of
-    /// the prefix is looked for first near a place: any will do. It fails for want of memory alone, and then the
-    /// router's table may be changed.
+    /// it answers nothing, the router does the same everywhere. It tells beside that whether it put a route of a prefix of
+    /// which none of the four routers had one. The other routers' tables stay as they are. The row of the prefix is looked
+    /// for first near a place: any will do. It fails for want of memory alone, and then the router's table may be
+    /// changed.
     ///
     /// A step is a look at the router's routes of one prefix that has some, or at what it does above one that has none.
     /// It takes two at most, and one for each of some different addresses of the prefix at which prefixes of the
@@ -81,36 +82,47 @@ impl RouteTables {
         near: u64,
         runs: &mut Vec<Run>,
         steps: &mut Steps<L>,
-    ) -> Result<Option<Way>, OutOfMemory>
+    ) -> Result<Told, OutOfMemory>
         requires { lane < 4 }
         ensures table { OnOk result (IsPermutation (table_at self.new lane)
             (after_table_op update.now.alone (table_at self.old lane) update.now.op)) }
         ensures others { self.new ≡ slice_set self.old lane (table_at self.new lane) }
         ensures form { IsTable (table_at self.new lane) }
-        ensures same { IfOk result (λ after. IfNone after ((a : ℕ) →
+        ensures same { IfOk result (λ told. IfNone told.after ((a : ℕ) →
             way_in (table_at self.new lane) a ≡ way_in (table_at self.old lane) a)) }
-        ensures turned { IfOk result (λ after. IfSome after (
+        ensures turned { IfOk result (λ told. IfSome told.after (
             IsTurned (table_at self.old lane) (table_at self.new lane) (prefix_of_op update.now.op))) }
-        ensures runs { IfOk result (λ after. IfSome after (λ _.
+        ensures runs { IfOk result (λ told. IfSome told.after (λ _.
             AreOwnRuns (table_at self.new lane) (prefix_of_op update.now.op) runs.new.items)) }
-        ensures had { IfOk result (λ after. IfSome after (λ _. SetsOrHas (table_at self.old lane) update.now.op)) }
+        ensures had { IfOk result (λ told. IfSome told.after (λ _. SetsOrHas (table_at self.old lane) update.now.op)) }
+        ensures new { IfOk result (λ told. TellsNew self.old update.now.op told.is_new) }
         ensures cost { IsLooked (table_at self.old lane) (prefix_of_op update.now.op) steps.old steps.new }
     {
         let prefix = update.op.prefix();
         runs.clear();
         steps.tick();
         let Some(made) = make(alloc, &mut self.rows, lane, &mut self.lengths, update, near)? else {
-            return Ok(None);
+            return Ok(Told {
+                after: None,
+                is_new: false,
+            });
         };
+        let is_new = made.is_new;
         if made.first.is_some() && made.first == made.before {
-            return Ok(None);
+            return Ok(Told {
+                after: None,
+                is_new,
+            });
         }
         let after = match made.first {
             Some(way) => way,
             None => done_above(&self.rows, lane, &self.lengths, prefix, made, steps),
         };
         push_own_runs(&self.rows, lane, made.place, prefix, runs, steps)?;
-        Ok(Some(after))
+        Ok(Told {
+            after: Some(after),
+            is_new,
+        })
     }
 
     /// The same tables again, which share their routes with these.

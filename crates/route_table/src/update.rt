@@ -7,13 +7,14 @@ ghost use Rattle.dn_model.specs.Table.{after_table_op};
 ghost use Rattle.route_table.specs.Above.{IsDoneAbove};
 ghost use Rattle.route_table.specs.Ascending.{IsFound, IsGap};
 ghost use Rattle.route_table.specs.Made.{IsMade};
-ghost use Rattle.route_table.specs.Rows.{row_key, slots_in, AreWhole, KeepsRoutes};
+ghost use Rattle.route_table.specs.Own.{TellsNew};
+ghost use Rattle.route_table.specs.Rows.{row_key, slots_in, tables_in, AreWhole, KeepsRoutes};
 ghost use Rattle.route_table.specs.Searches.{IsBaseBefore};
 ghost use Rattle.route_table.specs.Slots.{key_of, routes_of, slot_key};
 
 use crate::above::first_above;
 use crate::lengths::Lengths;
-use crate::rows::{LANES, PrefixRow, add_at, changes, first_of, update_at};
+use crate::rows::{LANES, PrefixRow, add_at, changes, first_of, is_first, update_at};
 use crate::search::{Spot, look};
 use crate::table_update::TableUpdate;
 use dn_model::{OutOfMemory, Prefix, Route, TableOp, Target, Way};
@@ -23,13 +24,15 @@ use step_count::Steps;
 use version_pages::Pages;
 
 /// An update that was made in the row of its prefix: where that stands, the first address of the prefix of the row
-/// before it, if that was at hand, and what the prefix's route with the least metric did and does.
+/// before it, if that was at hand, what the prefix's route with the least metric did and does, and whether a route was put
+/// where none of the tables had one of the prefix.
 #[derive(Clone, Copy, Debug, PartialEq, Eq)]
 pub struct Made {
     pub place: u64,
     pub base: Option<u32>,
     pub before: Option<Way>,
     pub first: Option<Way>,
+    pub is_new: bool,
 }
 
 /// Where a row belongs that isn't there, with the first address of the prefix of the row before it, if that was at hand.
@@ -60,6 +63,8 @@ pub fn make(
     ensures err { OnErr result (rows.new ≡ rows.old) }
     ensures others { KeepsRoutes lane rows.old rows.new }
     ensures whole { AreWhole rows.new lengths.new }
+    ensures new { IfOk result (λ made. IfSome made (λ m. TellsNew (tables_in rows.old) update.now.op m.is_new)) }
+    ensures known { IfOk result (λ made. IfNone made (TellsNew (tables_in rows.old) update.now.op false)) }
 {
     let Spot {
         place,
@@ -73,12 +78,14 @@ pub fn make(
         return Ok(None);
     }
     let before = first_of(row, lane);
+    let is_new = is_first(row, &update.op);
     let first = update_at(alloc, rows, lane, place, update)?;
     Ok(Some(Made {
         place,
         base,
         before,
         first,
+        is_new,
     }))
 }
 
@@ -104,6 +111,8 @@ fn make_first(
     ensures err { OnErr result (rows.new ≡ rows.old) }
     ensures others { KeepsRoutes lane rows.old rows.new }
     ensures whole { AreWhole rows.new lengths.new }
+    ensures new { IfOk result (λ made. IfSome made (λ m. TellsNew (tables_in rows.old) update.now.op m.is_new)) }
+    ensures known { IfOk result (λ made. IfNone made (TellsNew (tables_in rows.old) update.now.op false)) }
 {
     let TableOp::Put {
         prefix,
@@ -125,6 +134,7 @@ fn make_first(
         base: gap.base,
         before: None,
         first: Some(*way),
+        is_new: true,
     }))
 }
 

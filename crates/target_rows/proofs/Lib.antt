@@ -7,3 +7,4 @@ pub mod RowLemmas
 pub mod RunLemmas
 pub mod SplitLemmas
 pub mod TargetLemmas
+pub mod TurnLemmas

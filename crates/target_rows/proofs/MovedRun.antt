@@ -1,7 +1,7 @@
 -- What routers do where one of them does something else with atoms that stand side by side.
-use Rattle.std.proofs.Common.{◌≡◌, ◌≢◌, ℕ, ◌+◌, ◌-◌, ◌<◌, ◌≤◌, List, [], length, map, take, drop, get_or, set, ap, ⊎_elim, ◌∙◌, arith, get_or-set_other, get_or-set_same}
+use Rattle.std.proofs.Common.{◌≡◌, ◌≢◌, ℕ, ◌+◌, ◌-◌, ◌<◌, ◌≤◌, List, [], length, map, take, drop, get_or, set, ap, sym, ⊎_elim, ◌∙◌, arith, get_or-set_other, get_or-set_same}
 use Rattle.std.proofs.lemmas.Bool.{cases_lt}
-use Rattle.std.proofs.lemmas.List.{get_or-drop, get_or-map, get_or-take, length-drop, length-map, length-set, length-take-le}
+use Rattle.std.proofs.lemmas.List.{get_or-drop, get_or-map, get_or-take, get_or_default, length-drop, length-map, length-set, length-take-le, same_lists, set-get_or}
 use Rattle.base.specs.declared.target.Target.{Target}
 use Rattle.base.specs.declared.target.Target.TheVariants.{NoRoute}
 use Rattle.target_rows.specs.Labels.{Labels, moved_run, target_at, targets_of}
@@ -71,3 +71,19 @@ module _ (g : Labels) (r first past : ℕ) (after : Target) (order : first ≤ p
       (λ (m : past ≤ k). ap length (moved_run-away k (λ n o. omega arith)))
       (cases_lt k past))
       (cases_lt k first)
+
+  -- where the router does this already, each row stays
+  pub moved_run-same : ((k : ℕ) → first ≤ k → k < past → target_at g r k ≡ after) → (moved_run g r first past after).rows ≡ g.rows
+  moved_run-same does = same_lists (moved_run g r first past after).rows g.rows moved_run-long (λ k d l.
+      let lk : k < length g.rows = omega (arith, moved_run-long) in
+      get_or_default (moved_run g r first past after).rows k d [] l ∙ each k ∙ get_or_default g.rows k [] d lk)
+    where
+      each : (k : ℕ) → targets_of (moved_run g r first past after) k ≡ targets_of g k
+      each k = ⊎_elim
+          (λ (l : k < first). moved_run-away k (λ m o. omega arith))
+          (λ (l : first ≤ k).
+          ⊎_elim
+          (λ (m : k < past). moved_run-row k l m ∙ ap (set (targets_of g k) r) (sym (does k l m)) ∙ set-get_or (targets_of g k) r NoRoute)
+          (λ (m : past ≤ k). moved_run-away k (λ n o. omega arith))
+          (cases_lt k past))
+          (cases_lt k first)

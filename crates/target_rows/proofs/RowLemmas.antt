@@ -1,8 +1,8 @@
 -- Rows of codes in one list.
-use Rattle.std.proofs.Common.{◌≡◌, ℕ, suc, ◌+◌, ◌-◌, ◌*◌, ◌/◌, ◌%◌, ◌<◌, ◌≤◌, List, [], ◌∷◌, ◌++◌, length, map, take, drop, get_or, refl, ap, sym, ◌∙◌, arith, length-append}
+use Rattle.std.proofs.Common.{◌≡◌, ℕ, suc, ◌+◌, ◌*◌, ◌/◌, ◌%◌, ◌<◌, ◌≤◌, List, [], ◌∷◌, ◌++◌, length, map, take, drop, get_or, refl, ap, sym, ◌∙◌, arith, length-append}
 use Rattle.std.proofs.lemmas.List.{get_or-drop, get_or-take, length-drop, length-take-le, take-take, drop-drop}
 use Rattle.std.proofs.lemmas.Nat.{div-mul-add, mod-mul-add, mul-le}
-use Rattle.std.proofs.Math.Seq.{take-add}
+use Rattle.std.proofs.Math.Seq.{take-add, take-append_seam}
 use Rattle.target_rows.specs.Rows.{code_at, codes_of}
 
 pub row-fits : (a atoms n : ℕ) → a < atoms → a * n + n ≤ atoms * n
@@ -37,6 +37,22 @@ row-more codes row run from more so page few =
     ∙ ap (λ xs. take (length row) (drop from codes) ++ xs) next
     ∙ sym (take-add (length row) more (drop from codes))
     ∙ ap (λ n. take n (drop from codes)) (sym long)
+
+-- the front of a row that has what stands from a place on, with what a page has
+pub front-more : {X : Type 0} (chunks row new run : List X) (from done more : ℕ) → done + more ≤ length row → more ≤ length run → take done row ≡ take done (drop from chunks) → take (length run) (drop (from + done) chunks) ≡ run → new ≡ take done row ++ take more run ++ drop (done + more) row → (length new ≡ length row) × (take (done + more) new ≡ take (done + more) (drop from chunks))
+front-more chunks row new run from done more room few so page made =
+    let front : length (take done row) ≡ done = length-take-le done row (omega arith) in
+    let next : length (take more run) ≡ more = length-take-le more run few in
+    let long : length (take done row ++ take more run) ≡ done + more = omega (arith, length-append (take done row) (take more run), front, next) in
+    let on : take done row ++ take more run ≡ take (length (take done row ++ take more run)) (drop from chunks) =
+    row-more chunks (take done row) run from more (so ∙ ap (λ n. take n (drop from chunks)) (sym front)) (ap (λ n. take (length run) (drop (from + n) chunks)) front ∙ page) few in (
+      ap length made ∙ omega (arith, length-append (take done row ++ take more run) (drop (done + more) row), length-drop (done + more) row, long),
+      ap (λ xs. take (done + more) xs) made
+          ∙ ap (λ n. take n (take done row ++ take more run ++ drop (done + more) row)) (sym long)
+          ∙ take-append_seam (take done row ++ take more run) (drop (done + more) row)
+          ∙ on
+          ∙ ap (λ n. take n (drop from chunks)) long,
+    )
 
 -- where the rows of all atoms end, with one more, fits into 64 bits
 pub rows-fit : (a n : ℕ) → a ≤ 4294967296 → n ≤ 536870912 → a * n + n < 18446744073709551616

@@ -1,6 +1,6 @@
 -- How rows of codes stand in chunks of eight, in order: each atom's row has so many whole chunks that each router has a place.
 -- What stands behind the last router's code means nothing.
-use Rattle.std.specs.Prelude.{ℕ, List, length, map, replicate, slice_index, slice_index_or, take, drop, ◌++◌, ◌≡◌, ◌+◌, ◌*◌, ◌/◌, ◌%◌, ◌<◌}
+use Rattle.std.specs.Prelude.{ℕ, List, length, map, replicate, slice_index, slice_index_or, take, drop, ◌++◌, ◌≡◌, ◌+◌, ◌*◌, ◌/◌, ◌%◌, ◌<◌, ◌==◌, if◌then◌else◌}
 use Rattle.std.specs.List.{range_with_len}
 use Rattle.target_rows.specs.declared.code_chunk.CodeChunk.{CodeChunk}
 use Rattle.target_rows.specs.declared.codes.Edge.{Edge}
@@ -54,6 +54,10 @@ pub record AreWritten (old new : List CodeChunk) (from stride lane count code : 
 abbrev pub IsColumnWritten : ℕ → ℕ → ℕ → List CodeChunk → List CodeChunk → ℕ → ℕ → Type 0
 IsColumnWritten routers r first old new count code =
     AreWritten old new (first * stride_of routers + r / 8) (stride_of routers) (r % 8) count code
+
+-- at how many of so many places a code is put, where at the first of them another one or the same stands before
+abbrev pub turned_count : ℕ → ℕ → ℕ → ℕ
+turned_count before code count = if before == code then 0 else count
 
 -- so many chunks from a place on, once more before the one that stands at another place
 abbrev pub repeated : List CodeChunk → ℕ → ℕ → ℕ → List CodeChunk

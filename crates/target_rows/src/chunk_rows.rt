@@ -3,7 +3,7 @@
 //! of codes here holds of lower halves as of upper ones.
 
 ghost use Rattle.std.specs.Prelude.{◌≡◌, ◌+◌, ◌*◌, ◌/◌, ◌%◌, ◌<◌, ◌^◌, ◌≤◌, ◌++◌, length, replicate, take, drop, IfOk, OnOk, OnErr};
-ghost use Rattle.target_rows.specs.ChunkRows.{AreWritten, IsColumnWritten, IsWritten, lane_at, no_codes, repeated, stride_of};
+ghost use Rattle.target_rows.specs.ChunkRows.{AreWritten, code_in, IsColumnWritten, IsWritten, lane_at, no_codes, repeated, stride_of, turned_count};
 
 use crate::code_chunk::CodeChunk;
 use base::{OutOfMemory, RouterId};
@@ -118,6 +118,54 @@ fn chunks_from(
     Ok(row)
 }
 
+/// How many chunks a row has at most that is repeated without memory of its own.
+const SHORT: usize = 16;
+
+/// Puts the first of some chunks into a row from a place on, as many as there is room for. It answers how many.
+fn put_front(row: &mut [CodeChunk], at: usize, run: &[CodeChunk]) -> usize
+    requires { at ≤ length row.old }
+    ensures some { at < length row.old → 0 < length run.now → 0 < result }
+    ensures within { result ≤ length run.now }
+    ensures room { at + result ≤ length row.old }
+    ensures items { row.new ≡ take at row.old ++ take result run.now ++ drop (at + result) row.old }
+{
+    let count = run.len().min(row.len() - at);
+    row[at..at + count].copy_from_slice(&run[..count]);
+    count
+}
+
+/// Has a row be the chunks from a place on. It goes down to each page of them once.
+fn read_row(row: &mut [CodeChunk], chunks: &Pages<CodeChunk>, from: u64)
+    requires inside { from + length row.old ≤ length chunks.now }
+    requires fits { from + length row.old < 2 ^ 64 }
+    ensures { row.new ≡ take (length row.old) (drop from chunks.now) }
+{
+    let mut done = 0;
+    'pages: while done < row.len() {
+        let run = chunks.run_from(from + done as u64);
+        done += put_front(row, done, run);
+    }
+}
+
+/// As `repeat`, for a short row: its chunks are not copied into memory of their own.
+fn repeat_short(
+    alloc: Global,
+    chunks: &mut Pages<CodeChunk>,
+    from: u64,
+    count: usize,
+    next: u64,
+) -> Result<(), OutOfMemory>
+    requires short { count ≤ 16 }
+    requires inside { from + count ≤ length chunks.old }
+    requires fits { from + count < 2 ^ 64 }
+    requires place { next ≤ length chunks.old }
+    ensures { OnOk result (chunks.new ≡ repeated chunks.old from count next) }
+{
+    let mut row = [CodeChunk::empty(); SHORT];
+    read_row(&mut row[..count], chunks, from);
+    chunks.insert_all(alloc, next, &row[..count])
+}
+
 /// So many chunks from a place on come to stand once more, before the one that stands at another place, or at the end.
 /// After `OutOfMemory` the first of them may be there.
 pub fn repeat(
@@ -132,6 +180,9 @@ pub fn repeat(
     requires place { next ≤ length chunks.old }
     ensures { OnOk result (chunks.new ≡ repeated chunks.old from count next) }
 {
+    if count <= SHORT as u64 {
+        return repeat_short(alloc, chunks, from, count as usize, next);
+    }
     let row = chunks_from(alloc, chunks, from, count)?;
     chunks.insert_all(alloc, next, &row)
 }
@@ -210,4 +261,102 @@ pub fn write_column(
         done += write_some(alloc, chunks, place, stride(routers), code, count - done)?;
     }
     Ok(())
+}
+
+/// What the first chunk of a run had, and in how many chunks of it another code was put.
+#[derive(Clone, Copy, Debug, PartialEq, Eq)]
+struct Turned {
+    before: u16,
+    count: u64,
+}
+
+/// Answers the code of the first chunk of a run, and where that is another one than this, puts this one there and into
+/// each chunk that stands so much further on than the one before, in at most so many.
+fn turn_each(run: &mut [CodeChunk], stride: u64, lane: u32, code: u16, most: u64) -> Turned
+    requires some { 0 < stride }
+    requires few { stride < 2 ^ 32 }
+    requires lane { lane < 8 }
+    ensures before { 0 < length run.old → result.before ≡ lane_at run.old 0 lane }
+    ensures few { result.count ≤ turned_count result.before code most }
+    ensures written { AreWritten run.old run.new 0 stride lane result.count code }
+{
+    let Some(chunk) = run.first() else {
+        return Turned {
+            before: 0,
+            count: 0,
+        };
+    };
+    let before = chunk.codes[lane as usize];
+    if before == code {
+        return Turned { before, count: 0 };
+    }
+    Turned {
+        before,
+        count: put_each(run, stride, lane, code, most),
+    }
+}
+
+/// Answers the code at a place, and where that is another one than this, puts this one there and at the same place of each
+/// chunk that stands so much further on than the one before, up to the end of the first one's page and at most so often.
+/// After `OutOfMemory`, for which alone it fails, all codes are as before.
+fn turn_some(
+    alloc: Global,
+    chunks: &mut Pages<CodeChunk>,
+    place: Place,
+    stride: u64,
+    code: u16,
+    most: u64,
+) -> Result<Turned, OutOfMemory>
+    requires chunk { place.chunk < length chunks.old }
+    requires lane { place.lane < 8 }
+    requires apart { 0 < stride }
+    requires near { stride < 2 ^ 32 }
+    ensures before { IfOk result (λ turned. turned.before ≡ lane_at chunks.old place.chunk place.lane) }
+    ensures few { IfOk result (λ turned. turned.count ≤ turned_count turned.before code most) }
+    ensures written { IfOk result (λ turned.
+        AreWritten chunks.old chunks.new place.chunk stride place.lane turned.count code) }
+    ensures same { OnErr result (chunks.new ≡ chunks.old) }
+{
+    let lane = place.lane;
+    chunks.change_run(alloc, place.chunk, |run: &mut [CodeChunk]| {
+        turn_each(run, stride, lane, code, most)
+    })
+}
+
+/// Answers the first code of a column, and where that is another one than this, puts this one at each place of the column,
+/// page by page. Where it fails, for which want of memory is the one cause, it may stand at the first of them.
+pub fn turn_column(
+    alloc: Global,
+    chunks: &mut Pages<CodeChunk>,
+    column: Column,
+    code: u16,
+) -> Result<u16, OutOfMemory>
+    requires router { column.r.0 < column.routers }
+    requires some { 0 < column.count }
+    requires atoms { column.first + column.count ≤ 2 ^ 32 }
+    requires inside { (column.first + column.count) * stride_of column.routers ≤ length chunks.old }
+    ensures before { IfOk result (λ before. before ≡ code_in column.routers chunks.old column.first column.r.0) }
+    ensures all { IfOk result (λ before. IsColumnWritten column.routers column.r.0 column.first chunks.old chunks.new
+        (turned_count before code column.count) code) }
+    ensures long { length chunks.new ≡ length chunks.old }
+{
+    let Column {
+        routers,
+        r,
+        first,
+        count,
+    } = column;
+    let place = place_in(routers, r, first);
+    let turned = turn_some(alloc, chunks, place, stride(routers), code, count)?;
+    if turned.before == code {
+        return Ok(turned.before);
+    }
+    let rest = Column {
+        routers,
+        r,
+        first: first + turned.count,
+        count: count - turned.count,
+    };
+    write_column(alloc, chunks, rest, code)?;
+    Ok(turned.before)
 }

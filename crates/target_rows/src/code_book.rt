@@ -8,20 +8,21 @@ ghost use Rattle.target_rows.specs.contracts.codes.EdgeOrd.TheImpl.{cmp-value};
 ghost use Rattle.target_rows.specs.Codes.{code_in, edge_at, IsCoded};
 
 use crate::codes::Edge;
+use crate::guesses::Guesses;
 use base::OutOfMemory;
 use std::alloc::Global;
 use std::collections::BTreeMap;
 use std::marker::Model;
 use std::sync::Arc;
-use version_pages::Pages;
 
 /// The codes of edges, in order of appearance from 0. A contract sees it as the list of the edges by code. A copy is two
-/// counts. Where a copy is held, the next edge that is new copies the way from edges to codes, which grows as their
-/// number.
+/// counts. Where a copy is held, the next edge that is new copies the list and the way from edges to codes, which grow as
+/// their number. The guesses say of some edges which code they may have; no clause and no invariant speaks of them.
 #[derive(Drop)]
 pub struct CodeBook {
-    edges: Pages<Edge>,
+    edges: Arc<Vec<Edge>, Global>,
     index: Arc<BTreeMap<Edge, u32>, Global>,
+    guesses: Guesses,
 }
 
 impl Model for CodeBook {
@@ -32,9 +33,9 @@ impl Model for CodeBook {
 
     ghost Value = { List Edge };
 
-    ghost view = { λ b. b.edges };
+    ghost view = { λ b. (arc_value b.edges).items };
 
-    ghost invariant = { λ b. IsIndexed b.edges (arc_value b.index).entries };
+    ghost invariant = { λ b. IsIndexed (arc_value b.edges).items (arc_value b.index).entries };
 }
 
 impl CodeBook {
@@ -43,9 +44,11 @@ impl CodeBook {
         ensures { IfOk result (λ book. book ≡ []) }
     {
         let index = Arc::new(alloc, BTreeMap::new(alloc))?;
+        let edges = Arc::new(alloc, Vec::new(alloc))?;
         Ok(CodeBook {
-            edges: Pages::new(),
+            edges,
             index,
+            guesses: Guesses::new(),
         })
     }
 
@@ -53,7 +56,7 @@ impl CodeBook {
     pub fn len(&self) -> u64
         ensures { result ≡ length self.now }
     {
-        self.edges.len()
+        self.edges.len() as u64
     }
 
     /// The edge of a code.
@@ -61,10 +64,7 @@ impl CodeBook {
         requires { code < length self.now }
         ensures { result ≡ edge_at self.now code }
     {
-        match self.edges.get(code as u64) {
-            Some(edge) => *edge,
-            None => unreachable!(),
-        }
+        self.edges[code as usize]
     }
 
     /// The code of an edge, and none where it has none.
@@ -88,22 +88,26 @@ impl CodeBook {
         self.add(alloc, edge)
     }
 
-    /// The code of an edge, as from `code_of`; a guess is looked at first, which costs less than to look the edge up.
-    pub fn code_near(&mut self, alloc: Global, edge: Edge, guess: u32) -> Result<u32, OutOfMemory>
+    /// The code of an edge, as from `code_of`; a code that was found for such an edge is looked at first, which costs less
+    /// than to look the edge up.
+    pub fn code_near(&mut self, alloc: Global, edge: Edge) -> Result<u32, OutOfMemory>
         ensures ok { IfOk result (λ code. IsCoded self.old self.new edge code) }
         ensures err { OnErr result (self.new ≡ self.old) }
     {
+        let guess = self.guesses.guess(edge);
         if self.is_code_of(guess, edge) {
             return Ok(guess);
         }
-        self.code_of(alloc, edge)
+        let code = self.code_of(alloc, edge)?;
+        self.guesses.keep(alloc, edge, code);
+        Ok(code)
     }
 
     /// Whether a number is the code of an edge.
     fn is_code_of(&self, code: u32, edge: Edge) -> bool
         ensures { IsTrue result → (code < length self.now) × (edge_at self.now code ≡ edge) }
     {
-        match self.edges.get(code as u64) {
+        match self.edges.as_slice().get(code as usize) {
             Some(held) => *held == edge,
             None => false,
         }
@@ -115,15 +119,19 @@ impl CodeBook {
         ensures ok { IfOk result (λ code. IsCoded self.old self.new edge code) }
         ensures err { OnErr result (self.new ≡ self.old) }
     {
-        let code = self.edges.len();
+        let code = self.len();
         if code > u32::MAX as u64 {
             return Err(OutOfMemory);
         }
         unshare(alloc, &mut self.index)?;
-        let Some(own) = Arc::get_mut(&mut self.index) else {
+        unshare_edges(alloc, &mut self.edges)?;
+        let Some(index) = Arc::get_mut(&mut self.index) else {
             return Err(OutOfMemory);
         };
-        put_in(alloc, &mut self.edges, own, edge, code as u32)?;
+        let Some(edges) = Arc::get_mut(&mut self.edges) else {
+            return Err(OutOfMemory);
+        };
+        put_in(edges, index, edge, code as u32)?;
         Ok(code as u32)
     }
 
@@ -131,9 +139,13 @@ impl CodeBook {
     pub fn copy(&self) -> Result<CodeBook, OutOfMemory>
         ensures { IfOk result (λ book. book ≡ self.now) }
     {
-        let edges = self.edges.copy()?;
+        let edges = Arc::try_clone(&self.edges)?;
         let index = Arc::try_clone(&self.index)?;
-        Ok(CodeBook { edges, index })
+        Ok(CodeBook {
+            edges,
+            index,
+            guesses: Guesses::new(),
+        })
     }
 }
 
@@ -165,23 +177,22 @@ fn forget(index: &mut BTreeMap<Edge, u32>, edge: Edge)
 /// Puts an edge at the end of the list, and a code under it. It is put into the map first, since it can be taken out of
 /// that again without memory; so after `OutOfMemory` the list and what stands under edges are as before.
 fn put_in(
-    alloc: Global,
-    edges: &mut Pages<Edge>,
+    edges: &mut Vec<Edge>,
     index: &mut BTreeMap<Edge, u32>,
     edge: Edge,
     code: u32,
 ) -> Result<(), OutOfMemory>
     requires { code_in index.old.entries edge ≡ None }
-    ensures edges { OnOk result (edges.new ≡ edges.old ++ edge ∷ []) }
+    ensures edges { OnOk result (edges.new.items ≡ edges.old.items ++ edge ∷ []) }
     ensures index { OnOk result ((e : Edge) → code_in index.new.entries e ≡
         (if is_at (cmp-value.it edge) e then Some code else code_in index.old.entries e)) }
-    ensures same_edges { OnErr result (edges.new ≡ edges.old) }
+    ensures same_edges { OnErr result (edges.new.items ≡ edges.old.items) }
     ensures same_index { OnErr result ((e : Edge) → code_in index.new.entries e ≡ code_in index.old.entries e) }
 {
     note(index, edge, code)?;
-    match edges.push(alloc, edge) {
+    match edges.push(edge) {
         Ok(()) => Ok(()),
-        Err(OutOfMemory) => {
+        Err(_) => {
             forget(index, edge);
             Err(OutOfMemory)
         }
@@ -202,6 +213,24 @@ fn unshare(alloc: Global, index: &mut Arc<BTreeMap<Edge, u32>, Global>) -> Resul
     if Arc::strong_count(index) != 1 {
         let copy = copy_index(index)?;
         *index = Arc::new(alloc, copy)?;
+    }
+    Ok(())
+}
+
+/// The same edges again.
+fn copy_edges(edges: &Vec<Edge>) -> Result<Vec<Edge>, OutOfMemory>
+    ensures { IfOk result (λ copy. copy.items ≡ edges.now.items) }
+{
+    Ok(edges.clone()?)
+}
+
+/// Makes a pointer the only one to its list: where somebody else holds it too, this one gets a copy.
+fn unshare_edges(alloc: Global, edges: &mut Arc<Vec<Edge>, Global>) -> Result<(), OutOfMemory>
+    ensures { (arc_value edges.new).items ≡ (arc_value edges.old).items }
+{
+    if Arc::strong_count(edges) != 1 {
+        let copy = copy_edges(edges)?;
+        *edges = Arc::new(alloc, copy)?;
     }
     Ok(())
 }

@@ -7,6 +7,7 @@ mod code_book;
 mod code_chunk;
 mod code_rows;
 mod codes;
+mod guesses;
 mod rows;
 mod split_codes;
 

@@ -1,6 +1,6 @@
 //! What each router does with each atom.
 
-ghost use Rattle.std.specs.Prelude.{◌≡◌, ◌<◌, ◌≤◌, ◌^◌, length, IfOk, OnOk};
+ghost use Rattle.std.specs.Prelude.{◌≡◌, ℕ, ◌<◌, ◌≤◌, ◌^◌, length, IfOk, OnOk};
 ghost use Rattle.target_rows.specs.Labels.{first_labels, moved_run, parted, target_at};
 
 use crate::chunk_rows::{Column, place_in, start_of, stride};
@@ -17,15 +17,13 @@ use std::marker::Model;
 /// that a walk over the atoms of a prefix, or over all, reads and writes memory in order. Each router with a target has a
 /// code. No set of atoms is kept, so that a move writes one code for each atom, and a cut one row. A row has whole chunks
 /// of eight codes: a page has 64 chunks, so few forks stand above each code. A code takes two bytes, and four once one of
-/// 65,536 or more was written. A copy is a few counts. The code that was written last is a guess of the next one, since an
-/// update writes the same at many atoms; no clause and no invariant speaks of it.
+/// 65,536 or more was written. A copy is a few counts.
 #[derive(Drop)]
 pub struct TargetRows {
     routers: u32,
     atoms: u64,
     chunks: SplitCodes,
     book: CodeBook,
-    last: u32,
 }
 
 impl Model for TargetRows {
@@ -51,7 +49,6 @@ impl TargetRows {
             atoms: 1,
             chunks,
             book,
-            last: 0,
         })
     }
 
@@ -84,8 +81,7 @@ impl TargetRows {
             router: r.0 as u32,
             target: after,
         };
-        let code = self.book.code_near(alloc, edge, self.last)?;
-        self.last = code;
+        let code = self.book.code_near(alloc, edge)?;
         let column = Column {
             routers: self.routers,
             r,
@@ -94,6 +90,44 @@ impl TargetRows {
         };
         match self.chunks.write_column(alloc, column, code) {
             Ok(()) => Ok(()),
+            Err(OutOfMemory) => {
+                self.atoms = 0;
+                self.chunks = SplitCodes::new();
+                Err(OutOfMemory)
+            }
+        }
+    }
+
+    /// As `move_run`, for places at each of which the router does one and the same, which it answers: what it does before
+    /// is read and what it does after is written in the same descent. Where that is the same nothing is written.
+    pub fn turn_run(
+        &mut self,
+        alloc: Global,
+        r: RouterId,
+        first: u64,
+        past: u64,
+        after: Target,
+    ) -> Result<Target, OutOfMemory>
+        requires router { r.0 < self.old.routers }
+        requires some { first < past }
+        requires inside { past ≤ length self.old.rows }
+        requires same { (i : ℕ) → first ≤ i → i < past → target_at self.old r.0 i ≡ target_at self.old r.0 first }
+        ensures before { IfOk result (λ before. before ≡ target_at self.old r.0 first) }
+        ensures moved { OnOk result (self.new ≡ moved_run self.old r.0 first past after) }
+    {
+        let edge = Edge {
+            router: r.0 as u32,
+            target: after,
+        };
+        let code = self.book.code_near(alloc, edge)?;
+        let column = Column {
+            routers: self.routers,
+            r,
+            first,
+            count: past - first,
+        };
+        match self.chunks.turn_column(alloc, column, code) {
+            Ok(before) => Ok(self.book.edge(before).target),
             Err(OutOfMemory) => {
                 self.atoms = 0;
                 self.chunks = SplitCodes::new();
@@ -132,7 +166,6 @@ impl TargetRows {
             atoms: self.atoms,
             chunks: self.chunks.copy()?,
             book: self.book.copy()?,
-            last: self.last,
         })
     }
 }

@@ -1,11 +1,12 @@
 //! Codes in two halves.
 
 ghost use Rattle.std.specs.Prelude.{◌≡◌, ℕ, ◌+◌, ◌*◌, ◌/◌, ◌%◌, ◌<◌, ◌≤◌, ◌^◌, [], length, slice_index_or, IfOk, OnErr, OnOk};
-ghost use Rattle.target_rows.specs.ChunkRows.{AreLaid, IsColumnWritten, IsWritten, lane_at, no_codes, repeated, stride_of};
+ghost use Rattle.target_rows.specs.ChunkRows.{AreLaid, code_in, IsColumnWritten, IsWritten, lane_at, no_codes, repeated, stride_of, turned_count};
 ghost use Rattle.target_rows.specs.SplitCodes.{AreHalves, side_by_side};
 
 use crate::chunk_rows::{
-    Column, Place, code_at, empty_chunks, repeat, stride, write, write_column,
+    Column, Place, code_at, empty_chunks, place_in, repeat, stride, turn_column, write,
+    write_column,
 };
 use crate::code_chunk::CodeChunk;
 use crate::code_rows::read;
@@ -185,6 +186,35 @@ impl SplitCodes {
             return Ok(());
         }
         write_column(alloc, &mut self.high, column, high_half(code))
+    }
+
+    /// Answers the first code of a column, and where that is another one than this, puts this one at each place of the
+    /// column: while all codes are below 65,536, both in one descent for each page. It fails for want of memory alone, and
+    /// then nothing is said of the codes.
+    pub fn turn_column(
+        &mut self,
+        alloc: Global,
+        column: Column,
+        code: u32,
+    ) -> Result<u32, OutOfMemory>
+        requires router { column.r.0 < column.routers }
+        requires some { 0 < column.count }
+        requires atoms { column.first + column.count ≤ 2 ^ 32 }
+        requires inside { (column.first + column.count) * stride_of column.routers ≤ length self.old }
+        ensures before { IfOk result (λ before. before ≡ code_in column.routers self.old column.first column.r.0) }
+        ensures all { IfOk result (λ before. IsColumnWritten column.routers column.r.0 column.first self.old self.new
+            (turned_count before code column.count) code) }
+    {
+        if self.high.len() == 0 && code < 65_536 {
+            let before = turn_column(alloc, &mut self.low, column, low_half(code))?;
+            return Ok(before as u32);
+        }
+        let before = self.code_at(place_in(column.routers, column.r, column.first));
+        if before == code {
+            return Ok(before);
+        }
+        self.write_column(alloc, column, code)?;
+        Ok(before)
     }
 
     /// So many chunks from a place on come to stand once more, before the one that stands at another place, or at the end.

@@ -1,5 +1,5 @@
 use Rattle.std.proofs.Common.{◌+◌, ◌<◌, ◌≤◌, ◌^◌, length, arith, refl}
-use Rattle.atom_map.specs.Atoms.{atom_low, atom_past}
+use Rattle.atom_map.specs.Spans.{span_low, span_past}
 use Rattle.base.proofs.Covers.{few-rows}
 use Rattle.net_engine.proofs.Relabelling.{atom-begins, atoms-end}
 use Rattle.net_engine.proofs.relabel.places.Goals as goal
@@ -7,7 +7,7 @@ use Rattle.net_engine.proofs.relabel.places.Goals as goal
 pub overflow_add-result : goal.overflow_add-result
 overflow_add-result c =
     let inside : c.places_from-first.result.1 < length c.args.atoms.now = c.places_from-first.ensures.last.inside in
-    let few : 0 + length c.args.atoms.now ≤ 2 ^ 32 = few-rows atom_low atom_past 0 c.args.atoms.now c.requires.form.cover in
+    let few : 0 + length c.args.atoms.now ≤ 2 ^ 32 = few-rows span_low span_past 0 c.args.atoms.now c.requires.form.cover in
     omega arith
 
 pub returns-clause-first : goal.returns-clause-first

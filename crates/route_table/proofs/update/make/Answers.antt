@@ -1,4 +1,4 @@
-use Rattle.std.proofs.Common.{subst}
+use Rattle.std.proofs.Common.{false, subst}
 use Rattle.base.specs.Cidr.{IsCidr}
 use Rattle.dn_model.specs.Table.{prefix_of_op}
 use Rattle.route_table.specs.Ascending.{IsFound}
@@ -7,6 +7,7 @@ use Rattle.route_table.specs.Slots.{key_of, slot_key}
 use Rattle.route_table.proofs.Made.{unchanged-is, update-is, where-there}
 use Rattle.route_table.proofs.Places.{found-inside}
 use Rattle.route_table.proofs.SideBySide.{found-in, keeps-routes, slot-in, updated-whole}
+use Rattle.route_table.proofs.Known.{known-there, new-in}
 use Rattle.route_table.proofs.update.make.Goals as goal
 
 pub returns-then-not-changes-clause-none : goal.returns-then-not-changes-clause-none
@@ -34,3 +35,15 @@ returns-clause-whole c =
 
 pub returns-clause-others : goal.returns-clause-others
 returns-clause-others c = keeps-routes c.args.lane c.args.rows.now c.update_at.new.rows c.update_at.ensures.others
+
+pub returns-then-not-changes-clause-known : goal.returns-then-not-changes-clause-known
+returns-then-not-changes-clause-known c =
+    let found : IsFound row_key c.args.rows.now (key_of (prefix_of_op c.args.update.now.op)) c.look-place.result.place = subst (λ p. IsFound row_key c.args.rows.now (key_of p) c.look-place.result.place) c.prefix.ensures (where-there _ c.look-place.result.row c.in-Some.row c.in-Some.is c.look-place.ensures.found) in
+    let sound : IsCidr (prefix_of_op c.args.update.now.op) = subst (λ p. IsCidr p) c.prefix.ensures c.look-place.ensures.sound in
+    new-in c.args.rows.now c.in-Some.row.now c.args.lengths.now c.args.update.now.op false c.look-place.result.place c.requires.whole sound found (where-there _ c.look-place.result.row c.in-Some.row c.in-Some.is (c.look-place.ensures.row c.in-Some.row.now)) (known-there c.args.update.now.alone c.in-Some.row.now c.args.lane c.args.update.now.op c.requires.lane (c.changes.ensures.same c.if-not-changes.true))
+
+pub returns-clause-new : goal.returns-clause-new
+returns-clause-new c =
+    let found : IsFound row_key c.args.rows.now (key_of (prefix_of_op c.args.update.now.op)) c.look-place.result.place = subst (λ p. IsFound row_key c.args.rows.now (key_of p) c.look-place.result.place) c.prefix.ensures (where-there _ c.look-place.result.row c.in-Some.row c.in-Some.is c.look-place.ensures.found) in
+    let sound : IsCidr (prefix_of_op c.args.update.now.op) = subst (λ p. IsCidr p) c.prefix.ensures c.look-place.ensures.sound in
+    new-in c.args.rows.now c.in-Some.row.now c.args.lengths.now c.args.update.now.op c.is_first-is_new.result c.look-place.result.place c.requires.whole sound found (where-there _ c.look-place.result.row c.in-Some.row c.in-Some.is (c.look-place.ensures.row c.in-Some.row.now)) c.is_first-is_new.ensures

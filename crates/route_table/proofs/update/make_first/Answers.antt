@@ -8,6 +8,8 @@ use Rattle.route_table.specs.Slots.{key_of, slot_key}
 use Rattle.route_table.proofs.Made.{add-is, first-cleared}
 use Rattle.route_table.proofs.Places.{gap-inside}
 use Rattle.route_table.proofs.SideBySide.{added-whole, adds-routes, gap-in}
+use Rattle.route_table.specs.Rows.{tables_in}
+use Rattle.route_table.proofs.Known.{clear-known, put-new}
 use Rattle.route_table.proofs.update.make_first.Goals as goal
 
 pub returns-in_default-clause-none : goal.returns-in_default-clause-none
@@ -32,3 +34,9 @@ pub returns-clause-made : goal.returns-clause-made
 returns-clause-made c =
     let whole : AreWhole c.add_at.new.rows c.add.new.self = returns-clause-whole c in
     add-is (slots_in c.args.lane c.args.rows.now) (slots_in c.args.lane c.add_at.new.rows) c.args.lengths.now c.add.new.self c.args.update.now.alone c.args.update.now.op (record { prefix = c.in-Put.prefix; metric = c.in-Put.metric; way = c.in-Put.way }) c.args.gap.place c.args.gap.base c.in-Put.is (c.requires.whole c.args.lane) (gap-in c.args.lane c.args.rows.now (key_of (prefix_of_op c.args.update.now.op)) c.args.gap.place c.requires.gap) c.requires.base c.in_ok-add_at.ensures.ok (whole c.args.lane)
+
+pub returns-in_default-clause-known : goal.returns-in_default-clause-known
+returns-in_default-clause-known c = clear-known (tables_in c.args.rows.now) c.args.update.now.op c.in_default.field-0 c.in_default.field-1 c.in_default.is
+
+pub returns-clause-new : goal.returns-clause-new
+returns-clause-new c = put-new (tables_in c.args.rows.now) c.args.update.now.op c.in-Put.prefix c.in-Put.metric c.in-Put.way c.in-Put.is

@@ -17,14 +17,14 @@ pub returns-clause-stands : goal.returns-clause-stands
 returns-clause-stands g c =
     let is = subst (λ (t : Topology). IsUpdateOf t c.args.entry.now c.update_of-update.result) c.deref.ensures c.update_of-update.ensures in
     let h = c.in_ok-delta.ensures.made in
-    λ history of. stands-after (kept_in c.args.self.now) (kept_in c.updated.new.self) history c.args.entry.now c.update_of-update.result (record { topology = h.topology; was = c.requires.sound.whole; whole = h.whole }) is of h.routes h.begins
+    λ history of. stands-after (kept_in c.args.self.now) (kept_in c.update.new.self) history c.args.entry.now c.update_of-update.result (record { topology = h.topology; was = c.requires.sound.whole; whole = h.whole }) is of h.routes h.begins
 
 pub returns-clause-delta : goal.returns-clause-delta
 returns-clause-delta g c =
     let is = subst (λ (t : Topology). IsUpdateOf t c.args.entry.now c.update_of-update.result) c.deref.ensures c.update_of-update.ensures in
     let h = c.in_ok-delta.ensures.made in
-    λ history of. delta-after (kept_in c.args.self.now) (kept_in c.updated.new.self) history c.args.entry.now c.update_of-update.result (record { topology = h.topology; was = c.requires.sound.whole; whole = h.whole }) is of c.in_ok-delta.delta
-    (stands-after (kept_in c.args.self.now) (kept_in c.updated.new.self) history c.args.entry.now c.update_of-update.result (record { topology = h.topology; was = c.requires.sound.whole; whole = h.whole }) is of h.routes h.begins)
+    λ history of. delta-after (kept_in c.args.self.now) (kept_in c.update.new.self) history c.args.entry.now c.update_of-update.result (record { topology = h.topology; was = c.requires.sound.whole; whole = h.whole }) is of c.in_ok-delta.delta
+    (stands-after (kept_in c.args.self.now) (kept_in c.update.new.self) history c.args.entry.now c.update_of-update.result (record { topology = h.topology; was = c.requires.sound.whole; whole = h.whole }) is of h.routes h.begins)
     h.form h.tells
 
 pub returns-clause-added : goal.returns-clause-added
@@ -36,20 +36,20 @@ returns-clause-added g c =
 pub returns-clause-met : goal.returns-clause-met
 returns-clause-met g c =
     let is = subst (λ (t : Topology). IsUpdateOf t c.args.entry.now c.update_of-update.result) c.deref.ensures c.update_of-update.ensures in
-    subst (λ (o : Option Cidr). IfSome o (λ (p : Cidr). atoms_met (kept_in c.updated.new.self).atoms p ≡ atoms_met (kept_in c.args.self.now).atoms p))
+    subst (λ (o : Option Cidr). IfSome o (λ (p : Cidr). atoms_met (kept_in c.update.new.self).atoms p ≡ atoms_met (kept_in c.args.self.now).atoms p))
     (sym (prefix-of_entry (kept_in c.args.self.now).topology c.args.entry.now c.update_of-update.result (follows (kept_in c.args.self.now).topology c.args.entry.now c.update_of-update.result is)))
     c.in_ok-delta.ensures.made.met
 
 pub returns-clause-cost : goal.returns-clause-cost
 returns-clause-cost g c =
     let is = subst (λ (t : Topology). IsUpdateOf t c.args.entry.now c.update_of-update.result) c.deref.ensures c.update_of-update.ensures in
-    subst (λ (o : Option Cidr). IfSome o (λ (p : Cidr). c.updated.new.steps ≤ c.args.steps.now + 2 + atoms_met (kept_in c.args.self.now).atoms p))
+    subst (λ (o : Option Cidr). IfSome o (λ (p : Cidr). c.update.new.steps ≤ c.args.steps.now + 2 + atoms_met (kept_in c.args.self.now).atoms p))
     (sym (prefix-of_entry (kept_in c.args.self.now).topology c.args.entry.now c.update_of-update.result (follows (kept_in c.args.self.now).topology c.args.entry.now c.update_of-update.result is)))
-    c.updated.ensures.cost
+    c.update.ensures.cost
 
 pub returns-in_err-delta-clause-cost : goal.returns-in_err-delta-clause-cost
 returns-in_err-delta-clause-cost g c =
     let is = subst (λ (t : Topology). IsUpdateOf t c.args.entry.now c.update_of-update.result) c.deref.ensures c.update_of-update.ensures in
-    subst (λ (o : Option Cidr). IfSome o (λ (p : Cidr). c.updated.new.steps ≤ c.args.steps.now + 2 + atoms_met (kept_in c.args.self.now).atoms p))
+    subst (λ (o : Option Cidr). IfSome o (λ (p : Cidr). c.update.new.steps ≤ c.args.steps.now + 2 + atoms_met (kept_in c.args.self.now).atoms p))
     (sym (prefix-of_entry (kept_in c.args.self.now).topology c.args.entry.now c.update_of-update.result (follows (kept_in c.args.self.now).topology c.args.entry.now c.update_of-update.result is)))
-    c.updated.ensures.cost
+    c.update.ensures.cost

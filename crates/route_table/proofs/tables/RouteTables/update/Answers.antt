@@ -1,10 +1,10 @@
-use Rattle.std.proofs.Common.{◌≡◌, ◌≤◌, ◌+◌, ◌∙◌, ℕ, ap, sym, subst, arith}
+use Rattle.std.proofs.Common.{◌≡◌, ◌≤◌, ◌+◌, ◌∙◌, ℕ, false, ap, sym, subst, arith}
 use Rattle.base.specs.Cidr.{IsCidr}
 use Rattle.dn_model.specs.Table.{prefix_of_op}
 use Rattle.dn_model.specs.Table.{way_in}
 use Rattle.route_table.specs.Above.{IsDoneAbove}
 use Rattle.route_table.specs.Made.{IsMade}
-use Rattle.route_table.specs.Own.{AreOwnRuns, IsTurned, SetsOrHas}
+use Rattle.route_table.specs.Own.{AreOwnRuns, IsTurned, SetsOrHas, TellsNew}
 use Rattle.route_table.specs.Rows.{slots_in}
 use Rattle.route_table.specs.Slots.{routes_of}
 use Rattle.route_table.specs.Tables.{table_at}
@@ -125,3 +125,12 @@ returns-clause-had g c =
     let made : IsMade (slots_in c.args.lane c.self.inside.rows) (slots_in c.args.lane c.make.new.rows) c.args.update.now.alone c.args.update.now.op c.in-Some.made.place c.in-Some.made.base c.in-Some.made.before c.in-Some.made.first =
     where-there (λ m. IsMade (slots_in c.args.lane c.self.inside.rows) (slots_in c.args.lane c.make.new.rows) c.args.update.now.alone c.args.update.now.op m.place m.base m.before m.first) c.in_ok-made.field-0 c.in-Some.made c.in-Some.is c.in_ok-made.ensures.made in
     subst (λ rs. SetsOrHas rs c.args.update.now.op) (was c.args.lane c.self.inside.rows c.args.self.now c.requires c.self.view_is) made.had
+
+pub returns-in_default-clause-new : goal.returns-in_default-clause-new
+returns-in_default-clause-new g c = subst (λ ts. TellsNew ts c.args.update.now.op false) c.self.view_is (at-none c.in_ok-made.field-0 _ c.in_default.is c.in_ok-made.ensures.known)
+
+pub returns-then-eq-clause-new : goal.returns-then-eq-clause-new
+returns-then-eq-clause-new g c = subst (λ ts. TellsNew ts c.args.update.now.op c.in-Some.made.is_new) c.self.view_is (where-there _ c.in_ok-made.field-0 c.in-Some.made c.in-Some.is c.in_ok-made.ensures.new)
+
+pub returns-clause-new : goal.returns-clause-new
+returns-clause-new g c = subst (λ ts. TellsNew ts c.args.update.now.op c.in-Some.made.is_new) c.self.view_is (where-there _ c.in_ok-made.field-0 c.in-Some.made c.in-Some.is c.in_ok-made.ensures.new)

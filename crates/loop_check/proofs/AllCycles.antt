@@ -20,7 +20,7 @@ use Rattle.label_view.specs.Places.{AreGatheredTo, begin_of}
 use Rattle.label_view.proofs.InRow.{gathered-all}
 use Rattle.loop_check.specs.CycleOrder.{AddsCycle, AreUnsorted}
 use Rattle.loop_check.specs.CycleRuns.{AreKnownTo, HasKnown, HaveAllBefore}
-use Rattle.loop_check.proofs.RunsUnder.{AreOnce, HasEntry, entry-of, once-first, once-from_sorted, once-rest, order_keys, under-entry}
+use Rattle.loop_check.proofs.UnderRouters.{AreOnce, HasEntry, entry-of, once-first, once-from_sorted, once-rest, order_keys, under-entry}
 use Rattle.loop_check.proofs.Sorting.{sorted-all, unsorted-none}
 
 -- ---- one cycle
@@ -69,7 +69,7 @@ answer-start rows i known cycles l sorted h before e =
       left = λ x m. h.each x.0.items x.1 (under-entry known x once m);
       form = unsorted-none (does rows) cycles e;
       apart = λ x k m n. absurd (contains-none x (subst (P x) e m));
-      told = λ rs a b g. let k : HasKnown known rs = before.all rs a (omega arith) g in inl (entry-of known rs k.runs k.is);
+      told = λ rs a b g. let k : HasKnown known rs = before.all rs a (omega arith) g in inl (entry-of known rs k.value k.is);
     }
 
 -- none of the cycles so far is the next one

@@ -1,9 +1,12 @@
 pub mod AllCycles
 pub mod ByFirst
 pub mod Chains
+pub mod CycleShares
+pub mod Joining
 pub mod Passing
 pub mod Reading
 pub mod Rounds
 pub mod RowRuns
-pub mod RunsUnder
+pub mod ShareParts
 pub mod Sorting
+pub mod UnderRouters

@@ -19,10 +19,10 @@ use Rattle.base.proofs.Elements.{contains-cases, contains-none}
 use Rattle.label_view.specs.Gathered.{Gathered}
 use Rattle.label_view.specs.Places.{AreGatheredTo, IsInRow, begin_of}
 use Rattle.label_view.proofs.InRow.{does-in-row, gathered-skip, some_row}
-use Rattle.loop_check.specs.CycleRuns.{AreKnownTo, AreRunsTo, HasKnown, HaveAllBefore, IsAdded, runs_under}
+use Rattle.loop_check.specs.CycleRuns.{AreKnownTo, AreRunsTo, HasKnown, HaveAllBefore, IsAdded, value_under}
 use Rattle.loop_check.specs.RowCycles.{AreCyclesAt, AreCyclesOf, AreInFirstOrder}
 use Rattle.loop_check.proofs.Reading.{cycle-same}
-use Rattle.loop_check.proofs.RunsUnder.{at, cases-routers, insert-under, insert-under_other, order_keys, set-under, set-under_other, under-none}
+use Rattle.loop_check.proofs.UnderRouters.{at, cases-routers, insert-under, insert-under_other, order_keys, set-under, set-under_other, under-none}
 
 abbrev pub round : List ForwardingRow → List RouterId → ℕ → Bool
 round rows routers = goes_round (does rows) routers
@@ -70,19 +70,19 @@ runs-none rows i rs o is h = let P : Option Gathered → Type 0 = λ v. AreRunsT
 pub runs-there : (rows : List ForwardingRow) (i : ℕ) (rs : List RouterId) (o : Option Gathered) (g : Gathered) → o ≡ Some g → AreRunsTo rows i rs o → AreGatheredTo g rows i (round rows rs)
 runs-there rows i rs o g is h = let P : Option Gathered → Type 0 = λ v. AreRunsTo rows i rs v in subst P is h
 
-is-added : (rows : List ForwardingRow) (i : ℕ) (rs : List RouterId) (old new : List (Vec RouterId × Gathered)) (now : Gathered) → AreGatheredTo now rows (i + 1) (round rows rs) → runs_under new rs ≡ Some now → ((others : List RouterId) → (rs ≡ others → ⊥) → runs_under new others ≡ runs_under old others) → IsAdded rows i rs old new
+is-added : (rows : List ForwardingRow) (i : ℕ) (rs : List RouterId) (old new : List (Vec RouterId × Gathered)) (now : Gathered) → AreGatheredTo now rows (i + 1) (round rows rs) → value_under new rs ≡ Some now → ((others : List RouterId) → (rs ≡ others → ⊥) → value_under new others ≡ value_under old others) → IsAdded rows i rs old new
 is-added rows i rs old new now h here other = record {
-  there = record { runs = now; is = here };
+  there = record { value = now; is = here };
   exact = λ g f.
       let P : Gathered → Type 0 = λ v. AreGatheredTo v rows (i + 1) (round rows rs) in
       subst P (ap (λ (o : Option Gathered). unwrap_or o now) (sym here ∙ f)) h;
   other = other;
 }
 
-pub added-there : (rows : List ForwardingRow) (i : ℕ) (rs : List RouterId) (old new : List (Vec RouterId × Gathered)) (was now : Gathered) → runs_under old rs ≡ Some was → new ≡ set_value (at rs) old now → AreGatheredTo now rows (i + 1) (round rows rs) → IsAdded rows i rs old new
+pub added-there : (rows : List ForwardingRow) (i : ℕ) (rs : List RouterId) (old new : List (Vec RouterId × Gathered)) (was now : Gathered) → value_under old rs ≡ Some was → new ≡ set_value (at rs) old now → AreGatheredTo now rows (i + 1) (round rows rs) → IsAdded rows i rs old new
 added-there rows i rs old new was now h e g = is-added rows i rs old new now g (set-under old new rs was now h e) (λ others n. set-under_other old new rs others now e n)
 
-pub added-new : (rows : List ForwardingRow) (i : ℕ) (rs : List RouterId) (old new : List (Vec RouterId × Gathered)) (key : Vec RouterId) (now : Gathered) → runs_under old rs ≡ None → key.items ≡ rs → new ≡ insert_entry order_keys old key now → AreGatheredTo now rows (i + 1) (round rows rs) → IsAdded rows i rs old new
+pub added-new : (rows : List ForwardingRow) (i : ℕ) (rs : List RouterId) (old new : List (Vec RouterId × Gathered)) (key : Vec RouterId) (now : Gathered) → value_under old rs ≡ None → key.items ≡ rs → new ≡ insert_entry order_keys old key now → AreGatheredTo now rows (i + 1) (round rows rs) → IsAdded rows i rs old new
 added-new rows i rs old new key now h is e g = is-added rows i rs old new now g (insert-under old new rs key now h is e) (λ others n. insert-under_other old new rs others key now is e n)
 
 -- ---- cycles by first router
@@ -116,8 +116,8 @@ order-front (y ∷ z ∷ zs) x h = (h.0, order-front (z ∷ zs) x h.1)
 -- next one
 pub record AreLeft (rows : List ForwardingRow) (i : ℕ) (left : List (List RouterId)) (known : List (Vec RouterId × Gathered)) : Type 0 where
   pub order : AreInFirstOrder left
-  pub ready : (rs : List RouterId) (runs : Gathered) → Contains left rs → runs_under known rs ≡ Some runs → AreGatheredTo runs rows i (round rows rs)
-  pub done : (rs : List RouterId) (runs : Gathered) → (Contains left rs → ⊥) → runs_under known rs ≡ Some runs → AreGatheredTo runs rows (i + 1) (round rows rs)
+  pub ready : (rs : List RouterId) (runs : Gathered) → Contains left rs → value_under known rs ≡ Some runs → AreGatheredTo runs rows i (round rows rs)
+  pub done : (rs : List RouterId) (runs : Gathered) → (Contains left rs → ⊥) → value_under known rs ≡ Some runs → AreGatheredTo runs rows (i + 1) (round rows rs)
   pub before : HaveAllBefore rows i known
   pub goes : (rs : List RouterId) (d : ForwardingRow) → Contains left rs → is_cycle (target_of (get_or rows i d)) rs ≡ true
   pub told : (rs : List RouterId) → is_cycle (target_of (get_or rows i some_row)) rs ≡ true → Contains left rs ⊎ HasKnown known rs
@@ -156,15 +156,15 @@ in-parts old new x rs e m = let P : List (List RouterId) → Type 0 = λ cs. Con
 pub left-goes : (rows : List ForwardingRow) (i : ℕ) (old new : List (List RouterId)) (x : List RouterId) (known : List (Vec RouterId × Gathered)) → AreLeft rows i old known → old ≡ new ++ x ∷ [] → (d : ForwardingRow) → is_cycle (target_of (get_or rows i d)) x ≡ true
 left-goes rows i old new x known h e d = h.goes x d (in-last old new x e)
 
-pub left-runs : (rows : List ForwardingRow) (i : ℕ) (old new : List (List RouterId)) (x : List RouterId) (known : List (Vec RouterId × Gathered)) → AreLeft rows i old known → old ≡ new ++ x ∷ [] → AreRunsTo rows i x (runs_under known x)
-left-runs rows i old new x known h e = at-option (runs_under known x) refl
+pub left-runs : (rows : List ForwardingRow) (i : ℕ) (old new : List (List RouterId)) (x : List RouterId) (known : List (Vec RouterId × Gathered)) → AreLeft rows i old known → old ≡ new ++ x ∷ [] → AreRunsTo rows i x (value_under known x)
+left-runs rows i old new x known h e = at-option (value_under known x) refl
   where
     none-some : (g : Gathered) → None ≡ Some g → ⊥
     none-some g f = cc
 
-    at-option : (o : Option Gathered) → runs_under known x ≡ o → AreRunsTo rows i x o
+    at-option : (o : Option Gathered) → value_under known x ≡ o → AreRunsTo rows i x o
     at-option None f = λ a l. ⊎_elim
-        (λ (g : round rows x a ≡ true). let k : HasKnown known x = h.before.all x a l g in absurd (none-some k.runs (sym f ∙ k.is)))
+        (λ (g : round rows x a ≡ true). let k : HasKnown known x = h.before.all x a l g in absurd (none-some k.value (sym f ∙ k.is)))
         (λ (g : round rows x a ≡ false). g)
         (cases_Bool (round rows x a))
     at-option (Some g) f = h.ready x g (in-last old new x e) f
@@ -180,7 +180,7 @@ left-next rows i old new x known more h e added =
     z in
     let keep : (rs : List RouterId) → HasKnown known rs → HasKnown more rs = λ rs k. ⊎_elim
     (λ (same : x ≡ rs). let P : List RouterId → Type 0 = λ v. HasKnown more v in subst P same added.there)
-    (λ (n : x ≡ rs → ⊥). record { runs = k.runs; is = added.other rs n ∙ k.is })
+    (λ (n : x ≡ rs → ⊥). record { value = k.value; is = added.other rs n ∙ k.is })
     (cases-routers x rs) in
     record {
       order = order-front new x order;
@@ -188,7 +188,7 @@ left-next rows i old new x known more h e added =
       done = λ rs runs m u. ⊎_elim
           (λ (same : x ≡ rs).
           let P : List RouterId → Type 0 = λ v. AreGatheredTo runs rows (i + 1) (round rows v) in
-          let Q : List RouterId → Type 0 = λ v. runs_under more v ≡ Some runs in
+          let Q : List RouterId → Type 0 = λ v. value_under more v ≡ Some runs in
           subst P same (added.exact runs (subst Q (sym same) u)))
           (λ (n : x ≡ rs → ⊥). h.done rs runs (λ k. ⊎_elim m n (in-parts old new x rs e k)) (sym (added.other rs n) ∙ u))
           (cases-routers x rs);

@@ -1,5 +1,5 @@
 -- Cycles put in order by least address, then by first router.
-use Rattle.std.proofs.Common.{◌≡◌, ℕ, suc, ◌+◌, ◌<◌, ◌≤◌, ◌^◌, ◌⊎◌, ◌∙◌, Bool, true, false, ◌&&◌, eqb, Option, Some, None, List, [], ◌∷◌, ◌++◌, length, get_or, ap, sym, subst, inl, inr, ⊎_elim, arith, append-nil}
+use Rattle.std.proofs.Common.{◌≡◌, ℕ, zero, suc, ◌+◌, ◌<◌, ◌≤◌, ◌^◌, ◌⊎◌, ◌∙◌, Bool, true, false, ◌&&◌, eqb, Option, Some, None, List, [], ◌∷◌, ◌++◌, length, get_or, ap, sym, subst, inl, inr, ⊎_elim, arith, append-nil}
 use Rattle.std.specs.List.{Contains, IsDistinct}
 use Rattle.std.specs.List.Sorted.{IsPermutation, IsSortedByKey}
 use Rattle.std.specs.Cmp.{nat_cmp_is}
@@ -11,13 +11,16 @@ use Rattle.std.proofs.lemmas.List.{get_or_append_left, get_or_push, length_push}
 use Rattle.std.proofs.lemmas.List.Elements.{Contains-get_or, Contains-append_left, Contains-push, Contains-push_cases}
 use Rattle.std.proofs.lemmas.List.Sorted.{Contains-permutation, IsPermutation-sym}
 use Rattle.std.proofs.lemmas.Map.Keys.{IsDistinct-IsPermutation, IsDistinct-from_apart, apart_from_distinct, ge_from_not_lt}
-use Rattle.base.specs.Cycles.{AreCycles, AreInOrder, ComesBefore, HasCycle, IsCycle, first_router, goes_round}
+use Rattle.base.specs.Cycles.{AreCycles, AreInOrder, BeginAt, ComesBefore, HasCycle, IsCycle, first_router, goes_round}
 use Rattle.base.specs.CyclesFrom.{IsCycleOf}
+use Rattle.base.specs.Runs.{AreRuns}
 use Rattle.base.specs.declared.cycle.Cycle.{Cycle}
 use Rattle.base.specs.declared.ids.RouterId.{RouterId}
+use Rattle.base.specs.declared.run.Run.{Run}
 use Rattle.base.specs.declared.target.Target.{Target}
 use Rattle.base.proofs.CyclesFrom.{same-cycle}
-use Rattle.base.proofs.Elements.{contains-none}
+use Rattle.base.proofs.Elements.{contains-cases, contains-here, contains-none, contains-there}
+use Rattle.base.proofs.RunsOnce.{runs-once}
 use Rattle.loop_check.specs.CycleOrder.{AddsCycle, AreOfOtherRouters, AreUnsorted, listed_cycle, order_key}
 
 -- whether two cycles have one least address and one first router
@@ -82,6 +85,58 @@ sorted-order does old new moved sorted h =
     let e : k + 1 ≡ suc k = omega arith in
     let P : ℕ → Type 0 = λ j. is_lt (cmp_keys (order_key (get_or new j d)) (order_key (get_or new k d))) ≡ false in
     before-next (get_or new k d) (get_or new (suc k) d) (subst P e (sorted k d (omega arith) (omega arith))) (apart_from_distinct start_together new k (suc k) d apart (omega arith) l))
+
+-- ---- in order no two are of the same routers
+
+before-trans : (x y z : Cycle) → ComesBefore x y → ComesBefore y z → ComesBefore x z
+before-trans x y z h i = ⊎_elim
+    (λ (a : x.least < y.least). ⊎_elim
+    (λ (b : y.least < z.least). inl (omega arith))
+    (λ (b : (y.least ≡ z.least) × (first_router y.routers < first_router z.routers)). inl (let e : y.least ≡ z.least = b.0 in omega arith))
+    i)
+    (λ (a : (x.least ≡ y.least) × (first_router x.routers < first_router y.routers)). ⊎_elim
+    (λ (b : y.least < z.least). inl (let e : x.least ≡ y.least = a.0 in omega arith))
+    (λ (b : (y.least ≡ z.least) × (first_router y.routers < first_router z.routers)). inr (a.0 ∙ b.0, (let c : first_router x.routers < first_router y.routers = a.1 in let d : first_router y.routers < first_router z.routers = b.1 in omega arith)))
+    i)
+    h
+
+order-all : (x z : Cycle) (xs : List Cycle) → AreInOrder (x ∷ xs) → Contains xs z → ComesBefore x z
+order-all x z [] h i = absurd (contains-none z i)
+order-all x z (y ∷ ys) h i = ⊎_elim
+    (λ (e : y ≡ z). let P : Cycle → Type 0 = λ v. ComesBefore x v in subst P e h.0)
+    (λ (j : Contains ys z). before-trans x y z h.0 (order-all y z ys h.1 j))
+    (contains-cases y z ys i)
+
+order-rest : (x : Cycle) (xs : List Cycle) → AreInOrder (x ∷ xs) → AreInOrder xs
+order-rest x [] h = tt
+order-rest x (y ∷ ys) h = h.1
+
+-- cycles of which one comes before the other are of other routers
+before-other : (does : RouterId → ℕ → Target) (x y : Cycle) → IsCycle does x → IsCycle does y → ComesBefore x y → x.routers ≡ y.routers → ⊥
+before-other does x y h k before same =
+    let R : List RouterId → Type 0 = λ v. AreRuns h.runs (goes_round does v) in
+    let runs : h.runs ≡ k.runs = runs-once h.runs k.runs (goes_round does y.routers) (subst R same h.are) k.are in
+    let B : List Run → Type 0 = λ v. BeginAt v x.least in
+    let least : x.least ≡ y.least = begin-once k.runs x.least y.least (subst B runs h.least) k.least in
+    let first : first_router x.routers ≡ first_router y.routers = ap (λ (v : List RouterId). first_router v) same in
+    ⊎_elim
+    (λ (a : x.least < y.least). let z : ⊥ = omega arith in z)
+    (λ (a : (x.least ≡ y.least) × (first_router x.routers < first_router y.routers)). let c : first_router x.routers < first_router y.routers = a.1 in let z : ⊥ = omega arith in z)
+    before
+  where
+    begin-once : (runs : List Run) (a b : ℕ) → BeginAt runs a → BeginAt runs b → a ≡ b
+    begin-once [] a b i j = absurd i
+    begin-once (r ∷ rs) a b i j = sym i ∙ j
+
+pub ordered-differ : (does : RouterId → ℕ → Target) (cycles : List Cycle) → AreInOrder cycles → ((c : Cycle) → Contains cycles c → IsCycle does c) → AreOfOtherRouters cycles
+ordered-differ does [] order each i j d l b = absurd (omega arith)
+ordered-differ does (x ∷ xs) order each zero zero d l b = absurd (omega arith)
+ordered-differ does (x ∷ xs) order each zero (suc j) d l b =
+    let m : Contains xs (get_or xs j d) = Contains-get_or xs j d (omega arith) in
+    before-other does x (get_or xs j d) (each x (contains-here x xs)) (each (get_or xs j d) (contains-there x (get_or xs j d) xs m)) (order-all x (get_or xs j d) xs order m)
+ordered-differ does (x ∷ xs) order each (suc i) zero d l b = absurd (omega arith)
+ordered-differ does (x ∷ xs) order each (suc i) (suc j) d l b =
+    ordered-differ does xs (order-rest x xs order) (λ c m. each c (contains-there x c xs m)) i j d (omega arith) (omega arith)
 
 -- ---- one more cycle
 

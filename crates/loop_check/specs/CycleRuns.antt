@@ -12,18 +12,18 @@ use Rattle.base.specs.declared.ids.RouterId.{RouterId}
 use Rattle.label_view.specs.Gathered.{Gathered}
 use Rattle.label_view.specs.Places.{AreGatheredTo, begin_of}
 
--- the runs that stand under a cycle's routers
-unfoldable pub runs_under : List (Vec RouterId × Gathered) → List RouterId → Option Gathered
-runs_under known routers = lookup (is_at (λ k. slice_cmp cmp-value.it routers k.items)) known
+-- what stands under a cycle's routers
+unfoldable pub value_under : {X : Type 0} → List (Vec RouterId × X) → List RouterId → Option X
+value_under known routers = lookup (is_at (λ k. slice_cmp cmp-value.it routers k.items)) known
 
 -- the cycle of these routers is known
-pub record HasKnown (known : List (Vec RouterId × Gathered)) (routers : List RouterId) : Type 0 where
-  pub runs : Gathered
-  pub is : runs_under known routers ≡ Some runs
+pub record HasKnown {X : Type 0} (known : List (Vec RouterId × X)) (routers : List RouterId) : Type 0 where
+  pub value : X
+  pub is : value_under known routers ≡ Some value
 
 -- the runs of each are of the addresses of the rows before a place that go round it
 pub record AreKnownTo (rows : List ForwardingRow) (i : ℕ) (known : List (Vec RouterId × Gathered)) : Type 0 where
-  pub each : (routers : List RouterId) (runs : Gathered) → runs_under known routers ≡ Some runs
+  pub each : (routers : List RouterId) (runs : Gathered) → value_under known routers ≡ Some runs
       → AreGatheredTo runs rows i (goes_round (does rows) routers)
 
 -- all cycles of the addresses of the rows before a place are among these
@@ -40,6 +40,6 @@ AreRunsTo rows i routers (Some runs) = AreGatheredTo runs rows i (goes_round (do
 pub record IsAdded (rows : List ForwardingRow) (i : ℕ) (routers : List RouterId)
     (old new : List (Vec RouterId × Gathered)) : Type 0 where
   pub there : HasKnown new routers
-  pub exact : (runs : Gathered) → runs_under new routers ≡ Some runs
+  pub exact : (runs : Gathered) → value_under new routers ≡ Some runs
       → AreGatheredTo runs rows (i + 1) (goes_round (does rows) routers)
-  pub other : (others : List RouterId) → (routers ≡ others → ⊥) → runs_under new others ≡ runs_under old others
+  pub other : (others : List RouterId) → (routers ≡ others → ⊥) → value_under new others ≡ value_under old others

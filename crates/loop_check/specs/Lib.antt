@@ -1,5 +1,9 @@
+pub mod Bounds
 pub mod CycleOrder
 pub mod CycleRuns
+pub mod CyclesByRange
 pub mod FirstOrder
 pub mod Following
+pub mod Joined
 pub mod RowCycles
+pub mod Shares

@@ -9,7 +9,7 @@ ghost use Rattle.base.specs.declared.cycle.Cycle.{Cycle as CycleIs};
 ghost use Rattle.base.specs.declared.forwarding_row.ForwardingRow.{ForwardingRow as Row};
 ghost use Rattle.label_view.specs.Places.{AreGatheredTo};
 ghost use Rattle.loop_check.specs.CycleOrder.{AddsCycle, AreUnsorted};
-ghost use Rattle.loop_check.specs.CycleRuns.{AreKnownTo, AreRunsTo, HaveAllBefore, IsAdded, runs_under};
+ghost use Rattle.loop_check.specs.CycleRuns.{AreKnownTo, AreRunsTo, HaveAllBefore, IsAdded, value_under};
 ghost use Rattle.loop_check.specs.RowCycles.{AreCyclesAt};
 
 use crate::cycle_order::{push_cycle, sort_cycles};
@@ -29,7 +29,7 @@ fn add_first<V: LabelView>(
 ) -> Result<(), OutOfMemory>
     requires form { AreForwarding (V.width view.now) (V.rows view.now) }
     requires place { i < length (V.rows view.now) }
-    requires unknown { runs_under known.old.entries routers ≡ None }
+    requires unknown { value_under known.old.entries routers ≡ None }
     requires runs { AreRunsTo (V.rows view.now) i routers None }
     requires goes { (d : Row) → IsTrue (is_cycle (target_of (slice_index_or (V.rows view.now) i d)) routers) }
     ensures { OnOk result (IsAdded (V.rows view.now) i routers known.old.entries known.new.entries) }
@@ -50,7 +50,7 @@ fn add_cycle<V: LabelView>(
 ) -> Result<(), OutOfMemory>
     requires form { AreForwarding (V.width view.now) (V.rows view.now) }
     requires place { i < length (V.rows view.now) }
-    requires runs { AreRunsTo (V.rows view.now) i routers (runs_under known.old.entries routers) }
+    requires runs { AreRunsTo (V.rows view.now) i routers (value_under known.old.entries routers) }
     requires goes { (d : Row) → IsTrue (is_cycle (target_of (slice_index_or (V.rows view.now) i d)) routers) }
     ensures { OnOk result (IsAdded (V.rows view.now) i routers known.old.entries known.new.entries) }
 {

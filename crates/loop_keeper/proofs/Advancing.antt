@@ -70,25 +70,23 @@ goes-same f g d rs a h b t = cycle-same (at_address f a) (at_address g a) rs (λ
 
 pub advanced : (f g : RouterId → ℕ → Target) (d : List Change) (found : List Found) (old new : List Kept) → AreKept f old → IsDelta f g d → AllGoRound g found → FindTouched g d found → AreEdited d found old new → AreKept g new
 advanced f g d found old new kept delta sound find edited = record {
-  distinct = edited.left.distinct (edited.put.distinct (edited.taken.distinct kept.distinct));
-  some = edited.left.some;
+  form = edited.put.form;
   sound = λ rs a b has. ⊎_elim
       (λ (o : HasKept edited.out rs a).
       let was = edited.taken.only rs a b o in
       sym (goes-same f g d rs a delta b was.1) ∙ kept.sound rs a b was.0)
       (λ (o : HasFound found rs a). (sound rs a o).1)
-      (edited.put.only rs a b (edited.left.only rs a b has));
+      (edited.put.only rs a b has);
   all = λ rs a b goes. ⊎_elim
-      (λ (t : is_touched d rs a ≡ true). edited.left.kept rs a b (edited.put.here rs a b (find rs a b goes t)))
-      (λ (t : is_touched d rs a ≡ false). edited.left.kept rs a b (edited.put.kept rs a b (edited.taken.kept rs a b (kept.all rs a b (goes-same f g d rs a delta b t ∙ goes)) t)))
+      (λ (t : is_touched d rs a ≡ true). edited.put.here rs a b (find rs a b goes t))
+      (λ (t : is_touched d rs a ≡ false). edited.put.kept rs a b (edited.taken.kept rs a b (kept.all rs a b (goes-same f g d rs a delta b t ∙ goes)) t))
       (cases_Bool (is_touched d rs a));
 }
 
 -- where nothing was found, and nothing is to be taken out
 pub advanced-idle : (f g : RouterId → ℕ → Target) (d : List Change) (found : List Found) (old : List Kept) → AreKept f old → IsDelta f g d → FindTouched g d found → found ≡ [] → AreTakenOut d old old → AreKept g old
 advanced-idle f g d found old kept delta find none taken = record {
-  distinct = kept.distinct;
-  some = kept.some;
+  form = kept.form;
   sound = λ rs a b has. sym (goes-same f g d rs a delta b (taken.only rs a b has).1) ∙ kept.sound rs a b has;
   all = λ rs a b goes. ⊎_elim
       (λ (t : is_touched d rs a ≡ true).
@@ -106,8 +104,7 @@ goes-alike f g rs a e = cycle-same (at_address f a) (at_address g a) rs (λ r m.
 
 pub kept-alike : (f g : RouterId → ℕ → Target) (kept : List Kept) → ((r : RouterId) (a : ℕ) → a < 2 ^ 32 → f r a ≡ g r a) → AreKept f kept → AreKept g kept
 kept-alike f g kept e h = record {
-  distinct = h.distinct;
-  some = h.some;
+  form = h.form;
   sound = λ rs a b has. sym (goes-alike f g rs a (λ r. e r a b)) ∙ h.sound rs a b has;
   all = λ rs a b goes. h.all rs a b (goes-alike f g rs a (λ r. e r a b) ∙ goes);
 }

@@ -1,12 +1,10 @@
 pub mod Advancing
+pub mod AnswerParts
 pub mod Crossing
-pub mod Leaving
 pub mod Meeting
-pub mod Parts
 pub mod Putting
-pub mod Runs
+pub mod Segments
 pub mod Starting
 pub mod Taking
-pub mod Told
 pub mod Turning
 pub mod Ways

@@ -1,9 +1,7 @@
+pub mod Answer
 pub mod Edits
-pub mod Falls
 pub mod Finding
 pub mod Following
 pub mod Kept
 pub mod Looks
-pub mod Nodes
-pub mod Numbers
 pub mod Starts

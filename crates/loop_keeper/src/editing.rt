@@ -1,110 +1,232 @@
 //! Changes of what is kept.
 
-ghost use Rattle.std.specs.Prelude.{◌≡◌, ◌<◌, ◌≤◌, ◌^◌, ◌∷◌, [], OnOk, IfSome, IfNone, Contains, length, slice_index_or};
+ghost use Rattle.std.specs.Prelude.{◌≡◌, ℕ, ◌+◌, ◌-◌, ◌<◌, ◌≤◌, ◌^◌, ◌∷◌, [], false, true, List as Listed, OnOk, IfOk, IfSome, IsFalse, IsTrue, Contains, length, slice_index_or};
 ghost use Rattle.base.specs.Delta.{AreChanges, IsChange};
-ghost use Rattle.loop_keeper.specs.Edits.{IsTakenOut, AreTakenOut, ArePutIn, AreWithoutEmpty};
+ghost use Rattle.base.specs.declared.ids.RouterId.{RouterId as Router};
+ghost use Rattle.loop_check.specs.Following.{is_among};
+ghost use Rattle.loop_keeper.specs.Edits.{AreChangedTo, AreChangedWithin, ArePutIn, AreTakenOut, Begins, IsCut, IsInserted};
 ghost use Rattle.loop_keeper.specs.Finding.{AllInside};
-ghost use Rattle.loop_keeper.specs.Kept.{Kept as KeptIs};
+ghost use Rattle.loop_keeper.specs.Kept.{AreSegments, Kept as KeptIs};
 
 use crate::found::Found;
 use crate::kept_cycle::KeptCycle;
-use base::{Change, List, OutOfMemory, RouterId};
-use loop_check::are_same_routers;
+use crate::segment::{Edit, Segment};
+use base::{Change, OutOfMemory, RouterId};
 use std::alloc::Global;
+use version_pages::Pages;
 
-/// Takes the run of a change out of a cycle, if that has its router.
-fn take_out_of(alloc: Global, one: &mut KeptCycle, change: &Change) -> Result<(), OutOfMemory>
-    requires { IsChange change.now }
-    ensures { OnOk result (IsTakenOut change.now one.old one.new) }
+/// Whether a segment begins at an address, where those before the place begin below it.
+fn begins_at(segments: &Pages<Segment>, place: u64, at: u64) -> bool
+    ensures yes { IsTrue result → place < length segments.now }
+    ensures same { IsTrue result → (d : KeptIs) → (slice_index_or segments.now place d).low ≡ at }
+    ensures other { IsFalse result → (d : KeptIs) → place < length segments.now
+        → (slice_index_or segments.now place d).low ≡ at → ⊥ }
 {
-    if !one.has_router(change.router) {
+    match segments.get(place) {
+        Some(segment) => u64::from(segment.low()) == at,
+        None => false,
+    }
+}
+
+/// A segment that begins at an address, with the cycles of the one before a place, if there is one.
+fn segment_for(
+    alloc: Global,
+    segments: &Pages<Segment>,
+    place: u64,
+    at: u32,
+) -> Result<Segment, OutOfMemory>
+    ensures low { IfOk result (λ segment. segment.low ≡ at) }
+    ensures first { IfOk result (λ segment. place ≡ 0 → segment.cycles ≡ []) }
+    ensures same { IfOk result (λ segment. (d : KeptIs) → 0 < place
+        → segment.cycles ≡ (slice_index_or segments.now (place - 1) d).cycles) }
+{
+    if place == 0 {
+        return Segment::empty_from(alloc, at);
+    }
+    let Some(before) = segments.get(place - 1) else {
+        return Err(OutOfMemory);
+    };
+    before.again_from(at)
+}
+
+/// Puts a segment that begins at an address at a place, with the cycles of the one before it.
+fn insert(
+    alloc: Global,
+    segments: &mut Pages<Segment>,
+    place: u64,
+    at: u32,
+) -> Result<(), OutOfMemory>
+    requires { place ≤ length segments.old }
+    ensures { OnOk result (IsInserted place at segments.old segments.new) }
+{
+    let segment = segment_for(alloc, segments, place, at)?;
+    segments.insert_at(alloc, place, segment)
+}
+
+/// Cuts segments at an address, so that one begins there.
+fn cut(alloc: Global, segments: &mut Pages<Segment>, at: u64) -> Result<(), OutOfMemory>
+    ensures { OnOk result (AreSegments segments.old → IsCut at segments.old segments.new) }
+{
+    if at > u64::from(u32::MAX) {
         return Ok(());
     }
-    let past = u64::from(change.run.hi) + 1;
-    return one.put_run(alloc, u64::from(change.run.lo), past, false);
+    let place = segments.count_below(at);
+    if begins_at(segments, place, at) {
+        return Ok(());
+    }
+    insert(alloc, segments, place, at as u32)
+}
+
+/// Changes the segment at a place.
+fn change_at(
+    alloc: Global,
+    segments: &mut Pages<Segment>,
+    place: u64,
+    edit: &Edit,
+) -> Result<(), OutOfMemory>
+    ensures { OnOk result (AreChangedTo edit.now place (place + 1) segments.old segments.new) }
+{
+    let Some(segment) = segments.get(place) else {
+        return Ok(());
+    };
+    let segment = segment.edited(alloc, edit)?;
+    segments.put(alloc, place, segment)
+}
+
+/// Changes the segments that begin from one address up to, and without, another one.
+fn change_between(
+    alloc: Global,
+    segments: &mut Pages<Segment>,
+    low: u64,
+    past: u64,
+    edit: &Edit,
+) -> Result<(), OutOfMemory>
+    requires { past ≤ 2 ^ 32 }
+    ensures { OnOk result (AreSegments segments.old → (low < 2 ^ 32 → Begins segments.old low)
+        → (past < 2 ^ 32 → Begins segments.old past) → AreChangedWithin edit.now low past segments.old segments.new) }
+{
+    let first = segments.count_below(low);
+    let end = segments.count_below(past);
+    let mut place = first;
+    'places: while place < end {
+        change_at(alloc, segments, place, edit)?;
+        place += 1;
+    }
+    Ok(())
+}
+
+/// Changes the cycles of the addresses from one up to, and without, another one.
+fn change_within(
+    alloc: Global,
+    segments: &mut Pages<Segment>,
+    low: u64,
+    past: u64,
+    edit: &Edit,
+) -> Result<(), OutOfMemory>
+    requires { past ≤ 2 ^ 32 }
+    ensures { OnOk result (AreSegments segments.old → AreChangedWithin edit.now low past segments.old segments.new) }
+{
+    cut(alloc, segments, low)?;
+    cut(alloc, segments, past)?;
+    change_between(alloc, segments, low, past, edit)
+}
+
+/// Whether a cycle of the segment at a place has a router.
+fn has_router_at(segments: &Pages<Segment>, place: u64, router: RouterId) -> bool
+    ensures { IsFalse result → (d : KeptIs) (rs : Listed Router) → place < length segments.now
+        → Contains (slice_index_or segments.now place d).cycles rs → is_among rs router ≡ false }
+{
+    match segments.get(place) {
+        Some(segment) => segment.has_router(router),
+        None => false,
+    }
+}
+
+/// Whether a change may take addresses out of a cycle: whether its run meets a segment one of whose cycles has its
+/// router.
+fn is_met(segments: &Pages<Segment>, change: &Change) -> bool
+    requires { IsChange change.now }
+    ensures { IsFalse result → AreSegments segments.now → AreTakenOut (change.now ∷ []) segments.now segments.now }
+{
+    let first = segments
+        .count_below(u64::from(change.run.lo) + 1)
+        .saturating_sub(1);
+    let end = segments.count_below(u64::from(change.run.hi) + 1);
+    for place in first..end {
+        if has_router_at(segments, place, change.router) {
+            return true;
+        }
+    }
+    false
+}
+
+/// Whether changes may take addresses out of a cycle.
+pub(crate) fn are_met(segments: &Pages<Segment>, changes: &[Change]) -> bool
+    requires { AreChanges changes.now }
+    ensures { IsFalse result → AreSegments segments.now → AreTakenOut changes.now segments.now segments.now }
+{
+    for change in changes {
+        if is_met(segments, change) {
+            return true;
+        }
+    }
+    false
 }
 
 /// Takes the run of a change out of the cycles that have its router.
-fn take_out(alloc: Global, cycles: &mut [KeptCycle], change: &Change) -> Result<(), OutOfMemory>
+fn take_out(
+    alloc: Global,
+    segments: &mut Pages<Segment>,
+    change: &Change,
+) -> Result<(), OutOfMemory>
     requires { IsChange change.now }
-    ensures { OnOk result (AreTakenOut (change.now ∷ []) cycles.old cycles.new) }
+    ensures { OnOk result (AreSegments segments.old → AreTakenOut (change.now ∷ []) segments.old segments.new) }
 {
-    for one in cycles.iter_mut() {
-        take_out_of(alloc, one, change)?;
+    if !is_met(segments, change) {
+        return Ok(());
     }
-    Ok(())
+    let past = u64::from(change.run.hi) + 1;
+    let edit = Edit::Without(change.router);
+    change_within(alloc, segments, u64::from(change.run.lo), past, &edit)
 }
 
 /// Takes the runs of changes out of the cycles that have their routers.
 pub(crate) fn take_all_out(
     alloc: Global,
-    cycles: &mut [KeptCycle],
+    segments: &mut Pages<Segment>,
     changes: &[Change],
 ) -> Result<(), OutOfMemory>
     requires { AreChanges changes.now }
-    ensures { OnOk result (AreTakenOut changes.now cycles.old cycles.new) }
+    ensures { OnOk result (AreSegments segments.old → AreTakenOut changes.now segments.old segments.new) }
 {
     for change in changes {
-        take_out(alloc, cycles, change)?;
+        take_out(alloc, segments, change)?;
     }
     Ok(())
-}
-
-/// The place of the cycle of these routers.
-fn place_of(cycles: &[KeptCycle], routers: &[RouterId]) -> Option<usize>
-    ensures some { IfSome result (λ k. k < length cycles.now) }
-    ensures same { IfSome result (λ k. (d : KeptIs) → (slice_index_or cycles.now k d).routers ≡ routers.now) }
-    ensures none { IfNone result ((one : KeptIs) → Contains cycles.now one → one.routers ≡ routers.now → ⊥) }
-{
-    for (k, one) in cycles.iter().enumerate() {
-        if are_same_routers(one.routers(), routers) {
-            return Some(k);
-        }
-    }
-    None
 }
 
 /// Puts a cycle that was found beside what is kept.
-fn put_in(alloc: Global, cycles: &mut Vec<KeptCycle>, found: Found) -> Result<(), OutOfMemory>
+fn put_in(alloc: Global, segments: &mut Pages<Segment>, found: Found) -> Result<(), OutOfMemory>
     requires { found.past ≤ 2 ^ 32 }
-    ensures { OnOk result (ArePutIn (found ∷ []) cycles.old.items cycles.new.items) }
+    ensures { OnOk result (AreSegments segments.old → ArePutIn (found ∷ []) segments.old segments.new) }
 {
     let Found { routers, low, past } = found;
-    if let Some(k) = place_of(cycles.as_slice(), routers.as_slice()) {
-        return cycles[k].put_run(alloc, low, past, true);
-    }
-    let mut one = KeptCycle::new(alloc, routers)?;
-    one.put_run(alloc, low, past, true)?;
-    cycles.push(one)?;
-    Ok(())
+    let edit = Edit::With(KeptCycle::new(alloc, routers)?);
+    change_within(alloc, segments, low, past, &edit)
 }
 
 /// Puts the cycles that were found beside what is kept.
 pub(crate) fn put_all_in(
     alloc: Global,
-    cycles: &mut Vec<KeptCycle>,
+    segments: &mut Pages<Segment>,
     found: Vec<Found>,
 ) -> Result<(), OutOfMemory>
     requires { AllInside found.items }
-    ensures { OnOk result (ArePutIn found.items cycles.old.items cycles.new.items) }
+    ensures { OnOk result (AreSegments segments.old → ArePutIn found.items segments.old segments.new) }
 {
     let mut left = found;
     'putting: while let Some(one) = left.pop() {
-        put_in(alloc, cycles, one)?;
+        put_in(alloc, segments, one)?;
     }
     Ok(())
-}
-
-/// Leaves out the cycles without an address.
-pub(crate) fn leave_empty_out(cycles: &mut Vec<KeptCycle>)
-    ensures { AreWithoutEmpty cycles.old.items cycles.new.items }
-{
-    let mut k = 0;
-    'cycles: while k < cycles.len() {
-        if cycles[k].is_empty() {
-            let _one = cycles.swap_remove(k);
-            continue;
-        }
-        k += 1;
-    }
 }

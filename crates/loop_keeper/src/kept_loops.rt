@@ -1,60 +1,42 @@
 //! The cycles of a network, kept from update to update.
 
 ghost use Rattle.std.specs.Prelude.{◌≡◌, ℕ, ◌+◌, ◌*◌, ◌≤◌, [], OnOk, IfOk};
-ghost use Rattle.std.specs.List.{list_any};
 ghost use Rattle.base.specs.Cycles.{AreCycles};
 ghost use Rattle.base.specs.Delta.{AreChanges, IsDelta};
 ghost use Rattle.base.specs.Forwarding.{does};
 ghost use Rattle.base.specs.declared.ids.RouterId.{RouterId as Router};
 ghost use Rattle.base.specs.declared.target.Target.{Target as TargetIs};
-ghost use Rattle.loop_keeper.specs.Edits.{AreEdited, has_changed};
+ghost use Rattle.loop_keeper.specs.Edits.{AreEdited};
 ghost use Rattle.loop_keeper.specs.Finding.{AllInside};
-ghost use Rattle.loop_keeper.specs.Kept.{AreKept, IsLoopFree};
+ghost use Rattle.loop_keeper.specs.Kept.{AreKept, AreSegments, IsLoopFree};
 ghost use Rattle.loop_keeper.specs.Looks.{rows_met};
 
 use crate::answer::cycles_of;
-use crate::editing::{leave_empty_out, put_all_in, take_all_out};
+use crate::editing::{are_met, put_all_in, take_all_out};
 use crate::finding::find_all;
 use crate::found::Found;
-use crate::kept_cycle::KeptCycle;
+use crate::segment::Segment;
 use base::{Change, Cycle, List, OutOfMemory};
 use delta_graph::Delta;
 use label_view::LabelView;
 use std::alloc::Global;
 use std::marker::Model;
-use std::sync::Arc;
 use std::sync::ledger::Ledger;
 use step_count::Steps;
+use version_pages::Pages;
 
-/// The cycles of a network with the sets of the addresses that go round them. A contract sees the list of them.
+/// The cycles of a network, by segments of addresses. A contract sees the list of them.
 ///
-/// A copy is one count. A change works in place where nobody else holds the list, and copies it where somebody does:
-/// what a copy holds stays. Where an update finds no cycle, and changes no router of a kept one, nothing is copied.
+/// A copy is one count. A change works in place where nobody else holds a page of segments, and copies the pages on its
+/// way where somebody does: what a copy holds stays. Where an update finds no cycle, and changes no router of a kept one,
+/// nothing is copied. A segment that has no cycle any more stays: there are at most as many segments as ends of runs of
+/// changes and of cycles that were found.
 #[derive(Drop)]
 pub struct KeptLoops {
-    list: Option<Arc<CycleList, Global>>,
-}
-
-/// Cycles, in any order. A contract sees the list of them.
-#[derive(Drop)]
-struct CycleList {
-    cycles: Vec<KeptCycle>,
+    segments: Pages<Segment>,
 }
 
 impl Model for KeptLoops {
-    ghost use Rattle.std.specs.Prelude.{List, [], option_map, unwrap_or};
-    ghost use Rattle.std.specs.Arc.{arc_value};
-    ghost use Rattle.std.specs.Coded.{coded_list};
-    ghost use Rattle.loop_keeper.specs.Kept.{Kept, kept_code};
-
-    ghost Value = { List Kept };
-
-    ghost coded = { coded_list kept_code };
-
-    ghost view = { λ k. unwrap_or (option_map arc_value k.list) [] };
-}
-
-impl Model for CycleList {
     ghost use Rattle.std.specs.Prelude.{List};
     ghost use Rattle.std.specs.Coded.{coded_list};
     ghost use Rattle.loop_keeper.specs.Kept.{Kept, kept_code};
@@ -63,51 +45,7 @@ impl Model for CycleList {
 
     ghost coded = { coded_list kept_code };
 
-    ghost view = { λ l. l.cycles.items };
-}
-
-impl CycleList {
-    /// Takes the runs of changes out, and puts in what was found.
-    fn edit(
-        &mut self,
-        alloc: Global,
-        changes: &[Change],
-        found: Vec<Found>,
-    ) -> Result<(), OutOfMemory>
-        requires changes { AreChanges changes.now }
-        requires found { AllInside found.items }
-        ensures { OnOk result (AreEdited changes.now found.items self.old self.new) }
-    {
-        take_all_out(alloc, self.cycles.as_mut_slice(), changes)?;
-        put_all_in(alloc, &mut self.cycles, found)?;
-        leave_empty_out(&mut self.cycles);
-        return Ok(());
-    }
-}
-
-/// Whether a change is one of a cycle's routers.
-fn is_changed(one: &KeptCycle, changes: &[Change]) -> bool
-    ensures { result ≡ has_changed changes.now one.now }
-{
-    changes.iter().any(|change| one.has_router(change.router))
-}
-
-/// Whether changes may take addresses out of a cycle.
-fn are_changed(cycles: &[KeptCycle], changes: &[Change]) -> bool
-    ensures { result ≡ list_any (has_changed changes.now) cycles.now }
-{
-    cycles.iter().any(|one| is_changed(one, changes))
-}
-
-/// The same cycles again.
-fn copies_of(alloc: Global, cycles: &[KeptCycle]) -> Result<Vec<KeptCycle>, OutOfMemory>
-    ensures { IfOk result (λ copies. copies.items ≡ cycles.now) }
-{
-    let mut copies = Vec::with_capacity(alloc, cycles.len())?;
-    for one in cycles {
-        copies.push(one.copy()?)?;
-    }
-    Ok(copies)
+    ghost view = { λ k. k.segments };
 }
 
 impl KeptLoops {
@@ -116,49 +54,17 @@ impl KeptLoops {
         ensures none { result ≡ [] }
         ensures kept { (does_so : Router → ℕ → TargetIs) → IsLoopFree does_so → AreKept does_so result }
     {
-        KeptLoops { list: None }
+        KeptLoops {
+            segments: Pages::new(),
+        }
     }
 
     /// The same again, which shares all with this one. It fails for want of memory alone.
     pub fn copy(&self) -> Result<KeptLoops, OutOfMemory>
         ensures { IfOk result (λ loops. loops ≡ self.now) }
     {
-        match &self.list {
-            None => Ok(KeptLoops { list: None }),
-            Some(list) => Ok(KeptLoops {
-                list: Some(Arc::try_clone(list)?),
-            }),
-        }
-    }
-
-    /// The cycles that are kept.
-    fn cycles(&self) -> &[KeptCycle]
-        ensures { result.now ≡ self.now }
-    {
-        match &self.list {
-            None => &[],
-            Some(list) => list.cycles.as_slice(),
-        }
-    }
-
-    /// Whether nobody else holds the list.
-    fn is_alone(&self) -> bool {
-        match &self.list {
-            None => false,
-            Some(list) => Arc::strong_count(list) == 1,
-        }
-    }
-
-    /// Makes the list one that nobody else holds.
-    fn own(&mut self, alloc: Global) -> Result<(), OutOfMemory>
-        ensures { self.new ≡ self.old }
-    {
-        if self.is_alone() {
-            return Ok(());
-        }
-        let cycles = copies_of(alloc, self.cycles())?;
-        self.list = Some(Arc::new(alloc, CycleList { cycles })?);
-        return Ok(());
+        let segments = self.segments.copy()?;
+        Ok(KeptLoops { segments })
     }
 
     /// Takes the runs of changes out, and puts in what was found.
@@ -170,16 +76,10 @@ impl KeptLoops {
     ) -> Result<(), OutOfMemory>
         requires changes { AreChanges changes.now }
         requires found { AllInside found.items }
-        ensures { OnOk result (AreEdited changes.now found.items self.old self.new) }
+        ensures { OnOk result (AreSegments self.old → AreEdited changes.now found.items self.old self.new) }
     {
-        self.own(alloc)?;
-        let Some(list) = &mut self.list else {
-            return Err(OutOfMemory);
-        };
-        let Some(list) = Arc::get_mut(list) else {
-            return Err(OutOfMemory);
-        };
-        return list.edit(alloc, changes, found);
+        take_all_out(alloc, &mut self.segments, changes)?;
+        put_all_in(alloc, &mut self.segments, found)
     }
 
     /// Keeps the loops of a network through an update, from what it did before it to what the rows of the view say,
@@ -198,7 +98,7 @@ impl KeptLoops {
     {
         let changes = delta.changes();
         let found = find_all(alloc, view, changes, steps)?;
-        if found.is_empty() && !are_changed(self.cycles(), changes) {
+        if found.is_empty() && !are_met(&self.segments, changes) {
             return Ok(());
         }
         return self.change(alloc, changes, found);
@@ -222,11 +122,11 @@ impl KeptLoops {
     }
 
     /// The cycles in which addresses go round for ever, by least address, then by first router, each with its least
-    /// address and the number of all that go round it. It goes over the cycles and not over addresses.
+    /// address and the number of all that go round it. It goes over the segments and not over addresses.
     pub fn answer(&self, alloc: Global) -> Result<List<Cycle>, OutOfMemory>
         ensures { IfOk result (λ cycles. (does_so : Router → ℕ → TargetIs) → AreKept does_so self.now
             → AreCycles does_so cycles) }
     {
-        cycles_of(alloc, self.cycles())
+        cycles_of(alloc, &self.segments)
     }
 }

@@ -1,8 +1,7 @@
-//! The loops of a network, kept from update to update (as in Delta-net, NSDI 2017): each cycle with the set of the
-//! addresses that go round it. After an update only the rows that meet what changed are looked at.
+//! The loops of a network, kept from update to update (as in Delta-net, NSDI 2017): for segments of addresses
+//! the cycles that they go round. After an update only the rows that meet what changed are looked at.
 #![tactic(auto)]
 
-mod address_set;
 mod answer;
 mod editing;
 mod finding;
@@ -10,6 +9,6 @@ mod following;
 mod found;
 mod kept_cycle;
 mod kept_loops;
-mod number_set;
+mod segment;
 
 pub use kept_loops::KeptLoops;

@@ -24,10 +24,11 @@ use Rattle.base.proofs.Picks.{any-none, any-some}
 use Rattle.base.proofs.RunsOnce.{apart-bound, apart-head, first-holds}
 use Rattle.base.proofs.Walks.{on_far-same, walk_end-last, walk_end-same}
 use Rattle.par_scan.specs.HolesByRange.{AreHolePieces, AreHolesByRange, AreHolesWithin, IsHoleWithin, TellsHoleAt, TellsHolesOf, hole_runs}
-use Rattle.par_scan.specs.Joined.{joined}
+use Rattle.loop_check.specs.Joined.{joined}
 use Rattle.par_scan.specs.Parts.{ShowsPart}
-use Rattle.par_scan.specs.Ranges.{only_within, range_begin}
-use Rattle.par_scan.proofs.Joining.{joined-runs, only-in}
+use Rattle.loop_check.specs.Bounds.{only_within}
+use Rattle.par_scan.specs.Ranges.{range_begin}
+use Rattle.loop_check.proofs.Joining.{joined-runs, only-in}
 use Rattle.par_scan.proofs.PartRows.{idle-local, idle-stays}
 use Rattle.par_scan.proofs.RangeBounds.{bounds-are, bounds-end, range-of}
 use Rattle.par_scan.proofs.ReachParts.{test-within}

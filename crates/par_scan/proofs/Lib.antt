@@ -1,6 +1,5 @@
 mod CycleParts
 mod HoleParts
-mod Joining
 mod PartRows
 mod RangeBounds
 mod ReachParts

@@ -9,8 +9,9 @@ use Rattle.base.specs.declared.forwarding_row.ForwardingRow.{ForwardingRow}
 use Rattle.base.specs.declared.run.Run.{Run}
 use Rattle.label_view.specs.Places.{begin_of}
 use Rattle.par_scan.specs.Parts.{ShowsPart}
-use Rattle.par_scan.specs.Ranges.{AreBounds, AreRunsByRange, only_within, place_at, range_begin}
-use Rattle.par_scan.proofs.Joining.{all-within}
+use Rattle.loop_check.specs.Bounds.{AreBounds, AreRunsByRange, only_within}
+use Rattle.par_scan.specs.Ranges.{place_at, range_begin}
+use Rattle.loop_check.proofs.Joining.{all-within}
 use Rattle.par_scan.proofs.PartRows.{begin-end, begin-first, begin-rises}
 
 -- ---- places

@@ -13,7 +13,7 @@ use Rattle.base.proofs.Covers.{within-above, within-below, within-yes}
 use Rattle.base.proofs.Walks.{walk-same}
 use Rattle.walk_check.proofs.Reaching.{met-here, met-never}
 use Rattle.par_scan.specs.Parts.{ShowsPart}
-use Rattle.par_scan.specs.Ranges.{only_within}
+use Rattle.loop_check.specs.Bounds.{only_within}
 use Rattle.par_scan.proofs.PartRows.{idle-stays}
 
 -- a test that is what another one is within bounds, and false without

@@ -7,7 +7,7 @@ use Rattle.base.specs.declared.hole.Hole.{Hole}
 use Rattle.base.specs.declared.ids.RouterId.{RouterId}
 use Rattle.base.specs.declared.run.Run.{Run}
 use Rattle.base.specs.declared.target.Target.{Target}
-use Rattle.par_scan.specs.Ranges.{AreBounds, only_within}
+use Rattle.loop_check.specs.Bounds.{AreBounds, only_within}
 
 -- a hole of the addresses between two bounds: the runs of those that fall there, of which there is one
 pub record IsHoleWithin (low past n : ℕ) (does : RouterId → ℕ → Target) (first : RouterId) (h : Hole) : Type 0 where

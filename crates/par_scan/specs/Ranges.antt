@@ -1,9 +1,6 @@
--- Rows cut into ranges of one size, and what is found in each.
-use Rattle.std.specs.Prelude.{ℕ, Bool, List, ◌*◌, ◌+◌, ◌<◌, ◌≤◌, ◌≡◌, ◌&&◌, nat_lt, if◌then◌else◌, length, slice_index_or}
-use Rattle.base.specs.Rows.{is_within}
-use Rattle.base.specs.Runs.{AreRuns}
+-- Rows cut into ranges of one size.
+use Rattle.std.specs.Prelude.{ℕ, List, ◌*◌, nat_lt, if◌then◌else◌, length}
 use Rattle.base.specs.declared.forwarding_row.ForwardingRow.{ForwardingRow}
-use Rattle.base.specs.declared.run.Run.{Run}
 use Rattle.label_view.specs.Places.{begin_of}
 
 -- where the range with this number begins, among so many rows: the last ends with them
@@ -13,17 +10,3 @@ place_at rows size k = if nat_lt (size * k) rows then size * k else rows
 -- the first address of the range with this number
 abbrev pub range_begin : List ForwardingRow → ℕ → ℕ → ℕ
 range_begin rows size k = begin_of rows (place_at (length rows) size k)
-
--- whether an address is one of those from `low` up to, and without, `past`, and passes a test
-abbrev pub only_within : ℕ → ℕ → (ℕ → Bool) → ℕ → Bool
-only_within low past test a = is_within low past a && test a
-
--- addresses in order, from 0 on
-pub record AreBounds (at : ℕ → ℕ) : Type 0 where
-  pub first : at 0 ≡ 0
-  pub rise : (k : ℕ) → at k ≤ at (k + 1)
-
--- the runs of the addresses between two bounds that pass a test, for each two in order
-pub record AreRunsByRange (at : ℕ → ℕ) (test : ℕ → Bool) (pieces : List (List Run)) : Type 0 where
-  pub each : (k : ℕ) (d : List Run) → k < length pieces
-      → AreRuns (slice_index_or pieces k d) (only_within (at k) (at (k + 1)) test)

@@ -3,15 +3,15 @@
 ghost use Rattle.std.specs.Prelude.{◌≡◌, ◌+◌, ◌*◌, ◌<◌, ◌≤◌, ◌^◌, ℕ, IfOk, length};
 ghost use Rattle.base.specs.Cycles.{AreCycles};
 ghost use Rattle.base.specs.Forwarding.{does};
-ghost use Rattle.par_scan.specs.CyclesByRange.{AreCyclesByRange, AreCyclesWithin};
+ghost use Rattle.loop_check.specs.CyclesByRange.{AreCyclesByRange, AreCyclesWithin};
 ghost use Rattle.par_scan.specs.Ranges.{range_begin};
 
-use crate::cycle_pieces::join_cycles;
 use crate::one_thread::loops_alone;
 use crate::part::Part;
 use crate::ranges::Ranges;
 use base::{Cycle, List, OutOfMemory};
 use label_view::LabelView;
+use loop_check::join_cycles;
 use rayon::current_num_threads;
 use rayon::prelude::*;
 use std::alloc::Global;

@@ -2,7 +2,6 @@
 //! as a view of its own, and what the ranges answer is put together.
 #![tactic(auto)]
 
-mod cycle_pieces;
 mod cycles;
 mod hole_order;
 mod hole_pieces;
@@ -12,7 +11,6 @@ mod one_thread;
 mod part;
 mod ranges;
 mod reached;
-mod share;
 
 pub use cycles::loops;
 pub use holes::blackholes;

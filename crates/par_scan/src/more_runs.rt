@@ -2,8 +2,8 @@
 
 ghost use Rattle.std.specs.Prelude.{◌≡◌, ℕ, Bool, [], ◌∷◌, IfOk, OnOk, length};
 ghost use Rattle.base.specs.Runs.{AreRuns};
-ghost use Rattle.par_scan.specs.Joined.{joined};
-ghost use Rattle.par_scan.specs.Ranges.{AreBounds, AreRunsByRange, only_within};
+ghost use Rattle.loop_check.specs.Joined.{joined};
+ghost use Rattle.loop_check.specs.Bounds.{AreBounds, AreRunsByRange, only_within};
 
 use base::{List, OutOfMemory, Run};
 use std::alloc::Global;

@@ -4,7 +4,8 @@ ghost use Rattle.std.specs.Prelude.{◌≡◌, ◌+◌, ◌*◌, ◌<◌, ◌≤
 ghost use Rattle.base.specs.Forwarding.{does};
 ghost use Rattle.base.specs.Reach.{reaches};
 ghost use Rattle.base.specs.Runs.{AreRuns};
-ghost use Rattle.par_scan.specs.Ranges.{AreRunsByRange, only_within, range_begin};
+ghost use Rattle.loop_check.specs.Bounds.{AreRunsByRange, only_within};
+ghost use Rattle.par_scan.specs.Ranges.{range_begin};
 
 use crate::more_runs::join_runs;
 use crate::one_thread::reach_alone;

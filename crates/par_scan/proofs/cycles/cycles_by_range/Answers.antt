@@ -5,7 +5,7 @@ use Rattle.std.specs.List.{range_with_len}
 use Rattle.base.specs.Forwarding.{does, row_low, row_past}
 use Rattle.base.specs.declared.memory.OutOfMemory.{OutOfMemory}
 use Rattle.base.specs.declared.cycle.Cycle.{Cycle}
-use Rattle.par_scan.specs.CyclesByRange.{AreCyclesWithin}
+use Rattle.loop_check.specs.CyclesByRange.{AreCyclesWithin}
 use Rattle.par_scan.specs.Ranges.{range_begin}
 use Rattle.par_scan.proofs.RangeBounds.{each-range}
 use Rattle.base.proofs.Covers.{few-rows}

@@ -3,7 +3,7 @@ use Rattle.base.specs.Holes.{falls}
 use Rattle.base.specs.Runs.{AreRuns}
 use Rattle.base.specs.declared.run.Run.{Run}
 use Rattle.par_scan.proofs.HoleParts.{more-within}
-use Rattle.par_scan.proofs.Joining.{all-within, no-runs}
+use Rattle.loop_check.proofs.Joining.{all-within, no-runs}
 use Rattle.par_scan.proofs.hole_pieces.all_runs.Goals as goal
 
 pub loop-k-init : goal.loop-k-init

@@ -4,7 +4,7 @@ use Rattle.base.specs.Runs.{AreRuns}
 use Rattle.base.specs.declared.ids.RouterId.{RouterId}
 use Rattle.base.specs.declared.target.Target.{Target}
 use Rattle.par_scan.specs.HolesByRange.{AreHolePieces}
-use Rattle.par_scan.specs.Ranges.{only_within}
+use Rattle.loop_check.specs.Bounds.{only_within}
 use Rattle.par_scan.proofs.hole_pieces.all_runs.Given as goal
 
 -- the runs of the ranges so far

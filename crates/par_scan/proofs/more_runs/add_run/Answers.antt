@@ -1,5 +1,5 @@
 use Rattle.std.proofs.Common.{arith}
-use Rattle.par_scan.proofs.Joining.{add-apart, add-touching}
+use Rattle.loop_check.proofs.Joining.{add-apart, add-touching}
 use Rattle.par_scan.proofs.more_runs.add_run.Goals as goal
 
 pub returns-then-from : goal.returns-then-from

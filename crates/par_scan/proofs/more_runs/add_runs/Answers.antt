@@ -1,4 +1,4 @@
-use Rattle.par_scan.proofs.Joining.{add-more, add-none}
+use Rattle.loop_check.proofs.Joining.{add-more, add-none}
 use Rattle.par_scan.proofs.more_runs.add_runs.Goals as goal
 
 pub returns-in_default : goal.returns-in_default

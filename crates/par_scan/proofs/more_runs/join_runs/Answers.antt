@@ -1,8 +1,8 @@
 use Rattle.std.proofs.Common.{◌≡◌, ◌∙◌, ℕ, List, length, sym, subst, arith}
 use Rattle.base.specs.Runs.{AreRuns}
 use Rattle.base.specs.declared.run.Run.{Run}
-use Rattle.par_scan.specs.Ranges.{only_within}
-use Rattle.par_scan.proofs.Joining.{more-runs, no-runs}
+use Rattle.loop_check.specs.Bounds.{only_within}
+use Rattle.loop_check.proofs.Joining.{more-runs, no-runs}
 use Rattle.par_scan.proofs.more_runs.join_runs.Goals as goal
 
 pub loop-k-init : goal.loop-k-init

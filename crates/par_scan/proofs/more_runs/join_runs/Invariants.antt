@@ -1,6 +1,6 @@
 use Rattle.std.proofs.Common.{ℕ, Bool}
 use Rattle.base.specs.Runs.{AreRuns}
-use Rattle.par_scan.specs.Ranges.{AreBounds, AreRunsByRange, only_within}
+use Rattle.loop_check.specs.Bounds.{AreBounds, AreRunsByRange, only_within}
 use Rattle.par_scan.proofs.more_runs.join_runs.Given as goal
 
 -- the runs of the ranges so far

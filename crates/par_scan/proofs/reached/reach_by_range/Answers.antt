@@ -7,7 +7,8 @@ use Rattle.base.specs.Reach.{reaches}
 use Rattle.base.specs.Runs.{AreRuns}
 use Rattle.base.specs.declared.memory.OutOfMemory.{OutOfMemory}
 use Rattle.base.specs.declared.run.Run.{Run}
-use Rattle.par_scan.specs.Ranges.{only_within, range_begin}
+use Rattle.loop_check.specs.Bounds.{only_within}
+use Rattle.par_scan.specs.Ranges.{range_begin}
 use Rattle.par_scan.proofs.RangeBounds.{each-range}
 use Rattle.base.proofs.Covers.{few-rows}
 use Rattle.par_scan.proofs.reached.reach_by_range.Goals as goal

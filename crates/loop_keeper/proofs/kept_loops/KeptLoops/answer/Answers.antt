@@ -9,4 +9,4 @@ use Rattle.loop_keeper.proofs.kept_loops.KeptLoops.answer.Goals as goal
 pub returns : goal.returns
 returns c =
     let P : List Kept → Type 0 = λ v. IfOk c.cycles_of.result (λ cycles. (does : RouterId → ℕ → Target) → AreKept does v → AreCycles does cycles) in
-    subst P c.cycles.ensures c.cycles_of.ensures
+    subst P c.self.view_is c.cycles_of.ensures

@@ -4,6 +4,7 @@ ghost use Rattle.std.specs.Prelude.{◌≡◌, ◌+◌, ◌<◌, ◌≤◌, ◌^
 ghost use Rattle.std.specs.Option.{option_to_list};
 ghost use Rattle.dn_formats.specs.Feed.{item_op, item_refusal, item_is_skipped, step_of};
 ghost use Rattle.dn_formats.specs.Frames.{BeginsFrame};
+ghost use Rattle.dn_formats.specs.Payload.{payload_of};
 ghost use Rattle.route_feed.specs.FeedReader.{told_after, AreOpsOf, IsFeedOp};
 ghost use Rattle.route_feed.specs.FrameStep.{ComesTo, frame_step, IsOfFrame, HandsTo};
 
@@ -13,11 +14,11 @@ use crate::port_hints::PortHints;
 use crate::route_op::op_of;
 use crate::workspace::Workspace;
 use dn_formats::frame_cause::{FRAME_TYPE, UNKNOWN_INTERFACE};
-use dn_formats::{FeedTold, Item, ItemKind, Payload, Refused, RefusedFrame};
+use dn_formats::{FeedTold, Item, ItemKind, Refused, RefusedFrame};
 use dn_io::Source;
 use dn_model::{List, Op, OutOfMemory, RouterId, Topology};
 use fpm_frame::Next;
-use rt_netlink::read_payload_in;
+use rt_netlink::{NextMessage, next_message};
 use std::alloc::Global;
 
 /// The kind of a frame whose payload is netlink messages (FPM_MSG_TYPE_NETLINK of FRR's fpm.h).
@@ -73,34 +74,40 @@ fn refusal(offset: u64, refused: Refused) -> FeedStep
     }
 }
 
-/// What a netlink frame at this offset comes to, whose payload says this: refused by the first refusal of its
-/// messages, else accepted with all its updates, which stand in a list that had none.
+/// What a netlink frame at this offset comes to, with this payload: refused by its first message that is refused, else
+/// accepted with all its updates, which stand in a list that had none.
 fn step_said(
     room: List<Op>,
     topology: &Topology,
     router: RouterId,
     offset: u64,
-    said: &Payload,
+    payload: &[u8],
     hints: &mut PortHints,
 ) -> Result<FeedStep, OutOfMemory>
     requires empty { room ≡ [] }
-    requires few { length said.now.items ≤ 65531 }
-    ensures step { IfOk result (λ step. frame_step step ≡ Some (step_of topology.now router offset said.now)) }
-    ensures few { IfOk result (IsOfFrame (length said.now.items)) }
+    requires fits { length payload.now ≤ 65531 }
+    ensures step { IfOk result (λ step. frame_step step ≡ Some (step_of topology.now router offset (payload_of payload.now))) }
+    ensures few { IfOk result (IsOfFrame (length payload.now)) }
     ensures within { IfOk result (AreOpsOf topology.now) }
 {
     let mut gathered = Gathered {
         ops: room,
         skipped: 0,
     };
-    for item in said.items.as_slice() {
-        if let Some(refused) = gathered.take_in(topology, router, item, hints)? {
-            return Ok(refusal(offset, refused));
+    let mut left = payload;
+    loop {
+        let at = (payload.len() - left.len()) as u32;
+        match next_message(left) {
+            NextMessage::Says(what, rest) => {
+                let item = Item { at, what };
+                if let Some(refused) = gathered.take_in(topology, router, &item, hints)? {
+                    return Ok(refusal(offset, refused));
+                }
+                left = rest;
+            }
+            NextMessage::Refused(cause) => return Ok(refusal(offset, Refused { at, cause })),
+            NextMessage::End => return Ok(FeedStep::Ops(gathered.ops, gathered.skipped)),
         }
-    }
-    match said.refused {
-        Some(refused) => Ok(refusal(offset, refused)),
-        None => Ok(FeedStep::Ops(gathered.ops, gathered.skipped)),
     }
 }
 
@@ -126,11 +133,15 @@ fn step_of(
             cause: FRAME_TYPE,
         });
     }
-    let said = read_payload_in(workspace.items(alloc), payload)?;
     let room = workspace.ops(alloc);
-    let step = step_said(room, topology, router, offset, &said, &mut workspace.hints)?;
-    workspace.keep_items(said.items);
-    Ok(step)
+    step_said(
+        room,
+        topology,
+        router,
+        offset,
+        payload,
+        &mut workspace.hints,
+    )
 }
 
 /// Counts what a frame came to. Want of memory changes nothing.

@@ -32,8 +32,8 @@ impl Model for PortHints {
 fn is_same_end(topology: &Topology, first: TopoEnd, second: TopoEnd) -> bool
     ensures { result ≡ same_end topology.now.tables first second }
 {
-    device_of(topology, first.router).0 == device_of(topology, second.router).0
-        && first.index == second.index
+    first.index == second.index
+        && device_of(topology, first.router).0 == device_of(topology, second.router).0
 }
 
 /// What the link at this place puts at the end whose far router this is.

@@ -3,18 +3,16 @@
 ghost use Rattle.std.specs.Prelude.{◌≡◌, []};
 
 use crate::port_hints::PortHints;
-use dn_formats::Item;
 use dn_model::{List, Op};
 use std::alloc::Global;
 use std::marker::Model;
 use std::mem;
 
 /// What a reader keeps from frame to frame, so that it need not make it anew for each: where interfaces were found last
-/// time, and lists whose memory the next frame may use. A contract sees nothing of it.
+/// time, and a list whose memory the next frame may use. A contract sees nothing of it.
 #[derive(Drop)]
 pub struct Workspace {
     pub hints: PortHints,
-    items: List<Item>,
     ops: List<Op>,
 }
 
@@ -24,30 +22,22 @@ impl Model for Workspace {
     ghost view = { λ workspace. tt };
 }
 
-/// A list with no item any more, and the memory that it had.
-fn emptied<T: Drop>(list: List<T>) -> List<T>
+/// A list with no update any more, and the memory that it had.
+fn emptied(ops: List<Op>) -> List<Op>
     ensures { result ≡ [] }
 {
-    let mut items = list.into_vec();
-    items.clear();
-    List::from_vec(items)
+    let mut ops = ops.into_vec();
+    ops.clear();
+    List::from_vec(ops)
 }
 
 impl Workspace {
-    /// Nothing found, and lists without memory.
+    /// Nothing found, and a list without memory.
     pub fn new(alloc: Global) -> Workspace {
         Workspace {
             hints: PortHints::new(),
-            items: List::new(alloc),
             ops: List::new(alloc),
         }
-    }
-
-    /// A list for the items of a payload, with the memory of the one kept last.
-    pub fn items(&mut self, alloc: Global) -> List<Item>
-        ensures { result ≡ [] }
-    {
-        emptied(mem::replace(&mut self.items, List::new(alloc)))
     }
 
     /// A list for the updates of a frame, with the memory of the one kept last.
@@ -55,11 +45,6 @@ impl Workspace {
         ensures { result ≡ [] }
     {
         emptied(mem::replace(&mut self.ops, List::new(alloc)))
-    }
-
-    /// Keeps the items of a payload, for their memory.
-    pub fn keep_items(&mut self, items: List<Item>) {
-        self.items = items;
     }
 
     /// Keeps the updates of a frame, for their memory.

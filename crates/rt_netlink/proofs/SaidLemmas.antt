@@ -1,15 +1,16 @@
 -- What a payload says from a place on.
 use Rattle.std.proofs.Common.{◌≡◌, ℕ, zero, suc, ◌+◌, ◌-◌, ◌<◌, ◌≤◌, Bool, true, false, List, [], ◌∷◌, ◌++◌, length, drop, refl, ap, sym, ◌∙◌, arith, Option, None, Some, inl, inr}
-use Rattle.std.specs.Prelude.{◌||◌, nat_lt, if◌then◌else◌, Ok, Err}
+use Rattle.std.specs.Prelude.{◌||◌, nat_lt, if◌then◌else◌, Ok}
 use Rattle.std.proofs.lemmas.Bool.{cases_lt}
 use Rattle.std.proofs.lemmas.Bool.Decides.{nat_tests}
 use Rattle.std.proofs.lemmas.List.{length-drop, drop_all, append-nil, append_assoc}
 use Rattle.dn_formats.specs.Attributes.{padded}
-use Rattle.dn_formats.specs.Payload.{Ruling, Refuses, Skips, ruling_of, message_length, said, said_after, nothing_more}
+use Rattle.dn_formats.specs.Payload.{Ruling, Refuses, Skips, ruling_of, message_length, said, said_after, before, nothing_more}
 use Rattle.dn_formats.specs.declared.payload.Item.{Item}
 use Rattle.dn_formats.specs.declared.payload.ItemKind.{ItemKind}
 use Rattle.dn_formats.specs.declared.payload.ItemKind.TheVariants.{Route, Skipped}
 use Rattle.dn_formats.specs.declared.payload.Payload.{Payload}
+use Rattle.dn_formats.specs.declared.payload.Refused.{Refused}
 use Rattle.rt_netlink.specs.Read.{Says, with_items, said_from}
 
 -- a message that isn't refused is all there
@@ -58,7 +59,7 @@ said-step at (b ∷ s) h l =
     ∙ ap (λ t. said_after (at + padded (message_length (b ∷ s))) 0 t) (sym (ap {B = List ℕ} (λ m. drop m (b ∷ s)) whole)) in
     rw enough (ap (λ p. said at (b ∷ s) (ruling_of (b ∷ s)) p) more)
 
-said-refused : (at : ℕ) (s : List ℕ) (cause : ℕ) → 4 ≤ length s → ruling_of s ≡ Some (Refuses cause) →
+pub said-refused : (at : ℕ) (s : List ℕ) (cause : ℕ) → 4 ≤ length s → ruling_of s ≡ Some (Refuses cause) →
     said_after at 0 s ≡ record { items = []; refused = Some (record { at = at; cause = cause }) }
 unfolding said_after
 said-refused at [] cause h e = absurd (omega arith)
@@ -86,23 +87,26 @@ item_said : (at : ℕ) (s : List ℕ) (what : ItemKind) (more : Payload) → Say
 item_said at s (Route raw) more h = rw (h.0, h.1) refl
 item_said at s (Skipped skip) more h = rw h refl
 
-pub item_told : (all : ℕ) (items : List Item) (s rest : List ℕ) (what : ItemKind) → 4 ≤ length s → length s ≤ all → 16 ≤ message_length s →
-    rest ≡ drop (padded (message_length s)) s → Says s (Ok what) →
-    with_items (items ++ record { at = all - length s; what = what } ∷ []) (said_from all rest) ≡ with_items items (said_from all s)
-item_told all items s rest what h within l r says =
-    let item : Item = record { at = all - length s; what = what } in
-    let more : Payload = said_from all rest in
-    let step : said_from all s ≡ record { items = item ∷ more.items; refused = more.refused } =
+pub message_told : (all : ℕ) (s rest : List ℕ) (what : ItemKind) → 4 ≤ length s → length s ≤ all → 16 ≤ message_length s → rest ≡ drop (padded (message_length s)) s →
+    Says s (Ok what) → said_from all s ≡ before (record { at = all - length s; what = what }) (said_from all rest)
+message_told all s rest what h within l r says =
     said-step (all - length s) s h l ∙ ap (λ p. said (all - length s) s (ruling_of s) p) (after_place all (padded (message_length s)) s within ∙ ap (said_from all) (sym r))
-    ∙ item_said (all - length s) s what more says in
-    ap (λ is. let p : Payload = record { items = is; refused = more.refused } in p) (append_assoc items (item ∷ []) more.items) ∙ sym (ap (with_items items) step)
+    ∙ item_said (all - length s) s what (said_from all rest) says
 
--- the refusal is told
-pub refusal_told : (all : ℕ) (items : List Item) (s : List ℕ) (cause : ℕ) → 4 ≤ length s → Says s (Err cause) →
-    record { items = items; refused = Some (record { at = all - length s; cause = cause }) } ≡ with_items items (said_from all s)
-refusal_told all items s cause h e =
-    rw (said-refused (all - length s) s cause h e, append-nil) refl
+-- what is left after a message is shorter
+pub rest_shorter : (s rest : List ℕ) → 4 ≤ length s → 16 ≤ message_length s → rest ≡ drop (padded (message_length s)) s → length rest < length s
+rest_shorter s rest h l r =
+    let e : length rest ≡ length s - padded (message_length s) = ap length r ∙ length-drop (padded (message_length s)) s in
+    omega arith
 
--- nothing more is told
-pub end_told : (all : ℕ) (items : List Item) (s : List ℕ) → length s < 4 → record { items = items; refused = None } ≡ with_items items (said_from all s)
-end_told all items s h = rw (said-end (all - length s) s h, append-nil) refl
+-- ---- items in a list
+
+-- one item more is in the list
+pub item_told : (items : List Item) (item : Item) (more all : Payload) → all ≡ before item more → with_items (items ++ item ∷ []) more ≡ with_items items all
+item_told items item more all e =
+    ap (λ is. let p : Payload = record { items = is; refused = more.refused } in p) (append_assoc items (item ∷ []) more.items) ∙ sym (ap (with_items items) e)
+
+-- what is said ends, by this refusal or by none
+pub end_told : (items : List Item) (refused : Option Refused) (all : Payload) → all ≡ record { items = []; refused = refused } → record { items = items; refused = refused } ≡ with_items items all
+end_told items refused all e =
+    ap (λ is. let p : Payload = record { items = is; refused = refused } in p) (sym (append-nil items)) ∙ sym (ap (with_items items) e)

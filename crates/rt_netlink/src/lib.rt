@@ -12,5 +12,5 @@ mod ruling;
 mod write;
 
 pub use dn_formats::{Item, ItemKind, Payload, RawRoute, Refused, RouteKind, Skip};
-pub use read::{read_payload, read_payload_in};
+pub use read::{NextMessage, next_message, read_payload};
 pub use write::write_route;

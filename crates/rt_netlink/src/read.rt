@@ -1,9 +1,9 @@
 //! The payload of a frame, message by message.
 
-ghost use Rattle.std.specs.Prelude.{◌≡◌, ◌≤◌, [], length, drop, IfOk, OnOk, All};
+ghost use Rattle.std.specs.Prelude.{◌≡◌, ℕ, ◌≤◌, length, drop, IfOk, OnOk, All};
 ghost use Rattle.dn_formats.specs.Attributes.{padded};
 ghost use Rattle.dn_formats.specs.Payload.{IsPayload, IsSayable, message_length};
-ghost use Rattle.rt_netlink.specs.Read.{Says};
+ghost use Rattle.rt_netlink.specs.Read.{Says, TellsNext};
 
 use crate::message::read_message;
 use crate::numbers::{after_padding, number_at};
@@ -11,6 +11,17 @@ use crate::ruling::Ruling;
 use dn_formats::{Item, ItemKind, Payload, Refused};
 use dn_model::{List, OutOfMemory};
 use std::alloc::Global;
+
+/// What comes next in a payload.
+#[derive(Clone, Copy, Debug)]
+pub enum NextMessage<'a> {
+    /// A message: what it says, and what is left of the payload after it.
+    Says(ItemKind, &'a [u8]),
+    /// A message that is refused, by this cause of the module `frame_cause` of `dn_formats`.
+    Refused(u8),
+    /// No message: the payload has ended.
+    End,
+}
 
 /// What the message at the front says, or the cause by which it is refused.
 fn read_item(bytes: &[u8]) -> Result<ItemKind, u8>
@@ -36,10 +47,23 @@ fn after_message(bytes: &[u8]) -> &[u8]
     after_padding(bytes, number_at(bytes) as usize)
 }
 
-/// What the messages of a payload say, up to the first that is refused, and that one. A payload has at most 65,531
-/// bytes, as many as a frame can hold. Places count from the payload's start.
+/// The next message of a payload of which these bytes are left. A payload is read message by message, from its start on.
 ///
 /// Source: netlink(7), rtnetlink(7), RFC 3549.
+pub fn next_message(left: &[u8]) -> NextMessage<'_>
+    ensures { (all : ℕ) → length left.now ≤ all → TellsNext all left.now result }
+{
+    if left.len() < 4 {
+        return NextMessage::End;
+    }
+    match read_item(left) {
+        Ok(what) => NextMessage::Says(what, after_message(left)),
+        Err(cause) => NextMessage::Refused(cause),
+    }
+}
+
+/// What the messages of a payload say, up to the first that is refused, and that one. A payload has at most 65,531
+/// bytes, as many as a frame can hold. Places count from the payload's start.
 ///
 /// # Errors
 ///
@@ -49,39 +73,27 @@ pub fn read_payload(alloc: Global, bytes: &[u8]) -> Result<Payload, OutOfMemory>
     ensures payload { IfOk result (IsPayload bytes.now) }
     ensures sayable { IfOk result (λ payload. All (λ item. IsSayable item.what) payload.items) }
 {
-    read_payload_in(List::new(alloc), bytes)
-}
-
-/// The same, with the items in a list that has none yet: where it has memory for them already, none is taken.
-///
-/// # Errors
-///
-/// `OutOfMemory` where there is no memory for the items; the list is dropped then.
-pub fn read_payload_in(room: List<Item>, bytes: &[u8]) -> Result<Payload, OutOfMemory>
-    requires empty { room ≡ [] }
-    requires short { length bytes.now ≤ 65531 }
-    ensures payload { IfOk result (IsPayload bytes.now) }
-    ensures sayable { IfOk result (λ payload. All (λ item. IsSayable item.what) payload.items) }
-{
-    let mut items = room;
-    let mut rest = bytes;
-    while rest.len() >= 4 {
-        let at = (bytes.len() - rest.len()) as u32;
-        match read_item(rest) {
-            Ok(what) => {
-                rest = after_message(rest);
+    let mut items = List::new(alloc);
+    let mut left = bytes;
+    loop {
+        let at = (bytes.len() - left.len()) as u32;
+        match next_message(left) {
+            NextMessage::Says(what, rest) => {
                 items.push(Item { at, what })?;
+                left = rest;
             }
-            Err(cause) => {
+            NextMessage::Refused(cause) => {
                 return Ok(Payload {
                     items,
                     refused: Some(Refused { at, cause }),
                 });
             }
+            NextMessage::End => {
+                return Ok(Payload {
+                    items,
+                    refused: None,
+                });
+            }
         }
     }
-    Ok(Payload {
-        items,
-        refused: None,
-    })
 }

@@ -12,8 +12,8 @@ from collections.abc import Iterable, Iterator
 from functools import cached_property
 
 from progress import Teller
-from report import (AFTER_HISTORY, HISTORY_OF_TEXT, NAME, PREFIX, TARGET_TEXT, Entry, Feed, Report, ReportError,
-                    address_text, parse_answers, parse_report, read_entry)
+from report import (HISTORY_OF_TEXT, NAME, PREFIX, TARGET_TEXT, Entry, Feed, Report, ReportError, address_text,
+                    end_of_history, parse_answers, parse_report, read_entry)
 
 # An entry, with its feed and router.
 FORM = re.compile(rf"^\d+ (feed \d+ {NAME}) (?:set {PREFIX} metric \d+ (?:to {NAME} by {NAME}|{TARGET_TEXT})"
@@ -34,7 +34,7 @@ class Brief:
         self.report: Report = parse_answers(path, text)
         match = HISTORY_OF_TEXT.search(text)
         self.begin = match.end()
-        self.end = AFTER_HISTORY.search(text, self.begin).start()
+        self.end = end_of_history(text, self.begin)
         self._check_history()
 
     @staticmethod

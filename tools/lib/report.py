@@ -25,7 +25,6 @@ ENTRY_LINE = re.compile(
     rf"(\d+) feed (\d+) ({NAME}) (?:set ({PREFIX}) metric (\d+) (.+)|clear ({PREFIX})(?: metric (\d+))?)", re.ASCII
 )
 HISTORY_OF_TEXT = re.compile(rb"^history (\d+)\n", re.MULTILINE)
-AFTER_HISTORY = re.compile(rb"^(?:job 1|done)\n", re.MULTILINE)
 JOB_LINE = re.compile(r"job (\d+)", re.ASCII)
 ANSWERED_LINE = re.compile(r"line (\d+) at (\d+) (.+)", re.ASCII)
 UNKNOWN_LINE = re.compile(r"line (\d+) ([a-z].*)", re.ASCII)
@@ -244,13 +243,19 @@ def read_report(path: str) -> Report:
         return parse_report(path, file.read())
 
 
+def end_of_history(text: bytes, begin: int) -> int | None:
+    """Where a history that begins there ends: at the first line behind it that is `job 1` or, where there is none, `done`."""
+    places = [text.find(line, begin - 1) for line in (b"\njob 1\n", b"\ndone\n")]
+    return min((place + 1 for place in places if place >= 0), default=None)
+
+
 def parse_answers(path: str, text: bytes) -> Report:
     """A report's feeds and answers without its history, whose length alone is read; in a small part of the time."""
     history = HISTORY_OF_TEXT.search(text)
-    following = AFTER_HISTORY.search(text, history.end()) if history else None
+    following = history and end_of_history(text, history.end())
     if history is None or following is None:
         return parse_report(path, text)
-    reader = _Reader(path, text[:history.start()] + b"history 0\n" + text[following.start():])
+    reader = _Reader(path, text[:history.start()] + b"history 0\n" + text[following:])
     reader.longest = int(history[1])
     return reader.report()
 

@@ -103,10 +103,10 @@ def number(value: int) -> bytes:
 
 
 def message(message_type: int, attributes: bytes, length: int = 8, *, family: int = 2, source: int = 0, tos: int = 0,
-            table: int = 254, protocol: int = 188, route_type: int = 1, sender: int = 7) -> bytes:
+            table: int = 254, protocol: int = 188, route_type: int = 1, flags: int = 0x0501, sender: int = 7) -> bytes:
     """A message as rtnetlink has it."""
     body = struct.pack("<8BI", family, length, source, tos, table, protocol, 0, route_type, 0) + attributes
-    return struct.pack("<IHHII", 16 + len(body), message_type, 0x0501, 0, sender) + body
+    return struct.pack("<IHHII", 16 + len(body), message_type, flags, 0, sender) + body
 
 
 def set_route(prefix: str, interface: int | None = 2, metric: int | None = 20, gateway: str | None = None,

@@ -276,6 +276,21 @@ fn a_cut_is_made_once(rt: HostRuntime) {
     compare_three_atoms(&rt, copy.version());
 }
 
+/// No router has a route of the prefix any more when it is set again, and then one has when another router sets it.
+#[test]
+fn a_prefix_that_was_cleared_is_set_again(rt: HostRuntime) {
+    let course = new_course(&rt, rt.alloc(), 2);
+    let course = advance(&rt, rt.alloc(), course, FIRST, set(ten(), 5, 3));
+    let course = advance(&rt, rt.alloc(), course, FIRST, clear(ten(), None));
+    compare_counts(&rt, course.version(), 2, 3);
+    let course = advance(&rt, rt.alloc(), course, FIRST, set(ten(), 20, 2));
+    compare_three_atoms(&rt, course.version());
+    compare_course(&rt, rt.alloc(), &course);
+    let course = advance(&rt, rt.alloc(), course, SECOND, set(ten(), 5, 4));
+    compare_counts(&rt, course.version(), 2, 3);
+    assert_eq!(rt; by_rows(&rt, course.version(), SECOND, 0x0A00_0000), Target::Exit(4));
+}
+
 #[test]
 fn of_two_metrics_the_lesser_wins(rt: HostRuntime) {
     let course = new_course(&rt, rt.alloc(), 3);

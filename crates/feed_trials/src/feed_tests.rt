@@ -2,18 +2,18 @@
 
 ghost use Rattle.std.specs.Prelude.{◌≡◌, ◌<◌, ◌≤◌, ◌^◌, length};
 
-use crate::frames::{BROKEN_LAST, CHANGE_TEN, SET_IPV6, SET_MULTIPATH, SET_TEN, bytes_of};
-use crate::test_network::{FIRST, SECOND, THIRD, triangle};
+use crate::frames::{CHANGE_TEN, SET_IPV6, SET_MULTIPATH, SET_TEN, bytes_of};
+use crate::test_network::{FIRST, triangle};
 use dn_formats::{FeedEnd, FeedTold};
 use dn_io::{MemSource, Source};
-use dn_model::{LinkId, Op, Prefix, Target, Topology};
+use dn_model::Topology;
 use route_feed::{FeedReader, FeedStep};
 use std::alloc::Global;
 use std::process::Abort;
 
 /// What a reader answered: the number of its updates and of messages passed over, a refusal, or an end.
 #[derive(Clone, Copy, Debug, PartialEq)]
-pub enum Seen {
+enum Seen {
     Counts(usize, u32),
     Refused(u64, u32, u8),
     Ended(FeedEnd),
@@ -96,37 +96,8 @@ fn answers_of(
     first_answers(rt, alloc, &mut reader, &topology)
 }
 
-/// The same of a feed that is read without fault and in full.
-pub fn answers_to(rt: &impl Abort, alloc: Global, bytes: &[u8]) -> [Seen; 3] {
-    answers_of(rt, alloc, bytes, 4096, &[], 1_000_000)
-}
-
-/// Such a feed comes to these answers.
-fn compare(rt: &impl Abort, alloc: Global, bytes: &[u8], want: [Seen; 3]) {
-    assert_eq!(rt; answers_to(rt, alloc, bytes), want);
-}
-
 /// The feed's end, after these answers.
 const END: Seen = Seen::Ended(FeedEnd::End);
-
-/// A frame whose first message is that of `SET_TEN` by a gateway at this interface, and whose second is broken.
-fn broken_frame(rt: &impl Abort, alloc: Global, interface: u8) -> Vec<u8> {
-    let mut first = SET_TEN;
-    first[3] = 0x50;
-    first[52] = interface;
-    bytes_of(rt, alloc, &[&first, &BROKEN_LAST])
-}
-
-/// The first frame of a feed comes to these updates.
-fn compare_ops(rt: &impl Abort, alloc: Global, bytes: &[u8], want: &[Op]) {
-    let topology = triangle(rt, alloc);
-    let source = source_of(rt, alloc, bytes, 7, &[]);
-    let mut reader = FeedReader::new(alloc, source, FIRST, 1, 1000);
-    match reader.next_frame(alloc, &topology).expect(rt, "memory") {
-        FeedStep::Ops(ops, _) => assert_eq!(rt; ops.as_slice(), want),
-        _ => panic!(rt; "no updates"),
-    }
-}
 
 /// The next frame of a feed has so many updates, which the reader gets back; one that is refused has none.
 fn compare_count<S: Source>(
@@ -148,15 +119,6 @@ fn compare_count<S: Source>(
     }
 }
 
-/// The update that sets 10.0.0.0/8 with metric 20 to a target.
-fn set_ten(target: Target) -> Op {
-    Op::Set {
-        prefix: Prefix::new(0x0a00_0000, 8),
-        metric: 20,
-        target,
-    }
-}
-
 #[test]
 fn a_frame_may_stand_where_the_one_before_stood(rt: HostRuntime) {
     let alloc = rt.alloc();
@@ -174,43 +136,21 @@ fn a_frame_may_stand_where_the_one_before_stood(rt: HostRuntime) {
     compare_count(&rt, alloc, &mut reader, &topology, 2);
 }
 
+/// A route to be deleted, and then one whose interface isn't there: of such a frame nothing is handed out or counted.
 #[test]
-fn updates_of_a_frame_in_order(rt: HostRuntime) {
+fn a_refused_frame_leaves_no_update(rt: HostRuntime) {
     let alloc = rt.alloc();
-    let set = set_ten(Target::To(SECOND, LinkId(0)));
-    compare_ops(&rt, alloc, &SET_TEN, &[set]);
-    let clear = Op::Clear {
-        prefix: Prefix::new(0x0a00_0000, 8),
-        metric: Some(20),
-    };
-    let change = [clear, set_ten(Target::To(THIRD, LinkId(2)))];
-    compare_ops(&rt, alloc, &CHANGE_TEN, &change);
-}
-
-/// A frame whose second message is broken and whose first has a gateway at this interface is refused so, and the next
-/// one is read.
-fn compare_broken(rt: &impl Abort, alloc: Global, interface: u8, want: Seen) {
-    let broken = broken_frame(rt, alloc, interface);
-    let feed = bytes_of(rt, alloc, &[broken.as_slice(), &SET_TEN]);
-    compare(rt, alloc, feed.as_slice(), [want, Seen::Counts(1, 0), END]);
-}
-
-#[test]
-fn a_refused_frame_is_refused_whole(rt: HostRuntime) {
-    let alloc = rt.alloc();
-    compare_broken(&rt, alloc, 2, Seen::Refused(0, 60, 1));
-    // the interface that isn't there comes first
-    compare_broken(&rt, alloc, 9, Seen::Refused(0, 0, 13));
-}
-
-#[test]
-fn frames_without_updates(rt: HostRuntime) {
-    let alloc = rt.alloc();
-    let feed = bytes_of(&rt, alloc, &[&SET_MULTIPATH, &SET_IPV6]);
-    let want = [Seen::Refused(0, 0, 9), Seen::Counts(0, 1), END];
-    compare(&rt, alloc, feed.as_slice(), want);
-    let want = [Seen::Refused(0, 0, 14), Seen::Counts(0, 0), END];
-    compare(&rt, alloc, &[1, 2, 0, 4, 1, 1, 0, 4], want);
+    let topology = triangle(&rt, alloc);
+    let mut unknown = CHANGE_TEN;
+    unknown[96] = 9;
+    let bytes = bytes_of(&rt, alloc, &[&unknown, &SET_TEN]);
+    let source = MemSource::new(bytes, 64, Vec::new(alloc));
+    let mut reader = FeedReader::new(alloc, source, FIRST, 1, 1000);
+    let found = first_answers(&rt, alloc, &mut reader, &topology);
+    let want = [Seen::Refused(0, 44, 13), Seen::Counts(1, 0), END];
+    assert_eq!(rt; found, want);
+    assert_eq!(rt; reader.told().updates, 1);
+    assert_eq!(rt; reader.told().refused.len(), 1);
 }
 
 /// What a feed comes to of which so many bytes are looked at.

@@ -140,25 +140,6 @@ fn ends_after_whole_frames(rt: HostRuntime) {
     compare_bytes(&rt, alloc, &STREAM[..18], &wanted);
 }
 
-/// A stream in one piece is cut into this alone.
-fn compare_one(rt: &impl Abort, alloc: Global, stream: &[u8], cut: Cut)
-    requires { length stream.now < 2 ^ 63 }
-{
-    let mut wanted = Vec::new(alloc);
-    push(rt, &mut wanted, cut);
-    compare_whole(rt, alloc, stream, &wanted);
-}
-
-#[test]
-fn loses_the_framing(rt: HostRuntime) {
-    let alloc = rt.alloc();
-    compare_one(&rt, alloc, &[2], Cut::Lost(0, 15));
-    compare_one(&rt, alloc, &[1, 1, 0, 3], Cut::Lost(0, 16));
-    // three bytes don't say yet that the length is below 4
-    let end = Cut::Ended(Finish::CutShort { offset: 0 });
-    compare_one(&rt, alloc, &[1, 1, 0], end);
-}
-
 /// After a lost header nothing is read as a frame.
 #[test]
 fn reads_no_frame_after_a_lost_header(rt: HostRuntime) {

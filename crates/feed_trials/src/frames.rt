@@ -33,12 +33,6 @@ pub const SET_IPV6: [u8; 32] = [
     0, 1, 0, 0, 0, 0,
 ];
 
-/// A frame whose route message ends inside struct rtmsg.
-pub const SHORT: [u8; 32] = [
-    1, 1, 0, 0x20, 0x1b, 0, 0, 0, 0x18, 0, 1, 5, 0, 0, 0, 0, 0, 0, 0, 0, 2, 8, 0, 0, 0xfe, 0x0b, 0,
-    1, 0, 0, 0, 0,
-];
-
 /// One piece after another.
 pub fn bytes_of(rt: &impl Abort, alloc: Global, pieces: &[&[u8]]) -> Vec<u8> {
     let mut bytes = Vec::new(alloc);

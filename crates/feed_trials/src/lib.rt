@@ -3,8 +3,6 @@
 #![tactic(auto)]
 
 #[cfg(test)]
-mod edit_tests;
-#[cfg(test)]
 mod feed_tests;
 #[cfg(test)]
 mod frame_tests;

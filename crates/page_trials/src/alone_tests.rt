@@ -85,10 +85,10 @@ fn compare_steps<L: Ledger>(rt: &impl Abort, alloc: Global, list: &[Step], blank
     let mut runs = Vec::new(alloc);
     for step in list {
         assert!(rt; step.lane < 4);
-        let after = tables
+        let told = tables
             .update(alloc, step.lane, &step.update, 0, &mut runs, &mut steps)
             .expect(rt, "memory");
-        assert_eq!(rt; after, step.after);
+        assert_eq!(rt; told.after, step.after);
     }
 }
 

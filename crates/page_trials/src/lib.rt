@@ -7,6 +7,8 @@ mod alone_tests;
 #[cfg(test)]
 mod atom_tests;
 #[cfg(test)]
+mod bound_tests;
+#[cfg(test)]
 mod crossing;
 #[cfg(test)]
 mod draw;
@@ -18,6 +20,8 @@ mod owner_tests;
 mod pages_tests;
 #[cfg(test)]
 mod plain_list;
+#[cfg(test)]
+mod removal_tests;
 #[cfg(test)]
 mod rows_tests;
 #[cfg(test)]

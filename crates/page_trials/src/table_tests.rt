@@ -341,14 +341,14 @@ fn compare_update<L: Ledger>(
 ) {
     let mut runs = Vec::new(alloc);
     let update = TableUpdate { op, alone: false };
-    let after = tables
+    let told = tables
         .update(alloc, 2, &update, 0, &mut runs, steps)
         .expect(rt, "memory");
     let way = match want.after {
         Some(target) => Some(Way::Straight(target)),
         None => None,
     };
-    assert_eq!(rt; after, way);
+    assert_eq!(rt; told.after, way);
     assert_eq!(rt; runs.as_slice(), want.runs);
 }
 
@@ -510,11 +510,11 @@ fn update_beside<L: Ledger>(
     let before = copied(rt, own);
     let mut runs = Vec::new(alloc);
     let near = (draw >> 50) % 400;
-    let after = tables
+    let told = tables
         .update(alloc, lane, &update, near, &mut runs, steps)
         .expect(rt, "memory");
     update_table(rt, alloc, own, &update);
-    compare_turned(rt, &before, own, &runs, after);
+    compare_turned(rt, &before, own, &runs, told.after);
 }
 
 /// Updates of the first and the last of four tables in turn.

@@ -1,6 +1,5 @@
-//! Trials of whole runs of the program, over files in memory: reports and refusals that were worked out by hand, jobs
-//! that a gate holds, and jobs side by side, whose reports are held against what the plain evaluator of `dn_model`
-//! says.
+//! Trials of whole runs of the program, over files in memory: sources and sinks that fail, generated inputs, jobs that a
+//! gate holds, and jobs side by side, whose reports are held against what the plain evaluator of `dn_model` says.
 #![tactic(auto)]
 
 #[cfg(test)]
@@ -12,13 +11,7 @@ mod history_tests;
 #[cfg(test)]
 mod made_tests;
 #[cfg(test)]
-mod parts_tests;
-#[cfg(test)]
-mod query_tests;
-#[cfg(test)]
 mod read_gate;
-#[cfg(test)]
-mod refusal_tests;
 #[cfg(test)]
 mod run_tests;
 #[cfg(test)]

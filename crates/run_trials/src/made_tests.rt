@@ -1,9 +1,9 @@
-//! The generated input: that its texts say a ring of eight routers and the script that asks for its cycles, what a run
-//! over these texts tells, and that `make` tells of the same cycles.
+//! The generated input: that its texts say a ring of eight routers and the script that asks for its cycles, and what
+//! runs over these texts tell.
 
 ghost use Rattle.std.specs.Prelude.{◌≤◌, All};
 
-use crate::whole_run::{WholeRun, add_file, compare, compare_tail, file, run_parts, run_words};
+use crate::whole_run::{WholeRun, add_file, compare, compare_tail, file, run_parts};
 use dn_formats::Line;
 use dn_io::{MemFile, NoGate};
 use dn_model::{Ask, Name, Replace, RouterId, RouterTable, TopoEnd, TopoLink, Topology};
@@ -15,36 +15,6 @@ use std::process::Abort;
 use std::sync::Wait;
 use std::thread::Threads;
 use topology::read_topology;
-
-/// `make` of this number, over a world without files, comes to this status and text.
-fn compare_made<R: Abort + Threads + Wait + Sync>(
-    rt: &R,
-    alloc: Global,
-    number: &str,
-    status: Status,
-    text: &str,
-) {
-    let words = ["deltanet", "make", number];
-    let run = run_words(rt, alloc, &words, Vec::new(alloc));
-    compare(rt, &run, status, text);
-}
-
-#[test]
-fn few_updates_make_no_cycle(rt: HostRuntime) {
-    let alloc = rt.alloc();
-    let one = "updates 1\ncycles 0\naddresses 0\n";
-    compare_made(&rt, alloc, "1", Status::Done, one);
-    let eight = "updates 8\ncycles 0\naddresses 0\n";
-    compare_made(&rt, alloc, "8", Status::Done, eight);
-}
-
-#[test]
-fn many_updates_make_the_same_twice(rt: HostRuntime) {
-    let alloc = rt.alloc();
-    let text = "updates 5000\ncycles 0\naddresses 0\n";
-    compare_made(&rt, alloc, "5000", Status::Done, text);
-    compare_made(&rt, alloc, "5000", Status::Done, text);
-}
 
 /// A name of this letter and this digit.
 fn compare_name(rt: &impl Abort, name: &Name, letter: u8, digit: u16) {
@@ -252,11 +222,4 @@ fn a_run_over_the_texts_tells_of_a_cycle(rt: HostRuntime) {
     let alloc = rt.alloc();
     let run = run_made(&rt, alloc, 39729);
     compare_tail(&rt, &run, Status::Done, FIRST_CYCLE);
-}
-
-/// `make` reads no texts: it runs over a network and a script of its own, and tells the same of the cycle.
-#[test]
-fn make_tells_of_the_same_cycle(rt: HostRuntime) {
-    let text = "updates 39729\ncycles 1\naddresses 256\n";
-    compare_made(&rt, rt.alloc(), "39729", Status::Done, text);
 }

@@ -1,6 +1,5 @@
 //! A run that meets no fault, and the numbers of statuses.
 
-use crate::run_tests::but_the_last;
 use crate::whole_run::{RING, TAKE_ALL, USUAL, set_frame, text, texts};
 use dn_io::{NoGate, SureFile, SureWorld};
 use dn_run::{Status, run_surely};
@@ -8,6 +7,14 @@ use std::alloc::Global;
 use std::process::Abort;
 use std::sync::Wait;
 use std::thread::Threads;
+
+/// All but the last byte.
+fn but_the_last(bytes: &[u8]) -> &[u8] {
+    match bytes {
+        [front @ .., _] => front,
+        [] => bytes,
+    }
+}
 
 /// A file of a world without faults.
 fn sure_file(rt: &impl Abort, alloc: Global, name: &str, bytes: &[u8]) -> SureFile {

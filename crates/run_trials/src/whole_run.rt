@@ -2,7 +2,7 @@
 
 ghost use Rattle.std.specs.Prelude.{◌≡◌, ◌≤◌, All};
 
-use dn_io::{Gate, MemFile, MemSink, MemWorld, NoGate};
+use dn_io::{Gate, MemFile, MemSink, MemWorld};
 use dn_run::{Status, run};
 use std::alloc::Global;
 use std::process::Abort;
@@ -47,15 +47,6 @@ pub(crate) fn frame_of(base: [u8; 4], len: u8, metric: u8, oif: u8) -> [u8; 64] 
 /// A frame that sets 10.`second`.0.0 of this length over interface `oif`, with metric 20.
 pub(crate) fn set_frame(second: u8, len: u8, oif: u8) -> [u8; 64] {
     frame_of([10, second, 0, 0], len, 20, oif)
-}
-
-/// The bytes of frames, one after another.
-pub(crate) fn bytes_of(rt: &impl Abort, alloc: Global, frames: &[&[u8]]) -> Vec<u8> {
-    let mut bytes = Vec::new(alloc);
-    for frame in frames {
-        bytes.extend_from_slice(frame).expect(rt, "memory");
-    }
-    bytes
 }
 
 /// A text in memory.
@@ -145,19 +136,6 @@ pub(crate) fn run_into<R: Abort + Threads + Wait + Sync, G: Gate>(
     }
 }
 
-/// Runs these words over these files.
-pub(crate) fn run_words<R: Abort + Threads + Wait + Sync>(
-    rt: &R,
-    alloc: Global,
-    words: &[&str],
-    files: Vec<MemFile>,
-) -> WholeRun
-    requires files { All (λ file. 1 ≤ file.step) files.items }
-{
-    let words = texts(rt, alloc, words);
-    run_into(rt, alloc, words, files, whole_sink(alloc), &NoGate)
-}
-
 /// The words of a run of the file `topology` with these parts.
 pub(crate) fn words_with(rt: &impl Abort, alloc: Global, parts: &[&str]) -> Vec<String> {
     let mut words = texts(rt, alloc, &["deltanet", "run", "topology"]);
@@ -206,43 +184,4 @@ pub(crate) fn compare_tail(rt: &impl Abort, run: &WholeRun, status: Status, tail
     assert_eq!(rt; run.status, status, "of {:?}", run.words);
     let last = last_bytes(run.written.as_slice(), tail.len());
     assert_eq!(rt; last, tail.as_bytes(), "of {:?}: {tail}", run.words);
-}
-
-/// Runs these words over a topology, a script and the feeds `f1`, `f2` and `f3`, into this sink.
-pub(crate) fn run_files_into<R: Abort + Threads + Wait + Sync>(
-    rt: &R,
-    alloc: Global,
-    words: &[&str],
-    topology: MemFile,
-    script: &str,
-    feed: MemFile,
-    sink: MemSink,
-) -> WholeRun
-    requires topology { 1 ≤ topology.step }
-    requires feed { 1 ≤ feed.step }
-    requires sink { sink.plan.faults ≡ 0 }
-{
-    let words = texts(rt, alloc, words);
-    let mut files = Vec::new(alloc);
-    add_file(rt, &mut files, topology);
-    add_file(rt, &mut files, file(rt, alloc, "script", script.as_bytes()));
-    add_file(rt, &mut files, feed);
-    add_file(rt, &mut files, file(rt, alloc, "f2", &set_frame(0, 8, 3)));
-    add_file(rt, &mut files, file(rt, alloc, "f3", &set_frame(0, 8, 1)));
-    run_into(rt, alloc, words, files, sink, &NoGate)
-}
-
-/// Runs these words over these texts and this feed `f1`.
-pub(crate) fn run_files<R: Abort + Threads + Wait + Sync>(
-    rt: &R,
-    alloc: Global,
-    words: &[&str],
-    topology: &str,
-    script: &str,
-    feed: &[u8],
-) -> WholeRun {
-    let topology = file(rt, alloc, "topology", topology.as_bytes());
-    let feed = file(rt, alloc, "f1", feed);
-    let sink = whole_sink(alloc);
-    run_files_into(rt, alloc, words, topology, script, feed, sink)
 }

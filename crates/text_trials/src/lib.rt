@@ -1,9 +1,7 @@
-//! Trials of what is read and printed: texts of topologies and scripts, printed values, reports and error lines, byte
-//! for byte, and which fault is answered. The crate has nothing but tests, over the public calls of the crates tried.
+//! Trials of what is read and printed: texts of topologies and scripts, printed values and reports, byte for byte. The
+//! crate has nothing but tests, over the public calls of the crates tried.
 #![tactic(auto)]
 
-#[cfg(test)]
-mod error_tests;
 #[cfg(test)]
 mod long_line_tests;
 #[cfg(test)]

@@ -1,12 +1,12 @@
 -- Kept segments as they are told.
 use Rattle.std.proofs.Common.{◌≡◌, ℕ, zero, suc, ◌+◌, ◌-◌, ◌<◌, ◌≤◌, ◌^◌, ◌∙◌, Bool, true, false, ◌&&◌, ◌||◌, List, [], ◌∷◌, ◌++◌, length, get_or, map, refl, ap, sym, subst, ⊎_elim, arith}
-use Rattle.std.specs.List.{Contains, list_any}
-use Rattle.std.proofs.lemmas.Bool.{cases_eq, cases_lt}
-use Rattle.std.proofs.lemmas.List.{get_or_append_left, get_or_default, get_or_push, length_push}
+use Rattle.std.specs.List.{Contains}
+use Rattle.std.proofs.lemmas.Bool.{cases_lt}
+use Rattle.std.proofs.lemmas.List.{get_or_append_left, get_or_push, length_push}
 use Rattle.std.proofs.lemmas.List.Elements.{Contains-get_or}
 use Rattle.std.proofs.lemmas.List.Sums.{sum_by-cons}
-use Rattle.base.specs.Cycles.{HasCycle, goes_round}
-use Rattle.base.specs.Runs.{addresses_in, holds, run_length}
+use Rattle.base.specs.Cycles.{goes_round}
+use Rattle.base.specs.Runs.{addresses_in, run_length}
 use Rattle.base.specs.declared.cycle.Cycle.{Cycle}
 use Rattle.base.specs.declared.ids.RouterId.{RouterId}
 use Rattle.base.specs.declared.run.Run.{Run}
@@ -14,7 +14,6 @@ use Rattle.base.specs.declared.target.Target.{Target}
 use Rattle.base.proofs.Covers.{within-above, within-below, within-yes}
 use Rattle.base.proofs.Elements.{contains-cases, contains-here, contains-none, contains-there}
 use Rattle.base.proofs.RunsOnce.{holds-above, holds-below, holds-in}
-use Rattle.loop_check.specs.Bounds.{only_within}
 use Rattle.loop_check.specs.CycleOrder.{AreOfOtherRouters}
 use Rattle.loop_check.specs.CyclesByRange.{AreCyclePieces, AreCyclesWithin, IsCycleWithin}
 use Rattle.loop_keeper.specs.Answer.{ArePieces, begin_at, cycle_between, cycles_at, piece_of}

@@ -1,6 +1,7 @@
 pub mod Advancing
 pub mod AnswerParts
 pub mod Crossing
+pub mod Leaving
 pub mod Meeting
 pub mod Putting
 pub mod Segments

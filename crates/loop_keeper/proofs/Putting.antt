@@ -1,9 +1,9 @@
 -- What was found put beside what is kept.
-use Rattle.std.proofs.Common.{◌≡◌, ℕ, ◌+◌, ◌<◌, ◌≤◌, ◌⊎◌, ◌∙◌, List, [], ◌∷◌, ◌++◌, length, get_or, refl, ap, sym, subst, inl, inr, ⊎_elim, arith}
+use Rattle.std.proofs.Common.{◌≡◌, ℕ, ◌<◌, ◌≤◌, ◌∙◌, List, [], ◌∷◌, ◌++◌, length, get_or, refl, ap, sym, subst, inl, inr, ⊎_elim, arith}
 use Rattle.std.specs.Prelude.{Contains}
 use Rattle.std.proofs.lemmas.List.Elements.{Contains-append_left, Contains-push, Contains-push_cases}
 use Rattle.base.specs.declared.ids.RouterId.{RouterId}
-use Rattle.loop_keeper.specs.Edits.{AreChangedWithin, ArePutIn, Brings, Keeps}
+use Rattle.loop_keeper.specs.Edits.{AreChangedWithin, ArePutIn, Keeps}
 use Rattle.loop_keeper.specs.Finding.{HasFound}
 use Rattle.loop_keeper.specs.Kept.{AreSegments, HasKept, Kept}
 use Rattle.loop_keeper.specs.declared.found.Found.{Found}

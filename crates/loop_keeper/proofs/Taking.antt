@@ -1,5 +1,5 @@
 -- The runs of changes taken out of kept cycles.
-use Rattle.std.proofs.Common.{◌≡◌, ℕ, zero, suc, ◌+◌, ◌-◌, ◌<◌, ◌≤◌, ◌⊎◌, ◌∙◌, Bool, true, false, ◌&&◌, ◌||◌, nat_le, List, [], ◌∷◌, ◌++◌, length, get_or, take, refl, ap, ap₂, sym, subst, ⊎_elim, arith}
+use Rattle.std.proofs.Common.{◌≡◌, ℕ, zero, suc, ◌+◌, ◌-◌, ◌<◌, ◌≤◌, ◌∙◌, Bool, true, false, ◌&&◌, ◌||◌, nat_le, List, [], ◌∷◌, ◌++◌, length, get_or, take, refl, ap, ap₂, sym, subst, ⊎_elim, arith}
 use Rattle.std.specs.Prelude.{Contains}
 use Rattle.std.proofs.lemmas.Bool.{and_from, and_parts, and_right, both_ways, cases_Bool, cases_lt, false≢true, leb-true}
 use Rattle.std.proofs.lemmas.List.{take_more}
@@ -9,7 +9,7 @@ use Rattle.base.specs.declared.change.Change.{Change}
 use Rattle.base.specs.declared.ids.RouterId.{RouterId}
 use Rattle.base.proofs.RunsOnce.{holds-in}
 use Rattle.loop_check.specs.Following.{is_among}
-use Rattle.loop_keeper.specs.Edits.{AreChangedWithin, AreTakenOut, Brings, Keeps}
+use Rattle.loop_keeper.specs.Edits.{AreChangedWithin, AreTakenOut, Brings}
 use Rattle.loop_keeper.specs.Finding.{is_touched, touches}
 use Rattle.loop_keeper.specs.Kept.{AreSegments, HasKept, IsAt, Kept}
 use Rattle.loop_keeper.specs.declared.segment.Edit.TheVariants.{Without}

@@ -1,5 +1,5 @@
 -- What kept segments tell of cycles.
-use Rattle.std.specs.Prelude.{ℕ, zero, suc, List, [], ◌∷◌, ◌≡◌, ◌+◌, ◌-◌, ◌<◌, ◌≤◌, ◌^◌, length, map, slice_index_or}
+use Rattle.std.specs.Prelude.{ℕ, zero, suc, List, [], ◌∷◌, ◌≡◌, ◌+◌, ◌-◌, ◌<◌, ◌^◌, length, map, slice_index_or}
 use Rattle.base.specs.declared.cycle.Cycle.{Cycle}
 use Rattle.base.specs.declared.ids.RouterId.{RouterId}
 use Rattle.loop_keeper.specs.Kept.{Kept}

@@ -1,5 +1,5 @@
 -- How kept cycles are changed.
-use Rattle.std.specs.Prelude.{ℕ, List, [], ◌∷◌, ◌++◌, ◌≡◌, ◌+◌, ◌-◌, ◌<◌, ◌≤◌, ◌^◌, ◌⊎◌, Contains, IsFalse, length, slice_index_or, if◌then◌else◌}
+use Rattle.std.specs.Prelude.{ℕ, List, [], ◌∷◌, ◌++◌, ◌≡◌, ◌-◌, ◌<◌, ◌≤◌, ◌^◌, ◌⊎◌, Contains, IsFalse, length, slice_index_or, if◌then◌else◌}
 use Rattle.std.specs.List.{insert}
 use Rattle.base.specs.declared.change.Change.{Change}
 use Rattle.base.specs.declared.ids.RouterId.{RouterId}
@@ -72,6 +72,12 @@ pub record AreChangedWithin (edit : Edit) (low past : ℕ) (old new : List Kept)
       → (low ≤ a → a < past → Keeps edit routers) → HasKept new routers a
   pub here : (routers : List RouterId) (a : ℕ) → a < 2 ^ 32 → Brings edit routers → low ≤ a → a < past
       → HasKept new routers a
+
+-- other segments, by which each address has the same cycles
+pub record AreAlike (old new : List Kept) : Type 0 where
+  pub form : AreSegments new
+  pub only : (routers : List RouterId) (a : ℕ) → HasKept new routers a → HasKept old routers a
+  pub kept : (routers : List RouterId) (a : ℕ) → HasKept old routers a → HasKept new routers a
 
 -- the addresses of changes taken out of the cycles that have their routers
 pub record AreTakenOut (changes : List Change) (old new : List Kept) : Type 0 where

@@ -1,5 +1,5 @@
 -- Cycles that are kept, by segments: each from an address up to the next segment's.
-use Rattle.std.specs.Prelude.{ℕ, List, [], ◌∷◌, ◌≡◌, ◌+◌, ◌<◌, ◌≤◌, ◌^◌, Contains, IsTrue, refl, length, slice_index_or}
+use Rattle.std.specs.Prelude.{ℕ, List, [], ◌∷◌, ◌+◌, ◌<◌, ◌≤◌, ◌^◌, Contains, IsTrue, refl, length, slice_index_or}
 use Rattle.std.specs.Coded.{Coded, code_by, coded_list, coded_ℕ, coded×}
 use Rattle.base.specs.Cycles.{goes_round}
 use Rattle.base.specs.declared.ids.RouterId.{RouterId}

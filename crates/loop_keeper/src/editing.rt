@@ -4,7 +4,7 @@ ghost use Rattle.std.specs.Prelude.{◌≡◌, ℕ, ◌+◌, ◌-◌, ◌<◌, �
 ghost use Rattle.base.specs.Delta.{AreChanges, IsChange};
 ghost use Rattle.base.specs.declared.ids.RouterId.{RouterId as Router};
 ghost use Rattle.loop_check.specs.Following.{is_among};
-ghost use Rattle.loop_keeper.specs.Edits.{AreChangedTo, AreChangedWithin, ArePutIn, AreTakenOut, Begins, IsCut, IsInserted};
+ghost use Rattle.loop_keeper.specs.Edits.{AreAlike, AreChangedTo, AreChangedWithin, ArePutIn, AreTakenOut, Begins, IsCut, IsInserted};
 ghost use Rattle.loop_keeper.specs.Finding.{AllInside};
 ghost use Rattle.loop_keeper.specs.Kept.{AreSegments, Kept as KeptIs};
 
@@ -173,6 +173,61 @@ pub(crate) fn are_met(segments: &Pages<Segment>, changes: &[Change]) -> bool
     false
 }
 
+/// Whether there is a segment at a place, and it has no cycle.
+fn is_empty_at(segments: &Pages<Segment>, place: u64) -> bool
+    ensures inside { IsTrue result → place < length segments.now }
+    ensures none { IsTrue result → (d : KeptIs) → (slice_index_or segments.now place d).cycles ≡ [] }
+{
+    match segments.get(place) {
+        Some(segment) => segment.is_empty(),
+        None => false,
+    }
+}
+
+/// Whether there is a segment at a place, and neither it nor the one before it has a cycle.
+fn is_idle(segments: &Pages<Segment>, place: u64) -> bool
+    ensures inside { IsTrue result → place < length segments.now }
+    ensures none { IsTrue result → (d : KeptIs) → (slice_index_or segments.now place d).cycles ≡ [] }
+    ensures before { IsTrue result → 0 < place → (d : KeptIs) → (slice_index_or segments.now (place - 1) d).cycles ≡ [] }
+{
+    if place == 0 {
+        return is_empty_at(segments, place);
+    }
+    if !is_empty_at(segments, place - 1) {
+        return false;
+    }
+    is_empty_at(segments, place)
+}
+
+/// Leaves the segment at a place out, if neither it nor the one before it has a cycle.
+fn leave_out(alloc: Global, segments: &mut Pages<Segment>, place: u64) -> Result<(), OutOfMemory>
+    ensures { OnOk result (AreSegments segments.old → AreAlike segments.old segments.new) }
+{
+    if !is_idle(segments, place) {
+        return Ok(());
+    }
+    segments.remove_run(alloc, place, 1)
+}
+
+/// Leaves segments out that begin from one address up to another one, where neither they nor those before them have a
+/// cycle.
+fn leave_empty_out(
+    alloc: Global,
+    segments: &mut Pages<Segment>,
+    low: u64,
+    last: u64,
+) -> Result<(), OutOfMemory>
+    ensures { OnOk result (AreSegments segments.old → AreAlike segments.old segments.new) }
+{
+    let first = segments.count_below(low);
+    let mut past = segments.count_below(last).saturating_add(1);
+    'places: while past > first {
+        past -= 1;
+        leave_out(alloc, segments, past)?;
+    }
+    Ok(())
+}
+
 /// Takes the run of a change out of the cycles that have its router.
 fn take_out(
     alloc: Global,
@@ -187,7 +242,8 @@ fn take_out(
     }
     let past = u64::from(change.run.hi) + 1;
     let edit = Edit::Without(change.router);
-    change_within(alloc, segments, u64::from(change.run.lo), past, &edit)
+    change_within(alloc, segments, u64::from(change.run.lo), past, &edit)?;
+    leave_empty_out(alloc, segments, u64::from(change.run.lo), past)
 }
 
 /// Takes the runs of changes out of the cycles that have their routers.

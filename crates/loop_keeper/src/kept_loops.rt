@@ -29,8 +29,8 @@ use version_pages::Pages;
 ///
 /// A copy is one count. A change works in place where nobody else holds a page of segments, and copies the pages on its
 /// way where somebody does: what a copy holds stays. Where an update finds no cycle, and changes no router of a kept one,
-/// nothing is copied. A segment that has no cycle any more stays: there are at most as many segments as ends of runs of
-/// changes and of cycles that were found.
+/// nothing is copied. A segment without a cycle stands only behind one with some, so that where no address loops any more
+/// there is none.
 #[derive(Drop)]
 pub struct KeptLoops {
     segments: Pages<Segment>,

@@ -188,6 +188,13 @@ impl Segment {
         self.cycles.as_slice()
     }
 
+    /// Whether there is no cycle.
+    pub(crate) fn is_empty(&self) -> bool
+        ensures { IsTrue result → self.now.cycles ≡ [] }
+    {
+        self.cycles().is_empty()
+    }
+
     /// Whether one of the cycles has a router.
     pub(crate) fn has_router(&self, router: RouterId) -> bool
         ensures { result ≡ list_any (λ rs. is_among rs router) self.now.cycles }

@@ -1,4 +1,4 @@
-use Rattle.std.proofs.Common.{◌≡◌, ◌∙◌, ap, sym}
+use Rattle.std.proofs.Common.{◌∙◌, ap, sym}
 use Rattle.loop_keeper.specs.Kept.{Kept}
 use Rattle.loop_keeper.proofs.AnswerParts.{begin-in, cycles-in, piece-is}
 use Rattle.loop_keeper.proofs.answer.told_at.Goals as goal

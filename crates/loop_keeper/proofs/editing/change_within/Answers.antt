@@ -1,6 +1,5 @@
-use Rattle.std.proofs.Common.{◌<◌, ◌^◌}
 use Rattle.std.proofs.lemmas.Result.{on_ok_weaker}
-use Rattle.loop_keeper.specs.Edits.{Begins, IsCut}
+use Rattle.loop_keeper.specs.Edits.{IsCut}
 use Rattle.loop_keeper.proofs.Segments.{within-cuts}
 use Rattle.loop_keeper.proofs.editing.change_within.Goals as goal
 

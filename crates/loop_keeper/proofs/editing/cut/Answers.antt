@@ -1,6 +1,5 @@
-use Rattle.std.proofs.Common.{◌≡◌, ◌<◌, ◌^◌, ◌∙◌, ap, sym, subst, arith}
+use Rattle.std.proofs.Common.{◌<◌, ◌^◌, arith}
 use Rattle.std.proofs.lemmas.Result.{on_ok_weaker}
-use Rattle.loop_keeper.specs.Edits.{IsInserted}
 use Rattle.loop_keeper.proofs.Segments.{cut-new, cut-none, cut-there}
 use Rattle.loop_keeper.proofs.editing.cut.Goals as goal
 

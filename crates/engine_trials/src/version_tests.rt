@@ -288,7 +288,10 @@ fn a_prefix_that_was_cleared_is_set_again(rt: HostRuntime) {
     compare_course(&rt, rt.alloc(), &course);
     let course = advance(&rt, rt.alloc(), course, SECOND, set(ten(), 5, 4));
     compare_counts(&rt, course.version(), 2, 3);
-    assert_eq!(rt; by_rows(&rt, course.version(), SECOND, 0x0A00_0000), Target::Exit(4));
+    assert_eq!(rt;
+        by_rows(&rt, course.version(), SECOND, 0x0A00_0000),
+        Target::Exit(4)
+    );
 }
 
 #[test]

@@ -34,7 +34,10 @@ fn a_cut_parts_all_addresses(rt: HostRuntime) {
 /// Cuts at the multiples of 20,000,000 below 4,000,000,000, the last one first.
 fn cut_often(rt: &impl Abort, alloc: Global, atoms: &mut Bounds) {
     for k in 1..200u32 {
-        assert_eq!(rt; cut(rt, alloc, atoms, Some(1), (200 - k) * 20_000_000), true);
+        assert_eq!(rt;
+            cut(rt, alloc, atoms, Some(1), (200 - k) * 20_000_000),
+            true
+        );
     }
 }
 

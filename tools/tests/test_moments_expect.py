@@ -214,9 +214,13 @@ class Gate(InFolder):
             self.assertIn(told, ran.err)
         self.assertEqual(self.run_tool("expect", "script").status, 1)
 
-    def test_the_sample_of_the_document(self) -> None:
-        document = read(os.path.join(TOP, "docs", "READING-ANSWERS.md")).decode().partition("\n# A gate in a change")[2]
-        script, came = re.findall(r"^```text\n(.*?)^```$", document, re.MULTILINE | re.DOTALL)
+    def test_the_sample_of_the_documents(self) -> None:
+        def after(heading: str, fence: str, *names: str) -> str:
+            text = read(os.path.join(TOP, *names)).decode().partition(heading)[2]
+            return text.partition(f"\n{fence}\n")[2].partition("\n```\n")[0] + "\n"
+
+        script = after("**To stop a bad change**", "```", "README.md")
+        came = after("\n# A gate in a change", "```text", "docs", "READING-ANSWERS.md")
         self.write("expected", script)
         ran = self.run_tool("expect", "run", "topology.toml", "r1=r1.1.fpm", "r2=r2.2.fpm", "@expected")
         self.assertEqual((ran.status, ran.out), (1, came))

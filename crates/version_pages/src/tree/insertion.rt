@@ -24,6 +24,10 @@ fn insert_on<T: Copy>(page: &mut Vec<T>, at: usize, items: &[T]) -> Result<usize
     ensures items { IfOk result (λ count. page.new.items ≡ take at page.old.items ++ take count items.now ++ drop at page.old.items) }
     ensures same { OnErr result (page.new.items ≡ page.old.items) }
 {
+    if let [only] = items {
+        page.insert(at, *only)?;
+        return Ok(1);
+    }
     let count = items.len().min(FULL - page.len());
     let end = page.len();
     page.extend_from_slice(&items[..count])?;

@@ -7,24 +7,8 @@ ghost use Rattle.version_pages.specs.Shape.{Shape};
 ghost use Rattle.version_pages.specs.Search.{EndsBelow, EndsIn};
 
 use super::{Kid, Node, Tree, start};
+use crate::halving::search_page;
 use base::Keyed;
-
-/// Where the elements of a page end that have a key below this one.
-fn search_page<T: Keyed>(items: &[T], key: u64) -> usize
-    ensures { EndsBelow T.key_of items.now key result }
-{
-    let mut low = 0;
-    let mut high = items.len();
-    'halving: while low < high {
-        let middle = low + (high - low) / 2;
-        if items[middle].key() < key {
-            low = middle + 1;
-        } else {
-            high = middle;
-        }
-    }
-    low
-}
 
 /// A child at or before the one in which the elements end that have a key below this one. It looks at every fourth child,
 /// as long as there is one.

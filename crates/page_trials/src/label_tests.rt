@@ -226,7 +226,7 @@ fn a_copy_keeps_its_rows(rt: HostRuntime) {
 }
 
 /// A router does something else with the atoms of some places.
-fn turn(
+pub fn turn(
     rt: &impl Abort,
     alloc: Global,
     rows: &mut TargetRows,
@@ -246,7 +246,7 @@ fn turn(
 }
 
 /// The first atom of the rows is cut in two.
-fn cut_first(rt: &impl Abort, alloc: Global, rows: &mut TargetRows)
+pub fn cut_first(rt: &impl Abort, alloc: Global, rows: &mut TargetRows)
     requires some { 0 < length rows.old.rows }
     requires room { length rows.old.rows < 2 ^ 32 }
     ensures routers { rows.new.routers ≡ rows.old.routers }
@@ -345,7 +345,7 @@ fn a_run_of_atoms_over_many_pages(rt: HostRuntime) {
 
 /// A router does so many things with no atom, exits from one on, none of which any router did before: each takes a code
 /// of its own. What the routers do stays as it is.
-fn use_codes(rt: &impl Abort, alloc: Global, rows: &mut TargetRows, first: u32, count: u32)
+pub fn use_codes(rt: &impl Abort, alloc: Global, rows: &mut TargetRows, first: u32, count: u32)
     requires routers { rows.old.routers ≡ 17 }
     requires exits { first + count < 2 ^ 32 }
     ensures routers { rows.new.routers ≡ 17 }

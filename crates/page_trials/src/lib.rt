@@ -21,6 +21,8 @@ mod pages_tests;
 #[cfg(test)]
 mod plain_list;
 #[cfg(test)]
+mod reading_tests;
+#[cfg(test)]
 mod removal_tests;
 #[cfg(test)]
 mod rows_tests;

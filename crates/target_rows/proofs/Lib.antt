@@ -3,6 +3,7 @@ pub mod Crossing
 pub mod EdgeOrder
 pub mod MovedRun
 pub mod Patched
+pub mod ReadLemmas
 pub mod RowLemmas
 pub mod RunLemmas
 pub mod SplitLemmas

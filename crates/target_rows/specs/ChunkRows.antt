@@ -2,8 +2,10 @@
 -- What stands behind the last router's code means nothing.
 use Rattle.std.specs.Prelude.{ℕ, List, length, map, replicate, slice_index, slice_index_or, take, drop, ◌++◌, ◌≡◌, ◌+◌, ◌*◌, ◌/◌, ◌%◌, ◌<◌, ◌==◌, if◌then◌else◌}
 use Rattle.std.specs.List.{range_with_len}
+use Rattle.base.specs.declared.target.Target.{Target}
 use Rattle.target_rows.specs.declared.code_chunk.CodeChunk.{CodeChunk}
 use Rattle.target_rows.specs.declared.codes.Edge.{Edge}
+use Rattle.target_rows.specs.Codes.{edge_at}
 use Rattle.target_rows.specs.Labels.{Labels}
 use Rattle.target_rows.specs.Rows.{AreRows, labels_of}
 
@@ -14,6 +16,10 @@ no_codes = record { codes = replicate 8 0 }
 -- the code at a place of a chunk
 abbrev pub lane_at : List CodeChunk → ℕ → ℕ → ℕ
 lane_at chunks i lane = slice_index (slice_index_or chunks i no_codes).codes lane
+
+-- what the code at a place stands for
+abbrev pub meant_at : List Edge → List CodeChunk → ℕ → ℕ → Target
+meant_at edges chunks i lane = (edge_at edges (lane_at chunks i lane)).target
 
 -- how many chunks a row has
 abbrev pub stride_of : ℕ → ℕ

@@ -67,6 +67,13 @@ impl CodeBook {
         self.edges[code as usize]
     }
 
+    /// The edges by code.
+    pub fn edges(&self) -> &[Edge]
+        ensures { result.now ≡ self.now }
+    {
+        self.edges.as_slice()
+    }
+
     /// The code of an edge, and none where it has none.
     pub fn find(&self, edge: Edge) -> Option<u32>
         ensures found { IfSome result (λ c. (c < length self.now) × (edge_at self.now c ≡ edge)) }

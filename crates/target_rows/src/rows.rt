@@ -1,12 +1,14 @@
 //! What each router does with each atom.
 
-ghost use Rattle.std.specs.Prelude.{◌≡◌, ℕ, ◌<◌, ◌≤◌, ◌^◌, length, IfOk, OnOk};
+ghost use Rattle.std.specs.Prelude.{◌≡◌, ℕ, ◌+◌, ◌<◌, ◌≤◌, ◌^◌, length, slice_index_or, IfOk, OnOk};
+ghost use Rattle.base.specs.declared.target.Target.{Target};
 ghost use Rattle.target_rows.specs.Labels.{first_labels, moved_run, parted, target_at};
 
 use crate::chunk_rows::{Column, place_in, start_of, stride};
 use crate::code_book::CodeBook;
 use crate::code_rows::{FirstRow, first_row};
 use crate::codes::Edge;
+use crate::reading::{read_column, read_row};
 use crate::split_codes::SplitCodes;
 use base::{OutOfMemory, RouterId, Target};
 use std::alloc::Global;
@@ -60,6 +62,41 @@ impl TargetRows {
     {
         let code = self.chunks.code_at(place_in(self.routers, r, place));
         self.book.edge(code).target
+    }
+
+    /// What a router does with the atoms at the places from one on, put into `out` from its front: as many as stand in one
+    /// page of codes and `out` has room for, one at least. It answers how many. It takes no memory.
+    pub fn column(&self, r: RouterId, place: u64, out: &mut [Target]) -> usize
+        requires router { r.0 < self.now.routers }
+        requires place { place < length self.now.rows }
+        requires room { 0 < length out.old }
+        ensures some { 0 < result }
+        ensures within { result ≤ length out.new }
+        ensures inside { place + result ≤ length self.now.rows }
+        ensures room { length out.new ≡ length out.old }
+        ensures targets { (k : ℕ) → (e : Target) → k < result →
+            slice_index_or out.new k e ≡ target_at self.now r.0 (place + k) }
+    {
+        let at = place_in(self.routers, r, place);
+        read_column(
+            &self.chunks,
+            at,
+            stride(self.routers),
+            self.book.edges(),
+            out,
+        )
+    }
+
+    /// What each router does with the atom at a place, by router, put into `out`. It takes no memory.
+    pub fn row(&self, place: u64, out: &mut [Target])
+        requires place { place < length self.now.rows }
+        requires wide { length out.old ≡ self.now.routers }
+        ensures room { length out.new ≡ length out.old }
+        ensures targets { (k : ℕ) → (e : Target) → k < self.now.routers →
+            slice_index_or out.new k e ≡ target_at self.now k place }
+    {
+        let first = start_of(self.routers, place);
+        read_row(&self.chunks, first, self.book.edges(), out);
     }
 
     /// A router does something else with the atoms at the places from `first` up to, and without, `past`: it goes down

@@ -152,6 +152,20 @@ impl SplitCodes {
         whole(low, high)
     }
 
+    /// The chunks from a place on to the end of its page, whose codes are all there is of them; none once a code of 65,536 or
+    /// more was written.
+    pub fn run_from(&self, place: u64) -> &[CodeChunk]
+        requires place { place < length self.now }
+        ensures inside { place + length result.now ≤ length self.now }
+        ensures codes { (k lane : ℕ) → k < length result.now → lane < 8 →
+            lane_at result.now k lane ≡ lane_at self.now (place + k) lane }
+    {
+        if self.high.len() == 0 {
+            return self.low.run_from(place);
+        }
+        &[]
+    }
+
     /// Puts a code at a place. It fails for want of memory alone, and then nothing is said of the codes.
     fn write(&mut self, alloc: Global, place: Place, code: u32) -> Result<(), OutOfMemory>
         requires chunk { place.chunk < length self.old }

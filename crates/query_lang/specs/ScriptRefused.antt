@@ -1,5 +1,6 @@
 -- When the reader of scripts refuses.
-use Rattle.std.specs.Prelude.{◌≡◌, ℕ, Option, Some, Result, Ok, Err}
+use Rattle.std.specs.Prelude.{◌≡◌, ◌++◌, ℕ, List, Option, Result, Ok, Err}
+use Rattle.std.specs.Option.{option_to_list}
 use Rattle.dn_formats.specs.ScriptText.{ScriptFault}
 use Rattle.dn_formats.specs.declared.script.Line.{Line}
 use Rattle.query_lang.specs.declared.script_text.ScriptRefused.{ScriptRefused}
@@ -17,11 +18,7 @@ abbrev pub IsRefusedLine : LineRefused → Result (Option Line) ℕ → Type 0
 IsRefusedLine (line.Cause c) meaning = meaning ≡ Err c
 IsRefusedLine line.OutOfMemory meaning = Unit {0}
 
--- a line that was read, or refused, is what its text means
-abbrev pub Reads : Result (Option Line) LineRefused → Result (Option Line) ℕ → Type 0
-Reads (Ok l) meaning = meaning ≡ Ok l
-Reads (Err e) meaning = IsRefusedLine e meaning
-
-abbrev pub ReadsCommand : Result Line LineRefused → Result (Option Line) ℕ → Type 0
-ReadsCommand (Ok l) meaning = meaning ≡ Ok (Some l)
-ReadsCommand (Err e) meaning = IsRefusedLine e meaning
+-- the lines so far with what a line means behind them; nothing where it is refused
+abbrev pub added : {E : Type 0} → List Line → Result (Option Line) E → Result (List Line) E
+added lines (Err e) = Err e
+added lines (Ok l) = Ok (lines ++ option_to_list l)

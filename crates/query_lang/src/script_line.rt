@@ -1,18 +1,19 @@
 //! One line of a script.
 
-ghost use Rattle.std.specs.Prelude.{◌≡◌, ◌≤◌, ℕ, length, find, ◌∷◌};
+ghost use Rattle.std.specs.Prelude.{◌≡◌, ◌≤◌, ℕ, length, find, ◌∷◌, codes, IfErr, OnOk, Ok};
 ghost use Rattle.std.specs.List.{list_any};
+ghost use Rattle.std.specs.Str.{bytes_eq};
 ghost use Rattle.dn_formats.specs.ScriptText.{line_meaning, words_of, count_of, is_named, same_router, take_from, take_meaning, two_of, command_meaning, ask_meaning};
 ghost use Rattle.dn_formats.specs.QueryWords.{query_of};
 ghost use Rattle.query_lang.specs.NameIndex.{IsIndex};
-ghost use Rattle.query_lang.specs.ScriptRefused.{Reads, ReadsCommand};
+ghost use Rattle.query_lang.specs.ScriptRefused.{IsRefusedLine, added};
 
 use crate::name_index::router_at;
 use crate::query_line::read_query;
-use crate::text_cut::{has_first, is_same, next_word, two_words};
+use crate::text_cut::{has_first, next_word, two_words};
 use dn_formats::script_cause::{BAD_LINE, TAKE_UNKNOWN, TAKEN_TWICE};
 use dn_formats::{Line, read_number};
-use dn_model::{OutOfMemory, RouterId, Topology, is_name};
+use dn_model::{List, OutOfMemory, RouterId, Topology, is_name};
 use std::alloc::Global;
 use std::collections::HashMap;
 
@@ -53,11 +54,31 @@ pub struct Feeds<'a> {
     ghost indexed: { IsIndex topology.now.routers fed.now index.entries },
 }
 
+/// Whether a word is `take`.
+fn is_take(word: &[u8]) -> bool
+    ensures { result ≡ bytes_eq word.now (codes "take") }
+{
+    match word {
+        [b't', b'a', b'k', b'e'] => true,
+        _ => false,
+    }
+}
+
+/// Whether a word is `all`.
+fn is_all(word: &[u8]) -> bool
+    ensures { result ≡ bytes_eq word.now (codes "all") }
+{
+    match word {
+        [b'a', b'l', b'l'] => true,
+        _ => false,
+    }
+}
+
 /// How many frames a word says: a number from 1 to 4,294,967,295, or all (no number).
 fn read_count(word: &[u8]) -> Option<Option<u32>>
     ensures { result ≡ count_of word.now }
 {
-    if is_same(word, b"all") {
+    if is_all(word) {
         return Some(None);
     }
     let count = read_number(word, 1, 4_294_967_295)?;
@@ -78,14 +99,16 @@ fn is_among(routers: &[RouterId], router: RouterId) -> bool
     routers.iter().any(|other| other.0 == router.0)
 }
 
-/// The line that takes so many frames from the router of this name.
+/// Adds the line that takes so many frames from the router of this name.
 fn take_of(
     feeds: &Feeds<'_>,
     line: u32,
     name: &[u8],
     count: Option<u32>,
-) -> Result<Line, LineRefused>
-    ensures { ReadsCommand result (take_from line feeds.now.taken.now count (find (is_named feeds.now.topology.now.routers name.now) feeds.now.fed.now)) }
+    lines: &mut List<Line>,
+) -> Result<(), LineRefused>
+    ensures ok { OnOk result (added lines.old (take_from line feeds.now.taken.now count (find (is_named feeds.now.topology.now.routers name.now) feeds.now.fed.now)) ≡ Ok lines.new) }
+    ensures refused { IfErr result (λ e. IsRefusedLine e (take_from line feeds.now.taken.now count (find (is_named feeds.now.topology.now.routers name.now) feeds.now.fed.now))) }
 {
     let Some(router) = router_named(feeds, name) else {
         return Err(LineRefused::Cause(TAKE_UNKNOWN));
@@ -93,17 +116,24 @@ fn take_of(
     if is_among(feeds.taken, router) {
         return Err(LineRefused::Cause(TAKEN_TWICE));
     }
-    Ok(Line::Take {
+    lines.push(Line::Take {
         line,
         router,
         count,
-    })
+    })?;
+    Ok(())
 }
 
 #[tactic(auto, using(crate::proofs::Questions::operands_missing))]
-/// A `take` line, by the words after its verb: a router, and a number of frames or `all`.
-fn read_take(feeds: &Feeds<'_>, line: u32, operands: &[u8]) -> Result<Line, LineRefused>
-    ensures { ReadsCommand result (take_meaning feeds.now.topology.now.routers feeds.now.fed.now feeds.now.taken.now line (two_of (words_of operands.now))) }
+/// Adds a `take` line, by the words after its verb: a router, and a number of frames or `all`.
+fn read_take(
+    feeds: &Feeds<'_>,
+    line: u32,
+    operands: &[u8],
+    lines: &mut List<Line>,
+) -> Result<(), LineRefused>
+    ensures ok { OnOk result (added lines.old (take_meaning feeds.now.topology.now.routers feeds.now.fed.now feeds.now.taken.now line (two_of (words_of operands.now))) ≡ Ok lines.new) }
+    ensures refused { IfErr result (λ e. IsRefusedLine e (take_meaning feeds.now.topology.now.routers feeds.now.fed.now feeds.now.taken.now line (two_of (words_of operands.now)))) }
 {
     let Some((name, count)) = two_words(operands) else {
         return Err(LineRefused::Cause(BAD_LINE));
@@ -114,60 +144,67 @@ fn read_take(feeds: &Feeds<'_>, line: u32, operands: &[u8]) -> Result<Line, Line
     if !is_name(name) {
         return Err(LineRefused::Cause(BAD_LINE));
     }
-    take_of(feeds, line, name, count)
+    take_of(feeds, line, name, count, lines)
 }
 
-/// A line that asks a query, by its verb and the words after it.
+/// Adds a line that asks a query, by its verb and the words after it.
 fn read_ask_line(
     alloc: Global,
     line: u32,
     verb: &[u8],
     operands: &[u8],
-) -> Result<Line, LineRefused>
+    lines: &mut List<Line>,
+) -> Result<(), LineRefused>
     requires { length operands.now ≤ 1024 }
-    ensures { ReadsCommand result (ask_meaning line (query_of verb.now (words_of operands.now))) }
+    ensures ok { OnOk result (added lines.old (ask_meaning line (query_of verb.now (words_of operands.now))) ≡ Ok lines.new) }
+    ensures refused { IfErr result (λ e. IsRefusedLine e (ask_meaning line (query_of verb.now (words_of operands.now)))) }
 {
-    match read_query(alloc, verb, operands)? {
-        Some(query) => Ok(Line::Ask { line, query }),
-        None => Err(LineRefused::Cause(BAD_LINE)),
-    }
+    let Some(query) = read_query(alloc, verb, operands)? else {
+        return Err(LineRefused::Cause(BAD_LINE));
+    };
+    lines.push(Line::Ask { line, query })?;
+    Ok(())
 }
 
-/// A line that does something, by its verb and the words after it.
+/// Adds a line that does something, by its verb and the words after it.
 fn read_command(
     alloc: Global,
     feeds: &Feeds<'_>,
     line: u32,
     verb: &[u8],
     operands: &[u8],
-) -> Result<Line, LineRefused>
+    lines: &mut List<Line>,
+) -> Result<(), LineRefused>
     requires { length operands.now ≤ 1024 }
-    ensures { ReadsCommand result (command_meaning feeds.now.topology.now.routers feeds.now.fed.now feeds.now.taken.now line (verb.now ∷ words_of operands.now)) }
+    ensures ok { OnOk result (added lines.old (command_meaning feeds.now.topology.now.routers feeds.now.fed.now feeds.now.taken.now line (verb.now ∷ words_of operands.now)) ≡ Ok lines.new) }
+    ensures refused { IfErr result (λ e. IsRefusedLine e (command_meaning feeds.now.topology.now.routers feeds.now.fed.now feeds.now.taken.now line (verb.now ∷ words_of operands.now))) }
 {
-    if is_same(verb, b"take") {
-        return read_take(feeds, line, operands);
+    if is_take(verb) {
+        return read_take(feeds, line, operands, lines);
     }
-    read_ask_line(alloc, line, verb, operands)
+    read_ask_line(alloc, line, verb, operands, lines)
 }
 
-/// The line of this number, or nothing where it passes: where it is blank or its first word begins with `#`.
+/// Adds the line of this number to those before it; nothing where it passes: where it is blank or its first word begins
+/// with `#`.
 pub fn read_line(
     alloc: Global,
     feeds: &Feeds<'_>,
     line: u32,
     text: &[u8],
-) -> Result<Option<Line>, LineRefused>
-    ensures { Reads result (line_meaning feeds.now.topology.now.routers feeds.now.fed.now feeds.now.taken.now line text.now) }
+    lines: &mut List<Line>,
+) -> Result<(), LineRefused>
+    ensures ok { OnOk result (added lines.old (line_meaning feeds.now.topology.now.routers feeds.now.fed.now feeds.now.taken.now line text.now) ≡ Ok lines.new) }
+    ensures refused { IfErr result (λ e. IsRefusedLine e (line_meaning feeds.now.topology.now.routers feeds.now.fed.now feeds.now.taken.now line text.now)) }
 {
     let Some((verb, operands)) = next_word(text) else {
-        return Ok(None);
+        return Ok(());
     };
     if has_first(verb, b'#') {
-        return Ok(None);
+        return Ok(());
     }
     if text.len() > LINE_BYTES {
         return Err(LineRefused::Cause(BAD_LINE));
     }
-    let found = read_command(alloc, feeds, line, verb, operands)?;
-    Ok(Some(found))
+    read_command(alloc, feeds, line, verb, operands, lines)
 }

@@ -1,9 +1,8 @@
 //! Scripts, read from their text.
 
-ghost use Rattle.std.specs.Prelude.{◌≡◌, ◌++◌, ◌≤◌, ◌<◌, IfOk, IfErr, OnOk, Ok};
-ghost use Rattle.std.specs.Option.{option_to_list};
+ghost use Rattle.std.specs.Prelude.{◌≡◌, ◌≤◌, IfOk, IfErr, OnOk, Ok};
 ghost use Rattle.dn_formats.specs.ScriptText.{script_of, lines_meaning, line_meaning, lines_of, numbered};
-ghost use Rattle.query_lang.specs.ScriptRefused.{IsRefused};
+ghost use Rattle.query_lang.specs.ScriptRefused.{IsRefused, added};
 
 use crate::name_index::index_of;
 use crate::script_line::{Feeds, LineRefused, read_line};
@@ -39,24 +38,15 @@ impl From<OutOfMemory> for ScriptRefused {
     }
 }
 
-/// Adds a line, if there is one, to the lines before it.
-fn add_line(lines: &mut List<Line>, line: Option<Line>) -> Result<(), OutOfMemory>
-    ensures { OnOk result (lines.new ≡ lines.old ++ option_to_list line) }
-{
-    match line {
-        Some(line) => lines.push(line),
-        None => Ok(()),
-    }
-}
-
-/// The line of this number within a script.
+/// Adds the line of this number within a script to the lines before it, if it does something.
 fn read_numbered(
     alloc: Global,
     feeds: &Feeds<'_>,
     line: u32,
     text: &[u8],
-) -> Result<Option<Line>, ScriptRefused>
-    ensures ok { IfOk result (λ l. numbered line (line_meaning feeds.now.topology.now.routers feeds.now.fed.now feeds.now.taken.now line text.now) ≡ Ok l) }
+    lines: &mut List<Line>,
+) -> Result<(), ScriptRefused>
+    ensures ok { OnOk result (added lines.old (numbered line (line_meaning feeds.now.topology.now.routers feeds.now.fed.now feeds.now.taken.now line text.now)) ≡ Ok lines.new) }
     ensures within { OnOk result (line ≤ 65536) }
     ensures refused { IfErr result (λ e. IsRefused e (numbered line (line_meaning feeds.now.topology.now.routers feeds.now.fed.now feeds.now.taken.now line text.now))) }
 {
@@ -66,8 +56,8 @@ fn read_numbered(
             cause: TOO_MANY_LINES,
         });
     }
-    match read_line(alloc, feeds, line, text) {
-        Ok(found) => Ok(found),
+    match read_line(alloc, feeds, line, text, lines) {
+        Ok(()) => Ok(()),
         Err(LineRefused::Cause(cause)) => Err(ScriptRefused::Fault { line, cause }),
         Err(LineRefused::OutOfMemory) => Err(ScriptRefused::OutOfMemory),
     }
@@ -83,8 +73,7 @@ fn read_lines(alloc: Global, feeds: &Feeds<'_>, text: &[u8]) -> Result<List<Line
     let mut rest = text;
     while !rest.is_empty() {
         let (line, after) = first_line(rest);
-        let found = read_numbered(alloc, feeds, number, line)?;
-        add_line(&mut lines, found)?;
+        read_numbered(alloc, feeds, number, line, &mut lines)?;
         number += 1;
         rest = after;
     }

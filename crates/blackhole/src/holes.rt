@@ -9,7 +9,7 @@ use crate::fall::Fall;
 use crate::falls::add_row;
 use crate::row_fall::row_fall;
 use base::{Hole, List, OutOfMemory, RouterId};
-use label_view::LabelView;
+use label_view::{LabelView, ReadAhead};
 use std::alloc::Global;
 use std::sync::ledger::Ledger;
 use step_count::Steps;
@@ -51,8 +51,10 @@ pub fn blackholes<V: LabelView, L: Ledger>(
     ensures cost { steps.new ≤ steps.old + length (V.rows view.now) * V.width view.now }
 {
     let mut falls = Vec::new(alloc);
+    let mut ahead = ReadAhead::new(view, first);
     for i in 0..view.atoms() {
-        let end = row_fall(view, i, first, steps);
+        ahead.read_to(i);
+        let end = row_fall(&ahead, i, first, steps);
         add_row(alloc, &mut falls, view, i, end)?;
     }
     holes_of(alloc, falls)

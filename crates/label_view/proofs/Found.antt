@@ -61,3 +61,16 @@ target-inside view routers rows slice i r row targets e h v l b is t =
     let n : length row.targets ≡ routers = ap (λ (x : ForwardingRow). length x.targets) s ∙ label.all in
     let m : length targets ≡ length row.targets = ap (λ (xs : List Target). length xs) t in
     omega arith
+
+-- a row of the view has a target of each of its routers
+pub row-whole : (view : Listed) (routers : ℕ) (rows slice : List ForwardingRow) (i : ℕ) (row : ForwardingRow) (out targets : List Target) → record { routers = routers; rows = rows } ≡ view → AreEachForwarding routers rows → slice ≡ rows → i < length view.rows → length out ≡ view.routers → row ≡ get_or slice i row → targets ≡ row.targets → length out ≡ length targets
+row-whole view routers rows slice i row out targets e h v l w is t =
+    let P : List ForwardingRow → Type 0 = λ xs. i < length xs in
+    let Q : List ForwardingRow → Type 0 = λ xs. row ≡ get_or xs i row in
+    let a : routers ≡ view.routers = ap (λ (x : Listed). x.routers) e in
+    let k : rows ≡ view.rows = ap (λ (x : Listed). x.rows) e in
+    let s : row ≡ get_or rows i row = subst Q v is in
+    let label : IsForwarding routers (get_or rows i row) = each-at routers rows i row h (subst P (sym k) l) in
+    let n : length row.targets ≡ routers = ap (λ (x : ForwardingRow). length x.targets) s ∙ label.all in
+    let m : length targets ≡ length row.targets = ap (λ (xs : List Target). length xs) t in
+    omega arith

@@ -1,3 +1,4 @@
 pub mod Found
 pub mod Gathering
 pub mod InRow
+pub mod Pages

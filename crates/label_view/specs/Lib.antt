@@ -1,3 +1,4 @@
 pub mod Gathered
 pub mod Listed
+pub mod Pages
 pub mod Places

@@ -3,8 +3,10 @@
 #![tactic(auto)]
 
 mod list_view;
+mod read_ahead;
 pub mod runs;
 mod view;
 
 pub use list_view::ListView;
+pub use read_ahead::ReadAhead;
 pub use view::LabelView;

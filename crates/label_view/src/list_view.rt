@@ -63,6 +63,15 @@ impl LabelView for ListView {
     fn target(&self, r: RouterId, i: u64) -> Target {
         self.rows.as_slice()[i as usize].targets.as_slice()[r.0 as usize]
     }
+
+    fn column(&self, r: RouterId, i: u64, out: &mut [Target]) -> usize {
+        out[0] = self.target(r, i);
+        1
+    }
+
+    fn row(&self, i: u64, out: &mut [Target]) {
+        out.copy_from_slice(self.rows.as_slice()[i as usize].targets.as_slice());
+    }
 }
 
 /// Which of all rows, by place, has an address.

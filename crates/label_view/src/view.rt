@@ -1,8 +1,9 @@
 //! Rows of forwarding, by place.
 
-ghost use Rattle.std.specs.Prelude.{◌≡◌, ℕ, ◌<◌, ◌≤◌, List, length, slice_index_or};
+ghost use Rattle.std.specs.Prelude.{◌≡◌, ℕ, ◌+◌, ◌<◌, ◌≤◌, List, length, slice_index_or};
 ghost use Rattle.base.specs.Forwarding.{AreForwarding, target_of};
 ghost use Rattle.base.specs.declared.forwarding_row.ForwardingRow.{ForwardingRow};
+ghost use Rattle.base.specs.declared.target.Target.{Target as TargetIs};
 
 use base::{RouterId, Target};
 
@@ -42,4 +43,23 @@ pub trait LabelView {
         requires router { r.0 < width self.now }
         requires place { i < length (rows self.now) }
         ensures { (d : ForwardingRow) → result ≡ target_of (slice_index_or (rows self.now) i d) r };
+
+    /// What a router does with the addresses of rows side by side, from the one at a place on, put into `out` from its
+    /// front: as many as the view has together there and `out` has room for, one at least. It answers how many.
+    fn column(&self, r: RouterId, i: u64, out: &mut [Target]) -> usize
+        requires router { r.0 < width self.now }
+        requires place { i < length (rows self.now) }
+        requires room { 0 < length out.old }
+        ensures some { 0 < result }
+        ensures within { result ≤ length out.new }
+        ensures inside { i + result ≤ length (rows self.now) }
+        ensures room { length out.new ≡ length out.old }
+        ensures targets { (k : ℕ) → (d : ForwardingRow) → (e : TargetIs) → k < result →
+            slice_index_or out.new k e ≡ target_of (slice_index_or (rows self.now) (i + k) d) r };
+
+    /// What each router does with the addresses of the row at a place, by router, put into `out`.
+    fn row(&self, i: u64, out: &mut [Target])
+        requires place { i < length (rows self.now) }
+        requires wide { length out.old ≡ width self.now }
+        ensures { (d : ForwardingRow) → out.new ≡ (slice_index_or (rows self.now) i d).targets };
 }

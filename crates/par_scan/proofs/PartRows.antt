@@ -1,12 +1,14 @@
 -- Rows of a part: they cover the addresses once, and show what the whole rows show.
-use Rattle.std.proofs.Common.{◌≡◌, ℕ, zero, suc, ◌+◌, ◌-◌, ◌<◌, ◌≤◌, ◌^◌, ◌∙◌, ⊎_elim, Bool, true, false, cond, ltb, Option, Some, List, [], ◌∷◌, ◌++◌, length, take, drop, replicate, get_or, refl, ap, sym, subst, arith}
+use Rattle.std.proofs.Common.{◌≡◌, ℕ, zero, suc, ◌+◌, ◌-◌, ◌<◌, ◌≤◌, ◌^◌, ◌∙◌, ⊎_elim, Bool, true, false, cond, ltb, Option, Some, List, [], ◌∷◌, ◌++◌, length, take, drop, min, replicate, get_or, set, refl, ap, sym, subst, arith}
+use Rattle.std.proofs.Math.Nat.{min-le_left, min-le_right}
 use Rattle.std.proofs.lemmas.Bool.{cases_lt, cond-true, cond-false, lt-ltb, le-ltb}
-use Rattle.std.proofs.lemmas.List.{length-append, length-drop, length-take-le, get_or-take, get_or-drop, get_or_append_left, get_or-append_right}
+use Rattle.std.proofs.lemmas.List.{ext_get_or, get_or-replicate, get_or-set_same, length-append, length-drop, length-take-le, get_or-take, get_or-drop, get_or_append_left, get_or-append_right}
 use Rattle.base.specs.Forwarding.{AreEachForwarding, AreForwarding, IsForwarding, row_low, row_past, forwarding_at, target_in_row, target_of}
 use Rattle.base.specs.Rows.{CoverFrom, is_within}
 use Rattle.base.specs.declared.forwarding_row.ForwardingRow.{ForwardingRow}
 use Rattle.base.specs.declared.ids.LinkId.{LinkId}
 use Rattle.base.specs.declared.ids.RouterId.{RouterId}
+use Rattle.base.specs.declared.target.Target.{Target}
 use Rattle.base.specs.declared.target.Target.TheVariants.{Local, NoRoute, To}
 use Rattle.base.proofs.Covers.{few-rows, holder-first, holder-rest, starts-below, within-above, within-yes}
 use Rattle.label_view.specs.Places.{IsInRow, begin_of}
@@ -328,6 +330,47 @@ target-before n rows from count low before i d r is_low b k l = ⊎_elim
 pub target-after : (n : ℕ) (rows : List ForwardingRow) (from count low past before i : ℕ) (d : ForwardingRow) (r : RouterId) → from + count ≤ length rows → low ≡ begin_of rows from → past ≡ begin_of rows (from + count) → before ≡ one_if (ltb 0 low) → before + count ≤ i → i < length (part_of n rows from count) → r.0 < n → Local ≡ target_of (get_or (part_of n rows from count) i d) r
 target-after n rows from count low past before i d r l is_low is_past b o k few =
     idle-target n past (2 ^ 32) _ r few (part-last n rows from count low past before i d l is_low is_past b o k).0
+
+-- what is read of a column: the one target of a row before or after, or those of rows between
+pub one-idle : (part : List ForwardingRow) (i : ℕ) (r : RouterId) (out : List Target) → 0 < length out → ((d : ForwardingRow) → Local ≡ target_of (get_or part i d) r) → (k : ℕ) (d : ForwardingRow) (e : Target) → k < 1 → get_or (set out 0 Local) k e ≡ target_of (get_or part (i + k) d) r
+one-idle part i r out l is = λ k d e b.
+    let first : k ≡ 0 = omega arith in
+    let at : i ≡ i + k = omega arith in
+    ap (λ j. get_or (set out 0 Local) j e) first ∙ get_or-set_same out 0 Local e l ∙ is d ∙ ap (λ j. target_of (get_or part j d) r) at
+
+pub column-between : (n : ℕ) (rows : List ForwardingRow) (from count low before i read most : ℕ) (r : RouterId) (out : List Target) → from + count ≤ length rows → low ≡ begin_of rows from → before ≡ one_if (ltb 0 low) → before ≤ i → i - before < count → most ≡ min read (count - (i - before)) → ((k : ℕ) (d : ForwardingRow) (e : Target) → k < read → get_or out k e ≡ target_of (get_or rows (from + (i - before) + k) d) r) → (k : ℕ) (d : ForwardingRow) (e : Target) → k < most → get_or out k e ≡ target_of (get_or (part_of n rows from count) (i + k) d) r
+column-between n rows from count low before i read most r out l is_low b o c few is = λ k d e m.
+    let left : min read (count - (i - before)) ≤ read = min-le_left read (count - (i - before)) in
+    let right : min read (count - (i - before)) ≤ count - (i - before) = min-le_right read (count - (i - before)) in
+    let at : from + (i - before) + k ≡ from + (i + k - before) = omega arith in
+    is k d e (omega arith)
+    ∙ ap (λ j. target_of (get_or rows j d) r) at
+    ∙ ap (λ (row : ForwardingRow). target_of row r) (sym (part-between n rows from count low before (i + k) d l is_low b (omega arith) (omega arith)))
+
+-- what is read of a row
+idle-targets : (n low past : ℕ) (row : ForwardingRow) (out : List Target) → length out ≡ n → ((k : ℕ) → k < length out → get_or out k Local ≡ Local) → row ≡ idle_row n low past → out ≡ row.targets
+idle-targets n low past row out w all is =
+    let same : length out ≡ length (replicate n Local) = w ∙ sym (idle-length n) in
+    ext_get_or Local out (replicate n Local) same (λ k b. all k b ∙ sym (get_or-replicate n k Local Local (omega arith)))
+    ∙ sym (ap (λ (x : ForwardingRow). x.targets) is)
+
+pub row-before : (n : ℕ) (rows : List ForwardingRow) (from count low before i : ℕ) (out : List Target) → low ≡ begin_of rows from → before ≡ one_if (ltb 0 low) → i < before → length out ≡ n → ((k : ℕ) → k < length out → get_or out k Local ≡ Local) → (d : ForwardingRow) → out ≡ (get_or (part_of n rows from count) i d).targets
+row-before n rows from count low before i out is_low b k w all = λ d. ⊎_elim
+    (λ (some : 0 < low).
+    let one : one_if (ltb 0 low) ≡ 1 = cond-true (ltb 0 low) 1 0 (lt-ltb 0 low some) in
+    let at : 0 ≡ i = omega arith in
+    let P : ℕ → Type 0 = λ j. out ≡ (get_or (part_of n rows from count) j d).targets in
+    subst P at (idle-targets n 0 low _ out w all (part-first n rows from count low d is_low some)))
+    (λ (none : low ≤ 0).
+    let zero : one_if (ltb 0 low) ≡ 0 = cond-false (ltb 0 low) 1 0 (le-ltb 0 low none) in
+    absurd (omega arith))
+    (cases_lt 0 low)
+
+pub row-between : (n : ℕ) (rows : List ForwardingRow) (from count low before i : ℕ) (out : List Target) → from + count ≤ length rows → low ≡ begin_of rows from → before ≡ one_if (ltb 0 low) → before ≤ i → i - before < count → ((d : ForwardingRow) → out ≡ (get_or rows (from + (i - before)) d).targets) → (d : ForwardingRow) → out ≡ (get_or (part_of n rows from count) i d).targets
+row-between n rows from count low before i out l is_low b o c is = λ d. is d ∙ ap (λ (row : ForwardingRow). row.targets) (sym (part-between n rows from count low before i d l is_low b o c))
+
+pub row-after : (n : ℕ) (rows : List ForwardingRow) (from count low past before i : ℕ) (out : List Target) → from + count ≤ length rows → low ≡ begin_of rows from → past ≡ begin_of rows (from + count) → before ≡ one_if (ltb 0 low) → before + count ≤ i → i < length (part_of n rows from count) → length out ≡ n → ((k : ℕ) → k < length out → get_or out k Local ≡ Local) → (d : ForwardingRow) → out ≡ (get_or (part_of n rows from count) i d).targets
+row-after n rows from count low past before i out l is_low is_past b o k w all = λ d. idle-targets n past (2 ^ 32) _ out w all (part-last n rows from count low past before i d l is_low is_past b o k).0
 
 -- ---- the row of an address
 

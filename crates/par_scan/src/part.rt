@@ -1,6 +1,6 @@
 //! A part of a view's rows as a view of its own.
 
-ghost use Rattle.std.specs.Prelude.{◌≡◌, ◌+◌, ◌<◌, ◌≤◌, ◌^◌, nat_lt, if◌then◌else◌, length};
+ghost use Rattle.std.specs.Prelude.{◌≡◌, ℕ, ◌+◌, ◌<◌, ◌≤◌, ◌^◌, nat_lt, if◌then◌else◌, length, slice_index_or};
 ghost use Rattle.label_view.specs.Places.{begin_of};
 ghost use Rattle.par_scan.specs.Parts.{ShowsPart, part_of};
 ghost use Rattle.par_scan.specs.Ranges.{range_begin};
@@ -130,5 +130,41 @@ impl<'a, V: LabelView> LabelView for Part<'a, V> {
             return self.view.target(r, self.from + (i - before));
         }
         Target::Local
+    }
+
+    fn column(&self, r: RouterId, i: u64, out: &mut [Target]) -> usize {
+        let before = self.before();
+        if i < before {
+            out[0] = Target::Local;
+            return 1;
+        }
+        if i - before < self.count {
+            let read = self.view.column(r, self.from + (i - before), out);
+            return (read as u64).min(self.count - (i - before)) as usize;
+        }
+        out[0] = Target::Local;
+        1
+    }
+
+    fn row(&self, i: u64, out: &mut [Target]) {
+        let before = self.before();
+        if i < before {
+            stay(out);
+            return;
+        }
+        if i - before < self.count {
+            self.view.row(self.from + (i - before), out);
+            return;
+        }
+        stay(out);
+    }
+}
+
+/// Puts in the place of each of these targets that of addresses that stay.
+fn stay(targets: &mut [Target])
+    ensures { (k : ℕ) → k < length targets.new → slice_index_or targets.new k Target.Local ≡ Target.Local }
+{
+    for target in targets.iter_mut() {
+        *target = Target::Local;
     }
 }

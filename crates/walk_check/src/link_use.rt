@@ -7,8 +7,8 @@ ghost use Rattle.base.specs.Runs.{AreRuns};
 ghost use Rattle.label_view.specs.Places.{IsInRow};
 
 use base::{LinkId, List, OutOfMemory, RouterId, Run, Target};
-use label_view::LabelView;
 use label_view::runs::RunList;
+use label_view::{LabelView, ReadAhead};
 use std::alloc::Global;
 use std::sync::ledger::Ledger;
 use step_count::Steps;
@@ -59,10 +59,14 @@ pub fn uses<V: LabelView, L: Ledger>(
 {
     let mut first = RunList::new(alloc);
     let mut second = RunList::new(alloc);
+    let mut ahead1 = ReadAhead::new(view, end1);
+    let mut ahead2 = ReadAhead::new(view, end2);
     for i in 0..view.atoms() {
-        let one = row_uses(view, i, end1, link, steps);
+        ahead1.read_to(i);
+        let one = row_uses(&ahead1, i, end1, link, steps);
         first.push_row_if(view, i, one)?;
-        let other = row_uses(view, i, end2, link, steps);
+        ahead2.read_to(i);
+        let other = row_uses(&ahead2, i, end2, link, steps);
         second.push_row_if(view, i, other)?;
     }
     Ok((first.finish()?, second.finish()?))

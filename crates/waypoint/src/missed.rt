@@ -7,8 +7,8 @@ ghost use Rattle.base.specs.Runs.{AreRuns};
 ghost use Rattle.label_view.specs.Places.{IsInRow};
 
 use base::{List, OutOfMemory, RouterId, Run, Target};
-use label_view::LabelView;
 use label_view::runs::RunList;
+use label_view::{LabelView, ReadAhead};
 use std::alloc::Global;
 use std::sync::ledger::Ledger;
 use step_count::Steps;
@@ -68,8 +68,10 @@ pub fn waypoint<V: LabelView, L: Ledger>(
     ensures cost { steps.new ≤ steps.old + length (V.rows view.now) * V.width view.now }
 {
     let mut runs = RunList::new(alloc);
+    let mut ahead = ReadAhead::new(view, first);
     for i in 0..view.atoms() {
-        let passes = row_misses(view, i, first, to, through, steps);
+        ahead.read_to(i);
+        let passes = row_misses(&ahead, i, first, to, through, steps);
         runs.push_row_if(view, i, passes)?;
     }
     Ok(runs.finish()?)

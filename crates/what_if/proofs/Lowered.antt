@@ -1,8 +1,8 @@
 -- Rows with links down: their bounds are those of the rows, and what they show is that with the links down.
-use Rattle.std.proofs.Common.{◌≡◌, ℕ, zero, suc, ◌<◌, ◌≤◌, ◌∙◌, Bool, true, false, cond, Option, None, Some, List, [], ◌∷◌, length, get_or, refl, ap, sym, subst, arith}
+use Rattle.std.proofs.Common.{◌≡◌, ℕ, zero, suc, ◌+◌, ◌<◌, ◌≤◌, ◌∙◌, Bool, true, false, cond, Option, None, Some, List, [], ◌∷◌, ◌++◌, length, get_or, map, take, refl, ap, sym, subst, arith}
 use Rattle.std.specs.Prelude.{option_map}
 use Rattle.std.proofs.Math.ListN.{get_or-map}
-use Rattle.std.proofs.lemmas.List.{length-map}
+use Rattle.std.proofs.lemmas.List.{get_or_append_left, get_or-map as get_or-map-any, get_or-take, length-map, length-take-le}
 use Rattle.base.specs.Forwarding.{AreEachForwarding, AreForwarding, IsForwarding, row_low, row_past, forwarding_at, does, target_in_row, target_of}
 use Rattle.base.specs.Rows.{CoverFrom, is_within}
 use Rattle.base.specs.Links.{is_down, without}
@@ -130,6 +130,28 @@ pub target-of : {X : Type 0} (rows : X → List ForwardingRow) (w : Restricted X
 target-of {X} rows w view links i r t lowered e l is low =
     let P : Restricted X → Type 0 = λ v. i < length (rows_without v.links (rows v.view)) → (d : ForwardingRow) → lowered ≡ target_of (get_or (rows_without v.links (rows v.view)) i d) r in
     let at : P (record { view = view; links = links }) = λ k d. target-at links (rows view) i d r t lowered (inside-of links (rows view) i k) (is d) low in
+    subst P e at l
+
+-- what was read of a column, with the links down, and what is left of the room for it
+pub column-of : {X : Type 0} (rows : X → List ForwardingRow) (w : Restricted X) (view : X) (links : List LinkId) (i count : ℕ) (r : RouterId) (read lowered rest : List Target) → record { view = view; links = links } ≡ w → i + count ≤ length (rows view) → count ≤ length read → ((k : ℕ) (d : ForwardingRow) (e : Target) → k < count → get_or read k e ≡ target_of (get_or (rows view) (i + k) d) r) → lowered ≡ map (without links) (take count read) →
+    (k : ℕ) (d : ForwardingRow) (e : Target) → k < count → get_or (lowered ++ rest) k e ≡ target_of (get_or (rows_without w.links (rows w.view)) (i + k) d) r
+column-of {X} rows w view links i count r read lowered rest e l room is low = λ k d x b.
+    let whole : length (take count read) ≡ count = length-take-le count read room in
+    let same : length lowered ≡ count = ap length low ∙ length-map (take count read) (without links) ∙ whole in
+    let here : get_or (lowered ++ rest) k x ≡ without links (get_or read k NoRoute) =
+    get_or_append_left lowered rest x k (omega arith)
+    ∙ ap (λ (ts : List Target). get_or ts k x) low
+    ∙ get_or-map-any (without links) (take count read) k NoRoute x (omega arith)
+    ∙ ap (without links) (get_or-take count read k NoRoute b) in
+    let P : Restricted X → Type 0 = λ v. get_or (lowered ++ rest) k x ≡ target_of (get_or (rows_without v.links (rows v.view)) (i + k) d) r in
+    subst P e (target-at links (rows view) (i + k) d r (get_or read k NoRoute) _ (omega arith) (is k d NoRoute b) here)
+
+-- what was read of a row, with the links down
+pub targets-of : {X : Type 0} (rows : X → List ForwardingRow) (w : Restricted X) (view : X) (links : List LinkId) (i : ℕ) (read lowered : List Target) → record { view = view; links = links } ≡ w → i < length (rows_without w.links (rows w.view)) → ((d : ForwardingRow) → read ≡ (get_or (rows view) i d).targets) → lowered ≡ map (without links) read →
+    (d : ForwardingRow) → lowered ≡ (get_or (rows_without w.links (rows w.view)) i d).targets
+targets-of {X} rows w view links i read lowered e l is low =
+    let P : Restricted X → Type 0 = λ v. i < length (rows_without v.links (rows v.view)) → (d : ForwardingRow) → lowered ≡ (get_or (rows_without v.links (rows v.view)) i d).targets in
+    let at : P (record { view = view; links = links }) = λ k d. low ∙ ap (map (without links)) (is d) ∙ ap (λ (row : ForwardingRow). row.targets) (sym (row-at links (rows view) i d d (inside-of links (rows view) i k))) in
     subst P e at l
 
 pub form-of : {X : Type 0} (width : X → ℕ) (rows : X → List ForwardingRow) (w : Restricted X) (view : X) (links : List LinkId) → record { view = view; links = links } ≡ w → AreForwarding (width view) (rows view) → AreForwarding (width w.view) (rows_without w.links (rows w.view))

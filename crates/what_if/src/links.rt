@@ -1,6 +1,6 @@
 //! Links that are down.
 
-ghost use Rattle.std.specs.Prelude.{◌≡◌};
+ghost use Rattle.std.specs.Prelude.{◌≡◌, map};
 ghost use Rattle.base.specs.Links.{is_down, without};
 
 use base::{LinkId, Target};
@@ -25,5 +25,14 @@ pub fn with_links_down(down: &[LinkId], target: Target) -> Target
             }
         }
         other => other,
+    }
+}
+
+/// Puts in the place of each of these targets what it is where these links are down.
+pub fn take_links_down(down: &[LinkId], targets: &mut [Target])
+    ensures { targets.new ≡ map (without down.now) targets.old }
+{
+    for target in targets.iter_mut() {
+        *target = with_links_down(down, *target);
     }
 }

@@ -7,7 +7,7 @@ ghost use Rattle.base.specs.declared.ids.RouterId.{RouterId as RouterIs};
 ghost use Rattle.label_view.specs.Places.{begin_of};
 ghost use Rattle.what_if.specs.Restricted.{rows_without};
 
-use crate::links::with_links_down;
+use crate::links::{take_links_down, with_links_down};
 use base::{LinkId, RouterId, Target};
 use label_view::LabelView;
 use std::marker::Model;
@@ -65,5 +65,16 @@ impl<'a, V: LabelView> LabelView for Without<'a, V> {
 
     fn target(&self, r: RouterId, i: u64) -> Target {
         with_links_down(self.links, self.view.target(r, i))
+    }
+
+    fn column(&self, r: RouterId, i: u64, out: &mut [Target]) -> usize {
+        let count = self.view.column(r, i, out);
+        take_links_down(self.links, &mut out[..count]);
+        count
+    }
+
+    fn row(&self, i: u64, out: &mut [Target]) {
+        self.view.row(i, out);
+        take_links_down(self.links, out);
     }
 }

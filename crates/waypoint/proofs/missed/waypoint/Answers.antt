@@ -1,21 +1,29 @@
-use Rattle.std.proofs.Common.{◌≤◌, length, arith}
+use Rattle.std.proofs.Common.{◌≡◌, ◌+◌, ◌≤◌, ◌∙◌, length, ap, arith}
 use Rattle.base.specs.Forwarding.{does}
 use Rattle.base.specs.Reach.{misses}
 use Rattle.label_view.proofs.InRow.{gathered-all, gathered-start}
 use Rattle.step_count.proofs.Counting.{steps_more}
+use Rattle.waypoint.proofs.Missing.{misses-ahead}
 use Rattle.waypoint.proofs.missed.waypoint.Goals as goal
 
 pub loop-i-init : goal.loop-i-init
 loop-i-init g c = record {
+  ahead = c.new-ahead.ensures;
   runs = gathered-start _ c.new-runs.result _ _ c.atoms-i-end.ensures.form c.new-runs.ensures.runs c.new-runs.ensures.past;
   cost = omega arith;
 }
 
 pub loop-i-preserved : goal.loop-i-preserved
-loop-i-preserved g c = record {
-  runs = c.in_ok-push_row_if.ensures (misses (g.V.LabelView.width c.args.view.now) (does (g.V.LabelView.rows c.args.view.now)) c.args.first c.args.to c.args.through) c.loop-i.invariant.runs c.row_misses-passes.ensures.misses;
-  cost = steps_more (g.V.LabelView.width c.args.view.now) c.args.steps.now c.loop-i.steps c.row_misses-passes.new.steps c.loop-i.i c.loop-i.invariant.cost c.row_misses-passes.ensures.cost;
-}
+loop-i-preserved g c =
+    let same = c.read_to.ensures ∙ c.loop-i.invariant.ahead in
+    let wide : g.V.LabelView.width c.read_to.new.self ≡ g.V.LabelView.width c.args.view.now = ap g.V.LabelView.width same in
+    let looks : c.row_misses-passes.new.steps ≤ c.loop-i.steps + g.V.LabelView.width c.read_to.new.self = c.row_misses-passes.ensures.cost in
+    record {
+      ahead = same;
+      runs = c.in_ok-push_row_if.ensures (misses (g.V.LabelView.width c.args.view.now) (does (g.V.LabelView.rows c.args.view.now)) c.args.first c.args.to c.args.through) c.loop-i.invariant.runs
+          (misses-ahead g.V.LabelView.width g.V.LabelView.rows c.read_to.new.self c.args.view.now c.loop-i.i c.args.first c.args.to c.args.through c.row_misses-passes.result same c.row_misses-passes.ensures.misses);
+      cost = steps_more (g.V.LabelView.width c.args.view.now) c.args.steps.now c.loop-i.steps c.row_misses-passes.new.steps c.loop-i.i c.loop-i.invariant.cost (omega (arith, wide, looks));
+    }
 
 pub returns-clause-runs : goal.returns-clause-runs
 returns-clause-runs g c =

@@ -1,9 +1,9 @@
 -- A push: what is put in the place of what it is joined to.
 use Rattle.std.proofs.Common.{◌≡◌, ℕ, ◌-◌, ◌<◌, ◌≤◌, ◌⊎◌, ◌∙◌, suc, true, false, cond, Some, None, List, [], ◌∷◌, ◌++◌, length, take, drop, get_or, ap, sym, subst, inl, inr, ⊎_elim, arith, leb}
-use Rattle.std.proofs.Math.Seq.{drop-cons, take-suc}
+use Rattle.std.proofs.Math.Seq.{drop-cons, take-length, take-suc}
 use Rattle.std.proofs.lemmas.Bool.{and_from, both_ways, cases_Bool, cases_lt, cases_order, le-leb}
 use Rattle.std.proofs.lemmas.List.{drop_all, get_or_default, take-append-drop}
-use Rattle.base.specs.Delta.{AreChanges, GoesBefore, IsApart, IsApartFromFirst, IsChange, change_at, is_change_at, targets_of}
+use Rattle.base.specs.Delta.{AreChanges, GoesBefore, GoesOn, IsApart, IsApartFromFirst, IsChange, change_at, is_change_at, targets_of}
 use Rattle.base.specs.Runs.{holds}
 use Rattle.base.specs.declared.change.Change.{Change}
 use Rattle.base.specs.declared.ids.RouterId.{RouterId}
@@ -12,7 +12,7 @@ use Rattle.base.proofs.DeltaOnce.{first-is, not-first, within}
 use Rattle.delta_graph.specs.Joined.{EndsApart, JoinsLeft, JoinsRight}
 use Rattle.delta_graph.specs.Pushed.{IsPushed, MeetsNone}
 use Rattle.delta_graph.proofs.Chain.{back-part, ends-push, ends-start, front-part, glue, none-at, none-front, same-front}
-use Rattle.delta_graph.proofs.Joints.{IsAt, is-at}
+use Rattle.delta_graph.proofs.Joints.{IsAt, is-at, left-none, right-none}
 
 -- ---- the place
 
@@ -136,3 +136,24 @@ pushed-at now items ys zs new c left right place from to i y z form apart l r is
     let P : List Change → Type 0 = λ xs. JoinsLeft xs place c from left in
     let Q : List Change → Type 0 = λ xs. JoinsRight xs place left to right in
     pushed now c place from to left right form apart (subst P (y ∙ i) l) (subst Q (z ∙ i) r) new (is ∙ ap (λ xs. take from xs ++ right ∷ drop to xs) i)
+
+-- what goes behind the last of others, and doesn't go on from it, stands apart from it
+pub ends-last : (xs : List Change) (l c : Change) → 0 < length xs → get_or xs (length xs - 1) l ≡ l → GoesBefore l c → (GoesOn l c → ⊥) → EndsApart xs c
+ends-last xs l c some at before on =
+    let k : ℕ = length xs - 1 in
+    let lt : k < length xs = omega arith in
+    let is : l ≡ get_or xs k c = sym at ∙ get_or_default xs k l c lt in
+    let P : List Change → Type 0 = λ ys. EndsApart ys c in
+    let Q : Change → Type 0 = λ d. IsApart d c in
+    subst P (take-length xs) (ends-at xs (length xs) c (omega arith) (λ _. subst Q is (record { order = before; two = on })))
+
+-- a change behind all, apart from the last
+pub pushed-last : (xs new : List Change) (c : Change) → AreChanges xs → IsChange c → MeetsNone xs c → EndsApart xs c → new ≡ xs ++ c ∷ [] → IsPushed xs new c
+pushed-last xs new c form is apart behind made =
+    let n : ℕ = length xs in
+    let front : take n xs ≡ xs = take-length xs in
+    let back : drop n xs ≡ [] = drop_all n xs (omega arith) in
+    let P : List Change → Type 0 = λ ys. EndsApart ys c in
+    let Q : List Change → Type 0 = λ ys. IsApartFromFirst c ys in
+    pushed xs c n n n c c form apart (left-none xs n c is (subst P (sym front) behind)) (right-none xs n c is (omega arith) (subst Q (sym back) tt)) new
+    (made ∙ ap (λ ys. ys ++ c ∷ []) (sym front) ∙ ap (λ ys. take n xs ++ c ∷ ys) (sym back))

@@ -1,8 +1,8 @@
 //! The changes of an update.
 
-ghost use Rattle.std.specs.Prelude.{◌≡◌, ◌-◌, ◌<◌, ◌≤◌, [], OnOk, OnErr, IfOk, length, slice_index_or};
+ghost use Rattle.std.specs.Prelude.{◌≡◌, ◌-◌, ◌<◌, ◌≤◌, [], IsTrue, OnOk, OnErr, IfOk, length, slice_index_or};
 ghost use Rattle.base.specs.Delta.{AreChanges, GoesBefore, IsChange};
-ghost use Rattle.delta_graph.specs.Joined.{JoinsLeft, JoinsRight};
+ghost use Rattle.delta_graph.specs.Joined.{EndsApart, JoinsLeft, JoinsRight};
 ghost use Rattle.delta_graph.specs.Pushed.{MeetsNone, IsPushed, MeetNone, AreMerged, runs_of};
 
 use crate::join::{goes_before, goes_on, joined, replace};
@@ -37,6 +37,15 @@ impl Delta {
         Delta {
             changes: Vec::new(alloc),
         }
+    }
+
+    /// No change, in the memory of these.
+    pub fn emptied(self) -> Self
+        ensures { result ≡ [] }
+    {
+        let Delta { mut changes } = self;
+        changes.clear();
+        Delta { changes }
     }
 
     /// The changes, in order.
@@ -75,9 +84,20 @@ impl Delta {
         place
     }
 
-    /// Adds a change. Its run has an address, its two targets differ, and its run meets no kept run of its router. After `OutOfMemory`, for
-    /// which alone it fails, the changes are as before.
-    pub fn push(&mut self, change: Change) -> Result<(), OutOfMemory>
+    /// Adds a change that goes behind all, and goes on from none of them.
+    fn push_last(&mut self, change: Change) -> Result<(), OutOfMemory>
+        requires change { IsChange change }
+        requires apart { MeetsNone self.old change }
+        requires behind { EndsApart self.old change }
+        ensures ok { OnOk result (IsPushed self.old self.new change) }
+        ensures err { OnErr result (self.new ≡ self.old) }
+    {
+        self.changes.push(change)?;
+        Ok(())
+    }
+
+    /// Adds a change at its place, joined to those beside it that it goes on from or that go on from it.
+    fn put(&mut self, change: Change) -> Result<(), OutOfMemory>
         requires ends { change.run.lo ≤ change.run.hi }
         requires differ { change.before ≡ change.after → ⊥ }
         requires apart { MeetsNone self.old change }
@@ -89,6 +109,21 @@ impl Delta {
         let (to, change) = join_right(&self.changes, place, change);
         replace(&mut self.changes, from, to, change)?;
         Ok(())
+    }
+
+    /// Adds a change. Its run has an address, its two targets differ, and its run meets no kept run of its router. After
+    /// `OutOfMemory`, for which alone it fails, the changes are as before.
+    pub fn push(&mut self, change: Change) -> Result<(), OutOfMemory>
+        requires ends { change.run.lo ≤ change.run.hi }
+        requires differ { change.before ≡ change.after → ⊥ }
+        requires apart { MeetsNone self.old change }
+        ensures ok { OnOk result (IsPushed self.old self.new change) }
+        ensures err { OnErr result (self.new ≡ self.old) }
+    {
+        if is_behind(&self.changes, &change) {
+            return self.push_last(change);
+        }
+        return self.put(change);
     }
 
     /// The same changes again.
@@ -114,6 +149,21 @@ impl Delta {
         *self = merged;
         Ok(())
     }
+}
+
+/// Whether a change goes behind others, and goes on from none of them.
+fn is_behind(changes: &[Change], change: &Change) -> bool
+    ensures { IsTrue result → EndsApart changes.now change.now }
+{
+    let count = changes.len();
+    if count == 0 {
+        return true;
+    }
+    let last = &changes[count - 1];
+    if goes_on(last, change) {
+        return false;
+    }
+    goes_before(last, change)
 }
 
 /// A change joined to the one before its place, if it goes on from that one, and from which place on it then stands.

@@ -1,6 +1,6 @@
 use Rattle.std.proofs.Common.{◌∙◌}
 use Rattle.delta_graph.proofs.Pushing.{goes-first-joined, pushed-at}
-use Rattle.delta_graph.proofs.delta.Delta.push.Goals as goal
+use Rattle.delta_graph.proofs.delta.Delta.put.Goals as goal
 
 pub join_right-to-requires-clause-order : goal.join_right-to-requires-clause-order
 join_right-to-requires-clause-order c = goes-first-joined c.args.self.now c.deref-2.result.now c.place_of-place.result c.args.change c.join_left-from.result.1 (c.deref-2.ensures.value ∙ c.self.view_is) c.place_of-place.ensures.form c.requires.ends c.requires.apart c.place_of-place.ensures.after c.join_left-from.ensures.router c.join_left-from.ensures.hi

@@ -15,6 +15,8 @@ mod draw;
 #[cfg(test)]
 mod label_tests;
 #[cfg(test)]
+mod metric_tests;
+#[cfg(test)]
 mod owner_tests;
 #[cfg(test)]
 mod pages_tests;

@@ -5,26 +5,19 @@ use Rattle.version_pages.proofs.tree.Kid.TheLaws.TheKnot as knot
 use Rattle.route_table.specs.contracts.rows.PrefixRow as PrefixRow
 use Rattle.route_table.specs.contracts.table.RouteTable as RouteTable
 use Rattle.route_table.specs.contracts.tables.RouteTables as RouteTables
-use Rattle.route_table.specs.contracts.targets.Held as Held
 use Rattle.route_table.specs.contracts.targets.TargetsByMetric as TargetsByMetric
 
-Held-send : IsSend Held.the_row
-Held-send = search (sendable, crosses) depth 60 fits 100000
-
-Held-sync : IsSync Held.the_row
-Held-sync = search (sendable, crosses) depth 60 fits 100000
-
 TargetsByMetric-send : IsSend TargetsByMetric.the_row
-TargetsByMetric-send = search (Held-send, Held-sync, sendable, crosses) depth 60 fits 100000
+TargetsByMetric-send = search (sendable, crosses, knot.crosses) depth 60 fits 100000
 
 TargetsByMetric-sync : IsSync TargetsByMetric.the_row
-TargetsByMetric-sync = search (Held-send, Held-sync, sendable, crosses) depth 60 fits 100000
+TargetsByMetric-sync = search (sendable, crosses, knot.crosses) depth 60 fits 100000
 
 PrefixRow-send : IsSend PrefixRow.the_row
-PrefixRow-send = search (TargetsByMetric-send, TargetsByMetric-sync, sendable, crosses) depth 40
+PrefixRow-send = search (TargetsByMetric-send, sendable, crosses) depth 40
 
 PrefixRow-sync : IsSync PrefixRow.the_row
-PrefixRow-sync = search (TargetsByMetric-send, TargetsByMetric-sync, sendable, crosses) depth 40
+PrefixRow-sync = search (TargetsByMetric-sync, sendable, crosses) depth 40
 
 pub RouteTable-send : IsSend RouteTable.the_row
 RouteTable-send = search (PrefixRow-send, PrefixRow-sync, sendable, crosses, knot.crosses) depth 40

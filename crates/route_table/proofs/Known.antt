@@ -15,7 +15,7 @@ use Rattle.route_table.specs.Rows.{AreWhole, IsHeld, TellsFirst, row_key, slot_i
 use Rattle.route_table.specs.Slots.{IsUnchangedBy, key_of, routes_of}
 use Rattle.route_table.specs.Targets.{IsPlaced}
 use Rattle.route_table.specs.declared.rows.PrefixRow.{PrefixRow}
-use Rattle.route_table.specs.declared.targets.MetricWay.{MetricWay}
+use Rattle.route_table.specs.declared.metric_way.MetricWay.{MetricWay}
 use Rattle.route_table.proofs.Made.{slot-has}
 use Rattle.route_table.proofs.SideBySide.{found-in, slot-in, table-is}
 

@@ -1,8 +1,11 @@
 -- The routes of slots listed, one page after another.
-use Rattle.std.proofs.Common.{◌≡◌, ◌<◌, ◌≤◌, ◌+◌, ◌-◌, ◌∙◌, ℕ, List, [], ◌∷◌, ◌++◌, get_or, length, min, take, drop, ap, sym, append_assoc, take-add, arith}
-use Rattle.std.proofs.lemmas.List.{append-nil, length-drop, length-take, take_more}
+use Rattle.std.proofs.Common.{◌≡◌, ◌<◌, ◌≤◌, ◌+◌, ◌-◌, ◌∙◌, ℕ, List, [], ◌∷◌, ◌++◌, get_or, length, map, min, take, drop, ap, sym, append_assoc, take-add, arith}
+use Rattle.std.proofs.lemmas.List.{append-nil, length-drop, length-take, map-append, take_more}
 use Rattle.std.proofs.lemmas.Grind.{flat_map-append}
+use Rattle.base.specs.Cidr.{Cidr}
 use Rattle.dn_model.specs.declared.entry.Route.{Route}
+use Rattle.route_table.specs.Targets.{route_at}
+use Rattle.route_table.specs.declared.metric_way.MetricWay.{MetricWay}
 use Rattle.route_table.specs.Rows.{slot_in, slots_in}
 use Rattle.route_table.specs.declared.rows.PrefixRow.{PrefixRow}
 use Rattle.route_table.proofs.SideBySide.{inside, stands}
@@ -35,3 +38,12 @@ slot-more lane rows i r first now new l is so more =
     ∙ ap (λ rs. rs ++ routes_at (slot_in lane r)) so
     ∙ append_assoc first (routes_of (take i slots)) (routes_at (slot_in lane r))
     ∙ ap (λ rs. first ++ rs) (ap (λ rs. routes_of (take i slots) ++ rs) (sym one) ∙ sym (ap routes_of all ∙ flat_map-append routes_at (take i slots) (slot_in lane r ∷ [])))
+
+-- and of one more page of one prefix's routes
+pub ways-more : (p : Cidr) (ways run : List MetricWay) (place : ℕ) (first now new : List Route) → take (length run) (drop place ways) ≡ run → now ≡ first ++ map (route_at p) (take place ways) → new ≡ now ++ map (route_at p) run → new ≡ first ++ map (route_at p) (take (place + length run) ways)
+ways-more p ways run place first now new is so more =
+    let all : take (place + length run) ways ≡ take place ways ++ run = take-add place (length run) ways ∙ ap (λ xs. take place ways ++ xs) is in
+    more
+    ∙ ap (λ rs. rs ++ map (route_at p) run) so
+    ∙ append_assoc first (map (route_at p) (take place ways)) (map (route_at p) run)
+    ∙ ap (λ rs. first ++ rs) (sym (ap (map (route_at p)) all ∙ map-append (route_at p) (take place ways) run))

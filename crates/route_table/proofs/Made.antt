@@ -24,7 +24,7 @@ use Rattle.route_table.specs.Searches.{IsBaseBefore}
 use Rattle.route_table.specs.Slots.{AreSlots, IsAddedAt, IsUnchangedBy, IsUpdatedAt, PrefixRoutes, SetsOrHasSome, key_of, routes_at, routes_of, slot_key}
 use Rattle.route_table.specs.Targets.{IsFirst, cleared, route_at}
 use Rattle.route_table.specs.Whole.{IsWhole}
-use Rattle.route_table.specs.declared.targets.MetricWay.{MetricWay}
+use Rattle.route_table.specs.declared.metric_way.MetricWay.{MetricWay}
 use Rattle.route_table.proofs.Places.{found-insert, found-inside, found-set, gap-inside}
 use Rattle.route_table.proofs.Prefixes.{found-left, none-at, others-at, own-prefix}
 use Rattle.route_table.proofs.Setting.{entry}

@@ -19,7 +19,7 @@ use Rattle.route_table.specs.Ascending.{AscendsFrom, IsFound}
 use Rattle.route_table.specs.Own.{AreOwnRuns, IsPassed, is_longer_at, is_own}
 use Rattle.route_table.specs.Slots.{AreSlots, IsSlot, PrefixRoutes, key_of, routes_at, routes_of, slot_key}
 use Rattle.route_table.specs.Targets.{route_at}
-use Rattle.route_table.specs.declared.targets.MetricWay.{MetricWay}
+use Rattle.route_table.specs.declared.metric_way.MetricWay.{MetricWay}
 use Rattle.route_table.proofs.Along.{EndsBefore, OfEach, begun-are, begun-within, begun_from, each-drop, has_route_at, is_left, runs-ends, runs-left, runs_from}
 use Rattle.route_table.proofs.Blocks.{cidr-end, covers-in, nested-from, size-some}
 use Rattle.route_table.proofs.Places.{all-from}

@@ -1,5 +1,5 @@
 -- Places in lists whose keys ascend.
-use Rattle.std.proofs.Common.{◌≡◌, ℕ, ◌+◌, ◌-◌, ◌<◌, ◌≤◌, ◌≢◌, zero, suc, Bool, true, false, cond, not, List, [], ◌∷◌, ◌++◌, length, get_or, set, filter, refl, ap, sym, subst, ◌∙◌, ⊎_elim, arith, eqb}
+use Rattle.std.proofs.Common.{◌≡◌, ℕ, ◌+◌, ◌-◌, ◌<◌, ◌≤◌, ◌≢◌, zero, suc, Bool, true, false, cond, not, List, [], ◌∷◌, ◌++◌, length, get_or, set, filter, take, drop, refl, ap, sym, subst, ◌∙◌, ⊎_elim, arith, eqb}
 use Rattle.std.specs.List.{Contains, insert}
 use Rattle.std.specs.List.Sorted.{IsPermutation}
 use Rattle.std.proofs.lemmas.Bool.{cases_Bool, eq-eqb, eqb-true, false_from_ne_true}
@@ -167,6 +167,14 @@ others-insert key start (x ∷ xs) k (suc i) v h g =
     let l : key x < k = g.0 in
     subst (λ ys. IsPermutation (x ∷ insert xs i v) (ys ++ v ∷ [])) (sym (other-kept key k x xs (omega arith)))
     (IsPermutation-cons x (insert xs i v) (others key k xs ++ v ∷ []) (others-insert key (key x + 1) xs k i v h.1 g.1))
+
+-- taken out
+pub others-drop : {T : Type 0} (key : T → ℕ) (start : ℕ) (xs : List T) (k i : ℕ) → AscendsFrom key start xs → IsFound key xs k i → take i xs ++ drop (suc i) xs ≡ others key k xs
+others-drop key start [] k i h f = absurd f
+others-drop key start (x ∷ xs) k zero h f = sym (other-gone key k x xs f ∙ others-above key k (key x + 1) xs h.1 (omega arith))
+others-drop key start (x ∷ xs) k (suc i) h f =
+    let l : key x < k = f.0 in
+    ap (λ ys. x ∷ ys) (others-drop key (key x + 1) xs k i h.1 f.1) ∙ sym (other-kept key k x xs (omega arith))
 
 -- the first has the least key
 pub first-least : {T : Type 0} (key : T → ℕ) (start : ℕ) (x : T) (xs : List T) (y : T) → AscendsFrom key start (x ∷ xs) → Contains (x ∷ xs) y → key x ≤ key y

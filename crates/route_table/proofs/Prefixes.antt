@@ -16,7 +16,7 @@ use Rattle.base.proofs.Elements.{contains-map}
 use Rattle.route_table.specs.Ascending.{AscendsFrom, IsFound, IsGap}
 use Rattle.route_table.specs.Slots.{PrefixRoutes, key_of, routes_at, routes_of, slot_key}
 use Rattle.route_table.specs.Targets.{route_at, with_target, without_metric}
-use Rattle.route_table.specs.declared.targets.MetricWay.{MetricWay}
+use Rattle.route_table.specs.declared.metric_way.MetricWay.{MetricWay}
 
 -- ---- prefixes
 

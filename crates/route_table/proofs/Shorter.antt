@@ -16,7 +16,7 @@ use Rattle.route_table.specs.Ascending.{AscendsFrom, IsFound, IsGap, IsPlace}
 use Rattle.route_table.specs.Searches.{IsBaseBefore}
 use Rattle.route_table.specs.Slots.{AreSlots, IsSlot, PrefixRoutes, key_of, slot_key}
 use Rattle.route_table.specs.Targets.{IsFirst}
-use Rattle.route_table.specs.declared.targets.MetricWay.{MetricWay}
+use Rattle.route_table.specs.declared.metric_way.MetricWay.{MetricWay}
 use Rattle.route_table.proofs.Blocks.{covers-from, covers-in, covers-to, size-some}
 use Rattle.route_table.proofs.OwnRuns.{each-of, longer-later}
 use Rattle.route_table.proofs.Places.{all-from, found-inside, found-key, keys-from}

@@ -24,7 +24,7 @@ use Rattle.route_table.specs.Made.{IsFirstIn, IsLeastOf}
 use Rattle.route_table.specs.Own.{BeginWithin, IsLooked, IsPassed, IsTurned, is_longer_at, is_own}
 use Rattle.route_table.specs.Slots.{AreSlots, PrefixRoutes, key_of, routes_at, routes_of, slot_key}
 use Rattle.route_table.specs.Targets.{route_at}
-use Rattle.route_table.specs.declared.targets.MetricWay.{MetricWay}
+use Rattle.route_table.specs.declared.metric_way.MetricWay.{MetricWay}
 use Rattle.route_table.proofs.Around.{around-once}
 use Rattle.route_table.proofs.Blocks.{covers-from, covers-in, covers-to, nested-from, nested-to, size-some}
 use Rattle.route_table.proofs.OwnRuns.{any-of, each-of, route-of}

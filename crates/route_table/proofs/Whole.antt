@@ -22,7 +22,7 @@ use Rattle.route_table.specs.Ascending.{AscendsFrom, IsFound, IsGap}
 use Rattle.route_table.specs.Slots.{AreSlots, IsAddedAt, IsSlot, PrefixRoutes, key_of, routes_at, routes_of, slot_key}
 use Rattle.route_table.specs.Targets.{cleared, metric_of, route_at, with_target}
 use Rattle.route_table.specs.Whole.{IsWhole}
-use Rattle.route_table.specs.declared.targets.MetricWay.{MetricWay}
+use Rattle.route_table.specs.declared.metric_way.MetricWay.{MetricWay}
 use Rattle.route_table.proofs.Kept.{kept-insert, kept-set}
 use Rattle.route_table.proofs.Places.{all-from, ascends-insert, ascends-set, found-inside, found-key}
 use Rattle.route_table.proofs.Prefixes.{Keeps, found-cleared, found-set, gap-add, gap-kept, gap-none, in-slot, key-exact, none-at, only-slot, others-at, alone-at, own-key, rest-none, set-at}

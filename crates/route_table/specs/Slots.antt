@@ -6,7 +6,7 @@ use Rattle.base.specs.Cidr.{Cidr, IsCidr}
 use Rattle.dn_model.specs.declared.table_op.TableOp.{TableOp}
 use Rattle.dn_model.specs.declared.table_op.TableOp.TheVariants.{Put, Clear}
 use Rattle.dn_model.specs.declared.entry.Route.{Route}
-use Rattle.route_table.specs.declared.targets.MetricWay.{MetricWay}
+use Rattle.route_table.specs.declared.metric_way.MetricWay.{MetricWay}
 use Rattle.dn_model.specs.declared.way.Way.{Way}
 use Rattle.route_table.specs.Ascending.{AscendsFrom}
 use Rattle.route_table.specs.Targets.{cleared, metric_of, placed, route_at, IsFirst, IsPlaced}

@@ -3,7 +3,7 @@ use Rattle.std.specs.Prelude.{ℕ, Bool, true, false, List, [], ◌∷◌, ◌++
 use Rattle.base.specs.Cidr.{Cidr}
 use Rattle.dn_model.specs.declared.entry.Route.{Route}
 use Rattle.dn_model.specs.declared.way.Way.{Way}
-use Rattle.route_table.specs.declared.targets.MetricWay.{MetricWay}
+use Rattle.route_table.specs.declared.metric_way.MetricWay.{MetricWay}
 use Rattle.route_table.specs.declared.targets.Held.{Held}
 use Rattle.route_table.specs.declared.targets.Held.TheVariants.{Nothing, One, More}
 
@@ -40,7 +40,7 @@ cleared targets (Some m) = without_metric targets m
 abbrev pub targets_of : Held → List MetricWay
 targets_of Nothing = []
 targets_of (One x) = x ∷ []
-targets_of (More xs) = xs.value.items
+targets_of (More xs) = xs.value
 
 -- the one with the least metric, of which there is none exactly where there is no route
 abbrev pub IsLeast : List MetricWay → Option MetricWay → Type 0

@@ -4,6 +4,8 @@
 
 mod above;
 mod lengths;
+mod metric_way;
+mod metrics;
 mod own;
 mod prefix;
 mod rows;

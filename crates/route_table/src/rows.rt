@@ -158,9 +158,8 @@ fn update_targets(targets: &mut TargetsByMetric, update: &TableUpdate) -> Result
 {
     match &update.op {
         TableOp::Put { metric, way, .. } => return targets.put(update.alone, *metric, *way),
-        TableOp::Clear { metric, .. } => targets.clear(*metric),
+        TableOp::Clear { metric, .. } => return targets.clear(*metric),
     }
-    Ok(())
 }
 
 /// Makes an update of its prefix in a slot, and answers what its route with the least metric does then. After

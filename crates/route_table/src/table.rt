@@ -216,8 +216,5 @@ fn push_run(routes: &mut Vec<Route>, run: &[PrefixRow]) -> Result<(), OutOfMemor
 fn push_slot(routes: &mut Vec<Route>, row: &PrefixRow) -> Result<(), OutOfMemory>
     ensures { OnOk result (routes.new.items ≡ routes.old.items ++ routes_at (slot_in 0 row.now)) }
 {
-    for entry in row.targets(0).as_slice() {
-        routes.push(entry.route(row.prefix))?;
-    }
-    Ok(())
+    return row.targets(0).push_routes(routes, row.prefix);
 }

@@ -1,38 +1,22 @@
 //! What the routes of one prefix do.
 
-ghost use Rattle.std.specs.Prelude.{◌≡◌, ◌<◌, ◌≤◌, ◌∷◌, ◌↔◌, [], IfOk, IfSome, IfNone, OnOk, OnErr, IsFalse, IsTrue, Contains, IsPermutation, length};
-ghost use Rattle.route_table.specs.Ascending.{AscendsFrom, IsFound, IsGap, IsPlace};
-ghost use Rattle.route_table.specs.Targets.{cleared, metric_of, placed, route_at, targets_of, with_target, without_metric, IsPlaced};
-ghost use Rattle.route_table.specs.declared.targets.MetricWay.{MetricWay as Entry};
+ghost use Rattle.std.specs.Prelude.{◌≡◌, ◌<◌, ◌≤◌, ◌∷◌, ◌++◌, ◌↔◌, [], IfOk, IfSome, IfNone, OnOk, OnErr, IsFalse, IsTrue, Contains, IsPermutation, length, map};
+ghost use Rattle.route_table.specs.Ascending.{AscendsFrom};
+ghost use Rattle.route_table.specs.Targets.{cleared, metric_of, placed, route_at, targets_of, with_target, IsPlaced};
+ghost use Rattle.route_table.specs.declared.metric_way.MetricWay.{MetricWay as Entry};
 
+use crate::metric_way::MetricWay;
+use crate::metrics::{
+    does_among, drop_metric, has_metric, least_of, only_of, pair_of, push_routes, put,
+};
 use dn_model::{OutOfMemory, Prefix, Route, Way};
 use std::alloc::Global;
 use std::marker::Model;
-use std::slice;
-
-/// A metric with what the route of that metric does.
-#[derive(Clone, Copy, Debug, PartialEq, Eq)]
-pub struct MetricWay {
-    pub metric: u32,
-    pub way: Way,
-}
-
-impl MetricWay {
-    /// The route of a prefix that has this metric and does this.
-    pub fn route(self, prefix: Prefix) -> Route
-        ensures { result ≡ route_at prefix self }
-    {
-        Route {
-            prefix,
-            metric: self.metric,
-            way: self.way,
-        }
-    }
-}
+use version_pages::Pages;
 
 /// What the routes of one prefix do, by ascending metric, each metric once. A contract sees the list. Almost all
-/// prefixes have one route: that stands here and takes no memory; more are a list behind a pointer, and each call looks
-/// at all of them.
+/// prefixes have one route: that stands here and takes no memory; more stand in shared pages behind a pointer, and a call
+/// takes a time that grows as the logarithm of their number.
 #[derive(Drop)]
 pub struct TargetsByMetric {
     held: Held,
@@ -45,15 +29,15 @@ pub struct TargetsByMetric {
 pub enum Held {
     Nothing,
     One(MetricWay),
-    /// Two or more, or as many as are left of such.
-    More(Box<Vec<MetricWay>>),
+    /// Two or more.
+    More(Box<Pages<MetricWay>>),
 }
 
 impl Model for TargetsByMetric {
     ghost use Rattle.std.specs.Prelude.{List};
     ghost use Rattle.route_table.specs.Ascending.{AscendsFrom};
     ghost use Rattle.route_table.specs.Targets.{metric_of, targets_of};
-    ghost use Rattle.route_table.specs.declared.targets.MetricWay.{MetricWay};
+    ghost use Rattle.route_table.specs.declared.metric_way.MetricWay.{MetricWay};
 
     ghost Value = { List MetricWay };
 
@@ -83,36 +67,23 @@ impl TargetsByMetric {
         }
     }
 
-    /// All, by ascending metric.
-    pub fn as_slice(&self) -> &[MetricWay]
-        ensures value { result.now ≡ self.now }
-        ensures metrics { AscendsFrom metric_of 0 self.now }
-    {
-        match &self.held {
-            Held::Nothing => &[],
-            Held::One(entry) => slice::from_ref(entry),
-            Held::More(targets) => targets.as_slice(),
-        }
-    }
-
     /// Whether there is a route of this metric that does this.
     fn does(&self, metric: u32, way: Way) -> bool
         ensures { IsTrue result → Contains self.now (record { metric = metric; way = way }) }
     {
-        for entry in self.as_slice() {
-            if entry.metric == metric {
-                return entry.way == way;
-            }
+        match &self.held {
+            Held::Nothing => false,
+            Held::One(entry) => entry.metric == metric && entry.way == way,
+            Held::More(ways) => does_among(ways, metric, way),
         }
-        false
     }
 
     /// Whether there is a route of this metric alone, and does this.
     fn does_alone(&self, metric: u32, way: Way) -> bool
         ensures { IsTrue result → self.now ≡ record { metric = metric; way = way } ∷ [] }
     {
-        match self.as_slice() {
-            [entry] => entry.metric == metric && entry.way == way,
+        match &self.held {
+            Held::One(entry) => entry.metric == metric && entry.way == way,
             _ => false,
         }
     }
@@ -133,14 +104,22 @@ impl TargetsByMetric {
         ensures some { IfSome result (λ x. Contains self.now x ×
             ((y : Entry) → Contains self.now y → x.metric ≤ y.metric)) }
     {
-        self.as_slice().first().copied()
+        match &self.held {
+            Held::Nothing => None,
+            Held::One(entry) => Some(*entry),
+            Held::More(ways) => least_of(ways),
+        }
     }
 
     /// Whether there is none.
     pub fn is_empty(&self) -> bool
         ensures { IsTrue result ↔ self.now ≡ [] }
     {
-        self.as_slice().is_empty()
+        match &self.held {
+            Held::Nothing => true,
+            Held::One(_) => false,
+            Held::More(ways) => ways.len() == 0,
+        }
     }
 
     /// Whether a clearing of this metric, or without a metric of all, would change anything.
@@ -148,9 +127,27 @@ impl TargetsByMetric {
         ensures same { IsFalse result → cleared self.now metric ≡ self.now }
         ensures some { IsTrue result → 0 < length self.now }
     {
-        match metric {
-            Some(metric) => has_metric(self.as_slice(), metric),
-            None => !self.as_slice().is_empty(),
+        let Some(metric) = metric else {
+            return !self.is_empty();
+        };
+        match &self.held {
+            Held::Nothing => false,
+            Held::One(entry) => entry.metric == metric,
+            Held::More(ways) => has_metric(ways, metric),
+        }
+    }
+
+    /// Adds the routes of a prefix that do this at the end of a list, by ascending metric.
+    pub fn push_routes(&self, routes: &mut Vec<Route>, prefix: Prefix) -> Result<(), OutOfMemory>
+        ensures { OnOk result (routes.new.items ≡ routes.old.items ++ map (route_at prefix) self.now) }
+    {
+        match &self.held {
+            Held::Nothing => Ok(()),
+            Held::One(entry) => {
+                routes.push(entry.route(prefix))?;
+                Ok(())
+            }
+            Held::More(ways) => push_routes(routes, prefix, ways),
         }
     }
 
@@ -185,20 +182,22 @@ impl TargetsByMetric {
                 self.held = held;
                 return Ok(());
             }
-            Held::More(targets) => {
-                return put(targets, entry);
+            Held::More(ways) => {
+                return put(self.alloc, ways, entry);
             }
         }
     }
 
-    /// Clears the route of a metric, without a metric all. It takes no memory.
-    pub fn clear(&mut self, metric: Option<u32>)
-        ensures value { self.new ≡ cleared self.old metric }
+    /// Clears the route of a metric, without a metric all. After `OutOfMemory`, for which alone it fails, all is as
+    /// before: one of several metrics that a copy shares is cleared in a page of its own.
+    pub fn clear(&mut self, metric: Option<u32>) -> Result<(), OutOfMemory>
+        ensures ok { OnOk result (self.new ≡ cleared self.old metric) }
+        ensures err { OnErr result (self.new ≡ self.old) }
         ensures metrics { AscendsFrom metric_of 0 self.new }
     {
         let Some(metric) = metric else {
             self.held = Held::Nothing;
-            return;
+            return Ok(());
         };
         match &mut self.held {
             Held::Nothing => {}
@@ -207,22 +206,24 @@ impl TargetsByMetric {
                     self.held = Held::Nothing;
                 }
             }
-            Held::More(targets) => drop_metric(targets, metric),
+            Held::More(ways) => {
+                drop_metric(self.alloc, ways, metric)?;
+                if let Some(entry) = only_of(ways) {
+                    self.held = Held::One(entry);
+                }
+            }
         }
+        Ok(())
     }
 
-    /// The same again.
+    /// The same again. More than one route are shared, and not copied.
     pub fn copy(&self) -> Result<TargetsByMetric, OutOfMemory>
         ensures { IfOk result (λ copy. copy ≡ self.now) }
     {
         let held = match &self.held {
             Held::Nothing => Held::Nothing,
             Held::One(entry) => Held::One(*entry),
-            Held::More(targets) => {
-                let targets = targets.as_ref().clone()?;
-                let targets = Box::new(self.alloc, targets)?;
-                Held::More(targets)
-            }
+            Held::More(ways) => Held::More(Box::new(self.alloc, ways.copy()?)?),
         };
         Ok(TargetsByMetric {
             held,
@@ -240,74 +241,7 @@ fn put_beside(alloc: Global, other: MetricWay, entry: MetricWay) -> Result<Held,
     if other.metric == entry.metric {
         return Ok(Held::One(entry));
     }
-    let mut targets = Vec::with_capacity(alloc, 2)?;
-    targets.push(other)?;
-    put(&mut targets, entry)?;
-    let targets = Box::new(alloc, targets)?;
-    Ok(Held::More(targets))
-}
-
-/// Puts a route among others, in the place of the one with the same metric. After `OutOfMemory`, for which alone it
-/// fails, they are as before.
-fn put(targets: &mut Vec<MetricWay>, entry: MetricWay) -> Result<(), OutOfMemory>
-    requires { AscendsFrom metric_of 0 targets.old.items }
-    ensures ok { OnOk result (
-        IsPermutation targets.new.items (with_target targets.old.items entry.metric entry.way)) }
-    ensures err { OnErr result (targets.new.items ≡ targets.old.items) }
-    ensures metrics { AscendsFrom metric_of 0 targets.new.items }
-{
-    let place = count_below(targets, entry.metric);
-    if has_at(targets, place, entry.metric) {
-        targets[place] = entry;
-        return Ok(());
-    }
-    targets.reserve_exact(1)?;
-    targets.insert(place, entry)?;
-    Ok(())
-}
-
-/// How many of the metrics are below this one.
-fn count_below(targets: &[MetricWay], metric: u32) -> usize
-    requires { AscendsFrom metric_of 0 targets.now }
-    ensures inside { result ≤ length targets.now }
-    ensures place { IsPlace metric_of targets.now metric result }
-{
-    let mut below = 0;
-    'targets: while below < targets.len() {
-        if metric <= targets[below].metric {
-            return below;
-        }
-        below += 1;
-    }
-    below
-}
-
-/// Whether the metric at a place, below which all before it are, is this one.
-fn has_at(targets: &[MetricWay], place: usize, metric: u32) -> bool
-    requires { IsPlace metric_of targets.now metric place }
-    ensures inside { IsTrue result → place < length targets.now }
-    ensures found { IsTrue result → IsFound metric_of targets.now metric place }
-    ensures gap { IsFalse result → IsGap metric_of targets.now metric place }
-{
-    if place < targets.len() {
-        return targets[place].metric == metric;
-    }
-    false
-}
-
-/// Whether one of the metrics is this one.
-fn has_metric(targets: &[MetricWay], metric: u32) -> bool
-    requires { AscendsFrom metric_of 0 targets.now }
-    ensures same { IsFalse result → without_metric targets.now metric ≡ targets.now }
-    ensures some { IsTrue result → 0 < length targets.now }
-{
-    let place = count_below(targets, metric);
-    has_at(targets, place, metric)
-}
-
-/// Drops the one with this metric.
-fn drop_metric(targets: &mut Vec<MetricWay>, metric: u32)
-    ensures { targets.new.items ≡ without_metric targets.old.items metric }
-{
-    targets.retain(|entry| entry.metric != metric);
+    let ways = pair_of(alloc, other, entry)?;
+    let ways = Box::new(alloc, ways)?;
+    Ok(Held::More(ways))
 }

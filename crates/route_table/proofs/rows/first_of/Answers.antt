@@ -1,6 +1,6 @@
 use Rattle.std.proofs.Common.{◌≤◌, refl, subst}
 use Rattle.std.specs.List.{Contains}
-use Rattle.route_table.specs.declared.targets.MetricWay.{MetricWay}
+use Rattle.route_table.specs.declared.metric_way.MetricWay.{MetricWay}
 use Rattle.route_table.proofs.rows.first_of.Goals as goal
 
 pub returns : goal.returns

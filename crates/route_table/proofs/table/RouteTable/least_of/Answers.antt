@@ -1,6 +1,6 @@
 use Rattle.std.proofs.Common.{◌≤◌, ◌∙◌, subst, sym}
 use Rattle.std.specs.List.{Contains}
-use Rattle.route_table.specs.declared.targets.MetricWay.{MetricWay}
+use Rattle.route_table.specs.declared.metric_way.MetricWay.{MetricWay}
 use Rattle.route_table.specs.Rows.{slot_in, slots_in}
 use Rattle.route_table.specs.Slots.{key_of}
 use Rattle.route_table.proofs.SideBySide.{found-in, gap-in, slot-in}

@@ -1,6 +1,8 @@
-use Rattle.std.proofs.Common.{refl, ◌∙◌}
-use Rattle.route_table.proofs.Setting.{first-is}
+use Rattle.std.proofs.Common.{rules, ◌≡◌}
+use Rattle.route_table.proofs.Setting.{least-over}
 use Rattle.route_table.proofs.targets.TargetsByMetric.first.Goals as goal
 
-pub returns-clause-some : goal.returns-clause-some
-returns-clause-some c = first-is c.args.self.now c.as_slice.result.now c.args.self.now c.copied.result refl c.as_slice.ensures.metrics c.as_slice.ensures.value (c.copied.ensures ∙ c.first.ensures.value)
+pub returns-in-More-clause-some : goal.returns-in-More-clause-some
+returns-in-More-clause-some c =
+    let E : c.deref.result.now ≡ c.args.self.now = search rules in
+    least-over c.least_of.result c.deref.result.now c.args.self.now E c.least_of.ensures.some

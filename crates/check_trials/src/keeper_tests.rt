@@ -106,7 +106,7 @@ fn advance<V: LabelView, L: Ledger>(
     steps: &mut Steps<L>,
 ) {
     loops
-        .advance(alloc, view, delta, steps)
+        .advance(alloc, view, delta, 0, steps)
         .expect(rt, "memory");
 }
 

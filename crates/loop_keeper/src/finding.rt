@@ -1,6 +1,6 @@
 //! The cycles that rows show where changes meet them.
 
-ghost use Rattle.std.specs.Prelude.{◌+◌, ◌-◌, ◌*◌, ◌<◌, ◌≤◌, ℕ, OnOk, IfOk, IsTrue, IsFalse, List, [], ◌∷◌, length, slice_index_or};
+ghost use Rattle.std.specs.Prelude.{◌≡◌, ◌+◌, ◌-◌, ◌*◌, ◌<◌, ◌≤◌, ℕ, OnOk, IfOk, IfSome, IsSome, IsTrue, IsFalse, List, [], ◌∷◌, length, slice_index_or};
 ghost use Rattle.base.specs.Delta.{IsChange, AreChanges};
 ghost use Rattle.base.specs.Forwarding.{AreForwarding, does};
 ghost use Rattle.base.specs.declared.forwarding_row.ForwardingRow.{ForwardingRow as Row};
@@ -17,14 +17,20 @@ use std::alloc::Global;
 use std::sync::ledger::Ledger;
 use step_count::Steps;
 
-/// How many routers a path has room for at first. Most are shorter; a longer one grows.
-const PATH: usize = 16;
-
-/// What was found so far, and the routers passed on the way that is followed. One path serves all changes of an update.
+/// What was found so far, the routers passed on the way that is followed, and the place that is asked first for a change's
+/// rows. One path serves all changes of an update.
 #[derive(Drop)]
-struct Search {
-    found: Vec<Found>,
-    path: Vec<RouterId>,
+pub(crate) struct Search {
+    pub(crate) found: Vec<Found>,
+    pub(crate) path: Vec<RouterId>,
+    near: u64,
+}
+
+/// The place of a row, and the address after the row's last.
+#[derive(Clone, Copy, Debug, PartialEq, Eq)]
+struct Spot {
+    place: u64,
+    past: u64,
 }
 
 /// Finds the cycle of the row at a place that has a router, if there is one. What the router does there is given.
@@ -72,8 +78,6 @@ fn find_between<V: LabelView, L: Ledger>(
     ensures inside { OnOk result (AllInside search.old.found.items → AllInside search.new.found.items) }
     ensures cost { steps.new ≤ steps.old + V.width view.now * (past - first) }
 {
-    search.path.clear();
-    search.path.reserve(PATH)?;
     for i in first..past {
         find_at(alloc, view, i, start, search, steps)?;
     }
@@ -96,18 +100,50 @@ fn goes_on<V: LabelView>(view: &V, change: &Change) -> bool
     }
 }
 
+/// Where the row at a place ends, if that is the row that has an address.
+fn past_at<V: LabelView>(view: &V, place: u64, a: u32) -> Option<u64>
+    ensures inside { IsSome result → place < length (V.rows view.now) }
+    ensures from { IsSome result → (d : Row) → (slice_index_or (V.rows view.now) place d).low ≤ a }
+    ensures to { IsSome result → (d : Row) → a < (slice_index_or (V.rows view.now) place d).past }
+    ensures past { IfSome result (λ past. (d : Row) → past ≡ (slice_index_or (V.rows view.now) place d).past) }
+{
+    if place >= view.atoms() {
+        return None;
+    }
+    let (low, past) = view.bounds(place);
+    if low <= u64::from(a) && u64::from(a) < past {
+        return Some(past);
+    }
+    None
+}
+
+/// The row that has an address. A place is asked before there is a search.
+fn row_near<V: LabelView>(view: &V, near: u64, a: u32) -> Spot
+    ensures inside { result.place < length (V.rows view.now) }
+    ensures from { (d : Row) → (slice_index_or (V.rows view.now) result.place d).low ≤ a }
+    ensures to { (d : Row) → a < (slice_index_or (V.rows view.now) result.place d).past }
+    ensures past { (d : Row) → result.past ≡ (slice_index_or (V.rows view.now) result.place d).past }
+{
+    if let Some(past) = past_at(view, near, a) {
+        return Spot { place: near, past };
+    }
+    let place = view.atom_of(a);
+    let (_, past) = view.bounds(place);
+    Spot { place, past }
+}
+
 /// The place of the row that has an address, where that is not before a row's first one. Most runs lie within one row,
 /// so that row is asked before there is a search.
-fn row_from<V: LabelView>(view: &V, first: u64, a: u32) -> u64
-    requires place { first < length (V.rows view.now) }
-    requires from { (d : Row) → (slice_index_or (V.rows view.now) first d).low ≤ a }
+fn row_from<V: LabelView>(view: &V, first: Spot, a: u32) -> u64
+    requires place { first.place < length (V.rows view.now) }
+    requires from { (d : Row) → (slice_index_or (V.rows view.now) first.place d).low ≤ a }
+    requires past { (d : Row) → first.past ≡ (slice_index_or (V.rows view.now) first.place d).past }
     ensures inside { result < length (V.rows view.now) }
     ensures from { (d : Row) → (slice_index_or (V.rows view.now) result d).low ≤ a }
     ensures to { (d : Row) → a < (slice_index_or (V.rows view.now) result d).past }
 {
-    let (_, past) = view.bounds(first);
-    if u64::from(a) < past {
-        return first;
+    if u64::from(a) < first.past {
+        return first.place;
     }
     view.atom_of(a)
 }
@@ -133,33 +169,38 @@ fn find_along<V: LabelView, L: Ledger>(
         router: change.router,
         target: change.after,
     };
-    let first = view.atom_of(change.run.lo);
+    let first = row_near(view, search.near, change.run.lo);
     let last = row_from(view, first, change.run.hi);
-    find_between(alloc, view, first, last + 1, start, search, steps)
+    search.near = last.saturating_add(2);
+    find_between(alloc, view, first.place, last + 1, start, search, steps)
 }
 
 /// Finds the cycles through the routers of changes in the rows that their runs meet, where the routers do what the
-/// changes tell.
+/// changes tell. The first row is asked for near a place, and the ways are followed in the memory of a path, which is handed
+/// back beside what was found.
 pub(crate) fn find_all<V: LabelView, L: Ledger>(
     alloc: Global,
     view: &V,
     changes: &[Change],
+    near: u64,
+    path: Vec<RouterId>,
     steps: &mut Steps<L>,
-) -> Result<Vec<Found>, OutOfMemory>
+) -> Result<Search, OutOfMemory>
     requires { AreChanges changes.now }
-    ensures sound { IfOk result (λ found. AllTellAfter (does (V.rows view.now)) changes.now
-        → AllGoRound (does (V.rows view.now)) found.items) }
-    ensures inside { IfOk result (λ found. AllInside found.items) }
-    ensures all { IfOk result (λ found. AllTellAfter (does (V.rows view.now)) changes.now
-        → FindTouched (does (V.rows view.now)) changes.now found.items) }
+    ensures sound { IfOk result (λ search. AllTellAfter (does (V.rows view.now)) changes.now
+        → AllGoRound (does (V.rows view.now)) search.found.items) }
+    ensures inside { IfOk result (λ search. AllInside search.found.items) }
+    ensures all { IfOk result (λ search. AllTellAfter (does (V.rows view.now)) changes.now
+        → FindTouched (does (V.rows view.now)) changes.now search.found.items) }
     ensures cost { steps.new ≤ steps.old + V.width view.now * rows_met (V.rows view.now) changes.now }
 {
     let mut search = Search {
         found: Vec::new(alloc),
-        path: Vec::new(alloc),
+        path,
+        near,
     };
     for change in changes {
         find_along(alloc, view, change, &mut search, steps)?;
     }
-    Ok(search.found)
+    Ok(search)
 }

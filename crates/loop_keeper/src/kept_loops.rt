@@ -13,10 +13,10 @@ ghost use Rattle.loop_keeper.specs.Looks.{rows_met};
 
 use crate::answer::cycles_of;
 use crate::editing::{are_met, put_all_in, take_all_out};
-use crate::finding::find_all;
+use crate::finding::{Search, find_all};
 use crate::found::Found;
 use crate::segment::Segment;
-use base::{Change, Cycle, List, OutOfMemory};
+use base::{Change, Cycle, List, OutOfMemory, RouterId};
 use delta_graph::Delta;
 use label_view::LabelView;
 use std::alloc::Global;
@@ -34,6 +34,8 @@ use version_pages::Pages;
 #[derive(Drop)]
 pub struct KeptLoops {
     segments: Pages<Segment>,
+    /// The memory in which the last update followed ways.
+    path: Option<Vec<RouterId>>,
 }
 
 impl Model for KeptLoops {
@@ -48,6 +50,14 @@ impl Model for KeptLoops {
     ghost view = { λ k. k.segments };
 }
 
+/// The memory of a path, if there is one, or none yet.
+fn path_in(alloc: Global, held: Option<Vec<RouterId>>) -> Vec<RouterId> {
+    match held {
+        Some(path) => path,
+        None => Vec::new(alloc),
+    }
+}
+
 impl KeptLoops {
     /// Of a network in which no address goes round, as of one without routes. It takes no memory.
     pub fn empty() -> KeptLoops
@@ -56,6 +66,7 @@ impl KeptLoops {
     {
         KeptLoops {
             segments: Pages::new(),
+            path: None,
         }
     }
 
@@ -64,7 +75,10 @@ impl KeptLoops {
         ensures { IfOk result (λ loops. loops ≡ self.now) }
     {
         let segments = self.segments.copy()?;
-        Ok(KeptLoops { segments })
+        Ok(KeptLoops {
+            segments,
+            path: None,
+        })
     }
 
     /// Takes the runs of changes out, and puts in what was found.
@@ -84,12 +98,14 @@ impl KeptLoops {
 
     /// Keeps the loops of a network through an update, from what it did before it to what the rows of the view say,
     /// where `delta` is what changed. It works in place, and looks only at rows that meet a run of the delta: from the
-    /// router of a change from hop to hop. After `OutOfMemory` what is kept is of neither.
+    /// router of a change from hop to hop. The first of them is asked for near a place: any place does. After `OutOfMemory`
+    /// what is kept is of neither.
     pub fn advance<V: LabelView, L: Ledger>(
         &mut self,
         alloc: Global,
         view: &V,
         delta: &Delta,
+        near: u64,
         steps: &mut Steps<L>,
     ) -> Result<(), OutOfMemory>
         ensures kept { OnOk result ((before : Router → ℕ → TargetIs) → AreKept before self.old
@@ -97,7 +113,10 @@ impl KeptLoops {
         ensures cost { steps.new ≤ steps.old + V.width view.now * rows_met (V.rows view.now) delta.now }
     {
         let changes = delta.changes();
-        let found = find_all(alloc, view, changes, steps)?;
+        let path = path_in(alloc, self.path.take());
+        let search = find_all(alloc, view, changes, near, path, steps)?;
+        let Search { found, path, .. } = search;
+        self.path = Some(path);
         if found.is_empty() && !are_met(&self.segments, changes) {
             return Ok(());
         }
@@ -117,7 +136,7 @@ impl KeptLoops {
         ensures cost { steps.new ≤ steps.old + V.width view.now * rows_met (V.rows view.now) delta.now }
     {
         let mut loops = self.copy()?;
-        loops.advance(alloc, view, delta, steps)?;
+        loops.advance(alloc, view, delta, 0, steps)?;
         Ok(loops)
     }
 

@@ -18,10 +18,10 @@ overflow_add-last g c =
 
 pub returns-clause-found : goal.returns-clause-found
 returns-clause-found g c = on_ok_weaker c.find_between.result
-    (λ between tells. finds-along (g.V.LabelView.width c.args.view.now) (g.V.LabelView.rows c.args.view.now) c.args.change.now c.atom_of-first.result c.row_from-last.result c.args.search.now.found.items c.find_between.new.search.found.items c.goes_on.ensures.form c.atom_of-first.ensures.inside c.row_from-last.ensures.inside (λ d. omega (arith, c.atom_of-first.ensures.from d)) c.row_from-last.ensures.to
-    (between (does-after (g.V.LabelView.width c.args.view.now) (g.V.LabelView.rows c.args.view.now) c.args.change.now c.atom_of-first.result c.row_from-last.result c.goes_on.ensures.form c.row_from-last.ensures.inside (λ d. omega (arith, c.atom_of-first.ensures.from d)) c.atom_of-first.ensures.to c.row_from-last.ensures.from c.requires tells)))
+    (λ between tells. finds-along (g.V.LabelView.width c.args.view.now) (g.V.LabelView.rows c.args.view.now) c.args.change.now c.row_near-first.result.place c.row_from-last.result c.args.search.now.found.items c.find_between.new.search.found.items c.goes_on.ensures.form c.row_near-first.ensures.inside c.row_from-last.ensures.inside (λ d. omega (arith, c.row_near-first.ensures.from d)) c.row_from-last.ensures.to
+    (between (does-after (g.V.LabelView.width c.args.view.now) (g.V.LabelView.rows c.args.view.now) c.args.change.now c.row_near-first.result.place c.row_from-last.result c.goes_on.ensures.form c.row_from-last.ensures.inside (λ d. omega (arith, c.row_near-first.ensures.from d)) c.row_near-first.ensures.to c.row_from-last.ensures.from c.requires tells)))
     c.find_between.ensures.found
 
 pub returns-clause-cost : goal.returns-clause-cost
-returns-clause-cost g c = looks-most (g.V.LabelView.width c.args.view.now) c.args.steps.now c.find_between.new.steps (c.row_from-last.result + 1 - c.atom_of-first.result) (rows_met (g.V.LabelView.rows c.args.view.now) (c.args.change.now ∷ [])) c.find_between.ensures.cost
-    (rows-between (g.V.LabelView.width c.args.view.now) (g.V.LabelView.rows c.args.view.now) c.args.change.now c.atom_of-first.result c.row_from-last.result c.goes_on.ensures.form c.row_from-last.ensures.inside c.atom_of-first.ensures.to c.row_from-last.ensures.from)
+returns-clause-cost g c = looks-most (g.V.LabelView.width c.args.view.now) c.args.steps.now c.find_between.new.steps (c.row_from-last.result + 1 - c.row_near-first.result.place) (rows_met (g.V.LabelView.rows c.args.view.now) (c.args.change.now ∷ [])) c.find_between.ensures.cost
+    (rows-between (g.V.LabelView.width c.args.view.now) (g.V.LabelView.rows c.args.view.now) c.args.change.now c.row_near-first.result.place c.row_from-last.result c.goes_on.ensures.form c.row_from-last.ensures.inside c.row_near-first.ensures.to c.row_from-last.ensures.from)

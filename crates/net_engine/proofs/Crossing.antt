@@ -1,4 +1,4 @@
--- A version may cross to another thread, and be shared between threads. (A function that asks this of its argument in a test
+-- A version, and what it shows, may cross to another thread, and be shared between threads. (A function that asks this of its argument in a test
 -- would say the same, and its goal computes too long.)
 use denote.Param.Send.{IsSend, IsSync, sendable}
 use Rattle.std.proofs.Crossing.{crosses}
@@ -6,8 +6,10 @@ use Rattle.std.proofs.MapsCrossing as maps
 use Rattle.atom_map.proofs.Crossing.{Bounds-send, Bounds-sync}
 use Rattle.target_rows.proofs.Crossing.{TargetRows-send, TargetRows-sync}
 use Rattle.route_table.proofs.Crossing.{RouteTables-send, RouteTables-sync}
+use Rattle.delta_graph.specs.contracts.delta.Delta as Delta
 use Rattle.net_engine.specs.contracts.router_group.RouterGroup as RouterGroup
 use Rattle.net_engine.specs.contracts.router_tables.RouterTables as RouterTables
+use Rattle.net_engine.specs.contracts.shown.Shown as Shown
 use Rattle.net_engine.specs.contracts.version.Version as Version
 
 RouterGroup-send : IsSend RouterGroup.the_row
@@ -22,8 +24,20 @@ RouterTables-send = search (RouterGroup-send, sendable, crosses) depth 40
 RouterTables-sync : IsSync RouterTables.the_row
 RouterTables-sync = search (RouterGroup-sync, sendable, crosses) depth 40
 
+Delta-send : IsSend Delta.the_row
+Delta-send = search (sendable, crosses) depth 40
+
+Delta-sync : IsSync Delta.the_row
+Delta-sync = search (sendable, crosses) depth 40
+
 pub Version-send : IsSend Version.the_row
-Version-send = search (Bounds-send, RouterTables-send, TargetRows-send, sendable, crosses, maps.crosses) depth 40
+Version-send = search (Bounds-send, Delta-send, RouterTables-send, TargetRows-send, sendable, crosses, maps.crosses) depth 40 fits 100000
 
 pub Version-sync : IsSync Version.the_row
-Version-sync = search (Bounds-sync, RouterTables-sync, TargetRows-sync, sendable, crosses, maps.crosses) depth 40
+Version-sync = search (Bounds-sync, Delta-sync, RouterTables-sync, TargetRows-sync, sendable, crosses, maps.crosses) depth 40 fits 100000
+
+pub Shown-send : IsSend Shown.the_row
+Shown-send = search (Bounds-send, TargetRows-send, sendable, crosses, maps.crosses) depth 40
+
+pub Shown-sync : IsSync Shown.the_row
+Shown-sync = search (Bounds-sync, TargetRows-sync, sendable, crosses, maps.crosses) depth 40

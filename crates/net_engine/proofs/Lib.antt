@@ -17,6 +17,8 @@ pub mod Ready
 pub mod Relabelling
 pub mod Rerouting
 pub mod RowsOfAtoms
+pub mod RowsRead
+pub mod Showing
 pub mod Standing
 pub mod StandingFor
 pub mod Updated

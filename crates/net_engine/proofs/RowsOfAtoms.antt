@@ -19,7 +19,7 @@ targets-up : (ts : List Target) → map (without []) ts ≡ ts
 targets-up [] = refl
 targets-up (t ∷ ts) = ap (λ us. without [] t ∷ us) (targets-up ts) ∙ ap (λ u. u ∷ ts) (without-none t)
 
-row-up : (row : ForwardingRow) → row_without [] row ≡ row
+pub row-up : (row : ForwardingRow) → row_without [] row ≡ row
 row-up row = ap (λ (ts : List Target). record { low = row.low; past = row.past; targets = ts }) (targets-up row.targets)
 
 row-of_place : (atoms : List Atom) (i : ℕ) (d : ForwardingRow) → get_or (map (λ (x : Atom). row_without [] x.row) atoms) i d ≡ (get_or atoms i (atom_with d)).row

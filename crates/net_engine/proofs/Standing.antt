@@ -106,7 +106,7 @@ row-at_place (r ∷ rs) [] (suc i) d e l = row-at_place rs [] i d e (omega arith
 row-at_place (r ∷ rs) (ts ∷ more) zero d e l = refl
 row-at_place (r ∷ rs) (ts ∷ more) (suc i) d e l = row-at_place rs more i d e (omega arith)
 
-length-rows : (rows : List Span) (tss : List (List Target)) → length (rows_with rows tss) ≡ length rows
+pub length-rows : (rows : List Span) (tss : List (List Target)) → length (rows_with rows tss) ≡ length rows
 length-rows [] tss = refl
 length-rows (r ∷ rs) tss = ap (λ n. suc n) (length-rows rs (drop 1 tss))
 
@@ -120,7 +120,7 @@ atom-at-place net routers rows labels owners i d e is l =
     ∙ ap (λ (n : Net). get_or n.atoms i d) is
 
 -- the atom that a row at a place is there
-some-row : Span
+pub some-row : Span
 some-row = record { low = 0; past = 0 }
 
 pub target-at-place : (net : Net) (routers : ℕ) (rows : List Span) (labels : Labels) (owners : AllRoutes) (i : ℕ) (d : Atom) (r : RouterId) → net_of routers rows labels owners ≡ net → i < length rows → target_at labels r.0 i ≡ target_of_row (get_or net.atoms i d).row r

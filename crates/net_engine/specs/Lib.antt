@@ -7,6 +7,7 @@ pub mod Paired
 pub mod Rerouted
 pub mod Routed
 pub mod Seen
+pub mod Shown
 pub mod Updates
 pub mod Version
 pub mod Walked

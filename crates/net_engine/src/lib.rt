@@ -8,8 +8,10 @@ mod net;
 mod relabel;
 mod router_group;
 mod router_tables;
+mod shown;
 mod state;
 mod update;
 mod version;
 
+pub use shown::Shown;
 pub use version::Version;

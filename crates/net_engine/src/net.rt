@@ -2,22 +2,25 @@
 
 ghost use Rattle.std.specs.Prelude.{◌≡◌, ◌+◌, ◌<◌, ◌≤◌, ◌^◌, ◌∷◌, [], IfOk, OnOk, length, slice_index_or, replicate};
 ghost use Rattle.dn_model.specs.Table.{prefix_of_op};
-ghost use Rattle.base.specs.Forwarding.{target_of};
+ghost use Rattle.base.specs.Forwarding.{AreForwarding, target_of};
 ghost use Rattle.dn_model.specs.Table.{followed};
 ghost use Rattle.net_engine.specs.Version.{Atom, first_of, past_of};
 ghost use Rattle.net_engine.specs.Looks.{atoms_met};
 ghost use Rattle.net_engine.specs.Net.{first_atom};
+ghost use Rattle.net_engine.specs.Paired.{rows_with};
 ghost use Rattle.net_engine.specs.Seen.{IsPaired, net_in};
 ghost use Rattle.net_engine.specs.Walked.{AreUpdated, UpdatesAt};
 
 use crate::ends::cut_if_new;
-use crate::relabel::reroute;
+use crate::relabel::{Aim, reroute};
 use crate::router_tables::RouterTables;
+use crate::shown::Shown;
 use crate::update::Update;
 use atom_map::Bounds;
 use delta_graph::Delta;
 use dn_model::{OutOfMemory, RouterId, Run, Target, Way};
 use std::alloc::Global;
+use std::mem;
 use std::sync::ledger::Ledger;
 use step_count::Steps;
 use target_rows::TargetRows;
@@ -33,6 +36,10 @@ pub struct Net {
     tables: RouterTables,
     /// The runs of an update, in the memory of those of the one before.
     runs: Vec<Run>,
+    /// A delta that is done with, in whose memory the next update tells.
+    spare: Delta,
+    /// The place of the first atom that the last update looked at.
+    near: u64,
 }
 
 impl Net {
@@ -52,6 +59,8 @@ impl Net {
             labels,
             tables,
             runs: Vec::new(alloc),
+            spare: Delta::new(alloc),
+            near: 0,
         })
     }
 
@@ -82,19 +91,31 @@ impl Net {
             told.is_new,
             prefix,
         )?;
+        let spare = mem::replace(&mut self.spare, Delta::new(alloc));
         let Some(way) = told.after else {
-            return Ok(Delta::new(alloc));
+            return Ok(spare.emptied());
         };
-        let delta = reroute(
-            alloc,
-            &self.atoms,
-            &mut self.labels,
-            update.router,
-            &self.runs,
-            done_by(way),
+        let after = done_by(way);
+        let aim = Aim {
+            router: update.router,
+            after,
             near,
-        )?;
-        Ok(delta)
+        };
+        let moved = reroute(alloc, &self.atoms, &mut self.labels, &self.runs, aim, spare)?;
+        self.near = moved.place;
+        Ok(moved.delta)
+    }
+
+    /// Takes a delta back, in whose memory the next update tells.
+    pub fn take_back(&mut self, delta: Delta)
+        ensures { self.new ≡ record self.old { spare = delta } }
+    {
+        self.spare = delta;
+    }
+
+    /// A place near the first atom that the last update looked at.
+    pub fn near(&self) -> u64 {
+        self.near
     }
 
     /// The same atoms again.
@@ -112,7 +133,21 @@ impl Net {
             labels,
             tables,
             runs: Vec::new(alloc),
+            spare: Delta::new(alloc),
+            near: 0,
         })
+    }
+
+    /// What is looked at of it: the atoms, with what each router does there.
+    pub fn shown(&self) -> Result<Shown, OutOfMemory>
+        requires paired { IsPaired self.now }
+        requires form { AreForwarding self.now.routers (rows_with self.now.atoms self.now.labels.rows) }
+        ensures routers { IfOk result (λ shown. shown.routers ≡ self.now.routers) }
+        ensures rows { IfOk result (λ shown. shown.rows ≡ rows_with self.now.atoms self.now.labels.rows) }
+    {
+        let atoms = self.atoms.copy()?;
+        let labels = self.labels.copy()?;
+        Ok(Shown::of(self.routers, atoms, labels))
     }
 
     /// How many routers there are.
@@ -155,6 +190,16 @@ impl Net {
         ensures { (d : Atom) → result ≡ target_of (slice_index_or (net_in self.now).atoms i d).row r }
     {
         self.labels.target(r, i)
+    }
+
+    /// What each router does with the addresses of the atom at a place, by router, put into `out`.
+    pub fn row(&self, i: u64, out: &mut [Target])
+        requires paired { IsPaired self.now }
+        requires place { i < length (net_in self.now).atoms }
+        requires wide { length out.old ≡ self.now.routers }
+        ensures { (d : Atom) → out.new ≡ (slice_index_or (net_in self.now).atoms i d).row.targets }
+    {
+        self.labels.row(i, out);
     }
 }
 

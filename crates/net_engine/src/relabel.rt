@@ -23,11 +23,29 @@ struct Turn {
     after: Target,
 }
 
-/// What a router did with a run of addresses before an update, and the place of the atom behind the run.
+/// What a router did with a run of addresses before an update, the place of the run's first atom, and of the one behind
+/// its last.
 #[derive(Clone, Copy, Debug, PartialEq, Eq)]
 struct Turned {
     before: Target,
+    first: u64,
     past: u64,
+}
+
+/// What a router does with the addresses of some runs after an update. The first atom is looked for first near a place
+/// that may be at hand.
+#[derive(Clone, Copy, Debug, PartialEq, Eq)]
+pub struct Aim {
+    pub router: RouterId,
+    pub after: Target,
+    pub near: Option<u64>,
+}
+
+/// What is told of an update, and the place of the first atom that it looked at: whoever looks there next begins with it.
+#[derive(Drop)]
+pub struct Moved {
+    pub delta: Delta,
+    pub place: u64,
 }
 
 /// The place of the first atom of a run, and that behind its last. The first is looked for first near a place that may be
@@ -68,7 +86,11 @@ fn turn_run(
 {
     let (first, past) = places(atoms, turn.run, near);
     let before = labels.turn_run(alloc, turn.router, first, past, turn.after)?;
-    Ok(Turned { before, past })
+    Ok(Turned {
+        before,
+        first,
+        past,
+    })
 }
 
 /// It is told that a router does something else than before with each address of a run. It fails for want of memory alone.
@@ -84,39 +106,41 @@ fn tell(delta: &mut Delta, change: Change) -> Result<(), OutOfMemory>
 }
 
 /// A router does something with each atom of some runs, where it did one and the same, and it is told of them if it is
-/// something else. The first atom is looked for first near a place that may be at hand. It fails for want of
-/// memory alone, and then nothing is said of the labels.
+/// something else, in the memory of a delta that is at hand. It fails for want of memory alone, and then nothing is said
+/// of the labels.
 pub fn reroute(
     alloc: Global,
     atoms: &Bounds,
     labels: &mut TargetRows,
-    r: RouterId,
     runs: &[Run],
-    after: Target,
-    near: Option<u64>,
-) -> Result<Delta, OutOfMemory>
-    requires router { r.0 < labels.old.routers }
+    aim: Aim,
+    spare: Delta,
+) -> Result<Moved, OutOfMemory>
+    requires router { aim.router.0 < labels.old.routers }
     requires labelled { AreLabelled atoms.now labels.old }
     requires apart { AreApart runs.now }
     requires ends { RunsOfAtoms atoms.now runs.now }
     requires same { (a b : ℕ) → list_any (holds a) runs.now ≡ true → list_any (holds b) runs.now ≡ true →
-        does_at atoms.now labels.old r.0 a ≡ does_at atoms.now labels.old r.0 b }
-    ensures { IfOk result (λ delta. IsMoved atoms.now labels.old labels.new delta r runs.now after) }
+        does_at atoms.now labels.old aim.router.0 a ≡ does_at atoms.now labels.old aim.router.0 b }
+    ensures { IfOk result (λ moved.
+        IsMoved atoms.now labels.old labels.new moved.delta aim.router runs.now aim.after) }
 {
-    let mut delta = Delta::new(alloc);
-    let mut near = near;
+    let mut delta = spare.emptied();
+    let mut place = u64::MAX;
+    let mut near = aim.near;
     for run in runs {
         let turn = Turn {
-            router: r,
+            router: aim.router,
             run: *run,
-            after,
+            after: aim.after,
         };
         let turned = turn_run(alloc, atoms, labels, turn, near)?;
-        if turned.before == after {
-            return Ok(delta);
+        place = place.min(turned.first);
+        if turned.before == aim.after {
+            return Ok(Moved { delta, place });
         }
         let change = Change {
-            router: r,
+            router: aim.router,
             run: *run,
             before: turned.before,
             after: turn.after,
@@ -124,5 +148,5 @@ pub fn reroute(
         tell(&mut delta, change)?;
         near = Some(turned.past);
     }
-    Ok(delta)
+    Ok(Moved { delta, place })
 }

@@ -9,6 +9,7 @@ ghost use Rattle.net_engine.specs.Version.{KeptStandsFor, forwarding_of};
 ghost use Rattle.dn_model.specs.declared.entry.Entry.{Entry as EntryIs};
 ghost use Rattle.net_engine.specs.Looks.{atoms_added, atoms_met, prefix_of_entry};
 
+use crate::shown::Shown;
 use crate::state::State;
 use delta_graph::Delta;
 use dn_model::{Entry, OutOfMemory, RouterId, Target, Topology};
@@ -109,6 +110,28 @@ impl Version {
         self.copy(alloc)?.advance(alloc, entry, steps)
     }
 
+    /// Takes a delta back that `advance` gave, in whose memory the next update tells. The version is as before.
+    pub fn take_back(&mut self, delta: Delta)
+        ensures { self.new ≡ self.old }
+    {
+        self.state.net.take_back(delta);
+    }
+
+    /// A place near the row at which the last update began: whoever looks at what it changed looks there first. No clause
+    /// says what it is, since any place does.
+    pub fn near(&self) -> u64 {
+        self.state.net.near()
+    }
+
+    /// What queries read of it, which shares all with it. It fails for want of memory alone.
+    pub fn shown(&self) -> Result<Shown, OutOfMemory>
+        ensures routers { IfOk result (λ shown. shown.routers ≡ length self.now.topology.routers) }
+        ensures rows { IfOk result (λ shown. shown.rows ≡ forwarding_of self.now) }
+    {
+        let shown = self.state.net.shown()?;
+        Ok(shown)
+    }
+
     /// The same version again.
     pub fn copy(&self, alloc: Global) -> Result<Version, OutOfMemory>
         ensures { IfOk result (λ version. version ≡ self.now) }
@@ -142,5 +165,14 @@ impl LabelView for Version {
 
     fn target(&self, r: RouterId, i: u64) -> Target {
         self.state.net.target(r, i)
+    }
+
+    fn column(&self, r: RouterId, i: u64, out: &mut [Target]) -> usize {
+        out[0] = self.target(r, i);
+        1
+    }
+
+    fn row(&self, i: u64, out: &mut [Target]) {
+        self.state.net.row(i, out);
     }
 }

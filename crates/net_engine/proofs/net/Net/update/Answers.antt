@@ -15,8 +15,8 @@ returns-in_err-near-clause-cost g c = looks-paired _ _ _ _ _ _ _ _ _ c.requires.
 pub returns-in_default-clause-cost : goal.returns-in_default-clause-cost
 returns-in_default-clause-cost g c = looks-paired _ _ _ _ _ _ _ _ _ c.requires.paired (c.requires.paired.along c.args.update.now.router.0 c.requires.router) c.update.ensures.cost
 
-pub returns-in_err-delta-clause-cost : goal.returns-in_err-delta-clause-cost
-returns-in_err-delta-clause-cost g c = looks-paired _ _ _ _ _ _ _ _ _ c.requires.paired (c.requires.paired.along c.args.update.now.router.0 c.requires.router) c.update.ensures.cost
+pub returns-in_err-moved-clause-cost : goal.returns-in_err-moved-clause-cost
+returns-in_err-moved-clause-cost g c = looks-paired _ _ _ _ _ _ _ _ _ c.requires.paired (c.requires.paired.along c.args.update.now.router.0 c.requires.router) c.update.ensures.cost
 
 pub returns-clause-cost : goal.returns-clause-cost
 returns-clause-cost g c = looks-paired _ _ _ _ _ _ _ _ _ c.requires.paired (c.requires.paired.along c.args.update.now.router.0 c.requires.router) c.update.ensures.cost
@@ -28,16 +28,16 @@ pub returns-in_default-clause-paired : goal.returns-in_default-clause-paired
 returns-in_default-clause-paired g c =
     let r : IsReady c.args.self.now.routers c.args.self.now.atoms c.cut_if_new.new.atoms c.args.self.now.labels c.cut_if_new.new.labels c.args.self.now.tables c.args.update.now.table.op =
     ready _ _ _ _ _ _ _ c.in_ok-told.told.is_new c.prefix-prefix.result c.requires.paired c.prefix-prefix.ensures c.in_ok-told.ensures.new c.in_ok-near.ensures in
-    paired-now c.args.self.now.routers c.cut_if_new.new.atoms c.cut_if_new.new.labels c.cut_if_new.new.labels c.args.self.now.tables c.update.new.self (its_routes c.args.update.now c.args.self.now.tables) (its_routes c.args.update.now c.update.new.self) c.new.result c.args.update.now.router c.args.update.now.table.alone c.args.update.now.table.op c.update.ensures.others r.paired
-    (makes-same c.args.self.now.routers c.cut_if_new.new.atoms c.cut_if_new.new.labels c.args.self.now.tables (its_routes c.args.update.now c.update.new.self) c.new.result c.args.update.now.router c.args.update.now.table.alone c.args.update.now.table.op r.paired c.requires.router r.ends c.update.ensures.form c.in_ok-told.ensures.table (at-none _ c.in_ok-told.told.after c.in_default.is c.in_ok-told.ensures.same) c.new.ensures)
+    paired-now c.args.self.now.routers c.cut_if_new.new.atoms c.cut_if_new.new.labels c.cut_if_new.new.labels c.args.self.now.tables c.update.new.self (its_routes c.args.update.now c.args.self.now.tables) (its_routes c.args.update.now c.update.new.self) c.emptied.result c.args.update.now.router c.args.update.now.table.alone c.args.update.now.table.op c.update.ensures.others r.paired
+    (makes-same c.args.self.now.routers c.cut_if_new.new.atoms c.cut_if_new.new.labels c.args.self.now.tables (its_routes c.args.update.now c.update.new.self) c.emptied.result c.args.update.now.router c.args.update.now.table.alone c.args.update.now.table.op r.paired c.requires.router r.ends c.update.ensures.form c.in_ok-told.ensures.table (at-none _ c.in_ok-told.told.after c.in_default.is c.in_ok-told.ensures.same) c.emptied.ensures)
 
 pub returns-in_default-clause-told : goal.returns-in_default-clause-told
 returns-in_default-clause-told g c =
     let r : IsReady c.args.self.now.routers c.args.self.now.atoms c.cut_if_new.new.atoms c.args.self.now.labels c.cut_if_new.new.labels c.args.self.now.tables c.args.update.now.table.op =
     ready _ _ _ _ _ _ _ c.in_ok-told.told.is_new c.prefix-prefix.result c.requires.paired c.prefix-prefix.ensures c.in_ok-told.ensures.new c.in_ok-near.ensures in
-    updated c.args.self.now.routers c.args.self.now.atoms c.cut_if_new.new.atoms c.args.self.now.labels c.cut_if_new.new.labels c.cut_if_new.new.labels c.args.self.now.tables c.update.new.self c.args.update.now.table.op c.new.result r
-    (retold-now c.args.self.now.routers c.cut_if_new.new.atoms c.cut_if_new.new.labels c.cut_if_new.new.labels c.args.self.now.tables c.update.new.self (its_routes c.args.update.now c.args.self.now.tables) (its_routes c.args.update.now c.update.new.self) c.new.result c.args.update.now.router c.args.update.now.table.alone c.args.update.now.table.op c.update.ensures.others r.paired
-    (makes-same c.args.self.now.routers c.cut_if_new.new.atoms c.cut_if_new.new.labels c.args.self.now.tables (its_routes c.args.update.now c.update.new.self) c.new.result c.args.update.now.router c.args.update.now.table.alone c.args.update.now.table.op r.paired c.requires.router r.ends c.update.ensures.form c.in_ok-told.ensures.table (at-none _ c.in_ok-told.told.after c.in_default.is c.in_ok-told.ensures.same) c.new.ensures))
+    updated c.args.self.now.routers c.args.self.now.atoms c.cut_if_new.new.atoms c.args.self.now.labels c.cut_if_new.new.labels c.cut_if_new.new.labels c.args.self.now.tables c.update.new.self c.args.update.now.table.op c.emptied.result r
+    (retold-now c.args.self.now.routers c.cut_if_new.new.atoms c.cut_if_new.new.labels c.cut_if_new.new.labels c.args.self.now.tables c.update.new.self (its_routes c.args.update.now c.args.self.now.tables) (its_routes c.args.update.now c.update.new.self) c.emptied.result c.args.update.now.router c.args.update.now.table.alone c.args.update.now.table.op c.update.ensures.others r.paired
+    (makes-same c.args.self.now.routers c.cut_if_new.new.atoms c.cut_if_new.new.labels c.args.self.now.tables (its_routes c.args.update.now c.update.new.self) c.emptied.result c.args.update.now.router c.args.update.now.table.alone c.args.update.now.table.op r.paired c.requires.router r.ends c.update.ensures.form c.in_ok-told.ensures.table (at-none _ c.in_ok-told.told.after c.in_default.is c.in_ok-told.ensures.same) c.emptied.ensures))
 
 pub reroute-requires-clause-labelled : goal.reroute-requires-clause-labelled
 reroute-requires-clause-labelled g c =
@@ -69,13 +69,13 @@ pub returns-clause-paired : goal.returns-clause-paired
 returns-clause-paired g c =
     let r : IsReady c.args.self.now.routers c.args.self.now.atoms c.cut_if_new.new.atoms c.args.self.now.labels c.cut_if_new.new.labels c.args.self.now.tables c.args.update.now.table.op =
     ready _ _ _ _ _ _ _ c.in_ok-told.told.is_new c.prefix-prefix.result c.requires.paired c.prefix-prefix.ensures c.in_ok-told.ensures.new c.in_ok-near.ensures in
-    paired-now c.args.self.now.routers c.cut_if_new.new.atoms c.cut_if_new.new.labels c.reroute.new.labels c.args.self.now.tables c.update.new.self (its_routes c.args.update.now c.args.self.now.tables) (its_routes c.args.update.now c.update.new.self) c.in_ok-delta.delta c.args.update.now.router c.args.update.now.table.alone c.args.update.now.table.op c.update.ensures.others r.paired
-    (makes-turned c.args.self.now.routers c.cut_if_new.new.atoms c.cut_if_new.new.labels c.reroute.new.labels c.args.self.now.tables (its_routes c.args.update.now c.update.new.self) c.in_ok-delta.delta c.args.update.now.router c.args.update.now.table.alone c.args.update.now.table.op c.in-Some.way c.update.new.runs.items r.paired c.requires.router r.ends c.update.ensures.form c.in_ok-told.ensures.table (at-some _ c.in_ok-told.told.after c.in-Some.way c.in-Some.is c.in_ok-told.ensures.turned) (at-some _ c.in_ok-told.told.after c.in-Some.way c.in-Some.is c.in_ok-told.ensures.runs) (rw (sym c.deref.ensures.value, sym c.done_by.ensures) c.in_ok-delta.ensures))
+    paired-now c.args.self.now.routers c.cut_if_new.new.atoms c.cut_if_new.new.labels c.reroute.new.labels c.args.self.now.tables c.update.new.self (its_routes c.args.update.now c.args.self.now.tables) (its_routes c.args.update.now c.update.new.self) c.in_ok-moved.moved.delta c.args.update.now.router c.args.update.now.table.alone c.args.update.now.table.op c.update.ensures.others r.paired
+    (makes-turned c.args.self.now.routers c.cut_if_new.new.atoms c.cut_if_new.new.labels c.reroute.new.labels c.args.self.now.tables (its_routes c.args.update.now c.update.new.self) c.in_ok-moved.moved.delta c.args.update.now.router c.args.update.now.table.alone c.args.update.now.table.op c.in-Some.way c.update.new.runs.items r.paired c.requires.router r.ends c.update.ensures.form c.in_ok-told.ensures.table (at-some _ c.in_ok-told.told.after c.in-Some.way c.in-Some.is c.in_ok-told.ensures.turned) (at-some _ c.in_ok-told.told.after c.in-Some.way c.in-Some.is c.in_ok-told.ensures.runs) (rw (sym c.deref.ensures.value, sym c.done_by-after.ensures) c.in_ok-moved.ensures))
 
 pub returns-clause-told : goal.returns-clause-told
 returns-clause-told g c =
     let r : IsReady c.args.self.now.routers c.args.self.now.atoms c.cut_if_new.new.atoms c.args.self.now.labels c.cut_if_new.new.labels c.args.self.now.tables c.args.update.now.table.op =
     ready _ _ _ _ _ _ _ c.in_ok-told.told.is_new c.prefix-prefix.result c.requires.paired c.prefix-prefix.ensures c.in_ok-told.ensures.new c.in_ok-near.ensures in
-    updated c.args.self.now.routers c.args.self.now.atoms c.cut_if_new.new.atoms c.args.self.now.labels c.cut_if_new.new.labels c.reroute.new.labels c.args.self.now.tables c.update.new.self c.args.update.now.table.op c.in_ok-delta.delta r
-    (retold-now c.args.self.now.routers c.cut_if_new.new.atoms c.cut_if_new.new.labels c.reroute.new.labels c.args.self.now.tables c.update.new.self (its_routes c.args.update.now c.args.self.now.tables) (its_routes c.args.update.now c.update.new.self) c.in_ok-delta.delta c.args.update.now.router c.args.update.now.table.alone c.args.update.now.table.op c.update.ensures.others r.paired
-    (makes-turned c.args.self.now.routers c.cut_if_new.new.atoms c.cut_if_new.new.labels c.reroute.new.labels c.args.self.now.tables (its_routes c.args.update.now c.update.new.self) c.in_ok-delta.delta c.args.update.now.router c.args.update.now.table.alone c.args.update.now.table.op c.in-Some.way c.update.new.runs.items r.paired c.requires.router r.ends c.update.ensures.form c.in_ok-told.ensures.table (at-some _ c.in_ok-told.told.after c.in-Some.way c.in-Some.is c.in_ok-told.ensures.turned) (at-some _ c.in_ok-told.told.after c.in-Some.way c.in-Some.is c.in_ok-told.ensures.runs) (rw (sym c.deref.ensures.value, sym c.done_by.ensures) c.in_ok-delta.ensures)))
+    updated c.args.self.now.routers c.args.self.now.atoms c.cut_if_new.new.atoms c.args.self.now.labels c.cut_if_new.new.labels c.reroute.new.labels c.args.self.now.tables c.update.new.self c.args.update.now.table.op c.in_ok-moved.moved.delta r
+    (retold-now c.args.self.now.routers c.cut_if_new.new.atoms c.cut_if_new.new.labels c.reroute.new.labels c.args.self.now.tables c.update.new.self (its_routes c.args.update.now c.args.self.now.tables) (its_routes c.args.update.now c.update.new.self) c.in_ok-moved.moved.delta c.args.update.now.router c.args.update.now.table.alone c.args.update.now.table.op c.update.ensures.others r.paired
+    (makes-turned c.args.self.now.routers c.cut_if_new.new.atoms c.cut_if_new.new.labels c.reroute.new.labels c.args.self.now.tables (its_routes c.args.update.now c.update.new.self) c.in_ok-moved.moved.delta c.args.update.now.router c.args.update.now.table.alone c.args.update.now.table.op c.in-Some.way c.update.new.runs.items r.paired c.requires.router r.ends c.update.ensures.form c.in_ok-told.ensures.table (at-some _ c.in_ok-told.told.after c.in-Some.way c.in-Some.is c.in_ok-told.ensures.turned) (at-some _ c.in_ok-told.told.after c.in-Some.way c.in-Some.is c.in_ok-told.ensures.runs) (rw (sym c.deref.ensures.value, sym c.done_by-after.ensures) c.in_ok-moved.ensures)))

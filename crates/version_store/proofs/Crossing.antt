@@ -6,7 +6,7 @@ use Rattle.dn_model.specs.contracts.entry.Posted as Posted
 use Rattle.dn_model.specs.contracts.topology.Topology as Topology
 use Rattle.delta_graph.specs.contracts.delta.Delta as Delta
 use Rattle.loop_keeper.proofs.Crossing.{KeptLoops-send, KeptLoops-sync}
-use Rattle.net_engine.proofs.Crossing.{Version-send, Version-sync}
+use Rattle.net_engine.proofs.Crossing.{Shown-send, Shown-sync, Version-send, Version-sync}
 use Rattle.version_store.specs.contracts.snapshot.Snapshot as Snapshot
 use Rattle.version_store.specs.contracts.store.Store as Store
 
@@ -29,10 +29,10 @@ Posted-sync : IsSync Posted.the_row
 Posted-sync = search (sendable, crosses) depth 60 fits 100000
 
 pub Snapshot-send : IsSend Snapshot.the_row
-Snapshot-send = search (Version-send, KeptLoops-send, Topology-send, Topology-sync, Delta-send, Delta-sync, Posted-send, Posted-sync, sendable, crosses, knot.crosses) depth 40
+Snapshot-send = search (Shown-send, KeptLoops-send, Topology-send, Topology-sync, Delta-send, Delta-sync, Posted-send, Posted-sync, sendable, crosses, knot.crosses) depth 40
 
 pub Snapshot-sync : IsSync Snapshot.the_row
-Snapshot-sync = search (Version-sync, KeptLoops-sync, Topology-send, Topology-sync, Delta-send, Delta-sync, Posted-send, Posted-sync, sendable, crosses, knot.crosses) depth 40
+Snapshot-sync = search (Shown-sync, KeptLoops-sync, Topology-send, Topology-sync, Delta-send, Delta-sync, Posted-send, Posted-sync, sendable, crosses, knot.crosses) depth 40
 
 pub Store-send : IsSend Store.the_row
 Store-send = search (Version-send, KeptLoops-send, Topology-send, Topology-sync, Delta-send, Delta-sync, Posted-send, Posted-sync, sendable, crosses, knot.crosses) depth 40

@@ -1,5 +1,5 @@
 -- What stands after a history goes on with it.
-use Rattle.std.proofs.Common.{◌≡◌, ℕ, ◌+◌, ◌-◌, ◌<◌, ◌^◌, ◌∙◌, ◌∷◌, ◌++◌, ◌&&◌, false, List, [], length, get_or, take, refl, ap, sym, subst, arith}
+use Rattle.std.proofs.Common.{◌≡◌, ℕ, ◌+◌, ◌-◌, ◌<◌, ◌≤◌, ◌^◌, ◌∙◌, ◌∷◌, ◌++◌, ◌&&◌, false, List, [], length, get_or, take, refl, ap, sym, subst, arith}
 use Rattle.std.specs.Prelude.{nat_lt}
 use Rattle.std.specs.List.{list_all}
 use Rattle.std.proofs.lemmas.Bool.{and_right, both_ways}
@@ -21,6 +21,7 @@ use Rattle.dn_model.specs.Next.{next}
 use Rattle.dn_model.specs.declared.answer.Answer.TheVariants as answers
 use Rattle.base.specs.declared.cycle.Cycle.{Cycle}
 use Rattle.base.specs.declared.change.Change.{Change}
+use Rattle.base.specs.declared.forwarding_row.ForwardingRow.{ForwardingRow}
 use Rattle.dn_model.specs.declared.entry.Entry.{Entry}
 use Rattle.dn_model.specs.declared.entry.Posted.{Posted}
 use Rattle.base.specs.declared.ids.RouterId.{RouterId}
@@ -32,9 +33,12 @@ use Rattle.loop_keeper.specs.Kept.{AreKept, IsLoopFree}
 use Rattle.loop_keeper.specs.Kept.{Kept as KeptCycle}
 use Rattle.loop_keeper.proofs.Advancing.{delta-alike, kept-alike}
 use Rattle.row_answers.proofs.SameAnswers.{without-none}
-use Rattle.version_store.specs.Kept.{IsStandingOf, IsVersionOf}
+use Rattle.version_store.specs.Kept.{IsPictureOf, IsStandingOf, IsVersionOf}
+use Rattle.version_store.specs.Prefixes.{most_rows}
+use Rattle.version_store.specs.declared.picture.Picture.{Picture}
 use Rattle.version_store.specs.declared.standing.Standing.{Standing}
 use Rattle.version_store.proofs.GoingOn.{delta-more, entries-more, version-more}
+use Rattle.version_store.proofs.Rows.{rows_few, rows_same}
 
 -- ---- before any update
 
@@ -104,11 +108,22 @@ rows-stand t h standing is =
     let P : Topology → Type 0 = λ s. StandsFor s (forwarding_of standing.version) h in
     subst P is.version.topology is.version.stands.rows
 
+-- the picture of what stands after a history
+pub picture-made : (t : Topology) (h : List Entry) (standing : Standing) (picture : Picture) → IsStandingOf t h standing → picture.rows.routers ≡ length standing.version.topology.routers →
+    picture.rows.rows ≡ forwarding_of standing.version → picture.loops ≡ standing.loops → IsPictureOf t h picture
+picture-made t h standing picture is routers rows loops = record {
+  routers = routers ∙ ap (λ (s : Topology). length s.routers) is.version.topology;
+  stands = subst (λ (rs : List ForwardingRow). StandsFor t rs h) (sym rows) (rows-stand t h standing is);
+  same = λ version stands. ap (λ (rs : List ForwardingRow). length rs) rows ∙ rows_same standing.version version h is.version.stands stands;
+  few = subst (λ (rs : List ForwardingRow). length rs ≤ most_rows h) (sym rows) (rows_few standing.version h is.version.stands);
+  loops = subst (λ (ls : List KeptCycle). AreKept (does_after t h) ls) (sym loops) is.loops;
+}
+
 -- kept loops tell the loops after a history
-pub loops-told : (t : Topology) (h : List Entry) (standing : Standing) (q : Question) (cycles : List Cycle) → q.ask ≡ Loops → q.without ≡ [] → IsStandingOf t h standing →
-    ((f : RouterId → ℕ → Target) → AreKept f standing.loops → AreCycles f cycles) → IsAnswer t h q (answers.Loops cycles)
-loops-told t h standing q cycles ask none is told =
-    let plain : AreCycles (next t h []) cycles = told (next t h []) (kept-alike (does_after t h) (next t h []) standing.loops (λ r a b. without-none (does_after t h r a)) is.loops) in
+pub loops-told : (t : Topology) (h : List Entry) (picture : Picture) (q : Question) (cycles : List Cycle) → q.ask ≡ Loops → q.without ≡ [] → IsPictureOf t h picture →
+    ((f : RouterId → ℕ → Target) → AreKept f picture.loops → AreCycles f cycles) → IsAnswer t h q (answers.Loops cycles)
+loops-told t h picture q cycles ask none is told =
+    let plain : AreCycles (next t h []) cycles = told (next t h []) (kept-alike (does_after t h) (next t h []) picture.loops (λ r a b. without-none (does_after t h r a)) is.loops) in
     let P : List (List ℕ) → Type 0 = λ names. IsAnswerTo t h (links_of t names) Loops (answers.Loops cycles) in
     let Q : Ask → Type 0 = λ x. IsAnswerTo t h (links_of t q.without) x (answers.Loops cycles) in
     subst Q (sym ask) (subst P (sym none) plain)

@@ -15,8 +15,8 @@ use Rattle.base.specs.declared.forwarding_row.ForwardingRow.{ForwardingRow}
 use Rattle.base.proofs.Covers.{starts-below}
 use Rattle.row_answers.specs.Looks.{most_looks}
 use Rattle.row_answers.proofs.Looking.{looks_all, looks_more}
-use Rattle.version_store.specs.Kept.{IsStandingOf}
-use Rattle.version_store.specs.declared.standing.Standing.{Standing}
+use Rattle.version_store.specs.Kept.{IsPictureOf}
+use Rattle.version_store.specs.declared.picture.Picture.{Picture}
 use Rattle.version_store.specs.Prefixes.{each_once, most_rows, prefixes_set, same_prefix, set_prefix}
 
 -- ---- counts of rows by where they begin
@@ -268,16 +268,16 @@ rows_same kept other history stands also =
     let more : length (forwarding_of other) ≤ length (forwarding_of kept) = rows-within other kept history also stands in
     omega arith
 
--- ---- looks at what stands after a history
+-- ---- looks at the picture of a history
 
-pub looks_few : (t : Topology) (history : List Entry) (standing : Standing) (ask : Ask) (first now : ℕ) → IsStandingOf t history standing →
-    now ≤ first + most_looks ask (length (forwarding_of standing.version)) (length standing.version.topology.routers) → now ≤ first + most_looks ask (most_rows history) (length t.routers)
-looks_few t history standing ask first now is looks =
-    let few : most_looks ask (length (forwarding_of standing.version)) (length standing.version.topology.routers) ≤ most_looks ask (most_rows history) (length standing.version.topology.routers) =
-    looks_more ask (length (forwarding_of standing.version)) (most_rows history) (length standing.version.topology.routers) (rows_few standing.version history is.version.stands) in
-    let P : Topology → Type 0 = λ s. now ≤ first + most_looks ask (most_rows history) (length s.routers) in
-    let here : now ≤ first + most_looks ask (most_rows history) (length standing.version.topology.routers) = omega arith in
-    subst P is.version.topology here
+pub looks_few : (t : Topology) (history : List Entry) (picture : Picture) (ask : Ask) (first now : ℕ) → IsPictureOf t history picture →
+    now ≤ first + most_looks ask (length picture.rows.rows) picture.rows.routers → now ≤ first + most_looks ask (most_rows history) (length t.routers)
+looks_few t history picture ask first now is looks =
+    let few : most_looks ask (length picture.rows.rows) picture.rows.routers ≤ most_looks ask (most_rows history) picture.rows.routers =
+    looks_more ask (length picture.rows.rows) (most_rows history) picture.rows.routers is.few in
+    let P : ℕ → Type 0 = λ n. now ≤ first + most_looks ask (most_rows history) n in
+    let here : now ≤ first + most_looks ask (most_rows history) picture.rows.routers = omega arith in
+    subst P is.routers here
 
 pub cost_few : (history : List Entry) (ask : Ask) (first now routers : ℕ) → now ≤ first + most_looks ask (most_rows history) routers → now ≤ first + (2 * prefixes_set history + 1) * routers
 cost_few history ask first now routers looks =

@@ -3,15 +3,18 @@ use Rattle.std.specs.Prelude.{ℕ, List, [], ◌∷◌, ◌++◌, Option, IfSome
 use Rattle.std.specs.List.{All}
 use Rattle.dn_model.specs.LastDelta.{IsDeltaOf}
 use Rattle.dn_model.specs.Entry.{IsEntryOf, entries}
+use Rattle.dn_model.specs.Standing.{StandsFor}
 use Rattle.dn_model.specs.Table.{does_after}
 use Rattle.net_engine.specs.Followed.{IsFollowed}
-use Rattle.net_engine.specs.Version.{Kept, KeptStandsFor}
+use Rattle.net_engine.specs.Version.{Kept, KeptStandsFor, forwarding_of}
 use Rattle.base.specs.declared.change.Change.{Change}
 use Rattle.dn_model.specs.declared.entry.Entry.{Entry}
 use Rattle.dn_model.specs.declared.entry.Posted.{Posted}
 use Rattle.dn_model.specs.declared.topology.Topology.{Topology}
 use Rattle.loop_keeper.specs.Kept.{AreKept}
 use Rattle.version_lock.specs.declared.book.Basis.{Basis}
+use Rattle.version_store.specs.Prefixes.{most_rows}
+use Rattle.version_store.specs.declared.picture.Picture.{Picture}
 use Rattle.version_store.specs.declared.standing.Standing.{Standing}
 
 -- a store: its network and limit, which stay, and the entries that were posted in it
@@ -63,9 +66,17 @@ pub record IsKeptOf (t : Topology) (limit : ℕ) (history : List Posted) (standi
   pub stands : IfSome standing (IsStandingOf t (entries history))
   pub delta : IsDeltaOf t (entries history) changes
 
--- what a snapshot keeps of a history of fewer than 2^32 entries: what stands after it, and the changes that its last
--- entry made
-pub record IsPastOf (t : Topology) (history : List Posted) (standing : Standing) (changes : List Change) : Type 0 where
+-- What is read of what stands after these entries: rows of this network that stand for them, as many as any version has
+-- that stands for them, and all cycles that addresses go round then.
+pub record IsPictureOf (t : Topology) (history : List Entry) (picture : Picture) : Type 0 where
+  pub routers : picture.rows.routers ≡ length t.routers
+  pub stands : StandsFor t picture.rows.rows history
+  pub same : (version : Kept) → KeptStandsFor version history → length picture.rows.rows ≡ length (forwarding_of version)
+  pub few : length picture.rows.rows ≤ most_rows history
+  pub loops : AreKept (does_after t history) picture.loops
+
+-- what a snapshot keeps of a history of fewer than 2^32 entries: its picture, and the changes that its last entry made
+pub record IsPastOf (t : Topology) (history : List Posted) (picture : Picture) (changes : List Change) : Type 0 where
   pub few : length history < 2 ^ 32
-  pub stands : IsStandingOf t (entries history) standing
+  pub shows : IsPictureOf t (entries history) picture
   pub delta : IsDeltaOf t (entries history) changes

@@ -3,6 +3,7 @@
 #![tactic(auto)]
 
 mod asking;
+mod picture;
 mod play;
 mod shot;
 mod snapshot;

@@ -10,11 +10,11 @@ ghost use Rattle.net_engine.specs.Version.{Kept, KeptStandsFor, forwarding_of};
 ghost use Rattle.dn_model.specs.declared.query.Ask.TheVariants.{Loops};
 ghost use Rattle.row_answers.specs.Looks.{most_looks};
 ghost use Rattle.version_store.specs.Asked.{IsAskRefusal};
-ghost use Rattle.version_store.specs.Kept.{IsStandingOf};
+ghost use Rattle.version_store.specs.Kept.{IsPictureOf};
 ghost use Rattle.version_store.specs.Prefixes.{most_rows, prefixes_set};
 
 use crate::asking::{AskRefused, refusal_of};
-use crate::standing::Standing;
+use crate::picture::Picture;
 use delta_graph::Delta;
 use dn_model::{Answer, OutOfMemory, Posted, Query, Topology};
 use std::alloc::Global;
@@ -28,15 +28,14 @@ use version_pages::Pages;
 /// A snapshot of a network's history: it answers queries over the history as it was, whatever came later. A contract
 /// sees the network and that history.
 ///
-/// It keeps the history, the version after it, the loops of the network then and the changes that its last entry made.
-/// It shares them with the store that it was taken of, as far as nothing was posted there since, and with other
-/// snapshots.
+/// It keeps the history, what all routers did with all addresses after it, the loops of the network then and the changes
+/// that its last entry made; no routes, which no query reads. It shares them with the store that it was taken of, as far
+/// as nothing was posted there since, and with other snapshots.
 #[derive(Drop)]
 pub struct Snapshot {
-    alloc: Global,
     topology: Arc<Topology, Global>,
     history: Pages<Posted>,
-    standing: Standing,
+    picture: Picture,
     changes: Arc<Delta, Global>,
 }
 
@@ -48,29 +47,27 @@ impl Model for Snapshot {
 
     ghost view = { λ s. record { topology = arc_value s.topology; history = s.history } };
 
-    ghost invariant = { λ s. IsPastOf (arc_value s.topology) s.history s.standing (arc_value s.changes) };
+    ghost invariant = { λ s. IsPastOf (arc_value s.topology) s.history s.picture (arc_value s.changes) };
 }
 
 impl Snapshot {
-    /// The snapshot of a history, by what stands after it and the changes that its last entry made.
+    /// The snapshot of a history, by its picture and the changes that its last entry made.
     pub(crate) fn of(
-        alloc: Global,
         topology: Arc<Topology, Global>,
         history: Pages<Posted>,
-        standing: Standing,
+        picture: Picture,
         changes: Arc<Delta, Global>,
     ) -> Snapshot
         requires few { length history < 2 ^ 32 }
-        requires standing { IsStandingOf (arc_value topology) (entries history) standing }
+        requires picture { IsPictureOf (arc_value topology) (entries history) picture }
         requires changes { IsDeltaOf (arc_value topology) (entries history) (arc_value changes) }
         ensures topology { result.topology ≡ arc_value topology }
         ensures history { result.history ≡ history }
     {
         Snapshot {
-            alloc,
             topology,
             history,
-            standing,
+            picture,
             changes,
         }
     }
@@ -81,9 +78,9 @@ impl Snapshot {
     {
         let topology = Arc::try_clone(&self.topology)?;
         let history = self.history.copy()?;
-        let standing = self.standing.copy(self.alloc)?;
+        let picture = self.picture.copy()?;
         let changes = Arc::try_clone(&self.changes)?;
-        Ok(Snapshot::of(self.alloc, topology, history, standing, changes))
+        Ok(Snapshot::of(topology, history, picture, changes))
     }
 
     /// How many entries the history had.
@@ -100,7 +97,7 @@ impl Snapshot {
             → result ≡ length (forwarding_of version) }
         ensures few { result ≤ most_rows (entries self.now.history) }
     {
-        self.standing.atoms()
+        self.picture.atoms()
     }
 
     /// The answer to a query over the history. It waits for nobody. A name that the topology doesn't have is told
@@ -128,7 +125,7 @@ impl Snapshot {
         self.check_names(query)?;
         let changes = self.changes.changes();
         match self
-            .standing
+            .picture
             .answer(alloc, &self.topology, changes, query, steps)
         {
             Ok(answer) => Ok(answer),
@@ -152,7 +149,7 @@ impl Snapshot {
         self.check_names(query)?;
         let changes = self.changes.changes();
         match self
-            .standing
+            .picture
             .answer_wide(rt, alloc, &self.topology, changes, query)
         {
             Ok(answer) => Ok(answer),

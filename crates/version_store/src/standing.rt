@@ -1,33 +1,27 @@
 //! What stands after a history: its version, and the loops of the network.
 
-ghost use Rattle.std.specs.Prelude.{◌≡◌, ℕ, ◌+◌, ◌<◌, ◌≤◌, ◌++◌, ◌∷◌, [], List, IfOk, IsFalse, IsTrue, None, OnOk, length};
+ghost use Rattle.std.specs.Prelude.{◌≡◌, ℕ, ◌<◌, ◌++◌, ◌∷◌, [], List, IfOk, OnOk};
 ghost use Rattle.std.specs.Arc.{arc_value};
-ghost use Rattle.dn_model.specs.Answer.{IsAnswer};
 ghost use Rattle.base.specs.Delta.{IsDelta};
 ghost use Rattle.dn_model.specs.LastDelta.{IsDeltaOf};
 ghost use Rattle.base.specs.Forwarding.{does};
-ghost use Rattle.dn_model.specs.Query.{Question, unknown_of};
 ghost use Rattle.net_engine.specs.Version.{KeptStandsFor, forwarding_of};
 ghost use Rattle.dn_model.specs.declared.entry.Entry.{Entry as EntryIs};
 ghost use Rattle.base.specs.declared.ids.RouterId.{RouterId as RouterIs};
-ghost use Rattle.dn_model.specs.declared.query.Ask.TheVariants.{Loops};
 ghost use Rattle.base.specs.declared.target.Target.{Target as TargetIs};
 ghost use Rattle.dn_model.specs.declared.topology.Topology.{Topology as TopologyIs};
 ghost use Rattle.loop_keeper.specs.Kept.{AreKept};
-ghost use Rattle.row_answers.specs.Looks.{most_looks};
-ghost use Rattle.row_answers.specs.Shown.{AreToldIf};
-ghost use Rattle.version_store.specs.Kept.{IsStandingOf, IsTaken};
+ghost use Rattle.version_store.specs.Kept.{IsPictureOf, IsStandingOf, IsTaken};
 
+use crate::picture::Picture;
 use delta_graph::Delta;
-use dn_model::{Answer, Ask, Change, Entry, OutOfMemory, Query, Topology};
-use label_view::LabelView;
+use dn_model::{Entry, OutOfMemory, Topology};
 use loop_keeper::KeptLoops;
 use net_engine::Version;
 use std::alloc::Global;
 use std::marker::Brand;
 use std::sync::Arc;
 use std::sync::ledger::{Blank, Ledger};
-use std::thread::Threads;
 use step_count::Steps;
 
 /// The version of a network after a history, and the loops of the network then, which are kept from update to update.
@@ -75,19 +69,7 @@ fn keep<L: Ledger>(
         → AreKept (does (forwarding_of version.now)) loops.new) }
 {
     let mut steps = Steps::<L>::new(blank);
-    loops.advance(alloc, version, delta, &mut steps)
-}
-
-/// Whether the loops of the network are asked for, with no link taken as down.
-fn asks_for_loops(query: &Query) -> bool
-    ensures ask { IsTrue result → query.now.ask ≡ Loops }
-    ensures none { IsTrue result → query.now.without ≡ [] }
-    ensures other { IsFalse result → query.now.ask ≡ Loops → query.now.without ≡ [] → ⊥ }
-{
-    match query.ask() {
-        Ask::Loops => query.without().is_empty(),
-        _ => false,
-    }
+    loops.advance(alloc, version, delta, version.near(), &mut steps)
 }
 
 impl Standing {
@@ -130,74 +112,20 @@ impl Standing {
         ))
     }
 
-    /// The same again. It fails for want of memory alone.
-    pub(crate) fn copy(&self, alloc: Global) -> Result<Standing, OutOfMemory>
-        ensures { IfOk result (λ standing. standing ≡ self.now) }
+    /// Takes changes back that `advance` gave, in whose memory the next update tells. What stands is as before.
+    pub(crate) fn take_back(&mut self, changes: Delta)
+        ensures { self.new ≡ self.old }
     {
-        let version = self.version.copy(alloc)?;
+        self.version.take_back(changes);
+    }
+
+    /// What queries read of it, which shares all with it. It fails for want of memory alone.
+    pub(crate) fn picture(&self) -> Result<Picture, OutOfMemory>
+        ensures { IfOk result (λ picture. (t : TopologyIs) → (history : List EntryIs) → IsStandingOf t history self.now
+            → IsPictureOf t history picture) }
+    {
+        let rows = self.version.shown()?;
         let loops = self.loops.copy()?;
-        Ok(Standing { version, loops })
-    }
-
-    /// The answer to a query whose names the topology has, by what stands after a history, of which the changes that
-    /// its last entry made are given. `loops` without `without` is told from what is kept, and no row is looked at.
-    pub(crate) fn answer<L: Ledger>(
-        &self,
-        alloc: Global,
-        topology: &Topology,
-        changes: &[Change],
-        query: &Query,
-        steps: &mut Steps<L>,
-    ) -> Result<Answer, OutOfMemory>
-        requires known { unknown_of topology.now query.now ≡ None }
-        requires wide { length self.now.version.topology.routers ≡ length topology.now.routers }
-        ensures answer { IfOk result (λ answer. (history : List EntryIs) → IsStandingOf topology.now history self.now →
-            AreToldIf topology.now history changes.now query.now.ask →
-            IsAnswer topology.now history query.now answer) }
-        ensures kept { query.now.ask ≡ Loops → query.now.without ≡ [] → steps.new ≡ steps.old }
-        ensures looks { steps.new ≤ steps.old + most_looks query.now.ask (length (forwarding_of self.now.version))
-            (length self.now.version.topology.routers) }
-    {
-        if asks_for_loops(query) {
-            return self.kept_loops(alloc);
-        }
-        row_answers::answer(alloc, topology, &self.version, changes, query, steps)
-    }
-
-    /// The same answer, by as many threads as there are processors where many rows are looked at.
-    pub(crate) fn answer_wide(
-        &self,
-        rt: &(impl Threads + Sync),
-        alloc: Global,
-        topology: &Topology,
-        changes: &[Change],
-        query: &Query,
-    ) -> Result<Answer, OutOfMemory>
-        requires known { unknown_of topology.now query.now ≡ None }
-        requires wide { length self.now.version.topology.routers ≡ length topology.now.routers }
-        ensures { IfOk result (λ answer. (history : List EntryIs) → IsStandingOf topology.now history self.now →
-            AreToldIf topology.now history changes.now query.now.ask →
-            IsAnswer topology.now history query.now answer) }
-    {
-        if asks_for_loops(query) {
-            return self.kept_loops(alloc);
-        }
-        row_answers::answer_wide(rt, alloc, topology, &self.version, changes, query)
-    }
-
-    /// The answer to `loops` without `without`: it is told from what is kept, and no row is looked at.
-    fn kept_loops(&self, alloc: Global) -> Result<Answer, OutOfMemory>
-        ensures { IfOk result (λ answer. (t : TopologyIs) → (history : List EntryIs) → (q : Question) → q.ask ≡ Loops →
-            q.without ≡ [] → IsStandingOf t history self.now → IsAnswer t history q answer) }
-    {
-        let cycles = self.loops.answer(alloc)?;
-        Ok(Answer::Loops(cycles))
-    }
-
-    /// How many rows its version has. It takes no memory.
-    pub(crate) fn atoms(&self) -> u64
-        ensures { result ≡ length (forwarding_of self.now.version) }
-    {
-        self.version.atoms()
+        Ok(Picture { rows, loops })
     }
 }

@@ -8,11 +8,12 @@ ghost use Rattle.version_store.specs.Kept.{AreOf, IsTaken};
 use crate::play::{Event, play_one};
 use crate::snapshot::Snapshot;
 use crate::standing::Standing;
-use crate::versions::{next_standing, own_standing};
+use crate::versions::{next_standing, picture_of};
 use delta_graph::Delta;
 use dn_model::{Entry, List, OutOfMemory, Posted, Topology};
 use std::alloc::Global;
 use std::marker::Model;
+use std::mem;
 use std::sync::Arc;
 use version_lock::{Book, PostRefused};
 use version_pages::Pages;
@@ -48,8 +49,8 @@ impl Model for Store {
     ghost invariant = { λ s. IsKeptOf (arc_value s.topology) s.limit s.history s.standing (arc_value s.changes) };
 }
 
-/// Adds a seat's entry to a history, and puts the changes that it makes in the place of those before. After `OutOfMemory`,
-/// for which alone it fails, both are as before.
+/// Adds a seat's entry to a history, and puts the changes that it makes in the place of those before, which it hands
+/// out. After `OutOfMemory`, for which alone it fails, both are as before.
 fn put_with(
     alloc: Global,
     entries: &mut Pages<Posted>,
@@ -57,7 +58,7 @@ fn put_with(
     seat: u32,
     entry: &Entry,
     delta: Delta,
-) -> Result<(), OutOfMemory>
+) -> Result<Delta, OutOfMemory>
     ensures entries { OnOk result (entries.new ≡ entries.old ++ record { seat = seat; entry = entry.now } ∷ []) }
     ensures changes { OnOk result (changes.new ≡ delta) }
     ensures same { OnErr result (entries.new ≡ entries.old) }
@@ -68,11 +69,11 @@ fn put_with(
         entry: *entry,
     };
     entries.push(alloc, posted)?;
-    *changes = delta;
-    Ok(())
+    Ok(mem::replace(changes, delta))
 }
 
-/// The same where others may hold the changes before, for whom they stay: the new ones then stand beside them.
+/// The same where others may hold the changes before, for whom they stay: the new ones then stand beside them, and none are
+/// handed out.
 fn post_with(
     alloc: Global,
     history: &mut Pages<Posted>,
@@ -80,7 +81,7 @@ fn post_with(
     seat: u32,
     entry: &Entry,
     delta: Delta,
-) -> Result<(), OutOfMemory>
+) -> Result<Delta, OutOfMemory>
     ensures entries { OnOk result (history.new ≡ history.old ++ record { seat = seat; entry = entry.now } ∷ []) }
     ensures changes { OnOk result (arc_value changes.new ≡ delta) }
     ensures same { OnErr result (history.new ≡ history.old) }
@@ -98,7 +99,7 @@ fn post_with(
         },
     )?;
     *changes = made;
-    Ok(())
+    Ok(Delta::new(alloc))
 }
 
 impl Store {
@@ -195,14 +196,14 @@ impl Store {
         ensures err { OnErr result (self.new.history ≡ self.old.history) }
     {
         let taken = self.standing.take();
-        let (standing, changes) = next_standing(
+        let (mut standing, changes) = next_standing(
             self.alloc,
             &self.topology,
             &self.history,
             taken,
             entry,
         )?;
-        post_with(
+        let spare = post_with(
             self.alloc,
             &mut self.history,
             &mut self.changes,
@@ -210,6 +211,7 @@ impl Store {
             entry,
             changes,
         )?;
+        standing.take_back(spare);
         self.standing = Some(standing);
         Ok(self.history.len() as u32)
     }
@@ -240,11 +242,11 @@ impl Book for Store {
     }
 
     fn snap(&self) -> Result<Snapshot, OutOfMemory> {
-        let standing = own_standing(self.alloc, &self.topology, &self.history, &self.standing)?;
+        let picture = picture_of(self.alloc, &self.topology, &self.history, &self.standing)?;
         let topology = Arc::try_clone(&self.topology)?;
         let history = self.history.copy()?;
         let changes = Arc::try_clone(&self.changes)?;
         prove!(self.history.len() <= self.limit as u64);
-        Ok(Snapshot::of(self.alloc, topology, history, standing, changes))
+        Ok(Snapshot::of(topology, history, picture, changes))
     }
 }

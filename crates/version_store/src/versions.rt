@@ -4,8 +4,9 @@ ghost use Rattle.std.specs.Prelude.{◌≡◌, IfOk, IfSome};
 ghost use Rattle.std.specs.Arc.{arc_value};
 ghost use Rattle.dn_model.specs.LastDelta.{IsDeltaOf};
 ghost use Rattle.dn_model.specs.Entry.{entries};
-ghost use Rattle.version_store.specs.Kept.{AreOf, IsStandingOf, IsTaken, entries_with};
+ghost use Rattle.version_store.specs.Kept.{AreOf, IsPictureOf, IsStandingOf, IsTaken, entries_with};
 
+use crate::picture::Picture;
 use crate::standing::Standing;
 use delta_graph::Delta;
 use dn_model::{Entry, OutOfMemory, Posted, Topology};
@@ -70,20 +71,22 @@ pub(crate) fn next_standing(
     Ok((next, changes))
 }
 
-/// What stands after a history, which the caller owns: a copy of what there is, or made update by update. It fails for
-/// want of memory alone.
-pub(crate) fn own_standing(
+/// The picture of a history: of what there is, or made update by update. It fails for want of memory alone.
+pub(crate) fn picture_of(
     alloc: Global,
     topology: &Arc<Topology, Global>,
     history: &Pages<Posted>,
     standing: &Option<Standing>,
-) -> Result<Standing, OutOfMemory>
+) -> Result<Picture, OutOfMemory>
     requires own { AreOf (arc_value topology.now) history.now }
     requires standing { IfSome standing.now (IsStandingOf (arc_value topology.now) (entries history.now)) }
-    ensures { IfOk result (IsStandingOf (arc_value topology.now) (entries history.now)) }
+    ensures { IfOk result (IsPictureOf (arc_value topology.now) (entries history.now)) }
 {
-    match standing {
-        Some(standing) => standing.copy(alloc),
-        None => made_standing(alloc, topology, history),
+    if let Some(standing) = standing {
+        let picture = standing.picture()?;
+        return Ok(picture);
     }
+    let standing = made_standing(alloc, topology, history)?;
+    let picture = standing.picture()?;
+    Ok(picture)
 }

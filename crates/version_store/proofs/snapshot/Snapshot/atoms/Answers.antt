@@ -3,17 +3,16 @@ use Rattle.dn_model.specs.Entry.{entries}
 use Rattle.net_engine.specs.Version.{Kept, KeptStandsFor, forwarding_of}
 use Rattle.version_store.specs.Kept.{Past}
 use Rattle.version_store.specs.Prefixes.{most_rows}
-use Rattle.version_store.proofs.Rows.{rows_few, rows_same}
 use Rattle.version_store.proofs.snapshot.Snapshot.atoms.Goals as goal
 
 pub returns-clause-rows : goal.returns-clause-rows
 returns-clause-rows c =
     let P : Past → Type 0 = λ p. (version : Kept) → KeptStandsFor version (entries p.history) → c.atoms.result ≡ length (forwarding_of version) in
-    subst P c.self.view_is (λ version stands. c.atoms.ensures ∙ rows_same c.self.inside.standing.version version (entries c.self.inside.history) c.self.invariant.stands.version.stands stands)
+    subst P c.self.view_is (λ version stands. c.atoms.ensures ∙ c.self.invariant.shows.same version stands)
 
 pub returns-clause-few : goal.returns-clause-few
 returns-clause-few c =
-    let few : length (forwarding_of c.self.inside.standing.version) ≤ most_rows (entries c.self.inside.history) = rows_few c.self.inside.standing.version (entries c.self.inside.history) c.self.invariant.stands.version.stands in
-    let is : c.atoms.result ≡ length (forwarding_of c.self.inside.standing.version) = c.atoms.ensures in
+    let few : length c.self.inside.picture.rows.rows ≤ most_rows (entries c.self.inside.history) = c.self.invariant.shows.few in
+    let is : c.atoms.result ≡ length c.self.inside.picture.rows.rows = c.atoms.ensures in
     let P : Past → Type 0 = λ p. c.atoms.result ≤ most_rows (entries p.history) in
     subst P c.self.view_is (omega arith)

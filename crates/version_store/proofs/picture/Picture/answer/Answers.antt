@@ -1,6 +1,5 @@
 use Rattle.std.proofs.lemmas.Result.{IfOk-weaker}
-use Rattle.version_store.proofs.Keeping.{rows-stand}
-use Rattle.version_store.proofs.standing.Standing.answer.Goals as goal
+use Rattle.version_store.proofs.picture.Picture.answer.Goals as goal
 
 pub returns-then-asks_for_loops-clause-answer : goal.returns-then-asks_for_loops-clause-answer
 returns-then-asks_for_loops-clause-answer g c = IfOk-weaker c.kept_loops.result _ _
@@ -8,4 +7,4 @@ returns-then-asks_for_loops-clause-answer g c = IfOk-weaker c.kept_loops.result 
     c.kept_loops.ensures
 
 pub returns-clause-answer : goal.returns-clause-answer
-returns-clause-answer g c = IfOk-weaker c.answer.result _ _ (λ answer is h stands told. is h (rows-stand c.args.topology.now h c.args.self.now stands) told) c.answer.ensures.answer
+returns-clause-answer g c = IfOk-weaker c.answer.result _ _ (λ answer is h stands told. is h stands.stands told) c.answer.ensures.answer

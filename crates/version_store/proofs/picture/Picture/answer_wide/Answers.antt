@@ -1,9 +1,8 @@
 use denote.Param.Send.{sendable}
 use Rattle.std.proofs.Crossing.{crosses}
 use Rattle.std.proofs.lemmas.Result.{IfOk-weaker}
-use Rattle.net_engine.proofs.Crossing.{Version-sync}
-use Rattle.version_store.proofs.Keeping.{rows-stand}
-use Rattle.version_store.proofs.standing.Standing.answer_wide.Goals as goal
+use Rattle.net_engine.proofs.Crossing.{Shown-sync}
+use Rattle.version_store.proofs.picture.Picture.answer_wide.Goals as goal
 
 pub returns-then-asks_for_loops : goal.returns-then-asks_for_loops
 returns-then-asks_for_loops g c = IfOk-weaker c.kept_loops.result _ _
@@ -11,8 +10,8 @@ returns-then-asks_for_loops g c = IfOk-weaker c.kept_loops.result _ _
     c.kept_loops.ensures
 
 pub returns : goal.returns
-returns g c = IfOk-weaker c.answer_wide.result _ _ (λ answer is h stands told. is h (rows-stand c.args.topology.now h c.args.self.now stands) told) c.answer_wide.ensures.answer
+returns g c = IfOk-weaker c.answer_wide.result _ _ (λ answer is h stands told. is h stands.stands told) c.answer_wide.ensures.answer
 
--- threads can share a version
+-- threads can share what is shown
 pub answer_wide-requires-sync-V : goal.answer_wide-requires-sync-V
-answer_wide-requires-sync-V g c κs within = search (Version-sync, sendable, crosses) depth 40
+answer_wide-requires-sync-V g c κs within = search (Shown-sync, sendable, crosses) depth 40

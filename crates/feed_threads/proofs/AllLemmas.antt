@@ -15,8 +15,9 @@ use Rattle.dn_model.specs.declared.entry.Entry.{Entry}
 use Rattle.dn_model.specs.declared.entry.Posted.{Posted}
 use Rattle.dn_model.specs.declared.topology.Topology.{Topology}
 use Rattle.dn_formats.proofs.TopologySound.{all_differ-push}
-use Rattle.dn_formats.specs.Lawful.{HoldsWhatWasTaken, IsOutcome, Tells, TellsFront, taken_along, pin_after}
-use Rattle.dn_formats.specs.Steps.{FeedRead}
+use Rattle.dn_formats.specs.Lawful.{HoldsWhatWasTaken, IsOutcome, Tells, TellsFront, entries_of_job, taken_along, pin_after}
+use Rattle.dn_formats.specs.Steps.{FrameStep, FeedRead}
+use Rattle.dn_model.specs.declared.entry.Op.{Op}
 use Rattle.dn_formats.specs.declared.script.Line.{Line}
 use Rattle.dn_formats.specs.declared.script.Line.TheVariants as line
 use Rattle.dn_formats.specs.declared.told.FeedTold.{FeedTold}
@@ -30,11 +31,12 @@ use Rattle.version_lock.specs.History.{posted_by, HasSameOf}
 use Rattle.version_lock.specs.Rule.{longer}
 use Rattle.feed_threads.specs.declared.job.JobDone.{JobDone}
 use Rattle.feed_threads.specs.AllJobs.{AllEnd, CameTo, Run, numbers_of_runs, same_no}
-use Rattle.feed_threads.specs.Feeds.{IsBroken}
+use Rattle.feed_threads.specs.Feeds.{Feed, IsBroken, StandsFront, TookFront}
 use Rattle.feed_threads.specs.Jobs.{AreReadBy, Ends, HasRunUnless, IsKeptSo, IsReadBy, Task}
 use Rattle.feed_threads.specs.Seats.{own_of, SawMore}
 use Rattle.feed_threads.specs.Tells.{IsOwnOutcome, TellsOwn}
 use Rattle.feed_threads.proofs.SeatLemmas.{saw-seat}
+use Rattle.feed_threads.proofs.TakeLemmas.{took-later}
 
 -- ---- what is told stays told
 
@@ -140,10 +142,26 @@ reads-later t left faults place limit seen later (r ∷ rs) (b ∷ bs) [] p is =
 reads-later t left faults place limit seen later (r ∷ rs) (b ∷ bs) (f ∷ fs) p is =
     (read-later t left faults place limit seen later r b.0 b.1 f p is.0, reads-later t left faults place limit seen later rs bs fs p is.1)
 
+took-front-later : (limit : ℕ) (seen later : List Posted) (kept : Option ℕ) (steps : List FrameStep) (ops : List Op) → IsPrefix seen later → TookFront limit seen kept steps ops → TookFront limit later kept steps ops
+took-front-later limit seen later None steps ops p took = took
+took-front-later limit seen later (Some n) steps ops p took = took-later limit seen later (Some n) steps ops p took
+
+stands-front-later : {S : Type 0} (t : Topology) (left : S → Option (List ℕ)) (faults place : S → ℕ) (limit : ℕ) (seen later : List Posted) (start : Reader S) (feed : Feed S) (steps : List FrameStep) (ops : List Op) → IsPrefix seen later →
+    StandsFront t left faults place limit seen start feed steps ops → StandsFront t left faults place limit later start feed steps ops
+stands-front-later t left faults place limit seen later start feed steps ops p st = record { reads = st.reads; took = took-front-later limit seen later feed.kept steps ops p st.took; unended = st.unended }
+
 run-later : {S : Type 0} (t : Topology) (left : S → Option (List ℕ)) (faults place : S → ℕ) (limit n : ℕ) (start : List Entry) (seen later : List Posted) (task : Task S) (wanted : Bool) (told : List Told) (backs : List (S × FeedTold)) →
     IsPrefix seen later → posted_by n later ≡ posted_by n seen →
     HasRunUnless t left faults place limit wanted n start seen task told backs → HasRunUnless t left faults place limit wanted n start later task told backs
-run-later t left faults place limit n start seen later task true told backs p same run = tt
+run-later t left faults place limit n start seen later task true told backs p same run = record {
+  strands = run.strands;
+  starts = run.starts;
+  backs_are = run.backs_are;
+  each = λ k d i. stands-front-later t left faults place limit seen later (get_or run.strands k d).start (get_or run.strands k d).now (get_or run.strands k d).steps (get_or run.strands k d).ops p (run.each k d i);
+  count = ap length (ap entries same) ∙ run.count;
+  order = λ fs zip.
+      subst (λ (es : List Entry). IsPrefix es (start ++ entries_of_job (record { number = task.number; lines = task.lines; feeds = fs }))) (sym (ap entries same)) (run.order fs zip);
+}
 run-later t left faults place limit n start seen later task false told backs p same run = record {
   feeds = run.feeds;
   read = reads-later t left faults place limit seen later task.feeds backs run.feeds p run.read;

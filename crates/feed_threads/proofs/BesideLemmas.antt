@@ -26,12 +26,14 @@ use Rattle.feed_threads.specs.AllJobs.{AllEnd, CameTo, Run, numbers_of_runs, sam
 use Rattle.feed_threads.specs.Beside.{CameByReading, IsNotRun, UsesAll, others_of}
 use Rattle.fast_pins.specs.Known.{Known, published}
 use Rattle.feed_threads.specs.declared.readers.Read.{Read}
-use Rattle.feed_threads.specs.Jobs.{AreReadBy, Ends, HasRunUnless, IsBack, IsFresh, Task}
+use Rattle.feed_threads.specs.Jobs.{AreReadBy, Ends, HasBegun, HasRunUnless, IsBack, IsFresh, Task}
 use Rattle.feed_threads.specs.Readers.{AllRead, HasRead, Reading}
 use Rattle.feed_threads.specs.Reads.{ReadsAlone, TellsRead, TellsReadFront}
 use Rattle.feed_threads.specs.Seats.{own_of, SawMore}
 use Rattle.feed_threads.specs.Tells.{TellsOwn}
-use Rattle.feed_threads.proofs.EndLemmas.{hands-none}
+use Rattle.feed_threads.specs.Feeds.{StandsFront}
+use Rattle.feed_threads.specs.Tracks.{Strand}
+use Rattle.feed_threads.proofs.EndLemmas.{fresh-begun, hands-none}
 use Rattle.feed_threads.proofs.LawLemmas.{all-unmap, map-map}
 use Rattle.feed_threads.proofs.ReadLemmas.{read-none, taken-none}
 use Rattle.feed_threads.proofs.SeatLemmas.{saw-seat}
@@ -189,7 +191,14 @@ module _ {S : Type 0} (t : Topology) (left : S → Option (List ℕ)) (faults pl
 
   run-unless : (wanted : Bool) (m : ℕ) (before seen : List Posted) (task : Task S) (done : JobDone S) → done.wanted_memory ≡ wanted → CameByReading t before seen task done → posted_by m seen ≡ posted_by m before →
       HasRunUnless t left faults place limit wanted m (own_of m before) seen task done.told done.feeds.items
-  run-unless true m before seen task done is r same = tt
+  run-unless true m before seen task done is r same = record {
+    strands = [];
+    starts = sym r.ends.feeds;
+    backs_are = sym r.ends.none;
+    each = All-nil (λ (s : Strand S). StandsFront t left faults place limit seen s.start s.now s.steps s.ops);
+    count = (let e : length (own_of m seen) ≡ length (own_of m before) = ap length (ap entries same) in omega (arith, e));
+    order = λ fs zip. let es : List Entry = entries_of_job (record { number = task.number; lines = task.lines; feeds = fs }) in (es, ap (λ (xs : List Entry). xs ++ es) (ap entries same));
+  }
   run-unless false m before seen task done is r same = record {
     feeds = [];
     read = no-feeds seen task.feeds done.feeds.items r.ends.feeds r.ends.none;
@@ -254,15 +263,16 @@ module _ {S : Type 0} (t : Topology) (left : S → Option (List ℕ)) (faults pl
   )
 
   wants : (wanted : Bool) (n : ℕ) (start : List Entry) (seen : List Posted) (task : Task S) (told : List Told) (backs : List (S × FeedTold)) → wanted ≡ true →
-      HasRunUnless t left faults place limit wanted n start seen task told backs
-  wants true n start seen task told backs e = tt
-  wants false n start seen task told backs e = absurd (cc (e))
+      HasBegun t left faults place limit n start seen task backs → HasRunUnless t left faults place limit wanted n start seen task told backs
+  wants true n start seen task told backs e begun = begun
+  wants false n start seen task told backs e begun = absurd (cc (e))
 
   -- the job that applies
-  pub not-run-ends : (n : ℕ) (start : List Entry) (seen : List Posted) (task : Task S) (done : JobDone S) → All (IsFresh t faults) task.feeds → IsNotRun task done →
+  pub not-run-ends : (n : ℕ) (start : List Entry) (seen : List Posted) (task : Task S) (done : JobDone S) → All (IsFresh t faults) task.feeds → own_of n seen ≡ start → IsNotRun task done →
       Ends t left faults place limit n start seen task done.wanted_memory done.told done.feeds.items
-  not-run-ends n start seen task done fresh is = record {
-    done = wants done.wanted_memory n start seen task done.told done.feeds.items is.wanted;
+  not-run-ends n start seen task done fresh same is = record {
+    done = wants done.wanted_memory n start seen task done.told done.feeds.items is.wanted
+        (subst (λ (bs : List (S × FeedTold)). HasBegun t left faults place limit n start seen task bs) (sym is.feeds) (fresh-begun t left faults place limit n start seen task fresh same));
     front = subst (λ (ts : List Told). TellsFront t (entries seen) task.lines ts) (sym is.told) ([], task.lines, refl, tt);
     back = subst (λ (bs : List (S × FeedTold)). AllZip (IsBack t left faults place limit) task.feeds bs) (sym is.feeds) (fresh-backs task.feeds fresh);
   }

@@ -26,16 +26,16 @@ use Rattle.dn_formats.specs.declared.told.FeedEnd.TheVariants as ends
 use Rattle.dn_formats.specs.declared.told.FeedTold.{FeedTold}
 use Rattle.dn_formats.specs.declared.told.Told.{Told}
 use Rattle.route_feed.specs.FeedReader.{Reader, IsAt, told_so_far}
-use Rattle.feed_threads.specs.Feeds.{Feed, end_with, end_of_feed, told_upto, told_with, StandsBy, CountsBy, HandsOut, Stands, TookOf}
-use Rattle.feed_threads.specs.Jobs.{Task, AreApart, same_router, unread, back_of, IsFresh, IsKeptSo, AreReadBy, IsBack, HasRun}
+use Rattle.feed_threads.specs.Feeds.{Feed, end_with, end_of_feed, told_upto, told_with, StandsBy, CountsBy, HandsOut, Stands, StandsFront, TookOf}
+use Rattle.feed_threads.specs.Jobs.{Task, AreApart, same_router, unread, back_of, IsFresh, IsKeptSo, AreReadBy, IsBack, HasBegun, HasRun}
 use Rattle.feed_threads.specs.Places.{ReadOn}
 use Rattle.feed_threads.specs.Seats.{own_of}
 use Rattle.feed_threads.specs.Takes.{IsCount, Passes}
 use Rattle.feed_threads.specs.Tells.{TellsOwn}
-use Rattle.feed_threads.specs.Tracks.{Strand, GoesOn, IsApartFrom, AllApart, Tracks, Whatever, rest_of, rests_of, rests_by}
-use Rattle.feed_threads.proofs.ListLemmas.{All-unmap, eqb-back}
+use Rattle.feed_threads.specs.Tracks.{Strand, GoesOn, IsApartFrom, AllApart, Tracks, Whatever, rest_of, rests_of, rests_by, taken_of_all}
+use Rattle.feed_threads.proofs.ListLemmas.{All-unmap, Parts, all-parts, all-through, eqb-back}
 use Rattle.feed_threads.proofs.RestLemmas.{asked-rests, filter-none, rests-left, taken_along-append, first_taken-append}
-use Rattle.feed_threads.proofs.StrandLemmas.{nows, Others, apart-others}
+use Rattle.feed_threads.proofs.StrandLemmas.{nows}
 use Rattle.feed_threads.proofs.TakeLemmas.{later-nil, passes-none}
 use Rattle.feed_threads.proofs.TellLemmas.{tells-untake, tells-lines}
 
@@ -117,67 +117,114 @@ told-is (Some n) told feed_no router steps end e is ended =
 -- ---- the rests of all feeds
 
 -- the line that takes the rest of a feed that was read
-abbrev rest_line : FeedRead → Line
+abbrev pub rest_line : FeedRead → Line
 rest_line f = line.Take 0 f.router None
 
+-- two feeds are not of one router
+pub record AreTwo (x y : FeedRead) : Type 0 where
+  pub router : (x.router.0 == y.router.0) ≡ false
+  pub back : (y.router.0 == x.router.0) ≡ false
+
+abbrev pub AllTwo : List FeedRead → Type 0
+AllTwo [] = Unit {0}
+AllTwo (f ∷ fs) = All (AreTwo f) fs × AllTwo fs
+
+two-back : (x y : FeedRead) → AreTwo x y → AreTwo y x
+two-back x y two = record { router = two.back; back = two.router }
+
+record BesideTwo (front : List FeedRead) (mid : FeedRead) (back : List FeedRead) : Type 0 where
+  in_front : All (AreTwo mid) front
+  in_back : All (AreTwo mid) back
+
+two-beside : (front : List FeedRead) (mid : FeedRead) (back : List FeedRead) → AllTwo (front ++ mid ∷ back) → BesideTwo front mid back
+two-beside [] mid back two = record { in_front = All-nil (AreTwo mid); in_back = two.0 }
+two-beside (x ∷ front) mid back two =
+    let here : Parts (AreTwo x) front mid back = all-parts (AreTwo x) front mid back two.0 in
+    let rest : BesideTwo front mid back = two-beside front mid back two.1 in
+    record { in_front = All-cons (AreTwo mid) x front (two-back x mid here.mid_is) rest.in_front; in_back = rest.in_back }
+
+-- feeds that were read are apart where those are of whose routers they are
+pub two-of : {S : Type 0} (R : Strand S → FeedRead → Type 0) → ((s : Strand S) (f : FeedRead) → R s f → f.router ≡ s.now.reader.told.router) →
+    (ss : List (Strand S)) (fs : List FeedRead) → AllZip R ss fs → AllApart ss → AllTwo fs
+two-of R same [] [] zip apart = tt
+two-of R same [] (f ∷ fs) zip apart = absurd zip
+two-of R same (s ∷ ss) [] zip apart = absurd zip
+two-of R same (s ∷ ss) (f ∷ fs) zip apart = (
+  all-through R (IsApartFrom s) (AreTwo f) ss fs (λ x g r a. record {
+    router = ap (λ (q : RouterId). q.0 == g.router.0) (same s f zip.0) ∙ ap (λ (q : RouterId). s.now.reader.told.router.0 == q.0) (same x g r) ∙ a.router;
+    back = ap (λ (q : RouterId). q.0 == f.router.0) (same x g r) ∙ ap (λ (q : RouterId). x.now.reader.told.router.0 == q.0) (same s f zip.0) ∙ a.back;
+  }) zip.1 apart.0,
+  two-of R same ss fs zip.1 apart.1,
+)
+
+-- the rests of feeds are those of their routers
+pub rests-of-routers : {S : Type 0} (R : Strand S → FeedRead → Type 0) → ((s : Strand S) (f : FeedRead) → R s f → f.router ≡ s.now.reader.told.router) →
+    (ss : List (Strand S)) (fs : List FeedRead) → AllZip R ss fs → map (λ x. rest_line (feed_of x)) ss ≡ map rest_line fs
+rests-of-routers R same [] [] zip = refl
+rests-of-routers R same [] (f ∷ fs) zip = absurd zip
+rests-of-routers R same (s ∷ ss) [] zip = absurd zip
+rests-of-routers R same (s ∷ ss) (f ∷ fs) zip =
+    ap (λ (q : RouterId). line.Take 0 q None ∷ map (λ x. rest_line (feed_of x)) ss) (sym (same s f zip.0))
+    ∙ ap (λ ls. rest_line f ∷ ls) (rests-of-routers R same ss fs zip.1)
+
 -- lines that name none of these feeds' routers
-unnamed-by : {S : Type 0} (s : Strand S) (ss : List (Strand S)) → All (IsApartFrom s) ss → list_any (takes s.now.reader.told.router) (map (λ x. rest_line (feed_of x)) ss) ≡ false
-unnamed-by s [] apart = refl
-unnamed-by {S = S} s (x ∷ ss) apart =
-    let here : (x.now.reader.told.router.0 == s.now.reader.told.router.0) ≡ false = (All-head (IsApartFrom s) x ss apart).back in
-    rw here (unnamed-by s ss (All-tail (IsApartFrom s) x ss apart))
+unnamed-by : (f : FeedRead) (fs : List FeedRead) → All (AreTwo f) fs → list_any (takes f.router) (map rest_line fs) ≡ false
+unnamed-by f [] two = refl
+unnamed-by f (g ∷ gs) two =
+    let here : (g.router.0 == f.router.0) ≡ false = (All-head (AreTwo f) g gs two).back in
+    rw here (unnamed-by f gs (All-tail (AreTwo f) g gs two))
 
 -- the feeds that the rests of all take first, after some lines, are those that no line takes
-first-rests : {S : Type 0} (lines : List Line) (front back : List (Strand S)) → AllApart (front ++ back) →
-    first_taken (map feed_of (front ++ back)) (lines ++ map (λ x. rest_line (feed_of x)) front) (map (λ x. rest_line (feed_of x)) back) ≡ filter (λ f. not (takes_feed lines f)) (map feed_of back)
-first-rests lines front [] apart = refl
-first-rests {S = S} lines front (s ∷ back) apart =
-    let rests : List (Strand S) → List Line = λ ss. map (λ x. rest_line (feed_of x)) ss in
-    let b : List Line = lines ++ rests front in
-    let f : FeedRead = feed_of s in
+first-rests : (lines : List Line) (front back : List FeedRead) → AllTwo (front ++ back) →
+    first_taken (front ++ back) (lines ++ map rest_line front) (map rest_line back) ≡ filter (λ f. not (takes_feed lines f)) back
+first-rests lines front [] two = refl
+first-rests lines front (f ∷ back) two =
+    let b : List Line = lines ++ map rest_line front in
     let p : FeedRead → Bool = λ g. takes g.router (rest_line f) && not (takes_feed b g) in
-    let others : Others front s back = apart-others front s back apart in
-    let none-of : (ss : List (Strand S)) → All (IsApartFrom s) ss → filter p (map feed_of ss) ≡ [] =
-    λ ss out. filter-none p (map feed_of ss) (All-map (λ g. p g ≡ false) feed_of ss (λ k d i. ap (λ c. c && not (takes_feed b (feed_of (get_or ss k d)))) (out k d i).router)) in
+    let others : BesideTwo front f back = two-beside front f back two in
+    let none-of : (gs : List FeedRead) → All (AreTwo f) gs → filter p gs ≡ [] =
+    λ gs out. filter-none p gs (λ k d i. ap (λ c. c && not (takes_feed b (get_or gs k d))) (out k d i).router) in
     let own : (f.router.0 == f.router.0) ≡ true = eq-eqb f.router.0 f.router.0 refl in
     let named : takes_feed b f ≡ takes_feed lines f =
-    list_any-append (takes f.router) lines (rests front) ∙ ap (λ c. takes_feed lines f || c) (unnamed-by s front others.in_front) ∙ or-false (takes_feed lines f) in
+    list_any-append (takes f.router) lines (map rest_line front) ∙ ap (λ c. takes_feed lines f || c) (unnamed-by f front others.in_front) ∙ or-false (takes_feed lines f) in
     let test : p f ≡ not (takes_feed lines f) = ap (λ c. c && not (takes_feed b f)) own ∙ ap not named in
-    let here : filter p (map feed_of (front ++ s ∷ back)) ≡ cond (not (takes_feed lines f)) (f ∷ []) [] =
-    ap (filter p) (map-append feed_of front (s ∷ back)) ∙ filter-append p (map feed_of front) (map feed_of (s ∷ back))
-    ∙ ap (λ gs. gs ++ filter p (map feed_of (s ∷ back))) (none-of front others.in_front)
+    let here : filter p (front ++ f ∷ back) ≡ cond (not (takes_feed lines f)) (f ∷ []) [] =
+    filter-append p front (f ∷ back)
+    ∙ ap (λ gs. gs ++ filter p (f ∷ back)) (none-of front others.in_front)
     ∙ ap (λ gs. cond (p f) (f ∷ gs) gs) (none-of back others.in_back) ∙ ap (λ c. cond c (f ∷ []) []) test in
-    let whole : (front ++ s ∷ []) ++ back ≡ front ++ s ∷ back = append_assoc front (s ∷ []) back in
-    let next : b ++ rest_line f ∷ [] ≡ lines ++ rests (front ++ s ∷ []) =
-    append_assoc lines (rests front) (rest_line f ∷ []) ∙ ap (λ ls. lines ++ ls) (sym (map-append (λ x. rest_line (feed_of x)) front (s ∷ []))) in
-    let rest : first_taken (map feed_of (front ++ s ∷ back)) (b ++ rest_line f ∷ []) (rests back) ≡ filter (λ f. not (takes_feed lines f)) (map feed_of back) =
-    ap (λ ls. first_taken (map feed_of (front ++ s ∷ back)) ls (rests back)) next
-    ∙ ap (λ (ss : List (Strand S)). first_taken (map feed_of ss) (lines ++ rests (front ++ s ∷ [])) (rests back)) (sym whole)
-    ∙ first-rests lines (front ++ s ∷ []) back (subst (λ (ss : List (Strand S)). AllApart ss) (sym whole) apart) in
-    ap (λ gs. gs ++ first_taken (map feed_of (front ++ s ∷ back)) (b ++ rest_line f ∷ []) (rests back)) here
+    let whole : (front ++ f ∷ []) ++ back ≡ front ++ f ∷ back = append_assoc front (f ∷ []) back in
+    let next : b ++ rest_line f ∷ [] ≡ lines ++ map rest_line (front ++ f ∷ []) =
+    append_assoc lines (map rest_line front) (rest_line f ∷ []) ∙ ap (λ ls. lines ++ ls) (sym (map-append rest_line front (f ∷ []))) in
+    let rest : first_taken (front ++ f ∷ back) (b ++ rest_line f ∷ []) (map rest_line back) ≡ filter (λ f. not (takes_feed lines f)) back =
+    ap (λ ls. first_taken (front ++ f ∷ back) ls (map rest_line back)) next
+    ∙ ap (λ (gs : List FeedRead). first_taken gs (lines ++ map rest_line (front ++ f ∷ [])) (map rest_line back)) (sym whole)
+    ∙ first-rests lines (front ++ f ∷ []) back (subst (λ (gs : List FeedRead). AllTwo gs) (sym whole) two) in
+    ap (λ gs. gs ++ first_taken (front ++ f ∷ back) (b ++ rest_line f ∷ []) (map rest_line back)) here
     ∙ ap (λ gs. cond (not (takes_feed lines f)) (f ∷ []) [] ++ gs) rest
-    ∙ joined (not (takes_feed lines f)) f (filter (λ f. not (takes_feed lines f)) (map feed_of back))
+    ∙ joined (not (takes_feed lines f)) f (filter (λ f. not (takes_feed lines f)) back)
   where
     joined : (b : Bool) (f : FeedRead) (gs : List FeedRead) → cond b (f ∷ []) [] ++ gs ≡ cond b (f ∷ gs) gs
     joined true f gs = refl
     joined false f gs = refl
+
+rests-themselves : (fs : List FeedRead) → rests_of (map rest_line fs) ≡ map rest_line fs
+rests-themselves [] = refl
+rests-themselves (f ∷ fs) = ap (λ ls. rest_line f ∷ ls) (rests-themselves fs)
 
 rests-again : {S : Type 0} (ss : List (Strand S)) → rests_of (map (λ x. rest_line (feed_of x)) ss) ≡ map (λ x. rest_line (feed_of x)) ss
 rests-again [] = refl
 rests-again (s ∷ ss) = ap (λ ls. rest_line (feed_of s) ∷ ls) (rests-again ss)
 
 -- A job's lines, then the rests of the feeds that they name, then those of all: what they take are the entries of the job.
-job-order : {S : Type 0} (number : ℕ) (lines : List Line) (ss : List (Strand S)) → AllApart ss →
-    taken_along (map feed_of ss) [] ((lines ++ rests_of lines) ++ map (λ x. rest_line (feed_of x)) ss)
-    ≡ entries_of_job (record { number = number; lines = lines; feeds = map feed_of ss })
-job-order {S = S} number lines ss apart =
-    let fs : List FeedRead = map feed_of ss in
-    let rests : List Line = map (λ x. rest_line (feed_of x)) ss in
+pub job-order : (number : ℕ) (lines : List Line) (fs : List FeedRead) → AllTwo fs →
+    taken_along fs [] ((lines ++ rests_of lines) ++ map rest_line fs) ≡ entries_of_job (record { number = number; lines = lines; feeds = fs })
+job-order number lines fs two =
+    let rests : List Line = map rest_line fs in
     let order : (lines ++ rests_of lines) ++ rests ≡ lines ++ rests_of (lines ++ rests) =
-    append_assoc lines (rests_of lines) rests ∙ ap (λ ls. lines ++ (rests_of lines ++ ls)) (sym (rests-again ss)) ∙ ap (λ ls. lines ++ ls) (sym (flat_map-append rest_of lines rests)) in
+    append_assoc lines (rests_of lines) rests ∙ ap (λ ls. lines ++ (rests_of lines ++ ls)) (sym (rests-themselves fs)) ∙ ap (λ ls. lines ++ ls) (sym (flat_map-append rest_of lines rests)) in
     let first : first_taken fs [] (lines ++ rests) ≡ first_taken fs [] lines ++ filter (λ f. not (takes_feed lines f)) fs =
     first_taken-append fs [] lines rests ∙ ap (λ gs. first_taken fs [] lines ++ gs)
-    (ap (λ ls. first_taken fs ls rests) (sym (append-nil lines)) ∙ first-rests lines [] ss apart) in
+    (ap (λ ls. first_taken fs ls rests) (sym (append-nil lines)) ∙ first-rests lines [] fs two) in
     ap (taken_along fs []) order ∙ taken_along-append fs [] lines (rests_of (lines ++ rests))
     ∙ ap (λ es. taken_along fs [] lines ++ es)
     (ap (λ b. taken_along fs b (rests_of (lines ++ rests))) (sym (append-nil lines)) ∙ rests-left fs lines [] (lines ++ rests) ∙ ap (flat_map (left_by lines)) first)
@@ -222,6 +269,10 @@ module _ {S : Type 0} (t : Topology) (left : S → Option (List ℕ)) (faults pl
         stands = λ bytes is. subst (λ (e : Option FeedEnd). StandsBy e t r (left r.source) bytes []) (sym going) (at-start r fresh bytes is);
       }
 
+  fresh-taken : (readers : List (Reader S)) → taken_of_all (map fresh_strand readers) ≡ 0
+  fresh-taken [] = refl
+  fresh-taken (r ∷ rs) = let rest : taken_of_all (map fresh_strand rs) ≡ 0 = fresh-taken rs in omega (arith, rest)
+
   -- a job that has done no line
   pub tracks-start : (number : ℕ) (readers : List (Reader S)) (news : List (Feed S)) (seen : List Posted) → news ≡ map unread readers → All (IsFresh t faults) readers → AreApart readers →
       Tracks t left faults place limit number (own_of number seen) readers news seen [] []
@@ -241,7 +292,24 @@ module _ {S : Type 0} (t : Topology) (left : S → Option (List ℕ)) (faults pl
     counted = All-map (λ (s : Strand S). IsCount (asked s.now.reader.told.router []) (length s.steps) (end_of_feed s.now)) fresh_strand readers
         (λ k d i. subst (λ (e : Option FeedEnd). IsCount (Some 0) 0 e) (sym (going-on (get_or readers k d) (fresh k d i))) refl);
     pinned = omega arith;
+    count = (let none : taken_of_all (map fresh_strand readers) ≡ 0 = fresh-taken readers in omega (arith, none));
     whatever = λ fs zip. record { order = sym (append-nil (own_of number seen)); tells = λ later. tt };
+  }
+
+  -- a job of which nothing was done
+  pub fresh-begun : (number : ℕ) (start : List Entry) (seen : List Posted) (task : Task S) → All (IsFresh t faults) task.feeds → own_of number seen ≡ start →
+      HasBegun t left faults place limit number start seen task (map (λ r. (r.source, r.told)) task.feeds)
+  fresh-begun number start seen task fresh is = record {
+    strands = map fresh_strand task.feeds;
+    starts = map-again fresh_strand (λ s. s.start) (λ r. refl) task.feeds;
+    backs_are = map-then fresh_strand (λ s. back_of s.now) task.feeds;
+    each = All-map (λ (s : Strand S). StandsFront t left faults place limit seen s.start s.now s.steps s.ops) fresh_strand task.feeds (λ k d i. record {
+      reads = hands-none (get_or task.feeds k d) (fresh k d i);
+      took = ([], refl);
+      unended = λ n e. cc;
+    });
+    count = (let none : taken_of_all (map fresh_strand task.feeds) ≡ 0 = fresh-taken task.feeds in let same : length (own_of number seen) ≡ length start = ap length is in omega (arith, none, same));
+    order = λ fs zip. let es : List Entry = entries_of_job (record { number = task.number; lines = task.lines; feeds = fs }) in (es, ap (λ (xs : List Entry). xs ++ es) is);
   }
 
   -- ---- some feeds go on from the strands: those of what was read so far
@@ -322,7 +390,7 @@ module _ {S : Type 0} (t : Topology) (left : S → Option (List ℕ)) (faults pl
       (ended-by before ss (done ++ s ∷ []) (subst (λ (xs : List (Strand S)). All (C xs) ss) (sym (append_assoc done (s ∷ []) ss)) (All-tail (C (done ++ s ∷ ss)) s ss counted)))
 
   -- the rests of the feeds at a job's beginning are those of the strands
-  rests-same : (news : List (Feed S)) (ss : List (Strand S)) (olds : List (Feed S)) → ReadOn t left faults place olds news → nows ss ≡ news → rests_by olds ≡ map (λ x. rest_line (feed_of x)) ss
+  pub rests-same : (news : List (Feed S)) (ss : List (Strand S)) (olds : List (Feed S)) → ReadOn t left faults place olds news → nows ss ≡ news → rests_by olds ≡ map (λ x. rest_line (feed_of x)) ss
   rests-same [] [] [] on is = refl
   rests-same [] [] (o ∷ olds) on is = absurd on
   rests-same [] (s ∷ ss) olds on is = cc
@@ -343,8 +411,9 @@ module _ {S : Type 0} (t : Topology) (left : S → Option (List ℕ)) (faults pl
       let fs : List FeedRead = map feed_of ss in
       let rests : List Line = map (λ x. rest_line (feed_of x)) ss in
       let before : List Line = task.lines ++ rests_of task.lines in
+      let itself : AllZip GoesOn ss fs = goes-itself seen ss tracks.woven.each in
       let same : rests_by olds ≡ rests = rests-same news ss olds on tracks.woven.nows in
-      let w : Whatever t number start seen (before ++ rests_by olds) tolds fs = tracks.whatever fs (goes-itself seen ss tracks.woven.each) in
+      let w : Whatever t number start seen (before ++ rests_by olds) tolds fs = tracks.whatever fs itself in
       let lines-are : before ++ rests_by olds ≡ before ++ rests_of rests = ap (λ ls. before ++ ls) (same ∙ sym (rests-again ss)) in
       let ended : All (λ (s : Strand S). end_of_feed s.now ≡ Some (end_or (end_of_feed s.now))) ss =
       ended-by before ss [] (subst (λ (ls : List Line). All (λ (s : Strand S). IsCount (asked s.now.reader.told.router ls) (length s.steps) (end_of_feed s.now)) ss) lines-are tracks.counted) in
@@ -353,7 +422,8 @@ module _ {S : Type 0} (t : Topology) (left : S → Option (List ℕ)) (faults pl
         read = subst (λ (xs : List (Feed S)). AreReadBy t left faults place limit seen task.feeds (map back_of xs) fs) tracks.woven.nows
             (subst (λ (rs : List (Reader S)). AreReadBy t left faults place limit seen rs (map back_of (nows ss)) fs) tracks.woven.starts
             (read-itself seen ss (subst (λ (rs : List (Reader S)). All (IsFresh t faults) rs) (sym tracks.woven.starts) fresh) tracks.woven.each tracks.woven.passes ended));
-        order = w.order ∙ ap (λ es. start ++ es) (ap (λ ls. taken_along fs [] (before ++ ls)) same ∙ job-order task.number task.lines ss tracks.woven.apart);
+        order = w.order ∙ ap (λ es. start ++ es) (ap (λ ls. taken_along fs [] (before ++ ls)) (same ∙ rests-of-routers GoesOn (λ s f g. g.router) ss fs itself)
+            ∙ job-order task.number task.lines fs (two-of GoesOn (λ s f g. g.router) ss fs itself tracks.woven.apart));
         tells = tells-rests t seen number start fs task.lines task.lines tolds
             (tells-rests t seen number start fs before rests tolds
             (subst (λ (ls : List Line). TellsOwn t seen number start fs [] 0 ls tolds) lines-are

@@ -236,16 +236,17 @@ all-ran {S = S} t left faults place limit lock old new tasks dones history first
     let none : old.seen ≡ [] = ap (λ (s : Caller). s.seen) first in
     let came : All (CameTo t left faults place limit [] history) all.runs =
     subst (λ (h : List Posted). All (CameTo t left faults place limit [] h) all.runs) (sym is) (subst (λ (h : List Posted). All (CameTo t left faults place limit h new.seen) all.runs) none all.each) in
+    let borne : All (λ (posted : Posted). Contains (numbers_of_runs all.runs) posted.seat) history =
+    bears all.runs new.used history own
+    (λ n has. ⊎_elim (λ (run-has : Contains (numbers_of_runs all.runs) n). inl run-has)
+    (λ (same : posted_by n new.seen ≡ posted_by n old.seen). inr (ap (posted_by n) is ∙ same ∙ ap (posted_by n) none)) (all.others n has)) in
     record {
+      came = record { runs = all.runs; tasks_are = all.tasks_are; dones_are = all.dones_are; each = came; differ = all.differ; only = borne };
       each = subst (λ (ts : List (Task S)). AllZip (IsBackFrom t left faults place limit history) ts dones) (sym all.tasks_are)
           (subst (λ (ds : List (JobDone S)). AllZip (IsBackFrom t left faults place limit history) (map (λ run. run.task) all.runs) ds) (sym all.dones_are)
           (zip-map (IsBackFrom t left faults place limit history) (λ (run : Run S). run.task) (λ run. run.done) all.runs
           (λ k d less. record { number = (came k d less).number; front = (came k d less).ends.front; back = (came k d less).ends.back })));
-      lawful = λ no-wants. all-lawful t left faults place limit tasks dones all.runs history all.tasks_are all.dones_are came
-          (bears all.runs new.used history own
-          (λ n has. ⊎_elim (λ (run-has : Contains (numbers_of_runs all.runs) n). inl run-has)
-          (λ (same : posted_by n new.seen ≡ posted_by n old.seen). inr (ap (posted_by n) is ∙ same ∙ ap (posted_by n) none)) (all.others n has)))
-          within apart no-wants;
+      lawful = λ no-wants. all-lawful t left faults place limit tasks dones all.runs history all.tasks_are all.dones_are came borne within apart no-wants;
     }
 
 -- a seat that has what the first seat had has every number

@@ -1,4 +1,5 @@
 pub mod AllLemmas
+pub mod BegunLemmas
 pub mod BesideLemmas
 pub mod Crossing
 pub mod DoesLemmas

@@ -55,17 +55,17 @@ module _ {S : Type 0} (t : Topology) (left : S → Option (List ℕ)) (faults pl
   took-at number (Ok o) at count feeds v new a b less value took =
       changed-at (λ x y. TakesSome t left faults place limit number count x y a b) feeds at v new less value took
 
-  pub failed-at : {A E : Type 0} (number : ℕ) (result : Result A E) (at : ℕ) (feeds : List (Feed S)) (v new : Feed S) (a b : List Posted) → at < length feeds → v ≡ get_or feeds at v →
-      OnErr result (GivesFirst t left faults place limit number v new a b) → OnErr result (FailsFrom t left faults place limit number at feeds (set feeds at new) a b)
-  failed-at number (Ok o) at feeds v new a b less value first = tt
-  failed-at number (Err e) at feeds v new a b less value first =
-      changed-at (λ x y. GivesFirst t left faults place limit number x y a b) feeds at v new less value first
+  pub failed-at : {A E : Type 0} (number : ℕ) (result : Result A E) (at : ℕ) (count : Option ℕ) (feeds : List (Feed S)) (v new : Feed S) (a b : List Posted) → at < length feeds → v ≡ get_or feeds at v →
+      OnErr result (GivesFirst t left faults place limit number count v new a b) → OnErr result (FailsFrom t left faults place limit number at count feeds (set feeds at new) a b)
+  failed-at number (Ok o) at count feeds v new a b less value first = tt
+  failed-at number (Err e) at count feeds v new a b less value first =
+      changed-at (λ x y. GivesFirst t left faults place limit number count x y a b) feeds at v new less value first
 
   -- memory was wanting at the feed that was found
-  pub failed-of : {A E : Type 0} (number : ℕ) (result : Result A E) (router : RouterId) (at : ℕ) (olds news : List (Feed S)) (a b : List Posted) → position (is_feed_of router) olds ≡ Some at →
-      OnErr result (FailsFrom t left faults place limit number at olds news a b) → OnErr result (FailsOf t left faults place limit number router olds news a b)
-  failed-of number (Ok o) router at olds news a b found first = tt
-  failed-of number (Err e) router at olds news a b found first = record { at = at; found = found; fails = first }
+  pub failed-of : {A E : Type 0} (number : ℕ) (result : Result A E) (router : RouterId) (at : ℕ) (count : Option ℕ) (olds news : List (Feed S)) (a b : List Posted) → position (is_feed_of router) olds ≡ Some at →
+      OnErr result (FailsFrom t left faults place limit number at count olds news a b) → OnErr result (FailsOf t left faults place limit number router count olds news a b)
+  failed-of number (Ok o) router at count olds news a b found first = tt
+  failed-of number (Err e) router at count olds news a b found first = record { at = at; found = found; fails = first }
 
   pub read-none : (feeds : List (Feed S)) → ReadOn t left faults place feeds feeds
   read-none feeds = zip-self (λ x y. ReadsOn t left faults place x.reader y.reader) (λ f. reads-none t left faults place f.reader) feeds

@@ -1,12 +1,15 @@
 -- What holds of all feeds of a job stays true when one of them gives more.
-use Rattle.std.proofs.Common.{◌≡◌, ℕ, zero, suc, ◌==◌, get_or, List, [], ◌∷◌, ◌++◌, length, take, map, All, Option, None, Some, refl, ap, sym, ◌∙◌, subst, append_assoc}
+use Rattle.std.proofs.Common.{◌≡◌, ℕ, zero, suc, ◌+◌, ◌==◌, get_or, List, [], ◌∷◌, ◌++◌, length, take, map, All, Option, None, Some, refl, ap, sym, ◌∙◌, subst, arith, length-append, append_assoc}
 use Rattle.std.specs.List.{AllZip}
 use Rattle.std.proofs.lemmas.List.{append-nil, length-map, map-append}
 use Rattle.std.proofs.lemmas.List.Elements.{All-nil, All-cons}
 use mathlib.Core.List.{IsPrefix}
-use Rattle.dn_formats.specs.Steps.{FrameStep, FeedRead, updates, kept_of}
+use Rattle.dn_formats.specs.Steps.{FrameStep, FeedRead, updates, entries_by, kept_of}
+use Rattle.dn_model.specs.declared.entry.Entry.{Entry}
+use Rattle.dn_model.specs.declared.entry.Entry.TheVariants.{Route}
 use Rattle.dn_model.specs.declared.entry.Op.{Op}
 use Rattle.dn_model.specs.declared.entry.Posted.{Posted}
+use Rattle.base.specs.declared.ids.RouterId.{RouterId}
 use Rattle.dn_model.specs.declared.topology.Topology.{Topology}
 use Rattle.dn_formats.specs.declared.told.FeedEnd.{FeedEnd}
 use Rattle.dn_formats.specs.declared.told.FeedEnd.TheVariants as ends
@@ -14,7 +17,7 @@ use Rattle.route_feed.specs.FeedReader.{Reader}
 use Rattle.feed_threads.specs.Feeds.{Feed, end_with, end_of_feed, Stands, TookOf}
 use Rattle.feed_threads.specs.Takes.{IsLater, Gives, Passes, TakesSome}
 use Rattle.feed_threads.specs.Places.{TakesFrom}
-use Rattle.feed_threads.specs.Tracks.{Strand, GoesOn, IsApartFrom, AllApart, Woven}
+use Rattle.feed_threads.specs.Tracks.{Strand, GoesOn, IsApartFrom, AllApart, Woven, taken_of_all}
 use Rattle.feed_threads.proofs.ListLemmas.{Parts, all-parts, all-joined}
 use Rattle.feed_threads.proofs.TakeLemmas.{updates-append, later-more, passes-more, stands-later}
 
@@ -83,7 +86,7 @@ apart-left x x' y r a = record {
   back = ap (λ q. y.now.reader.told.router.0 == q.0) r ∙ a.back;
 }
 
-apart-kept : {S : Type 0} (front : List (Strand S)) (mid mid' : Strand S) (back : List (Strand S)) → mid'.now.reader.told.router ≡ mid.now.reader.told.router →
+pub apart-kept : {S : Type 0} (front : List (Strand S)) (mid mid' : Strand S) (back : List (Strand S)) → mid'.now.reader.told.router ≡ mid.now.reader.told.router →
     AllApart (front ++ mid ∷ back) → AllApart (front ++ mid' ∷ back)
 apart-kept [] mid mid' back r a = (λ k d l. apart-left mid mid' _ r (a.0 k d l), a.1)
 apart-kept (x ∷ front) mid mid' back r a =
@@ -91,6 +94,26 @@ apart-kept (x ∷ front) mid mid' back r a =
       all-joined (IsApartFrom x) front mid' back here.front_all (apart-back mid' x (apart-left mid mid' x r (apart-back x mid here.mid_is))) here.back_all,
       apart-kept front mid mid' back r a.1,
     )
+
+-- ---- how many updates were taken
+
+taken-at : {S : Type 0} (front : List (Strand S)) (s s' : Strand S) (back : List (Strand S)) (n : ℕ) → length s'.ops ≡ length s.ops + n →
+    taken_of_all (front ++ s' ∷ back) ≡ taken_of_all (front ++ s ∷ back) + n
+taken-at [] s s' back n is = omega (arith, is)
+taken-at (x ∷ front) s s' back n is =
+    let rest : taken_of_all (front ++ s' ∷ back) ≡ taken_of_all (front ++ s ∷ back) + n = taken-at front s s' back n is in
+    omega (arith, rest)
+
+-- the job's own entries grow by as many as the updates that were taken of one feed
+pub count-grown : {S : Type 0} (front : List (Strand S)) (s s' : Strand S) (back : List (Strand S)) (own own' start : List Entry) (n : ℕ) (r : RouterId) (ops : List Op) →
+    s'.ops ≡ s.ops ++ ops → own' ≡ own ++ entries_by n r ops → length own ≡ length start + taken_of_all (front ++ s ∷ back) →
+    length own' ≡ length start + taken_of_all (front ++ s' ∷ back)
+count-grown front s s' back own own' start n r ops is grows count =
+    let more : length s'.ops ≡ length s.ops + length ops = ap length is ∙ length-append s.ops ops in
+    let all : taken_of_all (front ++ s' ∷ back) ≡ taken_of_all (front ++ s ∷ back) + length ops = taken-at front s s' back (length ops) more in
+    let len : length own' ≡ length own + length ops =
+    ap length grows ∙ length-append own (entries_by n r ops) ∙ ap (λ (k : ℕ). length own + k) (length-map ops (λ (op : Op). Route r n op)) in
+    omega (arith, all, len, count)
 
 -- ---- what the history kept
 

@@ -21,7 +21,7 @@ use Rattle.route_feed.specs.declared.feed_step.FeedStep.{FeedStep}
 use Rattle.route_feed.specs.declared.feed_step.FeedStep.TheVariants as answers
 use Rattle.feed_threads.specs.Feeds.{Feed, end_with, end_of_feed, handed_out, HandsOut, TookOf, Stands, ReadsOn}
 use Rattle.feed_threads.specs.Seats.{own_of}
-use Rattle.feed_threads.specs.Takes.{IsLater, IsCount, HasTaken, TookFirst, Passes, Gives, GivesFirst, TakesSome, TakesAny}
+use Rattle.feed_threads.specs.Takes.{IsLater, IsCount, IsWithin, HasTaken, TookFirst, Passes, Gives, GivesFirst, TakesSome, TakesAny}
 use Rattle.feed_threads.proofs.StepLemmas.{none-handed}
 
 -- ---- lists
@@ -121,6 +121,11 @@ counted-step (answers.CutShort o) = omega arith
 counted-step (answers.Lost o c) = omega arith
 counted-step answers.TooLong = omega arith
 counted-step answers.Faulted = omega arith
+
+-- so many frames are no more
+pub count-within : (n len : ℕ) (end : Option FeedEnd) → IsCount (Some n) len end → len ≤ n
+count-within n len None is = omega (arith, is)
+count-within n len (Some e) is = is
 
 kept-end : (kept : Option ℕ) (end : Option FeedEnd) → kept ≡ None → end_with kept end ≡ end
 kept-end kept end none = ap (λ (k : Option ℕ). end_with k end) none
@@ -442,12 +447,17 @@ module _ {S : Type 0} (t : Topology) (left : S → Option (List ℕ)) (faults pl
   -- the reader's answer was wanting
   pub first-none : (number : ℕ) (old : Feed S) (r : Reader S) (k : Option ℕ) (r' : Reader S) (seen : List Posted) → record { reader = r; kept = k } ≡ old → k ≡ None →
       ((start : Reader S) (steps : List FrameStep) → HandsOut t left faults place start r steps → HandsOut t left faults place start r' steps) →
-      GivesFirst t left faults place limit number old (record { reader = r'; kept = k }) seen seen
-  first-none number old r k r' seen is none waits =
+      ((end : FeedEnd) → r.told.end ≡ Some end → r' ≡ r) →
+      GivesFirst t left faults place limit number (Some 1) old (record { reader = r'; kept = k }) seen seen
+  first-none number old r k r' seen is none waits same =
       let f : Feed S = record { reader = r; kept = k } in
-      subst (λ (x : Feed S). GivesFirst t left faults place limit number x (record { reader = r'; kept = k }) seen seen) is (record {
+      subst (λ (x : Feed S). GivesFirst t left faults place limit number (Some 1) x (record { reader = r'; kept = k }) seen seen) is (record {
         kept = none;
+        unbroken = none;
         more = [];
+        within = omega arith;
+        later = later-nil (end_of_feed f);
+        ended = λ end e. ap (λ (q : Reader S). record { reader = q; kept = k }) (same end (sym (kept-end k r.told.end none) ∙ e));
         reads = λ start steps h. subst (λ (xs : List FrameStep). HandsOut t left faults place start r' xs) (sym (append-nil steps)) (waits start steps h);
         took = record { n = 0; few = omega arith; grows = sym (append-nil (own_of number seen)) };
       })
@@ -456,18 +466,24 @@ module _ {S : Type 0} (t : Topology) (left : S → Option (List ℕ)) (faults pl
   pub first-ops : (number : ℕ) (old : Feed S) (r : Reader S) (k : Option ℕ) (r' : Reader S) (new : Feed S) (seen-before seen : List Posted) (step : FeedStep) (ops : List Op) (skipped : ℕ) (result : Result Bool OutOfMemory) →
       record { reader = r; kept = k } ≡ old → k ≡ None → step ≡ answers.Ops ops skipped →
       ((start : Reader S) (steps : List FrameStep) → HandsOut t left faults place start r steps → HandsOut t left faults place start r' (steps ++ handed_out step)) →
-      r'.told.feed_no ≡ r.told.feed_no → r'.told.router ≡ r.told.router → new.reader ≡ r' →
+      ((end : FeedEnd) → r.told.end ≡ Some end → (r' ≡ r) × (end_of step ≡ Some end)) →
+      r'.told.feed_no ≡ r.told.feed_no → r'.told.router ≡ r.told.router → new.reader ≡ r' → OnErr result (new.kept ≡ None) →
       OnErr result (TookFirst number r'.told.feed_no r'.told.router seen-before seen ops) →
-      OnErr result (GivesFirst t left faults place limit number old new seen-before seen)
-  first-ops number old r k r' new seen-before seen step ops skipped (Ok b) is none step-is handed feed_no router reader took = tt
-  first-ops number old r k r' new seen-before seen step ops skipped (Err e) is none step-is handed feed_no router reader took =
+      OnErr result (GivesFirst t left faults place limit number (Some 1) old new seen-before seen)
+  first-ops number old r k r' new seen-before seen step ops skipped (Ok b) is none step-is handed again feed_no router reader going took = tt
+  first-ops number old r k r' new seen-before seen step ops skipped (Err e) is none step-is handed again feed_no router reader going took =
       let f : Feed S = record { reader = r; kept = k } in
+      let no-end : end_of_feed f ≡ None = kept-end k r.told.end none ∙ going-of (r' ≡ r) r.told.end step (ap end_of step-is) again in
       let same : ops ++ [] ≡ ops = append-nil ops in
       let first : TookFirst number r.told.feed_no r.told.router seen-before seen ops =
       subst (λ (q : RouterId). TookFirst number r.told.feed_no q seen-before seen ops) router (subst (λ (m : ℕ). TookFirst number m r'.told.router seen-before seen ops) feed_no took) in
-      subst (λ (x : Feed S). GivesFirst t left faults place limit number x new seen-before seen) is (record {
+      subst (λ (x : Feed S). GivesFirst t left faults place limit number (Some 1) x new seen-before seen) is (record {
         kept = none;
+        unbroken = going;
         more = Accepted ops skipped ∷ [];
+        within = omega arith;
+        later = subst (λ (o : Option FeedEnd). IsLater o (Accepted ops skipped ∷ [])) (sym no-end) tt;
+        ended = λ end e. absurd (cc (sym no-end ∙ e));
         reads = λ start steps h.
             subst (λ (q : Reader S). HandsOut t left faults place start q (steps ++ Accepted ops skipped ∷ [])) (sym reader)
             (subst (λ (s : FeedStep). HandsOut t left faults place start r' (steps ++ handed_out s)) step-is (handed start steps h));
@@ -475,9 +491,9 @@ module _ {S : Type 0} (t : Topology) (left : S → Option (List ℕ)) (faults pl
       })
 
   -- frames before that were taken whole
-  pub first-more : (number : ℕ) (old mid new : Feed S) (a b c : List Posted) (xs : List FrameStep) → Gives t left faults place limit number old mid a b xs →
-      GivesFirst t left faults place limit number mid new b c → GivesFirst t left faults place limit number old new a c
-  first-more number old mid new a b c xs x y =
+  pub first-more : (number : ℕ) (count all-count : Option ℕ) (old mid new : Feed S) (a b c : List Posted) (xs : List FrameStep) → Gives t left faults place limit number old mid a b xs →
+      (y : GivesFirst t left faults place limit number count mid new b c) → IsWithin all-count (length xs + length y.more) → GivesFirst t left faults place limit number all-count old new a c
+  first-more number count all-count old mid new a b c xs x y within =
       let n : ℕ = y.took.n in
       let unbroken-before : old.kept ≡ None = unbroken number old mid a b xs x y.kept in
       let all : x.ops ≡ updates xs = x.whole y.kept in
@@ -488,7 +504,11 @@ module _ {S : Type 0} (t : Topology) (left : S → Option (List ℕ)) (faults pl
       let few : n ≤ length (updates y.more) = y.took.few in
       record {
         kept = unbroken-before;
+        unbroken = y.unbroken;
         more = xs ++ y.more;
+        within = subst (λ (n : ℕ). IsWithin all-count n) (sym (length-append xs y.more)) within;
+        later = later-more (end_of_feed old) (end_of_feed mid) xs y.more x.later (λ e is. ap end_of_feed (x.ended e is).0 ∙ is) y.later;
+        ended = λ e is. y.ended e (ap end_of_feed (x.ended e is).0 ∙ is) ∙ (x.ended e is).0;
         reads = λ start steps h.
             let st : Stands t left faults place limit a start old steps (updates steps) = record {
               reads = h;
@@ -510,17 +530,23 @@ module _ {S : Type 0} (t : Topology) (left : S → Option (List ℕ)) (faults pl
 
   -- and where memory was wanting after more was seen
   pub first-still : {A E : Type 0} (result : Result A E) (number : ℕ) (feed : Feed S) (a b : List Posted) → feed.kept ≡ None → own_of number b ≡ own_of number a →
-      OnErr result (GivesFirst t left faults place limit number feed feed a b)
+      OnErr result (GivesFirst t left faults place limit number (Some 1) feed feed a b)
   first-still (Ok x) number feed a b none same = tt
   first-still (Err e) number feed a b none same = record {
     kept = none;
+    unbroken = none;
     more = [];
+    within = omega arith;
+    later = later-nil (end_of_feed feed);
+    ended = λ end is. refl;
     reads = λ start steps handed. subst (λ (xs : List FrameStep). HandsOut t left faults place start feed.reader xs) (sym (append-nil steps)) handed;
     took = record { n = 0; few = omega arith; grows = same ∙ sym (append-nil (own_of number a)) };
   }
 
   pub first-after : {A E : Type 0} (result : Result A E) (number m : ℕ) (old new : Feed S) (a b c : List Posted) → m ≡ number → IsPrefix a b → own_of number b ≡ own_of number a →
-      OnErr result (GivesFirst t left faults place limit m old new b c) → OnErr result (GivesFirst t left faults place limit number old new a c)
+      OnErr result (GivesFirst t left faults place limit m (Some 1) old new b c) → OnErr result (GivesFirst t left faults place limit number (Some 1) old new a c)
   first-after (Ok x) number m old new a b c is p same first = tt
   first-after (Err e) number m old new a b c is p same first =
-      first-more number old old new a b c [] (gives-still number old a b p same) (subst (λ (n : ℕ). GivesFirst t left faults place limit n old new b c) is first)
+      let here : GivesFirst t left faults place limit number (Some 1) old new b c = subst (λ (n : ℕ). GivesFirst t left faults place limit n (Some 1) old new b c) is first in
+      let one : length here.more ≤ 1 = here.within in
+      first-more number (Some 1) (Some 1) old old new a b c [] (gives-still number old a b p same) here (omega (arith, one))

@@ -26,10 +26,10 @@ use Rattle.feed_threads.specs.Places.{is_feed_of, TakesAt}
 use Rattle.feed_threads.specs.Seats.{own_of}
 use Rattle.feed_threads.specs.Takes.{IsCount, IsLater, TakesSome}
 use Rattle.feed_threads.specs.Tells.{Adds, IsOutcomeNow, TellsOwn}
-use Rattle.feed_threads.specs.Tracks.{Strand, GoesOn, IsApartFrom, Woven, Tracks, Whatever, last_pin}
+use Rattle.feed_threads.specs.Tracks.{Strand, GoesOn, IsApartFrom, Woven, Tracks, Whatever, last_pin, taken_of_all}
 use Rattle.feed_threads.proofs.ListLemmas.{Parts, all-parts, all-joined, All-unmap, all-through, eqb-back, ZipParts, zip-parts}
 use Rattle.feed_threads.proofs.OrderLemmas.{asked-push, taken_along-push, none-taken, one-alone, taken_by-own}
-use Rattle.feed_threads.proofs.StrandLemmas.{nows, grown, Others, apart-others, woven-took, goes-back, go-back, Grows, grows}
+use Rattle.feed_threads.proofs.StrandLemmas.{nows, grown, count-grown, Others, apart-others, woven-took, goes-back, go-back, Grows, grows}
 use Rattle.feed_threads.proofs.TakeLemmas.{count-more, prefix-length, stands-later}
 use Rattle.feed_threads.proofs.TellLemmas.{tells-take, tells-ask, outcome-own, pin-now}
 
@@ -65,10 +65,10 @@ counted-other before l s none is =
     (count-zero (asked s.now.reader.told.router before) (length s.steps) (end_of_feed s.now) is)
 
 -- a feed's router isn't the one that a line names
-pub other-takes : {S : Type 0} (mid s : Strand S) (f : FeedRead) (l : ℕ) (r : RouterId) (count : Option ℕ) → (mid.now.reader.told.router.0 == r.0) ≡ true → IsApartFrom mid s → GoesOn s f →
+pub other-takes : {S : Type 0} (mid s : Strand S) (f : FeedRead) (l : ℕ) (r : RouterId) (count : Option ℕ) → (mid.now.reader.told.router.0 == r.0) ≡ true → IsApartFrom mid s → f.router ≡ s.now.reader.told.router →
     takes f.router (line.Take l r count) ≡ false
-other-takes mid s f l r count this apart g =
-    ap (λ q. r.0 == q.0) g.router ∙ ap (λ n. n == s.now.reader.told.router.0) (sym (eqb-true mid.now.reader.told.router.0 r.0 this)) ∙ apart.router
+other-takes mid s f l r count this apart router =
+    ap (λ q. r.0 == q.0) router ∙ ap (λ n. n == s.now.reader.told.router.0) (sym (eqb-true mid.now.reader.told.router.0 r.0 this)) ∙ apart.router
 
 other-asked : {S : Type 0} (mid s : Strand S) (l : ℕ) (r : RouterId) (count : Option ℕ) → (mid.now.reader.told.router.0 == r.0) ≡ true → IsApartFrom mid s →
     asked_by s.now.reader.told.router (line.Take l r count) ≡ Some 0
@@ -137,9 +137,9 @@ module _ {S : Type 0} (t : Topology) (left : S → Option (List ℕ)) (faults pl
       ∙ ap (λ n. entries_by n z.y.router ops) g.feed_no ∙ ap (λ q. entries_by mid.now.reader.told.feed_no q ops) g.router in
       let alone : flat_map (taken_by before y) (z.front_ys ++ z.y ∷ z.back_ys) ≡ es =
       one-alone (taken_by before y) z.front_ys z.y z.back_ys es
-      (none-taken before y z.front_ys (all-through GoesOn (IsApartFrom mid) (λ f. takes f.router y ≡ false) front z.front_ys (λ s f g p. other-takes mid s f l r count this p g) z.front_zip others.in_front))
+      (none-taken before y z.front_ys (all-through GoesOn (IsApartFrom mid) (λ f. takes f.router y ≡ false) front z.front_ys (λ s f g p. other-takes mid s f l r count this p g.router) z.front_zip others.in_front))
       own
-      (none-taken before y z.back_ys (all-through GoesOn (IsApartFrom mid) (λ f. takes f.router y ≡ false) back z.back_ys (λ s f g p. other-takes mid s f l r count this p g) z.back_zip others.in_back)) in
+      (none-taken before y z.back_ys (all-through GoesOn (IsApartFrom mid) (λ f. takes f.router y ≡ false) back z.back_ys (λ s f g p. other-takes mid s f l r count this p g.router) z.back_zip others.in_back)) in
       x.adds.grows ∙ ap (λ w. w ++ es) order ∙ append_assoc start (taken_along fs [] before) es
       ∙ ap (λ w. start ++ w) (ap (λ w. taken_along fs [] before ++ w) (sym (ap (flat_map (taken_by before y)) z.whole ∙ alone)) ∙ sym (taken_along-push fs [] before y))
 
@@ -147,9 +147,10 @@ module _ {S : Type 0} (t : Topology) (left : S → Option (List ℕ)) (faults pl
       (front : List (Strand S)) (mid : Strand S) (back : List (Strand S)) (new : Feed S) (l : ℕ) (r : RouterId) (count : Option ℕ) → IsPrefix a b →
       (mid.now.reader.told.router.0 == r.0) ≡ true → news' ≡ nows front ++ new ∷ nows back → TakesSome t left faults place limit number count mid.now new a b →
       Woven t left faults place limit olds news a (front ++ mid ∷ back) → All (Counted before) (front ++ mid ∷ back) → last_pin tolds ≤ length a →
+      length (own_of number a) ≡ length start + taken_of_all (front ++ mid ∷ back) →
       ((feeds : List FeedRead) → AllZip GoesOn (front ++ mid ∷ back) feeds → Whatever t number start a before tolds feeds) →
       Tracks t left faults place limit number start olds news' b (before ++ line.Take l r count ∷ []) tolds
-  tracks-grown start olds news news' a b before tolds front mid back new l r count begins this news-are x w counted pinned whatever =
+  tracks-grown start olds news news' a b before tolds front mid back new l r count begins this news-are x w counted pinned count-before whatever =
       let y : Line = line.Take l r count in
       let s' : Strand S = grown mid new x.more x.adds.ops in
       let P : Strand S → Type 0 = λ s. Stands t left faults place limit a s.start s.now s.steps s.ops in
@@ -165,6 +166,7 @@ module _ {S : Type 0} (t : Topology) (left : S → Option (List ℕ)) (faults pl
             (counted-own a b before mid new l r count this x parts.mid_is)
             (λ k d i. counted-other before y (get_or back k d) (other-asked mid (get_or back k d) l r count this (others.in_back k d i)) (parts.back_all k d i));
         pinned = omega (arith, longer, pinned);
+        count = count-grown front mid s' back (own_of number a) (own_of number b) start mid.now.reader.told.feed_no mid.now.reader.told.router x.adds.ops refl x.adds.grows count-before;
         whatever = λ fs zip.
             let back-zip : AllZip GoesOn (front ++ mid ∷ back) fs = go-back t left faults place limit number front mid back new a b x.more fs x.adds st zip in
             record {
@@ -186,6 +188,7 @@ module _ {S : Type 0} (t : Topology) (left : S → Option (List ℕ)) (faults pl
         woven = tracks.woven;
         counted = λ k d i. counted-other before y (get_or tracks.strands k d) (ap (λ b. if b then count else Some 0) (eqb-back (get_or tracks.strands k d).now.reader.told.router.0 r.0 (apart k d i))) (tracks.counted k d i);
         pinned = tracks.pinned;
+        count = tracks.count;
         whatever = λ fs zip.
             let w : Whatever t number start a before tolds fs = tracks.whatever fs zip in
             record {
@@ -209,6 +212,7 @@ module _ {S : Type 0} (t : Topology) (left : S → Option (List ℕ)) (faults pl
       tracks-grown start olds news news' a b before tolds g.front g.mid g.back g.new l r count begins
       (found-feed r g.front g.mid g.back news at w.nows g.place_is found) g.news_are g.step w
       (subst (λ (ss : List (Strand S)). All (Counted before) ss) g.whole tracks.counted) tracks.pinned
+      (subst (λ (ss : List (Strand S)). length (own_of number a) ≡ length start + taken_of_all ss) g.whole tracks.count)
       (subst (λ (ss : List (Strand S)). (feeds : List FeedRead) → AllZip GoesOn ss feeds → Whatever t number start a before tolds feeds) g.whole tracks.whatever)
 
   -- ---- a line that asks
@@ -235,6 +239,7 @@ module _ {S : Type 0} (t : Topology) (left : S → Option (List ℕ)) (faults pl
         pinned = subst (λ (xs : List Told). last_pin xs ≤ length b) (sym adds.added)
             (subst (λ (n : ℕ). n ≤ length b) (sym (fold-append (λ p told. pin_after p told.outcome) 0 tolds (adds.told ∷ [])))
             (pin-now t b (last_pin tolds) q adds.told.outcome adds.good below));
+        count = ap length same ∙ tracks.count;
         whatever = λ fs zip.
             let v : Whatever t number start a before tolds fs = tracks.whatever fs zip in
             let order : own_of number b ≡ start ++ taken_along fs [] before = same ∙ v.order in

@@ -100,8 +100,19 @@ module _ {S : Type 0} (t : Topology) (left : S → Option (List ℕ)) (faults pl
     pub front : TellsFront t (entries seen) task.lines done.told
     pub back : AllZip (IsBack t left faults place limit) task.feeds done.feeds.items
 
+  -- Each job came to what was given back for it, under a number that no other had, and each entry of the history bears one of
+  -- these numbers.
+  pub record AllCame (tasks : List (Task S)) (seen : List Posted) (dones : List (JobDone S)) : Type 0 where
+    pub runs : List (Run S)
+    pub tasks_are : tasks ≡ map (λ run. run.task) runs
+    pub dones_are : dones ≡ map (λ run. run.done) runs
+    pub each : All (CameTo t left faults place limit [] seen) runs
+    pub differ : IsTrue (all_differ same_no (numbers_of_runs runs))
+    pub only : All (λ posted. Contains (numbers_of_runs runs) posted.seat) seen
+
   -- Jobs ran over a history of their own, which is this at the end. Where none of them wanted memory all were done, and what
   -- they made and told is lawful.
   pub record AllRan (tasks : List (Task S)) (seen : List Posted) (dones : List (JobDone S)) : Type 0 where
     pub each : AllZip (IsBackFrom seen) tasks dones
+    pub came : AllCame tasks seen dones
     pub lawful : All (λ done. done.wanted_memory ≡ false) dones → AreLawful tasks seen dones

@@ -1,5 +1,6 @@
 -- Where a job's feed stands: what its reader handed out, and what the history took of that.
 use Rattle.std.specs.Prelude.{ℕ, ◌≡◌, ◌<◌, ◌≤◌, List, [], ◌∷◌, ◌++◌, length, take, Option, None, Some}
+use mathlib.Core.List.{IsPrefix}
 use Rattle.dn_formats.specs.Steps.{FrameStep, Accepted, Refused, updates}
 use Rattle.dn_model.specs.declared.entry.Op.{Op}
 use Rattle.dn_model.specs.declared.entry.Posted.{Posted}
@@ -76,6 +77,11 @@ abbrev pub TookOf : ℕ → List Posted → Option ℕ → List FrameStep → Li
 TookOf limit seen None steps ops = ops ≡ updates steps
 TookOf limit seen (Some n) steps ops = (ops ≡ take n (updates steps)) × IsBroken limit seen steps n
 
+-- The same where memory was wanting: the first of the updates, where no full history broke the feed off.
+abbrev pub TookFront : ℕ → List Posted → Option ℕ → List FrameStep → List Op → Type 0
+TookFront limit seen None steps ops = IsPrefix ops (updates steps)
+TookFront limit seen (Some n) steps ops = TookOf limit seen (Some n) steps ops
+
 module _ {S : Type 0} (t : Topology) (left : S → Option (List ℕ)) (faults place : S → ℕ) where
   -- A reader that began as `start` has handed out these frames and tells of them. Its source has its place, its count of
   -- faults goes with the reader's end, and where it tells its bytes the frames are what they come to.
@@ -93,6 +99,12 @@ module _ {S : Type 0} (t : Topology) (left : S → Option (List ℕ)) (faults pl
   pub record Stands (limit : ℕ) (seen : List Posted) (start : Reader S) (feed : Feed S) (steps : List FrameStep) (ops : List Op) : Type 0 where
     pub reads : HandsOut start feed.reader steps
     pub took : TookOf limit seen feed.kept steps ops
+    pub unended : (n : ℕ) → feed.kept ≡ Some n → feed.reader.told.end ≡ None
+
+  -- the same where memory was wanting for one of the updates
+  pub record StandsFront (limit : ℕ) (seen : List Posted) (start : Reader S) (feed : Feed S) (steps : List FrameStep) (ops : List Op) : Type 0 where
+    pub reads : HandsOut start feed.reader steps
+    pub took : TookFront limit seen feed.kept steps ops
     pub unended : (n : ℕ) → feed.kept ≡ Some n → feed.reader.told.end ≡ None
 
   -- whatever a reader had handed out before, it has then handed out some frames more, and it is of the same router

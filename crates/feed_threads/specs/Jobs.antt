@@ -1,6 +1,7 @@
 -- Jobs: what each is to do, and what it came to.
-use Rattle.std.specs.Prelude.{ℕ, ◌≡◌, ◌<◌, ◌≤◌, ◌*◌, ◌==◌, Bool, IsTrue, true, false, List, [], ◌∷◌, ◌++◌, length, map, Option, None, Some}
+use Rattle.std.specs.Prelude.{ℕ, ◌≡◌, ◌+◌, ◌<◌, ◌≤◌, ◌*◌, ◌==◌, Bool, IsTrue, true, false, List, [], ◌∷◌, ◌++◌, length, map, All, Option, None, Some}
 use Rattle.std.specs.List.{AllZip}
+use mathlib.Core.List.{IsPrefix}
 use Rattle.dn_formats.specs.Lawful.{entries_of_job, TellsFront}
 use Rattle.dn_formats.specs.Steps.{FrameStep, FeedRead, updates, told_of}
 use Rattle.dn_model.specs.Entry.{entries}
@@ -14,9 +15,10 @@ use Rattle.dn_formats.specs.declared.script.Script.{Script}
 use Rattle.dn_formats.specs.declared.told.FeedTold.{FeedTold}
 use Rattle.dn_formats.specs.declared.told.Told.{Told}
 use Rattle.route_feed.specs.FeedReader.{Reader, told_so_far}
-use Rattle.feed_threads.specs.Feeds.{Feed, end_with, HandsOut, IsBroken, told_with}
+use Rattle.feed_threads.specs.Feeds.{Feed, end_with, HandsOut, IsBroken, StandsFront, told_with}
 use Rattle.feed_threads.specs.Seats.{own_of}
 use Rattle.feed_threads.specs.Tells.{TellsOwn}
+use Rattle.feed_threads.specs.Tracks.{Strand, MayBecome, taken_of_all}
 
 -- a job: its number, its script's lines, none where it has no script, and the readers of the feeds that it alone takes
 pub record Task (S : Type 0) : Type 0 where
@@ -98,9 +100,22 @@ module _ {S : Type 0} (t : Topology) (left : S → Option (List ℕ)) (faults pl
     pub order : own_of number seen ≡ start ++ entries_of_job (record { number = task.number; lines = task.lines; feeds = feeds })
     pub tells : TellsOwn t seen number start feeds [] 0 task.lines told
 
-  -- what a job came to: it was done, or it wanted memory
+  -- Memory was wanting before a job of these lines and feeds was done, by a seat of this number whose own entries were `start`
+  -- before it. From where the feeds stood when they were given back: whatever they may come to, `start` and then the entries
+  -- of the job begin with the seat's own entries; these are as many as the history took of the feeds; and a feed is told as
+  -- full only where a full history refused one of its updates, after as many as are told.
+  pub record HasBegun (number : ℕ) (start : List Entry) (seen : List Posted) (task : Task S) (backs : List (S × FeedTold)) : Type 0 where
+    pub strands : List (Strand S)
+    pub starts : map (λ s. s.start) strands ≡ task.feeds
+    pub backs_are : map (λ s. back_of s.now) strands ≡ backs
+    pub each : All (λ s. StandsFront t left faults place limit seen s.start s.now s.steps s.ops) strands
+    pub count : length (own_of number seen) ≡ length start + taken_of_all strands
+    pub order : (feeds : List FeedRead) → AllZip MayBecome strands feeds →
+        IsPrefix (own_of number seen) (start ++ entries_of_job (record { number = task.number; lines = task.lines; feeds = feeds }))
+
+  -- what a job came to: it was done, or memory was wanting before
   abbrev pub HasRunUnless : Bool → ℕ → List Entry → List Posted → Task S → List Told → List (S × FeedTold) → Type 0
-  HasRunUnless true number start seen task told backs = Unit {0}
+  HasRunUnless true number start seen task told backs = HasBegun number start seen task backs
   HasRunUnless false number start seen task told backs = HasRun number start seen task told backs
 
   -- What a job came to, in any case: every source was given back, and what is told is right and is that of a front of its

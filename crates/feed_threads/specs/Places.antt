@@ -46,12 +46,12 @@ module _ {S : Type 0} (t : Topology) (left : S → Option (List ℕ)) (faults pl
   TakesOf number router count olds news seen-before seen = TakesAt number (position (is_feed_of router) olds) count olds news seen-before seen
 
   -- one of the feeds, at this place, gave frames, and memory was wanting for one of their updates or for a frame
-  abbrev pub FailsFrom : ℕ → ℕ → List (Feed S) → List (Feed S) → List Posted → List Posted → Type 0
-  FailsFrom number at olds news seen-before seen =
-      ChangesAt (λ old new. GivesFirst t left faults place limit number old new seen-before seen) at olds news
+  abbrev pub FailsFrom : ℕ → ℕ → Option ℕ → List (Feed S) → List (Feed S) → List Posted → List Posted → Type 0
+  FailsFrom number at count olds news seen-before seen =
+      ChangesAt (λ old new. GivesFirst t left faults place limit number count old new seen-before seen) at olds news
 
   -- memory was wanting at the feed of this router, which the job has then
-  pub record FailsOf (number : ℕ) (router : RouterId) (olds news : List (Feed S)) (seen-before seen : List Posted) : Type 0 where
+  pub record FailsOf (number : ℕ) (router : RouterId) (count : Option ℕ) (olds news : List (Feed S)) (seen-before seen : List Posted) : Type 0 where
     pub at : ℕ
     pub found : position (is_feed_of router) olds ≡ Some at
-    pub fails : FailsFrom number at olds news seen-before seen
+    pub fails : FailsFrom number at count olds news seen-before seen

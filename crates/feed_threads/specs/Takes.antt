@@ -23,6 +23,11 @@ IsCount (Some n) len (Some end) = len ≤ n
 IsCount None len None = ⊥
 IsCount None len (Some end) = Unit {0}
 
+-- no more frames than a count asks for
+abbrev pub IsWithin : Option ℕ → ℕ → Type 0
+IsWithin None len = Unit {0}
+IsWithin (Some n) len = len ≤ n
+
 -- The history took the updates of one frame: all of them, and the feed goes on; or only the first of them, since it was
 -- full, and `kept` then says how many of the feed it took.
 abbrev pub HasTaken : ℕ → ℕ → Bool → Option ℕ → FeedTold → List Posted → List Posted → List Op → Type 0
@@ -59,11 +64,16 @@ module _ {S : Type 0} (t : Topology) (left : S → Option (List ℕ)) (faults pl
     pub feed_no : new.reader.told.feed_no ≡ old.reader.told.feed_no
     pub router : new.reader.told.router ≡ old.reader.told.router
 
-  -- A feed that no full history broke off gave these frames more, and then memory was wanting: the job's own entries grew by
-  -- the first of their updates, so that no later update stands where an earlier one is missing.
-  pub record GivesFirst (old new : Feed S) (seen-before seen : List Posted) : Type 0 where
+  -- A feed that no full history broke off gave these frames more, as many as the count says or fewer, and then memory was
+  -- wanting: the job's own entries grew by the first of their updates, so that no later update stands where an earlier one
+  -- is missing. Past its end a feed gives nothing.
+  pub record GivesFirst (count : Option ℕ) (old new : Feed S) (seen-before seen : List Posted) : Type 0 where
     pub kept : old.kept ≡ None
+    pub unbroken : new.kept ≡ None
     pub more : List FrameStep
+    pub within : IsWithin count (length more)
+    pub later : IsLater (end_of_feed old) more
+    pub ended : (end : FeedEnd) → end_of_feed old ≡ Some end → new ≡ old
     pub reads : (start : Reader S) (steps : List FrameStep) →
         HandsOut t left faults place start old.reader steps → HandsOut t left faults place start new.reader (steps ++ more)
     pub took : TookFirst number old.reader.told.feed_no old.reader.told.router seen-before seen (updates more)

@@ -1,6 +1,7 @@
 -- What a job over several feeds has taken and told so far.
-use Rattle.std.specs.Prelude.{ℕ, ◌≡◌, ◌≤◌, ◌==◌, false, List, [], ◌∷◌, ◌++◌, length, map, fold, All, Option, None}
+use Rattle.std.specs.Prelude.{ℕ, ◌≡◌, ◌+◌, ◌≤◌, ◌==◌, false, List, [], ◌∷◌, ◌++◌, length, map, fold, All, Option, None, Some}
 use Rattle.std.specs.List.{AllZip, flat_map}
+use mathlib.Core.List.{IsPrefix}
 use Rattle.dn_formats.specs.Lawful.{asked, pin_after, taken_along, TellsFront}
 use Rattle.dn_formats.specs.Steps.{FrameStep, FeedRead, kept_of}
 use Rattle.dn_model.specs.Entry.{entries}
@@ -12,7 +13,7 @@ use Rattle.dn_formats.specs.declared.script.Line.{Line}
 use Rattle.dn_formats.specs.declared.script.Line.TheVariants.{Take, Ask}
 use Rattle.dn_formats.specs.declared.told.Told.{Told}
 use Rattle.route_feed.specs.FeedReader.{Reader}
-use Rattle.feed_threads.specs.Feeds.{Feed, end_of_feed, Stands}
+use Rattle.feed_threads.specs.Feeds.{Feed, end_of_feed, Stands, StandsFront}
 use Rattle.feed_threads.specs.Seats.{own_of}
 use Rattle.feed_threads.specs.Takes.{IsLater, IsCount, Passes}
 use Rattle.feed_threads.specs.Tells.{TellsOwn}
@@ -50,6 +51,26 @@ pub record GoesOn {S : Type 0} (s : Strand S) (f : FeedRead) : Type 0 where
   pub kept : kept_of f s.steps ≡ s.ops
   pub none_after_end : IsLater (end_of_feed s.now) later
 
+-- how many updates the history took of feeds in all
+abbrev pub taken_of_all : {S : Type 0} → List (Strand S) → ℕ
+taken_of_all [] = 0
+taken_of_all (s ∷ ss) = length s.ops + taken_of_all ss
+
+-- how many updates a history that took so many of a feed may take of it in the end: these or more, and where it broke the
+-- feed off just these
+abbrev pub MayKeep : Option ℕ → ℕ → ℕ → Type 0
+MayKeep None so-far kept = so-far ≤ kept
+MayKeep (Some n) so-far kept = kept ≡ so-far
+
+-- What a strand's feed may come to: it has the strand's frames, and any others behind them where it hasn't ended.
+pub record MayBecome {S : Type 0} (s : Strand S) (f : FeedRead) : Type 0 where
+  pub feed_no : f.feed_no ≡ s.now.reader.told.feed_no
+  pub router : f.router ≡ s.now.reader.told.router
+  pub later : List FrameStep
+  pub steps : f.steps ≡ s.steps ++ later
+  pub kept : MayKeep s.now.kept (length s.ops) f.kept
+  pub none_after_end : IsLater (end_of_feed s.now) later
+
 -- two feeds are not of one router
 pub record IsApartFrom {S : Type 0} (x y : Strand S) : Type 0 where
   pub router : (x.now.reader.told.router.0 == y.now.reader.told.router.0) ≡ false
@@ -84,7 +105,19 @@ module _ {S : Type 0} (t : Topology) (left : S → Option (List ℕ)) (faults pl
     pub woven : Woven olds news seen strands
     pub counted : All (λ s. IsCount (asked s.now.reader.told.router before) (length s.steps) (end_of_feed s.now)) strands
     pub pinned : last_pin tolds ≤ length seen
+    pub count : length (own_of number seen) ≡ length start + taken_of_all strands
     pub whatever : (feeds : List FeedRead) → AllZip GoesOn strands feeds → Whatever t number start seen before tolds feeds
+
+  -- Memory was wanting within these lines: what was there before the job and then what the lines give begins with the job's
+  -- own entries, whatever its feeds come to. They are as many as the history took of the feeds.
+  pub record Begun (number : ℕ) (start : List Entry) (olds : List (Reader S)) (news : List (Feed S)) (seen : List Posted) (lines : List Line) : Type 0 where
+    pub strands : List (Strand S)
+    pub starts : map (λ s. s.start) strands ≡ olds
+    pub nows : map (λ s. s.now) strands ≡ news
+    pub each : All (λ s. StandsFront t left faults place limit seen s.start s.now s.steps s.ops) strands
+    pub apart : AllApart strands
+    pub count : length (own_of number seen) ≡ length start + taken_of_all strands
+    pub order : (feeds : List FeedRead) → AllZip MayBecome strands feeds → IsPrefix (own_of number seen) (start ++ taken_along feeds [] lines)
 
 module _ {S : Type 0} (lock : Lock) (left : S → Option (List ℕ)) (faults place : S → ℕ) where
   -- the same of a job whose seat is this and works over this lock
@@ -98,6 +131,12 @@ module _ {S : Type 0} (lock : Lock) (left : S → Option (List ℕ)) (faults pla
     pub on : (start : List Entry) (readers : List (Reader S)) (before : List Line) →
         HasDone old.number start readers olds old.seen before tolds →
         HasDone old.number start readers news new.seen (before ++ lines) tolds'
+
+  -- Memory was wanting in a call at these lines: a job that had done others before has then begun these.
+  pub record Breaks (old new : Caller) (olds news : List (Feed S)) (tolds : List Told) (lines : List Line) : Type 0 where
+    pub on : (start : List Entry) (readers : List (Reader S)) (before : List Line) →
+        HasDone old.number start readers olds old.seen before tolds →
+        Begun lock.setup.basis.topology left faults place lock.setup.basis.limit old.number start readers news new.seen (before ++ lines)
 
   -- What a call tells is that of a front of these lines, where none was done before, however the history goes on.
   pub record TellsFrontOf (old new : Caller) (olds : List (Feed S)) (tolds tolds' : List Told) (lines : List Line) : Type 0 where

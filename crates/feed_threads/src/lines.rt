@@ -6,7 +6,7 @@ ghost use Rattle.version_lock.specs.Callers.{IsSeatOf};
 ghost use Rattle.feed_threads.specs.Places.{HaveRouters, ReadOn};
 ghost use Rattle.feed_threads.specs.Seats.{SawMore};
 ghost use Rattle.feed_threads.specs.Shown.{IsShown, ShowsOn};
-ghost use Rattle.feed_threads.specs.Tracks.{Does, TellsFrontOf, rest_of, rests_of, rests_by};
+ghost use Rattle.feed_threads.specs.Tracks.{Breaks, Does, TellsFrontOf, rest_of, rests_of, rests_by};
 
 use crate::ask::ask;
 use crate::desk::{Desk, Shown};
@@ -36,6 +36,8 @@ fn do_line<S: Source, G: Gate, R: Threads + Wait + Sync>(
     ensures shows { ShowsOn desk.now.setup.basis.topology seat.new.seen shown.old shown.new }
     ensures does { OnOk result (Does desk.now S.left S.faults S.place seat.old seat.new
         feeds.old.items feeds.new.items told.old told.new (line.now ∷ [])) }
+    ensures breaks { OnErr result (Breaks desk.now S.left S.faults S.place seat.old seat.new
+        feeds.old.items feeds.new.items told.old (line.now ∷ [])) }
     ensures err { OnErr result (told.new ≡ told.old) }
     ensures reads { ReadOn desk.now.setup.basis.topology S.left S.faults S.place feeds.old.items feeds.new.items }
     ensures routers { HaveRouters desk.now.setup.basis.topology feeds.new.items }
@@ -63,6 +65,8 @@ fn do_lines<S: Source, G: Gate, R: Threads + Wait + Sync>(
     ensures shows { ShowsOn desk.now.setup.basis.topology seat.new.seen shown.old shown.new }
     ensures does { OnOk result (Does desk.now S.left S.faults S.place seat.old seat.new
         feeds.old.items feeds.new.items told.old told.new lines.now) }
+    ensures breaks { OnErr result (Breaks desk.now S.left S.faults S.place seat.old seat.new
+        feeds.old.items feeds.new.items told.old lines.now) }
     ensures front { TellsFrontOf desk.now S.left S.faults S.place seat.old seat.new
         feeds.old.items told.old told.new lines.now }
     ensures reads { ReadOn desk.now.setup.basis.topology S.left S.faults S.place feeds.old.items feeds.new.items }
@@ -90,6 +94,8 @@ fn take_rest_of<S: Source, G: Gate, R: Wait>(
     ensures shows { ShowsOn desk.now.setup.basis.topology seat.new.seen shown.old shown.new }
     ensures does { OnOk result ((told : List ToldIs) → Does desk.now S.left S.faults S.place seat.old seat.new
         feeds.old.items feeds.new.items told told (rest_of line.now)) }
+    ensures breaks { OnErr result ((told : List ToldIs) → Breaks desk.now S.left S.faults S.place seat.old seat.new
+        feeds.old.items feeds.new.items told (rest_of line.now)) }
     ensures reads { ReadOn desk.now.setup.basis.topology S.left S.faults S.place feeds.old.items feeds.new.items }
     ensures routers { HaveRouters desk.now.setup.basis.topology feeds.new.items }
 {
@@ -115,6 +121,8 @@ fn take_rests<S: Source, G: Gate, R: Wait>(
     ensures shows { ShowsOn desk.now.setup.basis.topology seat.new.seen shown.old shown.new }
     ensures does { OnOk result ((told : List ToldIs) → Does desk.now S.left S.faults S.place seat.old seat.new
         feeds.old.items feeds.new.items told told (rests_of lines.now)) }
+    ensures breaks { OnErr result ((told : List ToldIs) → Breaks desk.now S.left S.faults S.place seat.old seat.new
+        feeds.old.items feeds.new.items told (rests_of lines.now)) }
     ensures reads { ReadOn desk.now.setup.basis.topology S.left S.faults S.place feeds.old.items feeds.new.items }
     ensures routers { HaveRouters desk.now.setup.basis.topology feeds.new.items }
 {
@@ -139,6 +147,8 @@ fn take_all<S: Source, G: Gate, R: Wait>(
     ensures shows { ShowsOn desk.now.setup.basis.topology seat.new.seen shown.old shown.new }
     ensures does { OnOk result ((told : List ToldIs) → Does desk.now S.left S.faults S.place seat.old seat.new
         feeds.old.items feeds.new.items told told (rests_by feeds.old.items)) }
+    ensures breaks { OnErr result ((told : List ToldIs) → Breaks desk.now S.left S.faults S.place seat.old seat.new
+        feeds.old.items feeds.new.items told (rests_by feeds.old.items)) }
     ensures reads { ReadOn desk.now.setup.basis.topology S.left S.faults S.place feeds.old.items feeds.new.items }
 {
     for at in 0..feeds.len() {
@@ -166,6 +176,9 @@ pub(crate) fn do_all<S: Source, G: Gate, R: Threads + Wait + Sync>(
     ensures shows { ShowsOn desk.now.setup.basis.topology seat.new.seen shown.old shown.new }
     ensures does { OnOk result (Does desk.now S.left S.faults S.place seat.old seat.new
         feeds.old.items feeds.new.items told.old told.new
+        ((lines.now ++ rests_of lines.now) ++ rests_by feeds.old.items)) }
+    ensures breaks { OnErr result (Breaks desk.now S.left S.faults S.place seat.old seat.new
+        feeds.old.items feeds.new.items told.old
         ((lines.now ++ rests_of lines.now) ++ rests_by feeds.old.items)) }
     ensures front { TellsFrontOf desk.now S.left S.faults S.place seat.old seat.new
         feeds.old.items told.old told.new lines.now }

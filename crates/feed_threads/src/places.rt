@@ -44,7 +44,8 @@ fn take_at<S: Source, G: Gate, R: Wait>(
         desk.now.setup.basis.limit seat.old.number at count feeds.old.items feeds.new.items seat.old.seen
         seat.new.seen) }
     ensures first { OnErr result (FailsFrom desk.now.setup.basis.topology S.left S.faults S.place
-        desk.now.setup.basis.limit seat.old.number at feeds.old.items feeds.new.items seat.old.seen seat.new.seen) }
+        desk.now.setup.basis.limit seat.old.number at count feeds.old.items feeds.new.items seat.old.seen
+        seat.new.seen) }
     ensures reads { ReadOn desk.now.setup.basis.topology S.left S.faults S.place feeds.old.items feeds.new.items }
     ensures routers { HaveRouters desk.now.setup.basis.topology feeds.new.items }
 {
@@ -69,7 +70,8 @@ pub(crate) fn take_of<S: Source, G: Gate, R: Wait>(
     ensures took { OnOk result (TakesOf desk.now.setup.basis.topology S.left S.faults S.place desk.now.setup.basis.limit
         seat.old.number router count feeds.old.items feeds.new.items seat.old.seen seat.new.seen) }
     ensures first { OnErr result (FailsOf desk.now.setup.basis.topology S.left S.faults S.place
-        desk.now.setup.basis.limit seat.old.number router feeds.old.items feeds.new.items seat.old.seen seat.new.seen) }
+        desk.now.setup.basis.limit seat.old.number router count feeds.old.items feeds.new.items seat.old.seen
+        seat.new.seen) }
     ensures reads { ReadOn desk.now.setup.basis.topology S.left S.faults S.place feeds.old.items feeds.new.items }
     ensures routers { HaveRouters desk.now.setup.basis.topology feeds.new.items }
 {

@@ -71,6 +71,7 @@ fn take_ops<S: Source, G: Gate, R: Wait>(
         feed.old.reader.told seat.old.seen seat.new.seen ops.now) }
     ensures first { OnErr result (TookFirst seat.old.number feed.old.reader.told.feed_no feed.old.reader.told.router
         seat.old.seen seat.new.seen ops.now) }
+    ensures going { OnErr result (feed.new.kept ≡ None) }
 {
     let feed_no = feed.reader.told().feed_no;
     let router = feed.reader.told().router;
@@ -102,6 +103,7 @@ fn take_list<S: Source, G: Gate, R: Wait>(
         feed.old.reader.told seat.old.seen seat.new.seen ops) }
     ensures first { OnErr result (TookFirst seat.old.number feed.old.reader.told.feed_no feed.old.reader.told.router
         seat.old.seen seat.new.seen ops) }
+    ensures going { OnErr result (feed.new.kept ≡ None) }
 {
     let taken = take_ops(rt, desk, seat, feed, ops.as_slice());
     feed.reader.take_back(ops);
@@ -122,7 +124,7 @@ fn take_frame<S: Source, G: Gate, R: Wait>(
     ensures taken { OnOk result (TakesSome desk.now.setup.basis.topology S.left S.faults S.place
         desk.now.setup.basis.limit seat.old.number (Some 1) feed.old feed.new seat.old.seen seat.new.seen) }
     ensures first { OnErr result (GivesFirst desk.now.setup.basis.topology S.left S.faults S.place
-        desk.now.setup.basis.limit seat.old.number feed.old feed.new seat.old.seen seat.new.seen) }
+        desk.now.setup.basis.limit seat.old.number (Some 1) feed.old feed.new seat.old.seen seat.new.seen) }
     ensures more { IfOk result (λ more. more ≡ is_none (end_of_feed feed.new)) }
     ensures grows { IfOk result (λ more. more ≡ true → (feed.old.reader.passed < feed.new.reader.passed)
         × (feed.new.reader.passed ≤ feed.new.reader.limit)) }
@@ -159,7 +161,7 @@ fn take_shown<S: Source, G: Gate, R: Wait>(
     ensures taken { OnOk result (TakesSome desk.now.setup.basis.topology S.left S.faults S.place
         desk.now.setup.basis.limit seat.old.number (Some 1) feed.old feed.new seat.old.seen seat.new.seen) }
     ensures first { OnErr result (GivesFirst desk.now.setup.basis.topology S.left S.faults S.place
-        desk.now.setup.basis.limit seat.old.number feed.old feed.new seat.old.seen seat.new.seen) }
+        desk.now.setup.basis.limit seat.old.number (Some 1) feed.old feed.new seat.old.seen seat.new.seen) }
     ensures more { IfOk result (λ more. more ≡ is_none (end_of_feed feed.new)) }
     ensures grows { IfOk result (λ more. more ≡ true → (feed.old.reader.passed < feed.new.reader.passed)
         × (feed.new.reader.passed ≤ feed.new.reader.limit)) }
@@ -190,7 +192,7 @@ fn take_some<S: Source, G: Gate, R: Wait>(
     ensures taken { OnOk result (TakesSome desk.now.setup.basis.topology S.left S.faults S.place
         desk.now.setup.basis.limit seat.old.number (Some count) feed.old feed.new seat.old.seen seat.new.seen) }
     ensures first { OnErr result (GivesFirst desk.now.setup.basis.topology S.left S.faults S.place
-        desk.now.setup.basis.limit seat.old.number feed.old feed.new seat.old.seen seat.new.seen) }
+        desk.now.setup.basis.limit seat.old.number (Some count) feed.old feed.new seat.old.seen seat.new.seen) }
     ensures reads { ReadsOn desk.now.setup.basis.topology S.left S.faults S.place feed.old.reader feed.new.reader }
 {
     for taken in 0..count {
@@ -218,7 +220,7 @@ fn take_rest<S: Source, G: Gate, R: Wait>(
     ensures taken { OnOk result (TakesSome desk.now.setup.basis.topology S.left S.faults S.place
         desk.now.setup.basis.limit seat.old.number None feed.old feed.new seat.old.seen seat.new.seen) }
     ensures first { OnErr result (GivesFirst desk.now.setup.basis.topology S.left S.faults S.place
-        desk.now.setup.basis.limit seat.old.number feed.old feed.new seat.old.seen seat.new.seen) }
+        desk.now.setup.basis.limit seat.old.number None feed.old feed.new seat.old.seen seat.new.seen) }
     ensures reads { ReadsOn desk.now.setup.basis.topology S.left S.faults S.place feed.old.reader feed.new.reader }
 {
     let mut more = true;
@@ -246,7 +248,7 @@ pub(crate) fn take_frames<S: Source, G: Gate, R: Wait>(
     ensures taken { OnOk result (TakesSome desk.now.setup.basis.topology S.left S.faults S.place
         desk.now.setup.basis.limit seat.old.number count feed.old feed.new seat.old.seen seat.new.seen) }
     ensures first { OnErr result (GivesFirst desk.now.setup.basis.topology S.left S.faults S.place
-        desk.now.setup.basis.limit seat.old.number feed.old feed.new seat.old.seen seat.new.seen) }
+        desk.now.setup.basis.limit seat.old.number count feed.old feed.new seat.old.seen seat.new.seen) }
     ensures reads { ReadsOn desk.now.setup.basis.topology S.left S.faults S.place feed.old.reader feed.new.reader }
 {
     match count {

@@ -1,12 +1,12 @@
-use Rattle.std.proofs.Common.{rules, ◌≡◌, ◌+◌, ◌++◌, ◌∷◌, [], List, take, drop, take_all, sym, subst, arith}
+use Rattle.std.proofs.Common.{rules, ◌≡◌, ◌+◌, ◌++◌, ◌∷◌, [], List, take, drop, take_all, ap, sym, ◌∙◌, subst, arith}
 use Rattle.std.proofs.lemmas.Grind.{common_steps}
 use Rattle.std.proofs.lemmas.List.{take-append-drop}
 use Rattle.dn_formats.specs.declared.script.Line.{Line}
 use Rattle.dn_formats.specs.declared.told.Told.{Told}
 use Rattle.feed_threads.specs.Tracks.{Does, TellsFrontOf}
-use Rattle.feed_threads.proofs.DoesLemmas.{does-none, does-more, front-told, read-more}
+use Rattle.feed_threads.proofs.DoesLemmas.{breaks-after, does-none, does-more, front-told, read-more}
 use Rattle.feed_threads.proofs.PlaceLemmas.{read-none}
-use Rattle.feed_threads.proofs.SeatLemmas.{saw-none, saw-more}
+use Rattle.feed_threads.proofs.SeatLemmas.{on-err, saw-none, saw-more}
 use Rattle.feed_threads.proofs.ShownLemmas.{shows-more, shows-none}
 use Rattle.feed_threads.proofs.lines.do_lines.Goals as goal
 
@@ -56,3 +56,11 @@ returns-clause-front g c =
 
 pub returns-in_err-do_line-clause-shows : goal.returns-in_err-do_line-clause-shows
 returns-in_err-do_line-clause-shows g c = shows-more _ _ _ _ _ _ c.loop-line.invariant.shows c.do_line.ensures.shows
+
+pub returns-in_err-do_line-clause-breaks : goal.returns-in_err-do_line-clause-breaks
+returns-in_err-do_line-clause-breaks g c =
+    let more : take (c.loop-line.line-index + 1) c.args.lines.now ≡ take c.loop-line.line-index c.args.lines.now ++ c.line-item.result ∷ [] = first_of (search rules, grind (arith, common_steps)) in
+    on-err c.from_residual.result _ (breaks-after c.args.desk.now g.S.Source.left g.S.Source.faults g.S.Source.place c.args.seat.now c.loop-line.seat c.do_line.new.seat c.args.feeds.now.items c.loop-line.feeds.items c.do_line.new.feeds.items
+    c.args.told.now c.loop-line.told (take c.loop-line.line-index c.args.lines.now) (c.line-item.result ∷ []) (drop (c.loop-line.line-index + 1) c.args.lines.now) c.args.lines.now
+    c.loop-line.invariant.saw c.loop-line.invariant.does c.in_err-do_line.ensures.breaks
+    (sym (take-append-drop (c.loop-line.line-index + 1) c.args.lines.now) ∙ ap (λ (ls : List Line). ls ++ drop (c.loop-line.line-index + 1) c.args.lines.now) more))

@@ -1,13 +1,13 @@
-use Rattle.std.proofs.Common.{◌≡◌, ◌+◌, ◌++◌, ◌∷◌, [], List, take, take_all, ap, ◌∙◌, subst, arith, None}
-use Rattle.std.proofs.lemmas.List.{length-map}
+use Rattle.std.proofs.Common.{◌≡◌, ◌+◌, ◌++◌, ◌∷◌, [], List, take, drop, take_all, ap, sym, ◌∙◌, subst, arith, None}
+use Rattle.std.proofs.lemmas.List.{length-map, take-append-drop}
 use Rattle.dn_formats.specs.declared.script.Line.{Line}
 use Rattle.dn_formats.specs.declared.script.Line.TheVariants as line
 use Rattle.dn_formats.specs.declared.told.FeedTold.{FeedTold}
 use Rattle.feed_threads.specs.Feeds.{Feed}
 use Rattle.feed_threads.specs.Tracks.{Does, rest_by, rests_by}
-use Rattle.feed_threads.proofs.DoesLemmas.{does-none, does-more, does-at, rests-at, read-length, read-more}
+use Rattle.feed_threads.proofs.DoesLemmas.{breaks-after, breaks-at, does-none, does-more, does-at, rests-at, read-length, read-more}
 use Rattle.feed_threads.proofs.PlaceLemmas.{read-none}
-use Rattle.feed_threads.proofs.SeatLemmas.{saw-none, saw-more}
+use Rattle.feed_threads.proofs.SeatLemmas.{on-err, saw-none, saw-more}
 use Rattle.feed_threads.proofs.ShownLemmas.{shows-more, shows-none}
 use Rattle.feed_threads.proofs.lines.take_all.Goals as goal
 
@@ -52,3 +52,17 @@ returns-clause-does g c = λ told.
 
 pub returns-in_err-take_of-clause-shows : goal.returns-in_err-take_of-clause-shows
 returns-in_err-take_of-clause-shows g c = shows-more _ _ _ _ _ _ c.loop-at.invariant.shows c.take_of.ensures.shows
+
+pub returns-in_err-take_of-clause-breaks : goal.returns-in_err-take_of-clause-breaks
+returns-in_err-take_of-clause-breaks g c =
+    let y : Line = line.Take 0 c.told.result.now.router None in
+    let rests : List Line = rests_by c.args.feeds.now.items in
+    let more : take (c.loop-at.at + 1) rests ≡ take c.loop-at.at rests ++ y ∷ [] =
+    rests-at c.args.desk.now.setup.basis.topology g.S.Source.left g.S.Source.faults g.S.Source.place c.args.feeds.now.items c.loop-at.feeds.items c.loop-at.at c.index.result.now c.loop-at.invariant.reads
+    (omega (arith, c.loop-at-test.true, c.len-at-end.ensures, read-length c.args.desk.now.setup.basis.topology g.S.Source.left g.S.Source.faults g.S.Source.place c.args.feeds.now.items c.loop-at.feeds.items c.loop-at.invariant.reads))
+    c.index.ensures c.told.result.now.router (ap (λ (x : FeedTold). x.router) c.told.ensures ∙ ap (λ (f : Feed _). f.reader.told.router) c.behind-feeds.view_is) in
+    on-err c.from_residual.result _ (λ told.
+    breaks-after c.args.desk.now g.S.Source.left g.S.Source.faults g.S.Source.place c.args.seat.now c.loop-at.seat c.take_of.new.seat c.args.feeds.now.items c.loop-at.feeds.items c.take_of.new.feeds.items
+    told told (take c.loop-at.at rests) (y ∷ []) (drop (c.loop-at.at + 1) rests) rests c.loop-at.invariant.saw (c.loop-at.invariant.does told)
+    (breaks-at c.args.desk.now g.S.Source.left g.S.Source.faults g.S.Source.place c.loop-at.seat c.take_of.new.seat c.loop-at.feeds.items c.take_of.new.feeds.items c.told.result.now.router c.take_of.ensures.saw c.in_err-take_of.ensures.first told)
+    (sym (take-append-drop (c.loop-at.at + 1) rests) ∙ ap (λ (ls : List Line). ls ++ drop (c.loop-at.at + 1) rests) more))

@@ -1,4 +1,4 @@
-use Rattle.feed_threads.proofs.DoesLemmas.{does-rest, does-ask}
+use Rattle.feed_threads.proofs.DoesLemmas.{breaks-rest, does-rest, does-ask}
 use Rattle.feed_threads.proofs.PlaceLemmas.{read-none}
 use Rattle.feed_threads.proofs.SeatLemmas.{saw-none}
 use Rattle.feed_threads.proofs.ShownLemmas.{shows-none}
@@ -21,3 +21,8 @@ returns-in-Ask-clause-saw g c = saw-none c.args.seat.now
 
 pub returns-in-Ask-clause-shows : goal.returns-in-Ask-clause-shows
 returns-in-Ask-clause-shows g c = shows-none _ _ _ c.requires.shown
+
+pub returns-in-Take-clause-breaks : goal.returns-in-Take-clause-breaks
+returns-in-Take-clause-breaks g c =
+    breaks-rest c.args.desk.now g.S.Source.left g.S.Source.faults g.S.Source.place c.take_of.result c.args.seat.now c.take_of.new.seat c.args.feeds.now.items c.take_of.new.feeds.items
+    c.args.line.now c.in-Take.line c.in-Take.router c.in-Take.count c.in-Take.is c.take_of.ensures.saw c.take_of.ensures.first

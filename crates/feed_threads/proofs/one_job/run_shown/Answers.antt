@@ -17,4 +17,4 @@ returns-clause-ends g c =
     job-ends c.new-desk.result c.args.lock.now g.S.Source.left g.S.Source.faults g.S.Source.place c.do_all-done.result c.is_err.result c.args.topology.now c.args.seat.now c.do_all-done.new.seat c.args.job
     c.job.inside.number (lines_of c.job.inside.script) c.lines_of_script-lines.result.now c.job.inside.feeds.items c.do_all-done.new.feeds.items c.new-told.result c.do_all-done.new.told c.give_back.result.items
     c.new-desk.ensures c.requires.topology c.job.view_is c.job.invariant.0 c.lines_of_script-lines.ensures c.new-told.ensures c.is_err.ensures.value c.give_back.ensures
-    c.requires.fresh c.requires.apart c.do_all-done.ensures.reads c.do_all-done.ensures.does c.do_all-done.ensures.front
+    c.requires.fresh c.requires.apart c.do_all-done.ensures.reads c.do_all-done.ensures.does c.do_all-done.ensures.breaks c.do_all-done.ensures.front

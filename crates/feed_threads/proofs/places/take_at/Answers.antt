@@ -8,7 +8,7 @@ returns-clause-took g c =
 
 pub returns-clause-first : goal.returns-clause-first
 returns-clause-first g c =
-    failed-at c.args.desk.now.setup.basis.topology g.S.Source.left g.S.Source.faults g.S.Source.place c.args.desk.now.setup.basis.limit c.args.seat.now.number c.take_frames.result c.args.at c.args.feeds.now.items c.index_mut.result.now c.take_frames.new.feed c.args.seat.now.seen c.take_frames.new.seat.seen
+    failed-at c.args.desk.now.setup.basis.topology g.S.Source.left g.S.Source.faults g.S.Source.place c.args.desk.now.setup.basis.limit c.args.seat.now.number c.take_frames.result c.args.at c.args.count c.args.feeds.now.items c.index_mut.result.now c.take_frames.new.feed c.args.seat.now.seen c.take_frames.new.seat.seen
     c.requires.place c.index_mut.ensures.value c.take_frames.ensures.first
 
 pub returns-clause-reads : goal.returns-clause-reads

@@ -72,11 +72,11 @@ pub returns-in_err-ops-clause-first : goal.returns-in_err-ops-clause-first
 returns-in_err-ops-clause-first g c =
     on-err c.from_residual.result _ (first-none c.args.desk.now.setup.basis.topology g.S.Source.left g.S.Source.faults g.S.Source.place c.args.desk.now.setup.basis.limit c.args.seat.now.number c.args.feed.now c.feed.inside.reader c.feed.inside.kept c.next_step.new.reader c.args.seat.now.seen
     c.feed.view_is (none-of c.args.desk.now.setup.basis.topology g.S.Source.left g.S.Source.faults g.S.Source.place c.args.desk.now.setup.basis.limit c.feed.inside.kept (sym c.is_some.ensures ∙ c.if-is_some.false))
-    (rw c.topology.ensures at c.in_err-ops.ensures.waits))
+    (rw c.topology.ensures at c.in_err-ops.ensures.waits) (λ end is. (c.in_err-ops.ensures.again end is).0))
 
 pub returns-in-Ops-clause-first : goal.returns-in-Ops-clause-first
 returns-in-Ops-clause-first g c =
     first-ops c.args.desk.now.setup.basis.topology g.S.Source.left g.S.Source.faults g.S.Source.place c.args.desk.now.setup.basis.limit c.args.seat.now.number c.args.feed.now c.feed.inside.reader c.feed.inside.kept c.next_step.new.reader c.take_list.new.feed c.args.seat.now.seen c.take_list.new.seat.seen
     c.in_ok-ops.field-0 _ _ c.take_list.result c.feed.view_is (none-of c.args.desk.now.setup.basis.topology g.S.Source.left g.S.Source.faults g.S.Source.place c.args.desk.now.setup.basis.limit c.feed.inside.kept (sym c.is_some.ensures ∙ c.if-is_some.false)) c.in-Ops.is
-    (rw c.topology.ensures at c.in_ok-ops.ensures.handed) c.in_ok-ops.ensures.feed_no c.in_ok-ops.ensures.router c.take_list.ensures.reader
+    (rw c.topology.ensures at c.in_ok-ops.ensures.handed) c.in_ok-ops.ensures.again c.in_ok-ops.ensures.feed_no c.in_ok-ops.ensures.router c.take_list.ensures.reader c.take_list.ensures.going
     c.take_list.ensures.first

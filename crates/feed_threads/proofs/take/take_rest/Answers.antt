@@ -1,4 +1,4 @@
-use Rattle.std.proofs.Common.{◌∙◌, ℕ, Some, sym, subst}
+use Rattle.std.proofs.Common.{◌∙◌, ℕ, None, Some, sym, subst}
 use Rattle.feed_threads.specs.Takes.{GivesFirst, TakesSome}
 use Rattle.feed_threads.proofs.SeatLemmas.{saw-none, saw-more, saw-number, on-err}
 use Rattle.feed_threads.proofs.ShownLemmas.{shows-more, shows-none}
@@ -34,10 +34,10 @@ loop-more-preserved g c = record {
 
 pub returns-in_err-more-clause-first : goal.returns-in_err-more-clause-first
 returns-in_err-more-clause-first g c =
-    on-err c.from_residual.result _ (first-more c.args.desk.now.setup.basis.topology g.S.Source.left g.S.Source.faults g.S.Source.place c.args.desk.now.setup.basis.limit c.args.seat.now.number c.args.feed.now c.loop-more.feed c.take_shown.new.feed c.args.seat.now.seen c.loop-more.seat.seen c.take_shown.new.seat.seen
+    on-err c.from_residual.result _ (first-more c.args.desk.now.setup.basis.topology g.S.Source.left g.S.Source.faults g.S.Source.place c.args.desk.now.setup.basis.limit c.args.seat.now.number (Some 1) None c.args.feed.now c.loop-more.feed c.take_shown.new.feed c.args.seat.now.seen c.loop-more.seat.seen c.take_shown.new.seat.seen
     c.loop-more.invariant.taken.more c.loop-more.invariant.taken.adds
-    (subst (λ (n : ℕ). GivesFirst c.args.desk.now.setup.basis.topology g.S.Source.left g.S.Source.faults g.S.Source.place c.args.desk.now.setup.basis.limit n c.loop-more.feed c.take_shown.new.feed c.loop-more.seat.seen c.take_shown.new.seat.seen)
-    (saw-number c.args.seat.now c.loop-more.seat c.loop-more.invariant.saw) c.in_err-more.ensures.first))
+    (subst (λ (n : ℕ). GivesFirst c.args.desk.now.setup.basis.topology g.S.Source.left g.S.Source.faults g.S.Source.place c.args.desk.now.setup.basis.limit n (Some 1) c.loop-more.feed c.take_shown.new.feed c.loop-more.seat.seen c.take_shown.new.seat.seen)
+    (saw-number c.args.seat.now c.loop-more.seat c.loop-more.invariant.saw) c.in_err-more.ensures.first) tt)
 
 pub returns-in_err-more-clause-shows : goal.returns-in_err-more-clause-shows
 returns-in_err-more-clause-shows g c = shows-more _ _ _ _ _ _ c.loop-more.invariant.shows c.take_shown.ensures.shows

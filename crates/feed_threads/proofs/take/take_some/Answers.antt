@@ -1,9 +1,10 @@
-use Rattle.std.proofs.Common.{◌+◌, ◌≤◌, ◌∙◌, ℕ, Some, sym, subst, arith}
+use Rattle.std.proofs.Common.{◌+◌, ◌≤◌, ◌∙◌, ℕ, length, Some, sym, subst, arith}
+use Rattle.feed_threads.specs.Feeds.{end_of_feed}
 use Rattle.feed_threads.specs.Takes.{GivesFirst, TakesSome}
 use Rattle.feed_threads.proofs.SeatLemmas.{saw-none, saw-more, saw-number, on-err}
 use Rattle.feed_threads.proofs.ShownLemmas.{shows-more, shows-none}
 use Rattle.feed_threads.proofs.StepLemmas.{reads-none, reads-more}
-use Rattle.feed_threads.proofs.TakeLemmas.{took-start, took-more, took-fewer, first-more}
+use Rattle.feed_threads.proofs.TakeLemmas.{count-within, took-start, took-more, took-fewer, first-more}
 use Rattle.feed_threads.proofs.take.take_some.Goals as goal
 
 pub loop-taken-init : goal.loop-taken-init
@@ -47,10 +48,14 @@ loop-taken-preserved g c = record {
 
 pub returns-in_err-take_shown-clause-first : goal.returns-in_err-take_shown-clause-first
 returns-in_err-take_shown-clause-first g c =
-    on-err c.from_residual.result _ (first-more c.args.desk.now.setup.basis.topology g.S.Source.left g.S.Source.faults g.S.Source.place c.args.desk.now.setup.basis.limit c.args.seat.now.number c.args.feed.now c.loop-taken.feed c.take_shown.new.feed c.args.seat.now.seen c.loop-taken.seat.seen c.take_shown.new.seat.seen
-    c.loop-taken.invariant.taken.more c.loop-taken.invariant.taken.adds
-    (subst (λ (n : ℕ). GivesFirst c.args.desk.now.setup.basis.topology g.S.Source.left g.S.Source.faults g.S.Source.place c.args.desk.now.setup.basis.limit n c.loop-taken.feed c.take_shown.new.feed c.loop-taken.seat.seen c.take_shown.new.seat.seen)
-    (saw-number c.args.seat.now c.loop-taken.seat c.loop-taken.invariant.saw) c.in_err-take_shown.ensures.first))
+    let here : GivesFirst c.args.desk.now.setup.basis.topology g.S.Source.left g.S.Source.faults g.S.Source.place c.args.desk.now.setup.basis.limit c.args.seat.now.number (Some 1) c.loop-taken.feed c.take_shown.new.feed c.loop-taken.seat.seen c.take_shown.new.seat.seen =
+    subst (λ (n : ℕ). GivesFirst c.args.desk.now.setup.basis.topology g.S.Source.left g.S.Source.faults g.S.Source.place c.args.desk.now.setup.basis.limit n (Some 1) c.loop-taken.feed c.take_shown.new.feed c.loop-taken.seat.seen c.take_shown.new.seat.seen)
+    (saw-number c.args.seat.now c.loop-taken.seat c.loop-taken.invariant.saw) c.in_err-take_shown.ensures.first in
+    let so-far : length c.loop-taken.invariant.taken.more ≤ c.loop-taken.taken = count-within c.loop-taken.taken (length c.loop-taken.invariant.taken.more) (end_of_feed c.loop-taken.feed) c.loop-taken.invariant.taken.counted in
+    let one : length here.more ≤ 1 = here.within in
+    let below : c.loop-taken.taken + 1 ≤ c.args.count = omega arith in
+    on-err c.from_residual.result _ (first-more c.args.desk.now.setup.basis.topology g.S.Source.left g.S.Source.faults g.S.Source.place c.args.desk.now.setup.basis.limit c.args.seat.now.number (Some 1) (Some c.args.count) c.args.feed.now c.loop-taken.feed c.take_shown.new.feed c.args.seat.now.seen c.loop-taken.seat.seen c.take_shown.new.seat.seen
+    c.loop-taken.invariant.taken.more c.loop-taken.invariant.taken.adds here (omega (arith, so-far, one, below)))
 
 pub returns-in_err-take_shown-clause-shows : goal.returns-in_err-take_shown-clause-shows
 returns-in_err-take_shown-clause-shows g c = shows-more _ _ _ _ _ _ c.loop-taken.invariant.shows c.take_shown.ensures.shows

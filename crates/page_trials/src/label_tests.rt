@@ -345,7 +345,7 @@ fn a_run_of_atoms_over_many_pages(rt: HostRuntime) {
 
 /// A router does so many things with no atom, exits from one on, none of which any router did before: each takes a code
 /// of its own. What the routers do stays as it is.
-pub fn use_codes(rt: &impl Abort, alloc: Global, rows: &mut TargetRows, first: u32, count: u32)
+fn use_codes(rt: &impl Abort, alloc: Global, rows: &mut TargetRows, first: u32, count: u32)
     requires routers { rows.old.routers ≡ 17 }
     requires exits { first + count < 2 ^ 32 }
     ensures routers { rows.new.routers ≡ 17 }

@@ -2,7 +2,7 @@
 
 ghost use Rattle.std.specs.Prelude.{◌≡◌, ◌+◌, ◌<◌, ◌≤◌, length};
 
-use crate::label_tests::{cut_first, turn, use_codes};
+use crate::label_tests::{cut_first, turn};
 use dn_model::{RouterId, Target};
 use std::alloc::Global;
 use std::process::Abort;
@@ -178,21 +178,4 @@ fn columns_and_rows_over_pages(rt: HostRuntime) {
 fn columns_with_more_room_than_atoms(rt: HostRuntime) {
     read_all(&rt, rt.alloc(), 9, 1, 1);
     read_all(&rt, rt.alloc(), 8, 3, 1);
-}
-
-/// Rows of seventeen routers for three atoms. Their exits and own atoms have codes of 65,536 and more, which none of them
-/// had before.
-#[test]
-fn columns_and_rows_of_codes_with_upper_halves(rt: HostRuntime) {
-    let alloc = rt.alloc();
-    let mut rows = TargetRows::new(alloc, 17).expect(&rt, "memory");
-    use_codes(&rt, alloc, &mut rows, 1_000, 65_530);
-    for r in 0..17 {
-        turn(&rt, alloc, &mut rows, r, 0, 1, Target::Exit(u32::from(r)));
-    }
-    cut_first(&rt, alloc, &mut rows);
-    cut_first(&rt, alloc, &mut rows);
-    share_out(&rt, alloc, &mut rows, 17, 3);
-    compare_columns(&rt, &rows, 17, 3, 3);
-    compare_rows(&rt, &rows, 17, 3);
 }

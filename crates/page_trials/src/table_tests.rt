@@ -2,7 +2,6 @@
 
 ghost use Rattle.std.specs.Prelude.{◌≡◌, ◌<◌, ◌≤◌};
 
-use crate::crossing::crosses;
 use crate::draw::next_draw;
 use dn_model::{DropKind, Prefix, Route, Run, TableOp, Target, Way};
 use route_table::{RouteTable, RouteTables, TableUpdate};
@@ -97,7 +96,6 @@ fn the_longest_prefix_wins_and_then_the_least_metric(rt: HostRuntime) {
     let mut table = RouteTable::new();
     compare_target(&rt, &table, 0x0A01_0007, None);
     set_three(&rt, rt.alloc(), &mut table);
-    crosses(&table);
     compare_target(&rt, &table, 0x0A01_0007, Some(Target::Exit(1)));
     compare_target(&rt, &table, 0x0A02_0007, Some(Target::Local));
     compare_target(&rt, &table, 0x0B00_0000, None);

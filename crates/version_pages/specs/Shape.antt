@@ -25,7 +25,7 @@ page_shape items = record { items = items; height = 0; room = 64 - length items;
 abbrev pub fork_shape : {T : Type 0} → ℕ → List (Shape T) → Shape T
 fork_shape height kids = record { items = joined kids; height = height; room = WIDE - length kids; spare = length kids - 2 }
 
--- the depth is a logarithm of the number of elements, between the one of base 2 and the one of base 64
+-- the depth is a logarithm of the number of elements, between the one of base 2 and the one of base 128
 pub record IsDeep {T : Type 0} (s : Shape T) : Type 0 where
   pub many : 2 ^ s.height ≤ length s.items
   pub few : length s.items ≤ 64 * WIDE ^ s.height
@@ -35,7 +35,7 @@ pub record IsUnder {T : Type 0} (height : ℕ) (kid : Shape T) : Type 0 where
   pub level : kid.height + 1 ≡ height
   pub deep : IsDeep kid
 
--- the children of a fork: 2 to 64, and all pages stand equally deep
+-- the children of a fork: 2 to 128, and all pages stand equally deep
 pub record AreKids {T : Type 0} (height : ℕ) (kids : List (Shape T)) : Type 0 where
   pub two : 2 ≤ length kids
   pub most : length kids ≤ WIDE

@@ -52,10 +52,10 @@ impl<T: Keyed> Pages<T> {
     }
 
     /// How many forks stand above each page: all pages stand equally deep, so it is a logarithm of the length, between
-    /// the one of base 2 and that of base 64. Each call that goes to a place passes through so many forks.
+    /// the one of base 2 and that of base 128. Each call that goes to a place passes through so many forks.
     pub fn height(&self) -> u64
         ensures many { 2 ^ result ≤ length self.now + 1 }
-        ensures few { length self.now ≤ 64 * 64 ^ result }
+        ensures few { length self.now ≤ 64 * 128 ^ result }
     {
         match &self.root {
             None => 0,
@@ -90,7 +90,7 @@ impl<T: Keyed> Pages<T> {
         };
         if i < root.len() {
             let (page, j) = root.tree().page_at(i);
-            return (page, i - j);
+            return (page.as_slice(), i - j);
         }
         (&[], i)
     }

@@ -33,7 +33,7 @@ pub const FULL: usize = 64;
 pub const LONG: u64 = 1 << 62;
 
 /// The most children that a fork has.
-pub const WIDE: usize = 64;
+pub const WIDE: usize = 128;
 
 /// A tree of pages. A contract sees its elements in order, its height, how many more elements or children its top node
 /// may take, and how many it may lose.
@@ -49,7 +49,7 @@ pub struct Tree<T: Keyed> {
 enum Node<T: Keyed> {
     /// 1 to 64 elements.
     Page(Vec<T>),
-    /// 2 to 64 trees of equal height, one after another.
+    /// 2 to 128 trees of equal height, one after another.
     Fork {
         kids: Vec<Kid<T>>,
         /// How many forks stand above each page, this one among them.
@@ -265,13 +265,13 @@ impl<T: Keyed> Tree<T> {
     }
 
     /// The page that has the element at a place, and the element's place in it.
-    pub fn page_at(&self, i: u64) -> (&[T], u64)
+    pub fn page_at(&self, i: u64) -> (&Vec<T>, u64)
         requires { i < length self.now.items }
-        ensures inside { result.1 < length result.0.now }
-        ensures within { IsWithin self.now.items result.0.now i result.1 }
+        ensures inside { result.1 < length result.0.now.items }
+        ensures within { IsWithin self.now.items result.0.now.items i result.1 }
     {
         match &self.node {
-            Node::Page(items) => (items.as_slice(), i),
+            Node::Page(items) => (items, i),
             Node::Fork {
                 kids,
                 ends,

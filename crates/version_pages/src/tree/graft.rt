@@ -261,7 +261,7 @@ impl<T: Keyed + Copy> Tree<T> {
         requires most { length items.now ≤ MANY }
         requires room { 0 < self.old.room }
         requires fork { 0 < self.old.height }
-        requires few { length self.old.items + 8192 < 2 ^ 62 }
+        requires few { length self.old.items + 16384 < 2 ^ 62 }
         ensures some { IfOk result (λ count. 0 < count) }
         ensures within { IfOk result (λ count. count ≤ length items.now) }
         ensures items { IfOk result (λ count. self.new.items ≡ self.old.items ++ take count items.now) }
@@ -302,7 +302,7 @@ impl<T: Keyed + Copy> Kid<T> {
         requires most { length items.now ≤ MANY }
         requires room { 0 < self.old.room }
         requires fork { 0 < self.old.height }
-        requires few { length self.old.items + 8192 < 2 ^ 62 }
+        requires few { length self.old.items + 16384 < 2 ^ 62 }
         ensures some { IfOk result (λ count. 0 < count) }
         ensures within { IfOk result (λ count. count ≤ length items.now) }
         ensures items { IfOk result (λ count. self.new.items ≡ self.old.items ++ take count items.now) }
@@ -345,7 +345,7 @@ impl<T: Keyed + Copy> Kid<T> {
         ensures items { IfOk result (λ count. self.new.items ≡ self.old.items ++ take count items.now) }
         ensures same { OnErr result (self.new.items ≡ self.old.items) }
     {
-        if items.len() > MANY || self.len() >= LONG - 8192 {
+        if items.len() > MANY || self.len() >= LONG - 16_384 {
             return self.add_one(alloc, items);
         }
         if self.tree.height() == 0 || !self.tree.has_room() {

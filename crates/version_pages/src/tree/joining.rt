@@ -1,7 +1,7 @@
 //! Two trees in one, the second behind the first. Nothing changes in them: the new tree shares their nodes, but for those
 //! on the way to the place where they meet.
 
-ghost use Rattle.std.specs.Prelude.{◌≡◌, ◌+◌, ◌<◌, ◌≤◌, ◌^◌, ◌++◌, ℕ, IfOk, length, All};
+ghost use Rattle.std.specs.Prelude.{◌≡◌, ◌+◌, ◌*◌, ◌<◌, ◌≤◌, ◌^◌, ◌++◌, ℕ, IfOk, length, All};
 ghost use Rattle.version_pages.specs.Shape.{IsDeep, IsUnder, joined};
 
 use super::parts::{fork_kid, page_kid};
@@ -73,7 +73,7 @@ fn forks_of<T: Keyed>(
     height: u64,
 ) -> Result<Vec<Kid<T>>, OutOfMemory>
     requires two { 2 ≤ length row.now }
-    requires most { length row.now ≤ 128 }
+    requires most { length row.now ≤ 2 * WIDE }
     requires under { All (IsUnder height) row.now }
     requires few { length (joined row.now) < 2 ^ 62 }
     ensures items { IfOk result (λ forks. joined forks.items ≡ joined row.now) }

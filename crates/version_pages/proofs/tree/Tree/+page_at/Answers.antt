@@ -7,7 +7,7 @@ use Rattle.version_pages.proofs.tree.Tree.+page_at.Goals as goal
 pub returns-in-Page-clause-within : goal.returns-in-Page-clause-within
 returns-in-Page-clause-within g t c =
     let e : c.in-Page.items.items ≡ c.args.self.now.items = ap items_of (ap shape_of (sym c.in-Page.is) ∙ c.self.view_is) in
-    within-itself _ _ _ (c.as_slice.ensures.value ∙ e)
+    within-itself _ _ _ e
 
 pub returns-in-Fork-clause-within : goal.returns-in-Fork-clause-within
 returns-in-Fork-clause-within g t c =

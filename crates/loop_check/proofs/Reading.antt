@@ -1,7 +1,7 @@
 -- Reading a row: what its routers do, by one list.
-use Rattle.std.proofs.Common.{◌≡◌, ℕ, ◌+◌, ◌<◌, ◌≤◌, ◌∙◌, false, Option, None, List, [], ◌∷◌, ◌&&◌, length, get_or, slice_set, refl, ap, sym, ⊎_elim, arith}
-use Rattle.std.proofs.lemmas.Bool.{cases_eq, cases_lt}
-use Rattle.std.proofs.lemmas.List.{get_or-set_same, get_or-set_other, get_or_past}
+use Rattle.std.proofs.Common.{◌≡◌, ℕ, ◌<◌, ◌≤◌, ◌∙◌, false, Option, None, List, [], ◌∷◌, ◌&&◌, length, get_or, refl, ap, sym, ⊎_elim, arith}
+use Rattle.std.proofs.lemmas.Bool.{cases_lt}
+use Rattle.std.proofs.lemmas.List.{get_or_past}
 use Rattle.base.specs.Cycles.{goes_to, go_round, is_cycle}
 use Rattle.base.specs.Forwarding.{AreForwarding, target_of}
 use Rattle.base.specs.Reach.{is_router}
@@ -9,26 +9,9 @@ use Rattle.base.specs.Walk.{on_far}
 use Rattle.base.specs.declared.forwarding_row.ForwardingRow.{ForwardingRow}
 use Rattle.base.specs.declared.ids.RouterId.{RouterId}
 use Rattle.base.specs.declared.target.Target.{Target}
-use Rattle.base.specs.declared.target.Target.TheVariants.{NoRoute}
 use Rattle.label_view.proofs.Found.{each-at}
 use Rattle.loop_check.specs.Following.{LeadInside, hops}
 use Rattle.loop_check.specs.RowCycles.{AreCyclesOf}
-
--- one target more
-pub read-more : (f : ℕ → Target) (ts new : List Target) (r : ℕ) (t : Target) → r < length ts → new ≡ slice_set ts r t → t ≡ f r → ((k : ℕ) → k < r → get_or ts k NoRoute ≡ f k) → (k : ℕ) → k < r + 1 → get_or new k NoRoute ≡ f k
-read-more f ts new r t l e is so_far = λ k b. ⊎_elim
-    (λ (same : k ≡ r). ap (λ (v : List Target). get_or v k NoRoute) e ∙ ap (λ (n : ℕ). get_or (slice_set ts r t) n NoRoute) same ∙ get_or-set_same ts r t NoRoute l ∙ is ∙ ap f (sym same))
-    (λ (other : k ≡ r → ⊥). ap (λ (v : List Target). get_or v k NoRoute) e ∙ get_or-set_other ts r k t NoRoute other ∙ so_far k (omega arith))
-    (cases_eq k r)
-
--- all targets of a row
-pub read-all : (n : ℕ) (rows : List ForwardingRow) (i : ℕ) (d : ForwardingRow) (ts : List Target) → AreForwarding n rows → i < length rows → length ts ≡ n → ((k : ℕ) → k < n → get_or ts k NoRoute ≡ get_or (get_or rows i d).targets k NoRoute) → (r : RouterId) → hops ts r ≡ target_of (get_or rows i d) r
-read-all n rows i d ts form l room all = λ r. ⊎_elim
-    (λ (b : r.0 < n). all r.0 b)
-    (λ (b : n ≤ r.0).
-    let whole : length (get_or rows i d).targets ≡ n = (each-at n rows i d form.each l).all in
-    get_or_past ts r.0 NoRoute (omega arith) ∙ sym (get_or_past (get_or rows i d).targets r.0 NoRoute (omega arith)))
-    (cases_lt r.0 n)
 
 pub cleared : (passed : List (Option RouterId)) → ((k : ℕ) → k < length passed → get_or passed k None ≡ None) → (r : RouterId) → get_or passed r.0 None ≡ None
 cleared passed all = λ r. ⊎_elim

@@ -49,10 +49,10 @@ fn read_row<V: LabelView, L: Ledger>(view: &V, i: u64, targets: &mut [Target], s
     ensures row { (d : Row) (r : Router) → hops targets.new r ≡ target_of (slice_index_or (V.rows view.now) i d) r }
     ensures cost { steps.new ≤ steps.old + V.width view.now }
 {
-    for r in 0..view.routers() {
+    for _router in 0..view.routers() {
         steps.tick();
-        targets[r as usize] = view.target(RouterId(r as u16), i);
     }
+    view.row(i, targets);
 }
 
 /// Takes back all marks.

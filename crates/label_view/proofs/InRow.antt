@@ -139,6 +139,13 @@ gathered-skip n rows i old passes test form l not_so so_far is =
       none = λ a b. so_far.none a (omega arith);
     })
 
+-- rows side by side are gone over
+pub gathered-on : (g : Gathered) (rows : List ForwardingRow) (from k : ℕ) (test : ℕ → Bool) → AreGatheredTo g rows (from + k + 1) test → AreGatheredTo g rows (from + (k + 1)) test
+gathered-on g rows from k test h =
+    let e : from + k + 1 ≡ from + (k + 1) = omega arith in
+    let P : ℕ → Type 0 = λ i. AreGatheredTo g rows i test in
+    subst P e h
+
 -- after the last row the runs are those of all addresses that pass
 pub gathered-all : (rows : List ForwardingRow) (i : ℕ) (g : Gathered) (runs : List Run) (test : ℕ → Bool) → length rows ≤ i → AreGatheredTo g rows i test → runs ≡ g.runs → AreApart runs → AreRuns runs test
 gathered-all rows i g runs test l h is apart =

@@ -1,3 +1,4 @@
+pub mod Columns
 pub mod Gathered
 pub mod Listed
 pub mod Pages

@@ -2,11 +2,13 @@
 //! addresses that every router treats alike (the atoms and labels of Delta-net, NSDI 2017).
 #![tactic(auto)]
 
+mod column;
 mod list_view;
 mod read_ahead;
 pub mod runs;
 mod view;
 
+pub use column::{Column, PAGE};
 pub use list_view::ListView;
 pub use read_ahead::ReadAhead;
 pub use view::LabelView;

@@ -3,7 +3,7 @@ use Rattle.std.proofs.Common.{◌≡◌, ℕ, zero, suc, ◌<◌, ◌-◌, ◌==
 use Rattle.std.specs.List.{list_any}
 use Rattle.std.proofs.lemmas.Bool.{eq-eqb, ne_eqb, or_left}
 use Rattle.base.specs.Forwarding.{does}
-use Rattle.base.specs.Reach.{goes_over, is_router, reaches}
+use Rattle.base.specs.Reach.{is_router, reaches}
 use Rattle.base.specs.Walk.{walk}
 use Rattle.base.specs.declared.forwarding_row.ForwardingRow.{ForwardingRow}
 use Rattle.base.specs.declared.ids.LinkId.{LinkId}
@@ -44,9 +44,4 @@ met-last f (suc n) r to e = absurd (omega arith)
 pub reaches-ahead : {X : Type 0} (width : X → ℕ) (rows : X → List ForwardingRow) (ahead view : X) (i : ℕ) (first to : RouterId) (passes : Bool) → ahead ≡ view → ((a : ℕ) → IsInRow (rows ahead) i a → passes ≡ reaches (width ahead) (does (rows ahead)) first to a) → (a : ℕ) → IsInRow (rows view) i a → passes ≡ reaches (width view) (does (rows view)) first to a
 reaches-ahead {X} width rows ahead view i first to passes e h =
     let P : X → Type 0 = λ v. (a : ℕ) → IsInRow (rows v) i a → passes ≡ reaches (width v) (does (rows v)) first to a in
-    subst P e h
-
-pub uses-ahead : {X : Type 0} (rows : X → List ForwardingRow) (ahead view : X) (i : ℕ) (end : RouterId) (link : LinkId) (passes : Bool) → ahead ≡ view → ((a : ℕ) → IsInRow (rows ahead) i a → passes ≡ goes_over (does (rows ahead)) end link a) → (a : ℕ) → IsInRow (rows view) i a → passes ≡ goes_over (does (rows view)) end link a
-uses-ahead {X} rows ahead view i end link passes e h =
-    let P : X → Type 0 = λ v. (a : ℕ) → IsInRow (rows v) i a → passes ≡ goes_over (does (rows v)) end link a in
     subst P e h

@@ -1,14 +1,15 @@
 //! Which addresses go over a link.
 
-ghost use Rattle.std.specs.Prelude.{◌≡◌, ℕ, ◌+◌, ◌*◌, ◌<◌, ◌≤◌, IfOk, length};
+ghost use Rattle.std.specs.Prelude.{◌≡◌, ℕ, ◌+◌, ◌*◌, ◌<◌, ◌≤◌, ◌^◌, IfOk, OnOk, length};
 ghost use Rattle.base.specs.Forwarding.{AreForwarding, does};
 ghost use Rattle.base.specs.Reach.{goes_over, is_over};
 ghost use Rattle.base.specs.Runs.{AreRuns};
-ghost use Rattle.label_view.specs.Places.{IsInRow};
+ghost use Rattle.label_view.specs.Columns.{AreOfColumn};
+ghost use Rattle.label_view.specs.Places.{AreGatheredTo};
 
 use base::{LinkId, List, OutOfMemory, RouterId, Run, Target};
 use label_view::runs::RunList;
-use label_view::{LabelView, ReadAhead};
+use label_view::{Column, LabelView, PAGE};
 use std::alloc::Global;
 use std::sync::ledger::Ledger;
 use step_count::Steps;
@@ -23,22 +24,59 @@ fn is_by(target: Target, link: LinkId) -> bool
     }
 }
 
-/// Whether a router sends the addresses of the row at a place over a link.
-fn row_uses<V: LabelView, L: Ledger>(
+/// Adds, of the rows of a column, the addresses that the router sends over a link.
+fn add_column<V: LabelView, L: Ledger>(
     view: &V,
-    i: u64,
-    end: RouterId,
+    column: &Column<'_>,
+    link: LinkId,
+    runs: &mut RunList,
+    steps: &mut Steps<L>,
+) -> Result<(), OutOfMemory>
+    requires form { AreForwarding (V.width view.now) (V.rows view.now) }
+    requires inside { column.now.from + length column.now.targets.now ≤ length (V.rows view.now) }
+    requires fits { column.now.from + length column.now.targets.now < 2 ^ 64 }
+    requires column { AreOfColumn (V.rows view.now) column.now.router column.now.from column.now.targets.now }
+    requires runs { AreGatheredTo runs.old (V.rows view.now) column.now.from
+        (goes_over (does (V.rows view.now)) column.now.router link) }
+    ensures runs { OnOk result (AreGatheredTo runs.new (V.rows view.now) (column.now.from + length column.now.targets.now)
+        (goes_over (does (V.rows view.now)) column.now.router link)) }
+    ensures cost { steps.new ≤ steps.old + length column.now.targets.now }
+{
+    for k in 0..column.targets.len() {
+        steps.tick();
+        let passes = is_by(column.targets[k], link);
+        runs.push_row_if(view, column.from + k as u64, passes)?;
+    }
+    Ok(())
+}
+
+/// The runs of the addresses that a router sends over a link, in order, no two touching. It takes a look at each row.
+fn sent_over<V: LabelView, L: Ledger>(
+    alloc: Global,
+    view: &V,
+    router: RouterId,
     link: LinkId,
     steps: &mut Steps<L>,
-) -> bool
-    requires form { AreForwarding (V.width view.now) (V.rows view.now) }
-    requires router { end.0 < V.width view.now }
-    requires place { i < length (V.rows view.now) }
-    ensures over { (a : ℕ) → IsInRow (V.rows view.now) i a → result ≡ goes_over (does (V.rows view.now)) end link a }
-    ensures cost { steps.new ≤ steps.old + 1 }
+) -> Result<List<Run>, OutOfMemory>
+    requires { router.0 < V.width view.now }
+    ensures runs { IfOk result (λ runs. AreRuns runs (goes_over (does (V.rows view.now)) router link)) }
+    ensures cost { steps.new ≤ steps.old + length (V.rows view.now) }
 {
-    steps.tick();
-    is_by(view.target(end, i), link)
+    let mut runs = RunList::new(alloc);
+    let mut page = [Target::NoRoute; PAGE];
+    let rows = view.atoms();
+    let mut from = 0;
+    'pages: while from < rows {
+        let count = view.column(router, from, &mut page);
+        let column = Column {
+            router,
+            from,
+            targets: &page[..count],
+        };
+        add_column(view, &column, link, &mut runs, steps)?;
+        from += count as u64;
+    }
+    Ok(runs.finish()?)
 }
 
 /// The runs of the addresses that the first end of a link sends over it, and of those that the second end sends; each
@@ -57,17 +95,7 @@ pub fn uses<V: LabelView, L: Ledger>(
     ensures second { IfOk result (λ runs. AreRuns runs.1 (goes_over (does (V.rows view.now)) end2 link)) }
     ensures cost { steps.new ≤ steps.old + 2 * length (V.rows view.now) }
 {
-    let mut first = RunList::new(alloc);
-    let mut second = RunList::new(alloc);
-    let mut ahead1 = ReadAhead::new(view, end1);
-    let mut ahead2 = ReadAhead::new(view, end2);
-    for i in 0..view.atoms() {
-        ahead1.read_to(i);
-        let one = row_uses(&ahead1, i, end1, link, steps);
-        first.push_row_if(view, i, one)?;
-        ahead2.read_to(i);
-        let other = row_uses(&ahead2, i, end2, link, steps);
-        second.push_row_if(view, i, other)?;
-    }
-    Ok((first.finish()?, second.finish()?))
+    let first = sent_over(alloc, view, end1, link, steps)?;
+    let second = sent_over(alloc, view, end2, link, steps)?;
+    Ok((first, second))
 }

@@ -67,13 +67,16 @@ fn copy_tree<T: Keyed>(alloc: Global, tree: &mut Arc<Tree<T>, Global>) -> Result
     Ok(())
 }
 
-/// Makes a pointer the only one to its tree: where somebody else holds it too, this one gets a copy.
+/// Makes a pointer the only one to its tree: where somebody else holds it too, this one gets a copy. The call that copies
+/// stands in two branches, so that the compiler leaves it a call, and only the look at the count stands where a tree is
+/// changed.
 #[inline(always)]
 pub fn unshare<T: Keyed>(alloc: Global, tree: &mut Arc<Tree<T>, Global>) -> Result<(), OutOfMemory>
     ensures { arc_value tree.new ≡ arc_value tree.old }
 {
-    if Arc::strong_count(tree) != 1 {
-        return copy_tree(alloc, tree);
+    match Arc::strong_count(tree) {
+        1 => Ok(()),
+        2 => copy_tree(alloc, tree),
+        _ => copy_tree(alloc, tree),
     }
-    Ok(())
 }

@@ -102,9 +102,15 @@ impl<T: Keyed> Pages<T> {
         ensures some { 0 < length self.now → result.2 < length result.0.now }
         ensures page { take (length result.0.now) (drop result.1 self.now) ≡ result.0.now }
     {
-        let place = near.min(self.len().saturating_sub(1));
-        let (page, first) = self.page_at(place);
-        (page, first, (place - first) as usize)
+        let Some(root) = &self.root else {
+            return (&[], 0, 0);
+        };
+        let place = near.min(root.len().saturating_sub(1));
+        if place >= root.len() {
+            return (&[], 0, 0);
+        }
+        let (page, j) = root.tree().page_at(place);
+        (page.as_slice(), place - j, j as usize)
     }
 
     /// The elements from a place to the end of its page, at least one where there is one at the place. So a loop over

@@ -161,36 +161,45 @@ fn guess(density: u64, last: usize, i: u64) -> usize
     k.min(last as u64) as usize
 }
 
-/// A child at or before this one that starts no later than at a place.
-fn back(ends: &Vec<u64>, from: usize, i: u64) -> usize
+/// A child at or before this one that starts no later than at a place, and how many elements stand before it.
+fn back(ends: &Vec<u64>, from: usize, i: u64) -> (usize, u64)
     requires { from < length ends.now.items }
-    ensures child { result ≤ from }
-    ensures start { end_before ends.now.items result ≤ i }
+    ensures child { result.0 ≤ from }
+    ensures start { result.1 ≡ end_before ends.now.items result.0 }
+    ensures before { result.1 ≤ i }
 {
     let mut k = from;
-    'back: while start(ends, k) > i {
+    let mut first = start(ends, k);
+    'back: while first > i {
         k -= 1;
+        first = start(ends, k);
     }
-    k
+    (k, first)
 }
 
-/// The first child from this one on that ends behind a place, or the last.
-fn on(ends: &Vec<u64>, last: usize, from: usize, i: u64) -> usize
+/// The first child from this one on, before which so many elements stand, that ends behind a place, or the last, and how
+/// many elements stand before it.
+fn on(ends: &Vec<u64>, last: usize, from: usize, first: u64, i: u64) -> (usize, u64)
     requires last { last + 1 ≡ length ends.now.items }
     requires child { from ≤ last }
-    requires start { end_before ends.now.items from ≤ i }
-    ensures child { result ≤ last }
-    ensures start { end_before ends.now.items result ≤ i }
-    ensures end { (d : ℕ) → result < last → i < slice_index_or ends.now.items result d }
+    requires start { first ≡ end_before ends.now.items from }
+    requires before { first ≤ i }
+    ensures child { result.0 ≤ last }
+    ensures start { result.1 ≡ end_before ends.now.items result.0 }
+    ensures before { result.1 ≤ i }
+    ensures end { (d : ℕ) → result.0 < last → i < slice_index_or ends.now.items result.0 d }
 {
     let mut k = from;
+    let mut first = first;
     'on: while k < last {
-        if i < ends[k] {
+        let end = ends[k];
+        if i < end {
             break;
         }
+        first = end;
         k += 1;
     }
-    k
+    (k, first)
 }
 
 /// The child that has the element at a place, or the last where there is none, with the element's place in it. It looks
@@ -201,9 +210,9 @@ fn find<T: Keyed>(kids: &Vec<Kid<T>>, ends: &Vec<u64>, density: u64, i: u64) -> 
     ensures { IsAt kids.now.items i result.0 result.1 }
 {
     let last = kids.len() - 1;
-    let near = back(ends, guess(density, last, i), i);
-    let k = on(ends, last, near, i);
-    (k, i - start(ends, k))
+    let (near, before) = back(ends, guess(density, last, i), i);
+    let (k, first) = on(ends, last, near, before, i);
+    (k, i - first)
 }
 
 /// The child that has the element at a place, with the element's place in it.

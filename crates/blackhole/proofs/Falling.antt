@@ -1,23 +1,16 @@
 -- Where a walk ends, hop by hop.
-use Rattle.std.proofs.Common.{◌≡◌, ℕ, zero, suc, ◌<◌, ◌-◌, ◌∙◌, Bool, false, ◌&&◌, Option, List, refl, ap, subst, sym, arith, sub-one}
+use Rattle.std.proofs.Common.{◌≡◌, ℕ, zero, suc, ◌<◌, ◌-◌, ◌∙◌, false, ◌&&◌, refl, ap, sym, arith, sub-one}
 use Rattle.std.proofs.lemmas.Bool.{and_right}
-use Rattle.base.specs.Forwarding.{does}
-use Rattle.base.specs.Holes.{ends_by, falls}
+use Rattle.base.specs.Holes.{ends_by}
 use Rattle.base.specs.Reach.{is_router}
 use Rattle.base.specs.Walk.{walk_end, walk_last}
-use Rattle.base.specs.declared.forwarding_row.ForwardingRow.{ForwardingRow}
 use Rattle.base.specs.declared.path_end.PathEnd.TheVariants.{At}
 use Rattle.base.specs.declared.ids.LinkId.{LinkId}
 use Rattle.base.specs.declared.ids.RouterId.{RouterId}
 use Rattle.base.specs.declared.target.Target.{Target}
 use Rattle.base.specs.declared.target.Target.TheVariants.{NoRoute, Dropped, Local, Exit, OnLink, To, LinkDown}
 use Rattle.base.proofs.Walks.{on_far-last, walk_end-last, walk_end-to}
-use Rattle.label_view.specs.Places.{IsInRow}
-use Rattle.blackhole.specs.Falls.{fall_of, is_fall}
-
--- whether a walk of so many hops falls at a router by a cause
-abbrev pub walk_falls : (RouterId → Target) → ℕ → RouterId → RouterId → Target → Bool
-walk_falls f n r last cause = is_router last (walk_last f n r) && ends_by cause (walk_end f n r)
+use Rattle.blackhole.specs.Falls.{fall_of, is_fall, walk_falls}
 
 walk_last-to : (f : RouterId → Target) (n : ℕ) (r s : RouterId) (l : LinkId) → 0 < n → f r ≡ To s l → walk_last f n r ≡ walk_last f (n - 1) s
 walk_last-to f zero r s l h e = absurd (omega arith)
@@ -54,10 +47,3 @@ falls-here f n r t last cause some ends is =
 pub falls-never : (f : RouterId → Target) (n : ℕ) (r last : RouterId) (cause : Target) → n ≡ 0 → walk_falls f n r last cause ≡ false
 falls-never f zero r last cause e = and_right _ _ refl
 falls-never f (suc n) r last cause e = absurd (omega arith)
-
--- what is found by a view that is read ahead holds of the view
-pub falls-ahead : {X : Type 0} (width : X → ℕ) (rows : X → List ForwardingRow) (ahead view : X) (i : ℕ) (first : RouterId) (end : Option (RouterId × Target)) → ahead ≡ view → ((last : RouterId) (cause : Target) (a : ℕ) → IsInRow (rows ahead) i a → is_fall end last cause ≡ falls (width ahead) (does (rows ahead)) first last cause a) →
-    (last : RouterId) (cause : Target) (a : ℕ) → IsInRow (rows view) i a → is_fall end last cause ≡ falls (width view) (does (rows view)) first last cause a
-falls-ahead {X} width rows ahead view i first end e h =
-    let P : X → Type 0 = λ v. (last : RouterId) (cause : Target) (a : ℕ) → IsInRow (rows v) i a → is_fall end last cause ≡ falls (width v) (does (rows v)) first last cause a in
-    subst P e h

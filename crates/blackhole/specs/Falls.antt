@@ -1,7 +1,8 @@
 -- Where walks end without a way on.
-use Rattle.std.specs.Prelude.{Bool, false, Option, None, Some, ◌&&◌, ◌==◌, nat_lt, if◌then◌else◌}
-use Rattle.base.specs.Holes.{cause_rank, is_cause}
+use Rattle.std.specs.Prelude.{ℕ, Bool, false, Option, None, Some, ◌&&◌, ◌==◌, nat_lt, if◌then◌else◌}
+use Rattle.base.specs.Holes.{cause_rank, ends_by, is_cause}
 use Rattle.base.specs.Reach.{is_router}
+use Rattle.base.specs.Walk.{walk_end, walk_last}
 use Rattle.base.specs.declared.ids.RouterId.{RouterId}
 use Rattle.base.specs.declared.target.Target.{Target}
 
@@ -13,6 +14,10 @@ fall_of r target = if is_cause target then Some (r, target) else None
 abbrev pub is_fall : Option (RouterId × Target) → RouterId → Target → Bool
 is_fall None last cause = false
 is_fall (Some end) last cause = is_router last end.0 && (is_cause end.1 && (cause_rank end.1 == cause_rank cause))
+
+-- whether a walk of so many hops falls at a router by a cause
+abbrev pub walk_falls : (RouterId → Target) → ℕ → RouterId → RouterId → Target → Bool
+walk_falls f n r last cause = is_router last (walk_last f n r) && ends_by cause (walk_end f n r)
 
 -- whether a router and a cause come before others: by router, then by cause
 abbrev pub is_before : RouterId → Target → RouterId → Target → Bool

@@ -1,15 +1,16 @@
 //! All black holes of a router's walks.
 
-ghost use Rattle.std.specs.Prelude.{◌≡◌, ◌+◌, ◌*◌, ◌<◌, ◌≤◌, IfOk, length};
-ghost use Rattle.base.specs.Forwarding.{does};
-ghost use Rattle.base.specs.Holes.{AreHoles};
-ghost use Rattle.blackhole.specs.Gathering.{AreHolesOf};
+ghost use Rattle.std.specs.Prelude.{◌≡◌, ◌+◌, ◌*◌, ◌<◌, ◌≤◌, ◌^◌, IfOk, OnOk, length};
+ghost use Rattle.base.specs.Forwarding.{AreForwarding, does};
+ghost use Rattle.base.specs.Holes.{AreHoles, falls};
+ghost use Rattle.label_view.specs.Columns.{AreOfColumn};
+ghost use Rattle.blackhole.specs.Gathering.{AreFalls, AreHolesOf};
 
 use crate::fall::Fall;
 use crate::falls::add_row;
 use crate::row_fall::row_fall;
-use base::{Hole, List, OutOfMemory, RouterId};
-use label_view::{LabelView, ReadAhead};
+use base::{Hole, List, OutOfMemory, RouterId, Target};
+use label_view::{Column, LabelView, PAGE};
 use std::alloc::Global;
 use std::sync::ledger::Ledger;
 use step_count::Steps;
@@ -35,6 +36,34 @@ fn holes_of(alloc: Global, falls: Vec<Fall>) -> Result<List<Hole>, OutOfMemory>
     Ok(holes)
 }
 
+/// Adds the addresses of the rows of a column where their walks from the router end, if they end without a way on.
+fn add_column<V: LabelView, L: Ledger>(
+    alloc: Global,
+    view: &V,
+    column: &Column<'_>,
+    ends: &mut Vec<Fall>,
+    steps: &mut Steps<L>,
+) -> Result<(), OutOfMemory>
+    requires form { AreForwarding (V.width view.now) (V.rows view.now) }
+    requires router { column.now.router.0 < V.width view.now }
+    requires inside { column.now.from + length column.now.targets.now ≤ length (V.rows view.now) }
+    requires fits { column.now.from + length column.now.targets.now < 2 ^ 64 }
+    requires column { AreOfColumn (V.rows view.now) column.now.router column.now.from column.now.targets.now }
+    requires falls { AreFalls ends.old.items (V.rows view.now) column.now.from
+        (falls (V.width view.now) (does (V.rows view.now)) column.now.router) }
+    ensures falls { OnOk result
+        (AreFalls ends.new.items (V.rows view.now) (column.now.from + length column.now.targets.now)
+        (falls (V.width view.now) (does (V.rows view.now)) column.now.router)) }
+    ensures cost { steps.new ≤ steps.old + length column.now.targets.now * V.width view.now }
+{
+    for k in 0..column.targets.len() {
+        let i = column.from + k as u64;
+        let end = row_fall(view, i, column.router, column.targets[k], steps);
+        add_row(alloc, ends, view, i, end)?;
+    }
+    Ok(())
+}
+
 /// The addresses whose walks from a router end without a way on: for each last router and cause (`NoRoute`, `Dropped`
 /// or `LinkDown`) that has any, their runs; by router, then by cause in the order in which causes are told. A walk that
 /// goes round ends nowhere. Each row is followed once, and only as far as it goes: at most as many looks as there are
@@ -50,12 +79,19 @@ pub fn blackholes<V: LabelView, L: Ledger>(
     ensures holes { IfOk result (λ holes. AreHoles (V.width view.now) (does (V.rows view.now)) first holes) }
     ensures cost { steps.new ≤ steps.old + length (V.rows view.now) * V.width view.now }
 {
-    let mut falls = Vec::new(alloc);
-    let mut ahead = ReadAhead::new(view, first);
-    for i in 0..view.atoms() {
-        ahead.read_to(i);
-        let end = row_fall(&ahead, i, first, steps);
-        add_row(alloc, &mut falls, view, i, end)?;
+    let mut ends = Vec::new(alloc);
+    let mut page = [Target::NoRoute; PAGE];
+    let rows = view.atoms();
+    let mut from = 0;
+    'pages: while from < rows {
+        let count = view.column(first, from, &mut page);
+        let column = Column {
+            router: first,
+            from,
+            targets: &page[..count],
+        };
+        add_column(alloc, view, &column, &mut ends, steps)?;
+        from += count as u64;
     }
-    holes_of(alloc, falls)
+    holes_of(alloc, ends)
 }

@@ -1,4 +1,3 @@
 pub mod Found
 pub mod Gathering
 pub mod InRow
-pub mod Pages

@@ -1,5 +1,4 @@
 pub mod Columns
 pub mod Gathered
 pub mod Listed
-pub mod Pages
 pub mod Places

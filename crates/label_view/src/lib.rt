@@ -4,11 +4,9 @@
 
 mod column;
 mod list_view;
-mod read_ahead;
 pub mod runs;
 mod view;
 
 pub use column::{Column, PAGE};
 pub use list_view::ListView;
-pub use read_ahead::ReadAhead;
 pub use view::LabelView;

@@ -1,17 +1,14 @@
 -- Whether one of a walk's routers is a router.
-use Rattle.std.proofs.Common.{◌≡◌, ℕ, zero, suc, ◌<◌, ◌-◌, ◌==◌, ◌∙◌, ◌||◌, Bool, true, false, List, refl, ap, subst, arith}
+use Rattle.std.proofs.Common.{◌≡◌, ℕ, zero, suc, ◌<◌, ◌-◌, ◌==◌, ◌∙◌, ◌||◌, Bool, true, false, refl, ap, arith}
 use Rattle.std.specs.List.{list_any}
 use Rattle.std.proofs.lemmas.Bool.{eq-eqb, ne_eqb, or_left}
-use Rattle.base.specs.Forwarding.{does}
-use Rattle.base.specs.Reach.{is_router, reaches}
+use Rattle.base.specs.Reach.{is_router}
 use Rattle.base.specs.Walk.{walk}
-use Rattle.base.specs.declared.forwarding_row.ForwardingRow.{ForwardingRow}
 use Rattle.base.specs.declared.ids.LinkId.{LinkId}
 use Rattle.base.specs.declared.ids.RouterId.{RouterId}
 use Rattle.base.specs.declared.target.Target.{Target}
 use Rattle.base.specs.declared.target.Target.TheVariants.{To}
 use Rattle.base.proofs.Walks.{walk-last, walk-to}
-use Rattle.label_view.specs.Places.{IsInRow}
 
 -- it is the first one
 pub met-here : (f : RouterId → Target) (n : ℕ) (r to : RouterId) → r.0 ≡ to.0 → list_any (is_router to) (walk f n r) ≡ true
@@ -38,10 +35,3 @@ or-none false = refl
 pub met-last : (f : RouterId → Target) (n : ℕ) (r to : RouterId) → n ≡ 0 → list_any (is_router to) (walk f n r) ≡ (r.0 == to.0)
 met-last f zero r to e = or-none (r.0 == to.0)
 met-last f (suc n) r to e = absurd (omega arith)
-
--- ---- what is found by a view that is read ahead holds of the view
-
-pub reaches-ahead : {X : Type 0} (width : X → ℕ) (rows : X → List ForwardingRow) (ahead view : X) (i : ℕ) (first to : RouterId) (passes : Bool) → ahead ≡ view → ((a : ℕ) → IsInRow (rows ahead) i a → passes ≡ reaches (width ahead) (does (rows ahead)) first to a) → (a : ℕ) → IsInRow (rows view) i a → passes ≡ reaches (width view) (does (rows view)) first to a
-reaches-ahead {X} width rows ahead view i first to passes e h =
-    let P : X → Type 0 = λ v. (a : ℕ) → IsInRow (rows v) i a → passes ≡ reaches (width v) (does (rows v)) first to a in
-    subst P e h

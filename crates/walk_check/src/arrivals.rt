@@ -1,34 +1,40 @@
 //! Which addresses come to a router.
 
-ghost use Rattle.std.specs.Prelude.{◌≡◌, ℕ, ◌+◌, ◌*◌, ◌<◌, ◌≤◌, IfOk, length};
-ghost use Rattle.base.specs.Forwarding.{does};
-ghost use Rattle.base.specs.Reach.{reaches};
+ghost use Rattle.std.specs.List.{list_any};
+ghost use Rattle.std.specs.Prelude.{◌≡◌, ℕ, ◌+◌, ◌*◌, ◌<◌, ◌≤◌, ◌^◌, IfOk, OnOk, length, slice_index_or};
+ghost use Rattle.base.specs.Forwarding.{AreForwarding, does, target_of};
+ghost use Rattle.base.specs.Reach.{is_router, reaches};
 ghost use Rattle.base.specs.Runs.{AreRuns};
-ghost use Rattle.label_view.specs.Places.{IsInRow};
+ghost use Rattle.base.specs.Walk.{at_address, walk};
+ghost use Rattle.base.specs.declared.forwarding_row.ForwardingRow.{ForwardingRow};
+ghost use Rattle.label_view.specs.Columns.{AreOfColumn};
+ghost use Rattle.label_view.specs.Places.{AreGatheredTo, IsInRow};
 
 use base::{List, OutOfMemory, RouterId, Run, Target};
 use label_view::runs::RunList;
-use label_view::{LabelView, ReadAhead};
+use label_view::{Column, LabelView, PAGE};
 use std::alloc::Global;
 use std::sync::ledger::Ledger;
 use step_count::Steps;
 
-/// Whether the addresses of the row at a place come from a router to another, or to the same one at once.
-fn row_reaches<V: LabelView, L: Ledger>(
+/// Whether the addresses of the row at a place come from a router, in so many hops at most, to another.
+fn walk_reaches<V: LabelView, L: Ledger>(
     view: &V,
     i: u64,
     first: RouterId,
+    hops: u32,
     to: RouterId,
     steps: &mut Steps<L>,
 ) -> bool
+    requires form { AreForwarding (V.width view.now) (V.rows view.now) }
     requires router { first.0 < V.width view.now }
     requires place { i < length (V.rows view.now) }
     ensures reaches { (a : ℕ) → IsInRow (V.rows view.now) i a
-        → result ≡ reaches (V.width view.now) (does (V.rows view.now)) first to a }
-    ensures cost { steps.new ≤ steps.old + V.width view.now }
+        → result ≡ list_any (is_router to) (walk (at_address (does (V.rows view.now)) a) hops first) }
+    ensures cost { steps.new ≤ steps.old + hops }
 {
     let mut router = first;
-    let mut left = view.routers();
+    let mut left = hops;
     while left > 0 {
         if router.0 == to.0 {
             return true;
@@ -41,6 +47,62 @@ fn row_reaches<V: LabelView, L: Ledger>(
         left -= 1;
     }
     router.0 == to.0
+}
+
+/// Whether the addresses of the row at a place, with which a router does this, come from it to another, or to the same
+/// one at once.
+fn row_reaches<V: LabelView, L: Ledger>(
+    view: &V,
+    i: u64,
+    first: RouterId,
+    target: Target,
+    to: RouterId,
+    steps: &mut Steps<L>,
+) -> bool
+    requires router { first.0 < V.width view.now }
+    requires place { i < length (V.rows view.now) }
+    requires target { (d : ForwardingRow) → target ≡ target_of (slice_index_or (V.rows view.now) i d) first }
+    ensures reaches { (a : ℕ) → IsInRow (V.rows view.now) i a
+        → result ≡ reaches (V.width view.now) (does (V.rows view.now)) first to a }
+    ensures cost { steps.new ≤ steps.old + V.width view.now }
+{
+    let routers = view.routers();
+    if first.0 == to.0 {
+        return true;
+    }
+    steps.tick();
+    match target {
+        Target::To(far, _) => walk_reaches(view, i, far, routers - 1, to, steps),
+        _ => false,
+    }
+}
+
+/// Adds, of the rows of a column, the addresses that come from the router to another.
+fn add_column<V: LabelView, L: Ledger>(
+    view: &V,
+    column: &Column<'_>,
+    to: RouterId,
+    runs: &mut RunList,
+    steps: &mut Steps<L>,
+) -> Result<(), OutOfMemory>
+    requires form { AreForwarding (V.width view.now) (V.rows view.now) }
+    requires router { column.now.router.0 < V.width view.now }
+    requires inside { column.now.from + length column.now.targets.now ≤ length (V.rows view.now) }
+    requires fits { column.now.from + length column.now.targets.now < 2 ^ 64 }
+    requires column { AreOfColumn (V.rows view.now) column.now.router column.now.from column.now.targets.now }
+    requires runs { AreGatheredTo runs.old (V.rows view.now) column.now.from
+        (reaches (V.width view.now) (does (V.rows view.now)) column.now.router to) }
+    ensures runs { OnOk result
+        (AreGatheredTo runs.new (V.rows view.now) (column.now.from + length column.now.targets.now)
+        (reaches (V.width view.now) (does (V.rows view.now)) column.now.router to)) }
+    ensures cost { steps.new ≤ steps.old + length column.now.targets.now * V.width view.now }
+{
+    for k in 0..column.targets.len() {
+        let i = column.from + k as u64;
+        let passes = row_reaches(view, i, column.router, column.targets[k], to, steps);
+        runs.push_row_if(view, i, passes)?;
+    }
+    Ok(())
 }
 
 /// The runs of the addresses whose walk from a router meets another, in order, no two touching. The first router is met
@@ -58,11 +120,18 @@ pub fn reach<V: LabelView, L: Ledger>(
     ensures cost { steps.new ≤ steps.old + length (V.rows view.now) * V.width view.now }
 {
     let mut runs = RunList::new(alloc);
-    let mut ahead = ReadAhead::new(view, first);
-    for i in 0..view.atoms() {
-        ahead.read_to(i);
-        let passes = row_reaches(&ahead, i, first, to, steps);
-        runs.push_row_if(view, i, passes)?;
+    let mut page = [Target::NoRoute; PAGE];
+    let rows = view.atoms();
+    let mut from = 0;
+    'pages: while from < rows {
+        let count = view.column(first, from, &mut page);
+        let column = Column {
+            router: first,
+            from,
+            targets: &page[..count],
+        };
+        add_column(view, &column, to, &mut runs, steps)?;
+        from += count as u64;
     }
     Ok(runs.finish()?)
 }

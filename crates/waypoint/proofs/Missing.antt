@@ -1,16 +1,13 @@
 -- Whether a walk comes to a router before it meets a waypoint.
-use Rattle.std.proofs.Common.{◌≡◌, ℕ, zero, suc, ◌<◌, ◌≤◌, ◌-◌, ◌==◌, ◌∙◌, Bool, true, false, cond, List, [], ◌∷◌, refl, ap, subst, arith}
+use Rattle.std.proofs.Common.{◌≡◌, ℕ, zero, suc, ◌<◌, ◌≤◌, ◌-◌, ◌==◌, ◌∙◌, Bool, true, false, cond, List, [], ◌∷◌, refl, ap, arith}
 use Rattle.std.proofs.lemmas.Bool.{cond-false, cond-true, eq-eqb, ne_eqb}
-use Rattle.base.specs.Forwarding.{does}
-use Rattle.base.specs.Reach.{comes_before, misses}
+use Rattle.base.specs.Reach.{comes_before}
 use Rattle.base.specs.Walk.{walk}
-use Rattle.base.specs.declared.forwarding_row.ForwardingRow.{ForwardingRow}
 use Rattle.base.specs.declared.ids.LinkId.{LinkId}
 use Rattle.base.specs.declared.ids.RouterId.{RouterId}
 use Rattle.base.specs.declared.target.Target.{Target}
 use Rattle.base.specs.declared.target.Target.TheVariants.{To}
 use Rattle.base.proofs.Walks.{walk-last, walk-to}
-use Rattle.label_view.specs.Places.{IsInRow}
 
 -- the first one is the waypoint
 through-first : (r to through : RouterId) (rs : List RouterId) → r.0 ≡ through.0 → comes_before to through (r ∷ rs) ≡ false
@@ -46,9 +43,3 @@ cond-is false = refl
 pub last-is : (f : RouterId → Target) (n : ℕ) (r to through : RouterId) → n ≤ 0 → (r.0 ≡ through.0 → ⊥) → comes_before to through (walk f n r) ≡ (r.0 == to.0)
 last-is f zero r to through e differ = cond-false _ _ _ (ne_eqb r.0 through.0 differ) ∙ cond-is (r.0 == to.0)
 last-is f (suc n) r to through e differ = absurd (omega arith)
-
--- what is found by a view that is read ahead holds of the view
-pub misses-ahead : {X : Type 0} (width : X → ℕ) (rows : X → List ForwardingRow) (ahead view : X) (i : ℕ) (first to through : RouterId) (passes : Bool) → ahead ≡ view → ((a : ℕ) → IsInRow (rows ahead) i a → passes ≡ misses (width ahead) (does (rows ahead)) first to through a) → (a : ℕ) → IsInRow (rows view) i a → passes ≡ misses (width view) (does (rows view)) first to through a
-misses-ahead {X} width rows ahead view i first to through passes e h =
-    let P : X → Type 0 = λ v. (a : ℕ) → IsInRow (rows v) i a → passes ≡ misses (width v) (does (rows v)) first to through a in
-    subst P e h

@@ -1,16 +1,16 @@
 use Rattle.std.proofs.Common.{◌≡◌, ℕ, ◌+◌, ◌<◌}
 use Rattle.base.specs.Forwarding.{does}
-use Rattle.base.specs.Reach.{comes_before, misses}
+use Rattle.base.specs.Reach.{comes_before}
 use Rattle.base.specs.Walk.{at_address, walk}
 use Rattle.label_view.specs.Places.{IsInRow}
-use Rattle.waypoint.proofs.missed.row_misses.Given as goal
+use Rattle.waypoint.proofs.missed.walk_misses.Given as goal
 
 -- the walk from here on misses the waypoint where the whole walk does, and each hop was a look
 abbrev pub invariant-loop-left : goal.invariant-loop-left
 invariant-loop-left g l = record {
   within : l.router.0 < g.V.LabelView.width l.view;
-  rest : (a : ℕ) → IsInRow (g.V.LabelView.rows l.view) l.i a → comes_before l.to l.through (walk (at_address (does (g.V.LabelView.rows l.view)) a) l.left l.router) ≡ misses (g.V.LabelView.width l.view) (does (g.V.LabelView.rows l.view)) l.fn.first l.to l.through a;
-  cost : l.steps + l.left ≡ l.initial.steps + g.V.LabelView.width l.view;
+  rest : (a : ℕ) → IsInRow (g.V.LabelView.rows l.view) l.i a → comes_before l.asked.to l.asked.through (walk (at_address (does (g.V.LabelView.rows l.view)) a) l.left l.router) ≡ comes_before l.asked.to l.asked.through (walk (at_address (does (g.V.LabelView.rows l.view)) a) l.hops l.fn.first);
+  cost : l.steps + l.left ≡ l.initial.steps + l.hops;
 }
 
 abbrev pub decreases-loop-left : goal.decreases-loop-left

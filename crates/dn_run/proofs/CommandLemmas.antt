@@ -26,7 +26,7 @@ pub stage-run : (words : List (List ℕ)) (files : Option Files) (command : RunW
     Stage [] new (names_of_run command) ending (from_run command files ending) → Stage [] new (names_of_words words) ending (from_words words files ending)
 stage-run words files command ending new is stage = subst (λ said. IsStageOf files new ending said) (sym is) stage
 
-made-stage : (n : ℕ) (result : Result Ruling OutOfMemory) → IfOk result (λ r. (r.verdict ≡ Done) × IsMade n r.text.items) →
+made-stage : (n : ℕ) (result : Result Ruling OutOfMemory) → IfOk result (λ r. (r.verdict ≡ Done) × IsMade n r.text) →
     Stage [] [] [] (ending_of result) (λ calls. FromMade n calls (ending_of result))
 made-stage n (Err e) is = stage-stops _ [] []
 made-stage n (Ok r) is = record {
@@ -39,7 +39,7 @@ made-stage n (Ok r) is = record {
 }
 
 pub stage-made : (words : List (List ℕ)) (files : Option Files) (n : ℕ) (result : Result Ruling OutOfMemory) → command_of words ≡ Some (Make n) →
-    IfOk result (λ r. (r.verdict ≡ Done) × IsMade n r.text.items) → Stage [] [] (names_of_words words) (ending_of result) (from_words words files (ending_of result))
+    IfOk result (λ r. (r.verdict ≡ Done) × IsMade n r.text) → Stage [] [] (names_of_words words) (ending_of result) (from_words words files (ending_of result))
 stage-made words files n result is made = subst (λ said. IsStageOf files [] (ending_of result) said) (sym is) (made-stage n result made)
 
 pub stage-refused : (words : List (List ℕ)) (files : Option Files) (ending : Ending) → command_of words ≡ None → IsLine ending BadWords errors.Words →

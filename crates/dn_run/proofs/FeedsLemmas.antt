@@ -224,18 +224,18 @@ module _ {S : Type 0} where
 
   pub opens-none : (result : Result Ruling OutOfMemory) (t : Topology) (faults : S → ℕ) (left : S → Option (List ℕ)) (files : Option Files)
       (scripts : List (List Line)) (readers : List (Reader S)) (sources : List S) (calls : List Call) →
-      IfOk result (λ x. (bytes : List (Option (List ℕ))) → AreLeft left readers bytes → IsRunOf t (routers_of_readers readers) scripts (opened faults left bytes sources) x.verdict x.text.items) →
+      IfOk result (λ x. (bytes : List (Option (List ℕ))) → AreLeft left readers bytes → IsRunOf t (routers_of_readers readers) scripts (opened faults left bytes sources) x.verdict x.text) →
       IfOk result (λ x. some_rose faults sources ≡ is_fault x.verdict) →
       Opens t faults left files [] scripts readers sources [] calls calls (ending_of result)
   opens-none (Err e) t faults left files scripts readers sources calls ran rose = opens-stops t faults left files [] scripts readers sources [] calls
   opens-none (Ok x) t faults left files scripts readers sources calls ran rose = record {
     more = [];
     appended = sym (append-nil calls);
-    asked = are-all (Ruled x.verdict x.text.items) [];
+    asked = are-all (Ruled x.verdict x.text) [];
     given_back = refl;
     failed = or-false (some_rose faults sources) ∙ rose;
     due_is = λ bytes are.
-        (refl, subst (λ rs. IsRunOf t rs scripts (opened faults left bytes sources) x.verdict x.text.items) (sym (append-nil (routers_of_readers readers))) (ran bytes are));
+        (refl, subst (λ rs. IsRunOf t rs scripts (opened faults left bytes sources) x.verdict x.text) (sym (append-nil (routers_of_readers readers))) (ran bytes are));
   }
     where
       or-false : (b : Bool) → (b || false) ≡ b

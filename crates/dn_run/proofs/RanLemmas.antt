@@ -71,7 +71,7 @@ record ReadTold (t : Topology) (file : Option (List ℕ)) (source-faults : ℕ) 
 
 -- the report of what the jobs came to
 abbrev IsReportOf : Topology → JobsDone → Ruling → Type 0
-IsReportOf t jobs ruling = (ruling.verdict ≡ verdict_of jobs.feeds.items) × (ruling.text.items ≡ report t jobs.feeds.items (entries jobs.history) jobs.jobs.items)
+IsReportOf t jobs ruling = (ruling.verdict ≡ verdict_of jobs.feeds.items) × (ruling.text ≡ report t jobs.feeds.items (entries jobs.history) jobs.jobs.items)
 
 module _ {S : Type 0} where
   -- ---- one feed
@@ -149,7 +149,7 @@ module _ {S : Type 0} where
       AreNumbered 1 starts → All (λ r. r.limit ≡ feed_limit) starts →
       IfOk done (λ jobs. HasRun t left faults starts sources jobs.feeds.items jobs.history scripts jobs.jobs.items) →
       MatchResult done (λ jobs. IfOk result (IsReportOf t jobs)) (λ e. IsErr result) →
-      IfOk result (λ x. (files : List (Option (List ℕ))) → AreLeft left starts files → IsRunOf t (routers_of_readers starts) scripts (opened faults left files sources) x.verdict x.text.items)
+      IfOk result (λ x. (files : List (Option (List ℕ))) → AreLeft left starts files → IsRunOf t (routers_of_readers starts) scripts (opened faults left files sources) x.verdict x.text)
   ran done (Err e) t faults left starts sources scripts numbered limits has says = tt
   ran (Err e) (Ok x) t faults left starts sources scripts numbered limits has says = let none : false ≡ true = says in absurd (cc)
   ran (Ok jobs) (Ok x) t faults left starts sources scripts numbered limits has says = λ files lefts. record {

@@ -22,5 +22,5 @@ OrStops Stopped calls next = (calls ≡ []) ⊎ next
 
 -- how a call of the code ended
 abbrev pub ending_of : Result Ruling OutOfMemory → Ending
-ending_of (Ok ruling) = Ruled ruling.verdict ruling.text.items
+ending_of (Ok ruling) = Ruled ruling.verdict ruling.text
 ending_of (Err e) = Stopped

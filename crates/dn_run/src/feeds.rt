@@ -31,22 +31,20 @@ pub const FEED_LIMIT: u64 = 1073741824;
 /// The report of what the jobs came to.
 fn report_jobs(
     alloc: Global,
-    topology: &Topology,
+    topology: &Arc<Topology, Global>,
     done: Result<JobsDone, OutOfMemory>,
 ) -> Result<Ruling, OutOfMemory>
     ensures { MatchResult done
         (λ jobs. IfOk result (λ ruling. (ruling.verdict ≡ verdict_of jobs.feeds.items)
-        × (ruling.text.items ≡ report topology.now jobs.feeds.items (entries jobs.history) jobs.jobs.items)))
+        × (ruling.text ≡ report (arc_value topology.now) jobs.feeds.items (entries jobs.history) jobs.jobs.items)))
         (λ e. IsErr result) }
 {
-    let done = done?;
-    reported(
-        alloc,
-        topology,
-        done.feeds.as_slice(),
-        &done.history,
-        done.jobs.as_slice(),
-    )
+    let JobsDone {
+        history,
+        feeds,
+        jobs,
+    } = done?;
+    reported(alloc, topology, feeds.as_slice(), history, jobs.as_slice())
 }
 
 /// Runs the jobs over the feeds, which are all open, and makes the report. The sources come back in order.
@@ -66,7 +64,7 @@ fn run_readers<S: Source, G: Gate, R: Threads + Wait + Sync>(
     ensures same { map S.place result.1.items ≡ map (λ r. S.place r.source) readers.items }
     ensures ran { IfOk result.0 (λ ruling. (files : List (Option (List ℕ))) → AreLeft S.left readers.items files →
         IsRunOf (arc_value topology.now) (routers_of_readers readers.items) (scripts_of scripts.items)
-        (opened S.faults S.left files result.1.items) ruling.verdict ruling.text.items) }
+        (opened S.faults S.left files result.1.items) ruling.verdict ruling.text) }
     ensures faults { IfOk result.0 (λ ruling. some_rose S.faults result.1.items ≡ is_fault ruling.verdict) }
 {
     let (done, sources) = run_jobs(rt, alloc, topology, scripts, readers, room, gate);

@@ -17,6 +17,7 @@ use dn_io::{Gate, SureSource};
 use dn_model::{Answer, Cycle, OutOfMemory, RouterId};
 use made_input::{MadeInput, make_input};
 use route_feed::FeedReader;
+use run_report::Report;
 use std::alloc::Global;
 use std::sync::{Arc, Wait};
 use std::thread::Threads;
@@ -92,12 +93,12 @@ pub fn make<G: Gate, R: Threads + Wait + Sync>(
     gate: &G,
 ) -> Result<Ruling, OutOfMemory>
     requires { CanBeMade n }
-    ensures { IfOk result (λ ruling. (ruling.verdict ≡ Verdict.Done) × IsMade n ruling.text.items) }
+    ensures { IfOk result (λ ruling. (ruling.verdict ≡ Verdict.Done) × IsMade n ruling.text) }
 {
     let told = run_made(rt, alloc, n, gate)?;
     let text = summary_text(alloc, n, cycles_of(told.as_slice()))?;
     Ok(Ruling {
         verdict: Verdict::Done,
-        text,
+        text: Report::of_text(text),
     })
 }

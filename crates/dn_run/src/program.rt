@@ -23,7 +23,6 @@ use crate::words::{Command, RunCommand, WordsRefused, read_words};
 use dn_formats::ErrorLine;
 use dn_io::{Gate, Sink, World};
 use dn_model::OutOfMemory;
-use run_report::write_report;
 use std::alloc::Global;
 use std::sync::Wait;
 use std::thread::Threads;
@@ -111,14 +110,15 @@ fn rule<W: World, G: Gate, R: Threads + Wait + Sync>(
 }
 
 /// Writes what a run came to, and tells its status.
-fn finish<K: Sink>(sink: &mut K, ruling: &Ruling) -> Status
-    ensures done { IsFinished ruling.now.verdict ruling.now.text.items result (K.written sink.old)
+fn finish<K: Sink>(sink: &mut K, ruling: Ruling) -> Status
+    ensures done { IsFinished ruling.verdict ruling.text result (K.written sink.old)
         (K.written sink.new) }
     ensures counts { CountsWrites result (K.faults sink.old) (K.faults sink.new) }
     ensures not_memory { result ≡ Status.OutOfMemory → ⊥ }
 {
-    match write_report(sink, ruling.text.as_slice()) {
-        Ok(()) => status_of(ruling.verdict),
+    let Ruling { verdict, text } = ruling;
+    match text.write(sink) {
+        Ok(()) => status_of(verdict),
         Err(_) => Status::WriteFault,
     }
 }
@@ -164,7 +164,7 @@ pub fn run<W: World, K: Sink, G: Gate, R: Threads + Wait + Sync>(
     ensures nothing { result ≡ Status.OutOfMemory → K.written sink.new ≡ K.written sink.old }
 {
     match rule(rt, alloc, words, world, gate) {
-        Ok(ruling) => finish(sink, &ruling),
+        Ok(ruling) => finish(sink, ruling),
         Err(OutOfMemory) => Status::OutOfMemory,
     }
 }

@@ -1,6 +1,7 @@
 //! What a run comes to, with the text that it prints.
 
 ghost use Rattle.std.specs.Prelude.{◌≡◌, ◌&&◌, ◌==◌, length, IfOk};
+ghost use Rattle.std.specs.Arc.{arc_value};
 ghost use Rattle.dn_formats.specs.Report.{report};
 ghost use Rattle.dn_model.specs.Entry.{entries};
 ghost use Rattle.dn_run.specs.Ending.{ending_of};
@@ -9,23 +10,27 @@ ghost use Rattle.dn_run.specs.Run.{IsLine, verdict_of, ended_well, is_faulted, s
 use crate::status::Verdict;
 use dn_formats::{ErrorLine, FeedEnd, FeedTold, JobTold};
 use dn_model::{OutOfMemory, Posted, Topology};
-use run_report::{error_line, report_text};
+use run_report::{Report, error_line};
 use std::alloc::Global;
+use std::sync::Arc;
 use version_pages::Pages;
 
 /// What a run comes to, and the text that is printed.
 #[derive(Drop)]
 pub struct Ruling {
     pub verdict: Verdict,
-    pub text: Vec<u8>,
+    pub text: Report,
 }
 
 /// The ruling of a refusal: its error line.
 pub fn refusal(alloc: Global, verdict: Verdict, error: ErrorLine) -> Result<Ruling, OutOfMemory>
     ensures { IsLine (ending_of result) verdict error }
 {
-    let text = error_line(alloc, error)?;
-    Ok(Ruling { verdict, text })
+    let line = error_line(alloc, error)?;
+    Ok(Ruling {
+        verdict,
+        text: Report::of_text(line),
+    })
 }
 
 /// Whether a feed ended well, at its own end.
@@ -96,16 +101,16 @@ fn verdict(tolds: &[FeedTold]) -> Verdict
 /// The ruling of a run that came to its report.
 pub fn reported(
     alloc: Global,
-    topology: &Topology,
+    topology: &Arc<Topology, Global>,
     feeds: &[FeedTold],
-    history: &Pages<Posted>,
+    history: Pages<Posted>,
     jobs: &[JobTold],
 ) -> Result<Ruling, OutOfMemory>
     ensures verdict { IfOk result (λ ruling. ruling.verdict ≡ verdict_of feeds.now) }
-    ensures text { IfOk result (λ ruling. ruling.text.items ≡ report topology.now feeds.now (entries history.now)
+    ensures text { IfOk result (λ ruling. ruling.text ≡ report (arc_value topology.now) feeds.now (entries history)
         jobs.now) }
 {
-    let text = report_text(alloc, topology, feeds, history, jobs)?;
+    let text = Report::new(alloc, topology, feeds, history, jobs)?;
     Ok(Ruling {
         verdict: verdict(feeds),
         text,

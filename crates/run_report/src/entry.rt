@@ -1,19 +1,18 @@
 //! The lines of the report's history, an entry each.
 //!
-//! A line is short, so `push_entry_line` asks for the room of the longest one; the writers `put_..` below it add their
-//! text at the end of `out`, which has room for it, and don't fail.
+//! The writers `put_..` add their text at the end of `out`, which has room for it, and don't fail.
 
-ghost use Rattle.std.specs.Prelude.{◌≡◌, ◌+◌, ◌≤◌, ◌++◌, ◌∷◌, [], OnOk, codes, decimal, length, vec_len, vec_capacity};
+ghost use Rattle.std.specs.Prelude.{◌≡◌, ◌+◌, ◌≤◌, ◌++◌, ◌∷◌, [], codes, decimal, length, vec_len, vec_capacity};
 ghost use Rattle.dn_formats.specs.Report.{op_text, link_state_text, entry_text, entry_line};
 ghost use Rattle.dn_formats.specs.Texts.{line, prefix_text, drop_text, target_text};
 ghost use Rattle.dn_model.specs.declared.entry.Entry.TheVariants.{Route, Link};
 ghost use Rattle.dn_model.specs.declared.entry.Op.TheVariants.{Set, SetBy, Clear, Object};
 
 use crate::line::{put_decimal, put_labelled, put_link, put_prefix, put_router, put_text};
-use dn_model::{DropKind, Entry, LinkId, Op, OutOfMemory, Prefix, RouterId, Target, Topology};
+use dn_model::{DropKind, Entry, LinkId, Op, Prefix, RouterId, Target, Topology};
 
 /// How many bytes a line has at most: three names of 32, four numbers of 20, a prefix of 19, and the words.
-const LONGEST_LINE: usize = 256;
+pub const LONGEST_LINE: usize = 256;
 
 /// Adds the kind of a drop.
 fn put_drop_kind(out: &mut Vec<u8>, kind: DropKind)
@@ -215,18 +214,14 @@ fn put_entry(out: &mut Vec<u8>, t: &Topology, entry: &Entry)
     }
 }
 
-/// Adds the line of the entry at a position of the history, from 1. It fails only when out of memory.
-pub fn push_entry_line(
-    out: &mut Vec<u8>,
-    t: &Topology,
-    position: u64,
-    entry: &Entry,
-) -> Result<(), OutOfMemory>
-    ensures { OnOk result (out.new.items ≡ out.old.items ++ entry_line t.now position entry.now) }
+/// Adds the line of the entry at a position of the history, from 1: at most `LONGEST_LINE` bytes.
+pub fn put_entry_line(out: &mut Vec<u8>, t: &Topology, position: u64, entry: &Entry)
+    requires room { vec_len out.old + 256 ≤ vec_capacity out.old }
+    ensures text { out.new.items ≡ out.old.items ++ entry_line t.now position entry.now }
+    ensures len { vec_len out.new ≤ vec_len out.old + 256 }
+    ensures capacity { vec_capacity out.new ≡ vec_capacity out.old }
 {
-    out.reserve(LONGEST_LINE)?;
     put_decimal(out, position);
     put_entry(out, t, entry);
     put_text(out, b"\n");
-    Ok(())
 }

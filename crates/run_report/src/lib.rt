@@ -8,8 +8,8 @@ mod history;
 mod jobs;
 mod line;
 mod report;
+mod rest;
 mod writer;
 
 pub use errors::error_line;
-pub use report::report_text;
-pub use writer::write_report;
+pub use report::Report;

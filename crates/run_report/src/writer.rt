@@ -1,4 +1,4 @@
-//! Writing a finished text to a sink.
+//! Writing a text to a sink.
 
 ghost use Rattle.std.specs.Prelude.{◌≡◌, ◌≤◌, OnOk, OnErr};
 ghost use Rattle.dn_io.specs.Told.{with_end};
@@ -13,7 +13,7 @@ use dn_io::{Failed, Sink};
 ///
 /// `Failed` at the first write that fails, which the sink counts; a part of the text, from its first byte on, may have
 /// been written by then.
-pub fn write_report<K: Sink>(sink: &mut K, text: &[u8]) -> Result<(), Failed>
+pub fn write_text<K: Sink>(sink: &mut K, text: &[u8]) -> Result<(), Failed>
     ensures written { OnOk result (K.written sink.new ≡ with_end (K.written sink.old) text.now) }
     ensures same_count { OnOk result (K.faults sink.new ≡ K.faults sink.old) }
     ensures rises { OnErr result (Rose (K.faults sink.old) (K.faults sink.new)) }

@@ -11,11 +11,11 @@ use dn_formats::{FeedEnd, FeedTold, JobTold, Line, Outcome, Script, Told};
 use dn_model::{Answer, Entry, List, Posted, Query, RouterId, Topology, plain_answer};
 use dn_run::Status;
 use query_lang::read_script;
-use run_report::report_text;
+use run_report::Report;
 use std::alloc::{AllocError, Global};
 use std::process::Abort;
 use std::str;
-use std::sync::Wait;
+use std::sync::{Arc, Wait};
 use std::thread::Threads;
 use topology::read_topology;
 use version_pages::Pages;
@@ -106,7 +106,7 @@ fn scripts(rt: &impl Abort, alloc: Global, topology: &Topology, seed: u32) -> Ve
 /// A trial and what its run chose.
 #[derive(Drop)]
 struct Trial {
-    topology: Topology,
+    topology: Arc<Topology, Global>,
     seed: u32,
     chosen: Chosen,
 }
@@ -212,9 +212,10 @@ fn compare_report(rt: &impl Abort, alloc: Global, trial: &Trial, jobs: &[JobTold
     }
     let feeds = feeds_told(alloc).expect(rt, "memory");
     let history = trial.history(rt, alloc);
-    let due = report_text(alloc, &trial.topology, feeds.as_slice(), &history, jobs);
-    let due = due.expect(rt, "memory");
-    assert_eq!(rt; due.as_slice(), report, "seed {}", trial.seed);
+    let due = Report::new(alloc, &trial.topology, feeds.as_slice(), history, jobs);
+    let mut sink = whole_sink(alloc);
+    assert!(rt; due.expect(rt, "memory").write(&mut sink).is_ok());
+    assert_eq!(rt; sink.written(), report, "seed {}", trial.seed);
 }
 
 /// A script's job takes at most so many further frames of a feed.
@@ -307,7 +308,7 @@ fn trial_of(rt: &impl Abort, alloc: Global, seed: u32, report: &[u8]) -> Trial {
     let text = ring_text(rt, alloc);
     let topology = read_topology(alloc, text.as_bytes());
     Trial {
-        topology: topology.ok().expect(rt, "a topology"),
+        topology: Arc::new(alloc, topology.ok().expect(rt, "a topology")).expect(rt, "memory"),
         seed,
         chosen: choice_of(alloc, report).expect(rt, "memory"),
     }

@@ -7,6 +7,8 @@ mod long_line_tests;
 #[cfg(test)]
 mod print_tests;
 #[cfg(test)]
+mod printed;
+#[cfg(test)]
 mod query_tests;
 #[cfg(test)]
 mod report_tests;

@@ -1,7 +1,7 @@
 //! The report's lines of entries with the longest names and numbers, of every kind of entry.
 
+use crate::printed::{printed, report_of};
 use dn_model::{DropKind, Entry, LinkId, Op, Posted, Prefix, RouterId, Target, Topology};
-use run_report::report_text;
 use std::alloc::Global;
 use std::process::Abort;
 use topology::read_topology;
@@ -91,8 +91,9 @@ fn compare_lines(rt: &impl Abort, alloc: Global, entries: &[Entry], want: &str) 
         };
         history.push(alloc, posted).expect(rt, "memory");
     }
-    let text = report_text(alloc, &topology, &[], &history, &[]).expect(rt, "memory");
-    assert_eq!(rt; text.as_slice(), want.as_bytes(), "{want}");
+    let report = report_of(rt, alloc, topology, &[], &history, &[]);
+    let sink = printed(rt, alloc, report);
+    assert_eq!(rt; sink.written(), want.as_bytes(), "{want}");
 }
 
 #[test]

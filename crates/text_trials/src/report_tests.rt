@@ -3,14 +3,15 @@
 ghost use Rattle.std.specs.Prelude.{IsTrue};
 ghost use Rattle.base.specs.Name.{is_name_text};
 
+use crate::printed::{printed, report_of, sink_by};
 use dn_formats::frame_cause::{BAD_FRAME_LENGTH, BAD_VERSION};
 use dn_formats::{FeedEnd, FeedTold, JobTold, Outcome, RefusedFrame, Told};
-use dn_io::{Failed, MemSink};
+use dn_io::Failed;
 use dn_model::{
     Answer, Ask, Change, DropKind, Entry, LinkId, List, Name, Op, PathEnd, Posted, Prefix, Query,
     RouterId, Run, Target, Topology, Unknown,
 };
-use run_report::{report_text, write_report};
+use run_report::Report;
 use std::alloc::Global;
 use std::process::Abort;
 use topology::read_topology;
@@ -57,8 +58,9 @@ fn compare_report(
     want: &str,
 ) {
     let topology = triangle(rt, alloc);
-    let text = report_text(alloc, &topology, feeds, history, jobs).expect(rt, "memory");
-    assert_eq!(rt; text.as_slice(), want.as_bytes(), "{want}");
+    let report = report_of(rt, alloc, topology, feeds, history, jobs);
+    let sink = printed(rt, alloc, report);
+    assert_eq!(rt; sink.written(), want.as_bytes(), "{want}");
 }
 
 /// What is told of a feed of r1 that ended, with no frame refused.
@@ -444,17 +446,61 @@ fn long_history(rt: &impl Abort, alloc: Global, count: u32) -> Pages<Posted> {
 #[test]
 fn prints_a_long_history(rt: HostRuntime) {
     let alloc = rt.alloc();
-    let topology = triangle(&rt, alloc);
     let history = long_history(&rt, alloc, 100_001);
-    let text = report_text(alloc, &topology, &[], &history, &[]).expect(&rt, "memory");
-    assert_eq!(rt; text.len(), 3_288_949);
+    let report = report_of(&rt, alloc, triangle(&rt, alloc), &[], &history, &[]);
+    let sink = printed(&rt, alloc, report);
+    assert_eq!(rt; sink.written().len(), 3_288_949);
+}
+
+/// The report of a history of so many equal updates, made line by line.
+fn long_report(rt: &impl Abort, alloc: Global, count: u32) -> String {
+    let mut want = format!(in alloc; "history {count}\n").expect(rt, "memory");
+    for number in 0..count {
+        let line = format!(in alloc; "{} feed 1 r1 clear 10.0.0.0/8\n", u64::from(number) + 1);
+        let line = line.expect(rt, "memory");
+        want.push_str(line.as_str()).expect(rt, "memory");
+    }
+    want.push_str("done\n").expect(rt, "memory");
+    want
+}
+
+/// The lines of the history are more than are written at once.
+#[test]
+fn writes_a_long_history_byte_by_byte(rt: HostRuntime) {
+    let alloc = rt.alloc();
+    let history = long_history(&rt, alloc, 5_000);
+    let report = report_of(&rt, alloc, triangle(&rt, alloc), &[], &history, &[]);
+    let mut sink = sink_by(&rt, alloc, 1, &[]);
+    assert!(rt; report.write(&mut sink).is_ok());
+    let want = long_report(&rt, alloc, 5_000);
+    assert!(rt; sink.written() == want.as_bytes());
+    assert_eq!(rt; sink.faults(), 0);
+}
+
+/// A write in the middle of the history fails: what was written is a front of the report.
+#[test]
+fn stops_in_the_history(rt: HostRuntime) {
+    let alloc = rt.alloc();
+    let history = long_history(&rt, alloc, 5_000);
+    let report = report_of(&rt, alloc, triangle(&rt, alloc), &[], &history, &[]);
+    let mut sink = sink_by(&rt, alloc, 1_000, &[100]);
+    assert!(rt; matches!(report.write(&mut sink), Err(Failed)));
+    let want = long_report(&rt, alloc, 5_000);
+    assert!(rt; sink.written().len() > 66_000);
+    assert!(rt; want.as_bytes().starts_with(sink.written()));
+    assert_eq!(rt; sink.faults(), 1);
+}
+
+/// This text in place of a report.
+fn text_report(rt: &impl Abort, alloc: Global, text: &str) -> Report {
+    Report::of_text(Vec::from_slice(alloc, text.as_bytes()).expect(rt, "memory"))
 }
 
 #[test]
 fn writes_all_by_parts(rt: HostRuntime) {
     let alloc = rt.alloc();
-    let mut sink = MemSink::new(alloc, 16, Vec::new(alloc));
-    assert!(rt; write_report(&mut sink, ONE_PATH.as_bytes()).is_ok());
+    let mut sink = sink_by(&rt, alloc, 16, &[]);
+    assert!(rt; text_report(&rt, alloc, ONE_PATH).write(&mut sink).is_ok());
     assert!(rt; sink.written() == ONE_PATH.as_bytes());
     assert_eq!(rt; sink.faults(), 0);
 }
@@ -462,9 +508,13 @@ fn writes_all_by_parts(rt: HostRuntime) {
 #[test]
 fn stops_at_a_failed_write(rt: HostRuntime) {
     let alloc = rt.alloc();
-    let fails = Vec::from_slice(alloc, &[2]).expect(&rt, "memory");
-    let mut sink = MemSink::new(alloc, 16, fails);
-    assert!(rt; matches!(write_report(&mut sink, ONE_PATH.as_bytes()), Err(Failed)));
+    let mut sink = sink_by(&rt, alloc, 16, &[2]);
+    assert!(rt;
+        matches!(
+            text_report(&rt, alloc, ONE_PATH).write(&mut sink),
+            Err(Failed)
+        )
+    );
     assert!(rt; sink.written() == b"feed 1 r1 update".as_slice());
     assert_eq!(rt; sink.faults(), 1);
 }

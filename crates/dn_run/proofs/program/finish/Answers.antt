@@ -4,5 +4,5 @@ use Rattle.dn_run.proofs.program.finish.Goals as goal
 
 pub returns-in-Err-clause-done : goal.returns-in-Err-clause-done
 returns-in-Err-clause-done g c =
-    let front = rw c.as_slice.ensures.value at c.in-Err.ensures.front in
-    (take front.0 c.args.ruling.now.text.items, drop front.0 c.args.ruling.now.text.items, sym (take-append-drop front.0 c.args.ruling.now.text.items), front.2)
+    let front = c.in-Err.ensures.front in
+    (take front.0 c.args.ruling.text, drop front.0 c.args.ruling.text, sym (take-append-drop front.0 c.args.ruling.text), front.2)

@@ -1,6 +1,6 @@
 use Rattle.std.proofs.Common.{◌∙◌, arith, length-drop, ℕ}
 use Rattle.run_report.proofs.Fronts.{with_end_further}
-use Rattle.run_report.proofs.writer.write_report.Goals as goal
+use Rattle.run_report.proofs.writer.write_text.Goals as goal
 
 pub loop-from-preserved : goal.loop-from-preserved
 loop-from-preserved g c = record {

@@ -1,6 +1,6 @@
 use Rattle.std.proofs.Common.{◌≡◌, ◌≤◌, ◌-◌, length, take}
 use Rattle.dn_io.specs.Told.{with_end}
-use Rattle.run_report.proofs.writer.write_report.Given as goal
+use Rattle.run_report.proofs.writer.write_text.Given as goal
 
 abbrev pub invariant-loop-from : goal.invariant-loop-from
 invariant-loop-from g l = record {

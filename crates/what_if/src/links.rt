@@ -28,11 +28,23 @@ pub fn with_links_down(down: &[LinkId], target: Target) -> Target
     }
 }
 
+/// Puts in the place of a target what it is where these links are down. It is written only where that is something else.
+fn take_link_down(down: &[LinkId], target: &mut Target)
+    ensures { target.new ≡ without down.now target.old }
+{
+    let Target::To(_, link) = *target else {
+        return;
+    };
+    if is_down_link(down, link) {
+        *target = Target::LinkDown(link);
+    }
+}
+
 /// Puts in the place of each of these targets what it is where these links are down.
 pub fn take_links_down(down: &[LinkId], targets: &mut [Target])
     ensures { targets.new ≡ map (without down.now) targets.old }
 {
     for target in targets.iter_mut() {
-        *target = with_links_down(down, *target);
+        take_link_down(down, target);
     }
 }

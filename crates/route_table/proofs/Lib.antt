@@ -13,6 +13,7 @@ pub mod Places
 pub mod Prefixes
 pub mod Searching
 pub mod Setting
+pub mod SharedBits
 pub mod Shorter
 pub mod SideBySide
 pub mod Tabled

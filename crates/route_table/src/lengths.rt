@@ -51,7 +51,7 @@ impl Lengths {
         ensures none { IfNone result ((k : ℕ) → k < len →
             slice_index_or self.now k true ≡ true → shares a other k ≡ false) }
     {
-        let mut shorter = len;
+        let mut shorter = len.min(shared_bits(a, other) + 1);
         'shorter: while shorter > 0 {
             shorter -= 1;
             if self.had[shorter as usize] && shares(a, other, shorter) {
@@ -60,6 +60,14 @@ impl Lengths {
         }
         None
     }
+}
+
+/// How many leading bits two addresses have in common.
+fn shared_bits(a: u32, other: u32) -> u8
+    ensures few { result ≤ 32 }
+    ensures apart { (k : ℕ) → result < k → k ≤ 32 → shares a other k ≡ false }
+{
+    (a ^ other).leading_zeros() as u8
 }
 
 /// Whether the prefix of a length around an address has another address too.

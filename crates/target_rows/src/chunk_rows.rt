@@ -270,16 +270,32 @@ struct Turned {
     count: u64,
 }
 
-/// Answers the code of the first chunk of a run, and where that is another one than this, puts this one there and into
-/// each chunk that stands so much further on than the one before, in at most so many.
-fn turn_each(run: &mut [CodeChunk], stride: u64, lane: u32, code: u16, most: u64) -> Turned
-    requires some { 0 < stride }
-    requires few { stride < 2 ^ 32 }
-    requires lane { lane < 8 }
-    ensures before { 0 < length run.old → result.before ≡ lane_at run.old 0 lane }
-    ensures few { result.count ≤ turned_count result.before code most }
-    ensures written { AreWritten run.old run.new 0 stride lane result.count code }
+/// What is put into a run: a code, at one place of each chunk that stands so much further on than the one before, in at
+/// most so many.
+#[derive(Clone, Copy, Debug, PartialEq, Eq)]
+struct Turn {
+    stride: u64,
+    lane: u32,
+    code: u16,
+    most: u64,
+}
+
+/// Answers the code of the first chunk of a run, and where that is another one than that of a turn, puts this one there
+/// and into the chunks behind it that the turn is of.
+fn turn_each(run: &mut [CodeChunk], turn: &Turn) -> Turned
+    requires some { 0 < turn.now.stride }
+    requires few { turn.now.stride < 2 ^ 32 }
+    requires lane { turn.now.lane < 8 }
+    ensures before { 0 < length run.old → result.before ≡ lane_at run.old 0 turn.now.lane }
+    ensures few { result.count ≤ turned_count result.before turn.now.code turn.now.most }
+    ensures written { AreWritten run.old run.new 0 turn.now.stride turn.now.lane result.count turn.now.code }
 {
+    let Turn {
+        stride,
+        lane,
+        code,
+        most,
+    } = *turn;
     let Some(chunk) = run.first() else {
         return Turned {
             before: 0,
@@ -317,9 +333,14 @@ fn turn_some(
         AreWritten chunks.old chunks.new place.chunk stride place.lane turned.count code) }
     ensures same { OnErr result (chunks.new ≡ chunks.old) }
 {
-    let lane = place.lane;
+    let turn = Turn {
+        stride,
+        lane: place.lane,
+        code,
+        most,
+    };
     chunks.change_run(alloc, place.chunk, |run: &mut [CodeChunk]| {
-        turn_each(run, stride, lane, code, most)
+        turn_each(run, &turn)
     })
 }
 

@@ -1,1 +1,5 @@
+mod FlatNetwork
+mod FlatRoutes
+pub mod FlatSame
+mod FlatSteps
 mod KeyOrder

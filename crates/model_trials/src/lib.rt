@@ -1,10 +1,13 @@
-//! Trials of the plain evaluator of `dn_model`: small histories, whose answers were worked out by hand.
+//! Trials of the plain evaluator of `dn_model` and of `nexthop_objects`: small histories, whose answers were worked out
+//! by hand.
 #![tactic(auto)]
 
 #[cfg(test)]
 mod down_tests;
 #[cfg(test)]
 mod network;
+#[cfg(test)]
+mod nexthop_tests;
 #[cfg(test)]
 mod object_tests;
 #[cfg(test)]

@@ -33,6 +33,9 @@ fn remove(objects: &mut Objects, id: u32, user: User) {
     objects.remove_user(FIRST, id, router, prefix, metric);
 }
 
+/// A value crosses to another thread, and several share it.
+fn crosses<T: Send + Sync>(_value: &T) {}
+
 /// An object of the first device has these users.
 fn compare_users(rt: &impl Abort, objects: &Objects, id: u32, want: &[User]) {
     let users = objects.users(FIRST, id).expect(rt, "memory");
@@ -65,6 +68,7 @@ fn an_id_that_is_put_again_keeps_its_users(rt: HostRuntime) {
     objects.put(FIRST, 7, TO_THIRD).expect(&rt, "memory");
     assert_eq!(&rt; objects.find(FIRST, 7), Some(TO_THIRD));
     compare_users(&rt, &objects, 7, &[(FIRST, ten(), 20)]);
+    crosses(&objects);
 }
 
 #[test]

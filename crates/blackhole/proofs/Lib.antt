@@ -4,4 +4,5 @@ pub mod Order
 pub mod Placed
 pub mod Row
 pub mod Search
+pub mod Stretch
 pub mod Telling

@@ -6,7 +6,7 @@ use Rattle.base.specs.declared.hole.Hole.{Hole}
 use Rattle.base.specs.declared.forwarding_row.ForwardingRow.{ForwardingRow}
 use Rattle.base.specs.declared.ids.RouterId.{RouterId}
 use Rattle.base.specs.declared.target.Target.{Target}
-use Rattle.label_view.specs.Places.{AreGatheredTo, IsInRow, begin_of}
+use Rattle.label_view.specs.Places.{AreGatheredTo, IsInRows, begin_of}
 use Rattle.blackhole.specs.Falls.{is_before, is_fall, is_same}
 use Rattle.blackhole.specs.declared.fall.Fall.{Fall}
 
@@ -41,9 +41,9 @@ pub record AreFalls (falls : List Fall) (rows : List ForwardingRow) (i : ℕ) (t
   pub each : (k : ℕ) (d : Fall) → k < length falls → IsFall (slice_index_or falls k d) rows i test
   pub all : (r : RouterId) (t : Target) (a : ℕ) → a < begin_of rows i → test r t a ≡ true → HasFall falls r t
 
--- an end tells where the addresses of the row at a place fall
-abbrev pub TellsRow : List ForwardingRow → ℕ → Option (RouterId × Target) → (RouterId → Target → ℕ → Bool) → Type 0
-TellsRow rows i end test = (r : RouterId) (t : Target) (a : ℕ) → IsInRow rows i a → is_fall end r t ≡ test r t a
+-- an end tells where the addresses of the rows from a place up to, and without, another fall
+abbrev pub TellsRows : List ForwardingRow → ℕ → ℕ → Option (RouterId × Target) → (RouterId → Target → ℕ → Bool) → Type 0
+TellsRows rows i j end test = (r : RouterId) (t : Target) (a : ℕ) → IsInRows rows i j a → is_fall end r t ≡ test r t a
 
 -- a hole is of the addresses that fall
 pub record IsHoleOf (hole : Hole) (fall : Fall) : Type 0 where

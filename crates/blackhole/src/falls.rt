@@ -6,13 +6,13 @@ ghost use Rattle.base.specs.Holes.{cause_rank, is_cause};
 ghost use Rattle.base.specs.declared.ids.RouterId.{RouterId as RouterIs};
 ghost use Rattle.base.specs.declared.target.Target.{Target as TargetIs};
 ghost use Rattle.label_view.specs.Places.{begin_of};
-ghost use Rattle.blackhole.specs.Gathering.{AreFalls, AreOrdered, TellsRow, is_fall_at, is_fall_before};
+ghost use Rattle.blackhole.specs.Gathering.{AreFalls, AreOrdered, TellsRows, is_fall_at, is_fall_before};
 ghost use Rattle.blackhole.specs.declared.fall.Fall.{Fall as FallIs};
 
 use crate::fall::Fall;
 use base::{DropKind, OutOfMemory, RouterId, Target};
-use label_view::LabelView;
 use label_view::runs::RunList;
+use label_view::{LabelView, Rows};
 use std::alloc::Global;
 
 /// The place of a cause in the order in which causes are told; 0 for what is none.
@@ -87,34 +87,35 @@ fn is_there(falls: &[Fall], place: usize, router: RouterId, cause: Target) -> bo
     is_at(&falls[place], router, cause)
 }
 
-/// Adds the addresses of the row at a place to what falls at a router by a cause. Falls stay in order, by router and
-/// cause. Only where nothing fell there before is room taken, and the falls that come after are moved on.
+/// Adds the addresses of rows side by side to what falls at a router by a cause. Falls stay in order, by router and cause.
+/// Only where nothing fell there before is room taken, and the falls that come after are moved on.
 fn add_fall<V: LabelView>(
     alloc: Global,
     falls: &mut Vec<Fall>,
     view: &V,
-    i: u64,
+    rows: Rows,
     router: RouterId,
     cause: Target,
 ) -> Result<(), OutOfMemory>
     requires form { AreForwarding (V.width view.now) (V.rows view.now) }
-    requires place { i < length (V.rows view.now) }
+    requires some { rows.from < rows.past }
+    requires inside { rows.past ≤ length (V.rows view.now) }
     requires rise { AreOrdered falls.old.items }
     requires order { (k : ℕ) (d : FallIs) → k < vec_len falls.old →
-        (slice_index_or falls.old.items k d).runs.past ≤ begin_of (V.rows view.now) i }
+        (slice_index_or falls.old.items k d).runs.past ≤ begin_of (V.rows view.now) rows.from }
     requires cause { is_cause cause ≡ true }
     ensures { OnOk result ((test : RouterIs → TargetIs → ℕ → Bool) →
-        AreFalls falls.old.items (V.rows view.now) i test →
-        TellsRow (V.rows view.now) i (Some (router, cause)) test →
-        AreFalls falls.new.items (V.rows view.now) (i + 1) test) }
+        AreFalls falls.old.items (V.rows view.now) rows.from test →
+        TellsRows (V.rows view.now) rows.from rows.past (Some (router, cause)) test →
+        AreFalls falls.new.items (V.rows view.now) rows.past test) }
 {
     let place = place_of(falls.as_slice(), router, cause);
     if is_there(falls.as_slice(), place, router, cause) {
-        falls[place].runs.push_row_if(view, i, true)?;
+        falls[place].runs.push_rows(view, rows.from, rows.past)?;
         return Ok(());
     }
     let mut runs = RunList::new(alloc);
-    runs.push_row_if(view, i, true)?;
+    runs.push_rows(view, rows.from, rows.past)?;
     falls.insert(
         place,
         Fall {
@@ -126,26 +127,28 @@ fn add_fall<V: LabelView>(
     Ok(())
 }
 
-/// Adds the addresses of the row at a place where they fall, if they do. Falls stay in order, by router and cause.
-pub fn add_row<V: LabelView>(
+/// Adds the addresses of rows side by side where they fall, if they do. Falls stay in order, by router and cause.
+pub fn add_rows<V: LabelView>(
     alloc: Global,
     falls: &mut Vec<Fall>,
     view: &V,
-    i: u64,
+    rows: Rows,
     end: Option<(RouterId, Target)>,
 ) -> Result<(), OutOfMemory>
     requires form { AreForwarding (V.width view.now) (V.rows view.now) }
-    requires place { i < length (V.rows view.now) }
+    requires some { rows.from < rows.past }
+    requires inside { rows.past ≤ length (V.rows view.now) }
     requires rise { AreOrdered falls.old.items }
     requires order { (k : ℕ) (d : FallIs) → k < vec_len falls.old →
-        (slice_index_or falls.old.items k d).runs.past ≤ begin_of (V.rows view.now) i }
+        (slice_index_or falls.old.items k d).runs.past ≤ begin_of (V.rows view.now) rows.from }
     requires cause { IfSome end (λ e. is_cause e.1 ≡ true) }
     ensures { OnOk result ((test : RouterIs → TargetIs → ℕ → Bool) →
-        AreFalls falls.old.items (V.rows view.now) i test → TellsRow (V.rows view.now) i end test →
-        AreFalls falls.new.items (V.rows view.now) (i + 1) test) }
+        AreFalls falls.old.items (V.rows view.now) rows.from test →
+        TellsRows (V.rows view.now) rows.from rows.past end test →
+        AreFalls falls.new.items (V.rows view.now) rows.past test) }
 {
     match end {
         None => Ok(()),
-        Some((router, cause)) => add_fall(alloc, falls, view, i, router, cause),
+        Some((router, cause)) => add_fall(alloc, falls, view, rows, router, cause),
     }
 }

@@ -1,16 +1,18 @@
 //! All black holes of a router's walks.
 
-ghost use Rattle.std.specs.Prelude.{◌≡◌, ◌+◌, ◌*◌, ◌<◌, ◌≤◌, ◌^◌, IfOk, OnOk, length};
+ghost use Rattle.std.specs.Prelude.{◌≡◌, ℕ, ◌+◌, ◌*◌, ◌<◌, ◌≤◌, ◌^◌, IfOk, OnOk, length, slice_index_or};
 ghost use Rattle.base.specs.Forwarding.{AreForwarding, does};
 ghost use Rattle.base.specs.Holes.{AreHoles, falls};
+ghost use Rattle.base.specs.declared.target.Target.{Target as TargetIs};
+ghost use Rattle.base.specs.declared.target.Target.TheVariants.{NoRoute};
 ghost use Rattle.label_view.specs.Columns.{AreOfColumn};
 ghost use Rattle.blackhole.specs.Gathering.{AreFalls, AreHolesOf};
 
 use crate::fall::Fall;
-use crate::falls::add_row;
+use crate::falls::add_rows;
 use crate::row_fall::row_fall;
 use base::{Hole, List, OutOfMemory, RouterId, Target};
-use label_view::{Column, LabelView, PAGE};
+use label_view::{Column, LabelView, PAGE, Rows};
 use std::alloc::Global;
 use std::sync::ledger::Ledger;
 use step_count::Steps;
@@ -36,6 +38,76 @@ fn holes_of(alloc: Global, falls: Vec<Fall>) -> Result<List<Hole>, OutOfMemory>
     Ok(holes)
 }
 
+/// Up to which place, from one on, a router has no route for the addresses of all rows of a column. It takes a look at each
+/// row.
+fn no_route_past<L: Ledger>(targets: &[Target], k: usize, steps: &mut Steps<L>) -> usize
+    requires { k ≤ length targets.now }
+    ensures from { k ≤ result }
+    ensures inside { result ≤ length targets.now }
+    ensures none { (j : ℕ) (d : TargetIs) → k ≤ j → j < result → slice_index_or targets.now j d ≡ NoRoute }
+    ensures cost { steps.new + k ≡ steps.old + result }
+{
+    let mut past = k;
+    'rows: while past < targets.len() {
+        let Target::NoRoute = targets[past] else {
+            return past;
+        };
+        steps.tick();
+        past += 1;
+    }
+    past
+}
+
+/// Adds the addresses of the rows of a column from a place on where their walks from the router end, if they end without a
+/// way on: of all side by side for which the router has no route, or of one row. It answers up to which place it is done.
+fn add_some<V: LabelView, L: Ledger>(
+    alloc: Global,
+    view: &V,
+    column: &Column<'_>,
+    k: usize,
+    ends: &mut Vec<Fall>,
+    steps: &mut Steps<L>,
+) -> Result<usize, OutOfMemory>
+    requires form { AreForwarding (V.width view.now) (V.rows view.now) }
+    requires router { column.now.router.0 < V.width view.now }
+    requires place { k < length column.now.targets.now }
+    requires inside { column.now.from + length column.now.targets.now ≤ length (V.rows view.now) }
+    requires fits { column.now.from + length column.now.targets.now < 2 ^ 64 }
+    requires column { AreOfColumn (V.rows view.now) column.now.router column.now.from column.now.targets.now }
+    requires falls { AreFalls ends.old.items (V.rows view.now) (column.now.from + k)
+        (falls (V.width view.now) (does (V.rows view.now)) column.now.router) }
+    ensures some { IfOk result (λ past. k < past) }
+    ensures inside { IfOk result (λ past. past ≤ length column.now.targets.now) }
+    ensures falls { IfOk result (λ past. AreFalls ends.new.items (V.rows view.now) (column.now.from + past)
+        (falls (V.width view.now) (does (V.rows view.now)) column.now.router)) }
+    ensures looks { IfOk result (λ past. steps.new + k * V.width view.now ≤ steps.old + past * V.width view.now) }
+    ensures cost { steps.new + k * V.width view.now ≤ steps.old + length column.now.targets.now * V.width view.now }
+{
+    let from = column.from + k as u64;
+    let past = no_route_past(column.targets, k, steps);
+    if past > k {
+        let rows = Rows {
+            from,
+            past: column.from + past as u64,
+        };
+        add_rows(
+            alloc,
+            ends,
+            view,
+            rows,
+            Some((column.router, Target::NoRoute)),
+        )?;
+        return Ok(past);
+    }
+    let rows = Rows {
+        from,
+        past: from + 1,
+    };
+    let end = row_fall(view, from, column.router, column.targets[k], steps);
+    add_rows(alloc, ends, view, rows, end)?;
+    Ok(k + 1)
+}
+
 /// Adds the addresses of the rows of a column where their walks from the router end, if they end without a way on.
 fn add_column<V: LabelView, L: Ledger>(
     alloc: Global,
@@ -56,10 +128,9 @@ fn add_column<V: LabelView, L: Ledger>(
         (falls (V.width view.now) (does (V.rows view.now)) column.now.router)) }
     ensures cost { steps.new ≤ steps.old + length column.now.targets.now * V.width view.now }
 {
-    for k in 0..column.targets.len() {
-        let i = column.from + k as u64;
-        let end = row_fall(view, i, column.router, column.targets[k], steps);
-        add_row(alloc, ends, view, i, end)?;
+    let mut k = 0;
+    'rows: while k < column.targets.len() {
+        k = add_some(alloc, view, column, k, ends, steps)?;
     }
     Ok(())
 }

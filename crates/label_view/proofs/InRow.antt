@@ -1,5 +1,5 @@
 -- Rows by place: what they show at their addresses, and runs that are gathered while they go by.
-use Rattle.std.proofs.Common.{◌≡◌, ℕ, zero, suc, ◌+◌, ◌<◌, ◌≤◌, ◌^◌, ◌∙◌, ◌||◌, ⊎_elim, Bool, true, false, Option, List, [], ◌∷◌, length, get_or, refl, ap, sym, subst, arith}
+use Rattle.std.proofs.Common.{◌≡◌, ℕ, zero, suc, ◌+◌, ◌-◌, ◌<◌, ◌≤◌, ◌^◌, ◌∙◌, ◌||◌, ⊎_elim, Bool, true, false, Option, List, [], ◌∷◌, length, get_or, refl, ap, sym, subst, arith}
 use Rattle.std.specs.List.{list_any}
 use Rattle.std.proofs.lemmas.Bool.{cases_lt, or_from, or_right}
 use Rattle.base.specs.Forwarding.{AreForwarding, row_low, row_past, does, target_in_row, target_of}
@@ -14,7 +14,7 @@ use Rattle.base.specs.declared.target.Target.{Target}
 use Rattle.base.specs.declared.target.Target.TheVariants.{To}
 use Rattle.base.proofs.Covers.{holder-at, high-at, ordered-at, within-above, within-below, within-yes}
 use Rattle.label_view.specs.Gathered.{Gathered}
-use Rattle.label_view.specs.Places.{begin_of, IsInRow, AreGatheredTo}
+use Rattle.label_view.specs.Places.{begin_of, IsInRow, IsInRows, AreGatheredTo}
 use Rattle.label_view.proofs.Found.{each-at}
 
 -- any row
@@ -60,6 +60,44 @@ row-begin rows i low past l is before =
     let o : begin_of rows i ≡ (get_or rows i some_row).low = begin-at rows i some_row l in
     omega arith
 
+-- rows begin one after another
+pub begin-order : (n : ℕ) (rows : List ForwardingRow) (i count : ℕ) → AreForwarding n rows → i + count < length rows → begin_of rows i < begin_of rows (i + suc count)
+begin-order n rows i zero form l =
+    let low : begin_of rows i ≡ (get_or rows i some_row).low = begin-at rows i some_row (omega arith) in
+    let past : begin_of rows (suc i) ≡ (get_or rows i some_row).past = begin-next 0 rows i some_row form.cover (omega arith) in
+    let o : (get_or rows i some_row).low < (get_or rows i some_row).past = ordered-at row_low row_past 0 rows i some_row form.cover (omega arith) in
+    let e : suc i ≡ i + suc zero = omega arith in
+    let P : ℕ → Type 0 = λ k. begin_of rows i < begin_of rows k in
+    subst P e (omega arith)
+begin-order n rows i (suc count) form l =
+    let before : begin_of rows i < begin_of rows (i + suc count) = begin-order n rows i count form (omega arith) in
+    let low : begin_of rows (i + suc count) ≡ (get_or rows (i + suc count) some_row).low = begin-at rows (i + suc count) some_row l in
+    let past : begin_of rows (suc (i + suc count)) ≡ (get_or rows (i + suc count) some_row).past = begin-next 0 rows (i + suc count) some_row form.cover l in
+    let o : (get_or rows (i + suc count) some_row).low < (get_or rows (i + suc count) some_row).past = ordered-at row_low row_past 0 rows (i + suc count) some_row form.cover l in
+    let e : suc (i + suc count) ≡ i + suc (suc count) = omega arith in
+    let P : ℕ → Type 0 = λ k. begin_of rows i < begin_of rows k in
+    subst P e (omega arith)
+
+pub begin-before : (n : ℕ) (rows : List ForwardingRow) (i j : ℕ) → AreForwarding n rows → i < j → j ≤ length rows → begin_of rows i < begin_of rows j
+begin-before n rows i j form l inside =
+    let e : i + suc (j - suc i) ≡ j = omega arith in
+    let P : ℕ → Type 0 = λ k. begin_of rows i < begin_of rows k in
+    subst P e (begin-order n rows i (j - suc i) form (omega arith))
+
+-- where the row before a place ends
+pub begin-after : (n : ℕ) (rows : List ForwardingRow) (j past : ℕ) → AreForwarding n rows → 0 < j → j ≤ length rows → past ≡ (get_or rows (j - 1) some_row).past → past ≡ begin_of rows j
+begin-after n rows j past form some inside end =
+    let next : begin_of rows (suc (j - 1)) ≡ (get_or rows (j - 1) some_row).past = begin-next 0 rows (j - 1) some_row form.cover (omega arith) in
+    let e : suc (j - 1) ≡ j = omega arith in
+    let P : ℕ → Type 0 = λ k. begin_of rows k ≡ (get_or rows (j - 1) some_row).past in
+    let at : begin_of rows j ≡ (get_or rows (j - 1) some_row).past = subst P e next in
+    omega arith
+
+pub begin-is : (rows : List ForwardingRow) (i low : ℕ) → i < length rows → low ≡ (get_or rows i some_row).low → low ≡ begin_of rows i
+begin-is rows i low l is =
+    let at : begin_of rows i ≡ (get_or rows i some_row).low = begin-at rows i some_row l in
+    omega arith
+
 -- ---- what rows show
 
 -- at an address of a row each router does what the row says
@@ -82,6 +120,21 @@ in-row n rows i a form l from to =
     let f : (get_or rows i some_row).low ≤ a = from some_row in
     let u : a < (get_or rows i some_row).past = to some_row in
     record { from = omega arith; to = omega arith }
+
+-- an address of rows side by side is in one of them
+pub row-among : (rows : List ForwardingRow) (i count a : ℕ) → begin_of rows i ≤ a → a < begin_of rows (i + count) → (m : ℕ) × ((i ≤ m) × (m < i + count) × IsInRow rows m a)
+row-among rows i zero a from to =
+    let e : i + zero ≡ i = omega arith in
+    let P : ℕ → Type 0 = λ k. a < begin_of rows k in
+    let at : a < begin_of rows i = subst P e to in
+    absurd (omega arith)
+row-among rows i (suc count) a from to =
+    let e : i + suc count ≡ suc (i + count) = omega arith in
+    let P : ℕ → Type 0 = λ k. a < begin_of rows k in
+    ⊎_elim
+    (λ (b : a < begin_of rows (i + count)). (let rest = row-among rows i count a from b in (rest.0, (rest.1.0, omega (arith, rest.1.1), rest.1.2))))
+    (λ (b : begin_of rows (i + count) ≤ a). (i + count, (omega arith, omega arith, record { from = b; to = subst P e to })))
+    (cases_lt a (begin_of rows (i + count)))
 
 -- a router that a row leads to is one of the view's
 pub leads-within : (n : ℕ) (rows : List ForwardingRow) (i : ℕ) (r s : RouterId) (k : LinkId) (t : Target) → AreForwarding n rows → i < length rows → ((d : ForwardingRow) → t ≡ target_of (get_or rows i d) r) → t ≡ To s k → s.0 < n
@@ -138,6 +191,33 @@ gathered-skip n rows i old passes test form l not_so so_far is =
           (cases_lt a (begin_of rows i));
       none = λ a b. so_far.none a (omega arith);
     })
+
+-- rows side by side whose addresses pass are added at once, and those whose addresses don't are left out
+pub gathered-rows : (n : ℕ) (rows : List ForwardingRow) (i j low past : ℕ) (old new : Gathered) (test : ℕ → Bool) → AreForwarding n rows → i < j → j ≤ length rows → low ≡ begin_of rows i → past ≡ begin_of rows j → new.past ≡ past →
+    ((a : ℕ) → list_any (holds a) new.runs ≡ (list_any (holds a) old.runs || is_within low past a)) → AreGatheredTo old rows i test → ((a : ℕ) → IsInRows rows i j a → true ≡ test a) → AreGatheredTo new rows j test
+gathered-rows n rows i j low past old new test form l inside begin next end adds so_far is =
+    let order : begin_of rows i < begin_of rows j = begin-before n rows i j form l inside in
+    record {
+      before = omega arith;
+      exact = λ a b. ⊎_elim
+          (λ (k : a < low). adds a ∙ ap (λ x. list_any (holds a) old.runs || x) (within-below low past a k) ∙ or-false (list_any (holds a) old.runs) ∙ so_far.exact a (omega arith))
+          (λ (k : low ≤ a). adds a ∙ or_right (list_any (holds a) old.runs) (is_within low past a) (within-yes low past a k (omega arith)) ∙ is a (record { from = omega arith; to = b }))
+          (cases_lt a low);
+      none = λ a b. adds a ∙ or_from (list_any (holds a) old.runs) (is_within low past a) (so_far.none a (omega arith)) (within-above low past a (omega arith));
+    }
+
+pub gathered-past : (n : ℕ) (rows : List ForwardingRow) (i j : ℕ) (old : Gathered) (test : ℕ → Bool) → AreForwarding n rows → i < j → j ≤ length rows → AreGatheredTo old rows i test → ((a : ℕ) → IsInRows rows i j a → false ≡ test a) → AreGatheredTo old rows j test
+gathered-past n rows i j old test form l inside so_far is =
+    let order : begin_of rows i < begin_of rows j = begin-before n rows i j form l inside in
+    let before : old.past ≤ begin_of rows i = so_far.before in
+    record {
+      before = omega arith;
+      exact = λ a b. ⊎_elim
+          (λ (k : a < begin_of rows i). so_far.exact a k)
+          (λ (k : begin_of rows i ≤ a). so_far.none a k ∙ is a (record { from = k; to = b }))
+          (cases_lt a (begin_of rows i));
+      none = λ a b. so_far.none a (omega arith);
+    }
 
 -- rows side by side are gone over
 pub gathered-on : (g : Gathered) (rows : List ForwardingRow) (from k : ℕ) (test : ℕ → Bool) → AreGatheredTo g rows (from + k + 1) test → AreGatheredTo g rows (from + (k + 1)) test

@@ -16,6 +16,11 @@ pub record IsInRow (rows : List ForwardingRow) (i a : ℕ) : Type 0 where
   pub from : begin_of rows i ≤ a
   pub to : a < begin_of rows (suc i)
 
+-- the rows from a place up to, and without, another have an address
+pub record IsInRows (rows : List ForwardingRow) (i j a : ℕ) : Type 0 where
+  pub from : begin_of rows i ≤ a
+  pub to : a < begin_of rows j
+
 -- what is gathered is of the rows before a place, and has exactly those of their addresses that pass a test
 pub record AreGatheredTo (gathered : Gathered) (rows : List ForwardingRow) (i : ℕ) (test : ℕ → Bool) : Type 0 where
   pub before : gathered.past ≤ begin_of rows i

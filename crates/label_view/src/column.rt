@@ -15,3 +15,12 @@ pub struct Column<'a> {
     /// The targets, row by row.
     pub targets: &'a [Target],
 }
+
+/// Rows side by side: those from the one at a place up to, and without, the one at another.
+#[derive(Clone, Copy)]
+pub struct Rows {
+    /// The place of the first row.
+    pub from: u64,
+    /// The place after the last row's.
+    pub past: u64,
+}

@@ -7,6 +7,6 @@ mod list_view;
 pub mod runs;
 mod view;
 
-pub use column::{Column, PAGE};
+pub use column::{Column, PAGE, Rows};
 pub use list_view::ListView;
 pub use view::LabelView;

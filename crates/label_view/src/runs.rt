@@ -1,11 +1,11 @@
 //! Runs of addresses, gathered while rows go by.
 
-ghost use Rattle.std.specs.Prelude.{◌≡◌, ℕ, Bool, ◌+◌, ◌<◌, ◌≤◌, ◌-◌, ◌^◌, ◌||◌, [], IfOk, OnOk, length};
+ghost use Rattle.std.specs.Prelude.{◌≡◌, ℕ, Bool, true, ◌+◌, ◌<◌, ◌≤◌, ◌-◌, ◌^◌, ◌||◌, [], IfOk, OnOk, length};
 ghost use Rattle.std.specs.List.{list_any};
 ghost use Rattle.base.specs.Forwarding.{AreForwarding};
 ghost use Rattle.base.specs.Rows.{is_within};
 ghost use Rattle.base.specs.Runs.{AreApart, holds};
-ghost use Rattle.label_view.specs.Places.{AreGatheredTo, IsInRow, begin_of};
+ghost use Rattle.label_view.specs.Places.{AreGatheredTo, IsInRow, IsInRows, begin_of};
 
 use crate::view::LabelView;
 use base::{List, OutOfMemory, Run};
@@ -91,6 +91,29 @@ impl RunList {
             self.push(low, past)?;
             return Ok(());
         }
+        Ok(())
+    }
+
+    /// Adds the addresses of rows side by side, which come after all that were added before: of those from the one at a
+    /// place up to, and without, the one at another.
+    pub fn push_rows<V: LabelView>(
+        &mut self,
+        view: &V,
+        i: u64,
+        past: u64,
+    ) -> Result<(), OutOfMemory>
+        requires some { i < past }
+        requires inside { past ≤ length (V.rows view.now) }
+        requires form { AreForwarding (V.width view.now) (V.rows view.now) }
+        requires order { self.old.past ≤ begin_of (V.rows view.now) i }
+        ensures { OnOk result ((test : ℕ → Bool) →
+            AreGatheredTo self.old (V.rows view.now) i test →
+            ((a : ℕ) → IsInRows (V.rows view.now) i past a → true ≡ test a) →
+            AreGatheredTo self.new (V.rows view.now) past test) }
+    {
+        let (low, _) = view.bounds(i);
+        let (_, end) = view.bounds(past - 1);
+        self.push(low, end)?;
         Ok(())
     }
 

@@ -87,8 +87,8 @@ fn is_there(falls: &[Fall], place: usize, router: RouterId, cause: Target) -> bo
     is_at(&falls[place], router, cause)
 }
 
-/// Adds the addresses of rows side by side to what falls at a router by a cause. Falls stay in order, by router and cause.
-/// Only where nothing fell there before is room taken, and the falls that come after are moved on.
+/// Adds the addresses of rows side by side to what falls at a router by a cause. Falls stay in order, by router and
+/// cause. Only where nothing fell there before is room taken, and the falls that come after are moved on.
 fn add_fall<V: LabelView>(
     alloc: Global,
     falls: &mut Vec<Fall>,

@@ -38,8 +38,8 @@ fn holes_of(alloc: Global, falls: Vec<Fall>) -> Result<List<Hole>, OutOfMemory>
     Ok(holes)
 }
 
-/// Up to which place, from one on, a router has no route for the addresses of all rows of a column. It takes a look at each
-/// row.
+/// Up to which place, from one on, a router has no route for the addresses of all rows of a column. It takes a look at
+/// each row.
 fn no_route_past<L: Ledger>(targets: &[Target], k: usize, steps: &mut Steps<L>) -> usize
     requires { k ≤ length targets.now }
     ensures from { k ≤ result }
@@ -58,8 +58,9 @@ fn no_route_past<L: Ledger>(targets: &[Target], k: usize, steps: &mut Steps<L>) 
     past
 }
 
-/// Adds the addresses of the rows of a column from a place on where their walks from the router end, if they end without a
-/// way on: of all side by side for which the router has no route, or of one row. It answers up to which place it is done.
+/// Adds the addresses of the rows of a column from a place on where their walks from the router end, if they end without
+/// a way on: of all side by side for which the router has no route, or of one row. It answers up to which place it is
+/// done.
 fn add_some<V: LabelView, L: Ledger>(
     alloc: Global,
     view: &V,

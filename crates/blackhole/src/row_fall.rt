@@ -26,8 +26,8 @@ fn fall_at(router: RouterId, target: Target) -> Option<(RouterId, Target)>
     }
 }
 
-/// The last router, and the cause, of the walks from a router, of so many hops at most, of the addresses of the row at a
-/// place, if they end without a way on. It takes at most as many looks.
+/// The last router, and the cause, of the walks from a router, of so many hops at most, of the addresses of the row at
+/// a place, if they end without a way on. It takes at most as many looks.
 fn walk_fall<V: LabelView, L: Ledger>(
     view: &V,
     i: u64,

@@ -23,8 +23,8 @@ struct Asked {
     through: RouterId,
 }
 
-/// Whether the addresses of the row at a place come from a router, in so many hops at most, to another without having met
-/// the waypoint.
+/// Whether the addresses of the row at a place come from a router, in so many hops at most, to another without having
+/// met the waypoint.
 fn walk_misses<V: LabelView, L: Ledger>(
     view: &V,
     i: u64,
@@ -62,8 +62,8 @@ fn walk_misses<V: LabelView, L: Ledger>(
     router.0 == asked.to.0
 }
 
-/// Whether the addresses of the row at a place, with which a router does this, come from it to another without having met
-/// the waypoint.
+/// Whether the addresses of the row at a place, with which a router does this, come from it to another without having
+/// met the waypoint.
 fn row_misses<V: LabelView, L: Ledger>(
     view: &V,
     i: u64,

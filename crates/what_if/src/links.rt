@@ -28,7 +28,8 @@ pub fn with_links_down(down: &[LinkId], target: Target) -> Target
     }
 }
 
-/// Puts in the place of a target what it is where these links are down. It is written only where that is something else.
+/// Puts in the place of a target what it is where these links are down. It is written only where that is something
+/// else.
 fn take_link_down(down: &[LinkId], target: &mut Target)
     ensures { target.new ≡ without down.now target.old }
 {

@@ -38,7 +38,8 @@ fn add_column<V: LabelView, L: Ledger>(
     requires column { AreOfColumn (V.rows view.now) column.now.router column.now.from column.now.targets.now }
     requires runs { AreGatheredTo runs.old (V.rows view.now) column.now.from
         (goes_over (does (V.rows view.now)) column.now.router link) }
-    ensures runs { OnOk result (AreGatheredTo runs.new (V.rows view.now) (column.now.from + length column.now.targets.now)
+    ensures runs { OnOk result
+        (AreGatheredTo runs.new (V.rows view.now) (column.now.from + length column.now.targets.now)
         (goes_over (does (V.rows view.now)) column.now.router link)) }
     ensures cost { steps.new ≤ steps.old + length column.now.targets.now }
 {

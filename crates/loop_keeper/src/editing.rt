@@ -7,6 +7,7 @@ ghost use Rattle.loop_check.specs.Following.{is_among};
 ghost use Rattle.loop_keeper.specs.Edits.{AreAlike, AreChangedTo, AreChangedWithin, ArePutIn, AreTakenOut, Begins, IsCut, IsInserted};
 ghost use Rattle.loop_keeper.specs.Finding.{AllInside};
 ghost use Rattle.loop_keeper.specs.Kept.{AreSegments, Kept as KeptIs};
+ghost use Rattle.version_pages.specs.Search.{EndsBelow};
 
 use crate::found::Found;
 use crate::kept_cycle::KeptCycle;
@@ -142,16 +143,33 @@ fn has_router_at(segments: &Pages<Segment>, place: u64, router: RouterId) -> boo
     }
 }
 
+/// How many segments begin below an address, of which so many begin below it at least. Mostly there are no more, so the next
+/// one is looked at before there is a search.
+fn count_from(segments: &Pages<Segment>, least: u64, at: u64) -> u64
+    requires inside { least ≤ length segments.now }
+    requires before { (d : KeptIs) → 0 < least → (slice_index_or segments.now (least - 1) d).low < at }
+    ensures { EndsBelow (λ (s : KeptIs). s.low) segments.now at result }
+{
+    match segments.get(least) {
+        Some(segment) => {
+            if u64::from(segment.low()) < at {
+                return segments.count_below(at);
+            }
+            least
+        }
+        None => least,
+    }
+}
+
 /// Whether a change may take addresses out of a cycle: whether its run meets a segment one of whose cycles has its
 /// router.
 fn is_met(segments: &Pages<Segment>, change: &Change) -> bool
     requires { IsChange change.now }
     ensures { IsFalse result → AreSegments segments.now → AreTakenOut (change.now ∷ []) segments.now segments.now }
 {
-    let first = segments
-        .count_below(u64::from(change.run.lo) + 1)
-        .saturating_sub(1);
-    let end = segments.count_below(u64::from(change.run.hi) + 1);
+    let begun = segments.count_below(u64::from(change.run.lo) + 1);
+    let first = begun.saturating_sub(1);
+    let end = count_from(segments, begun, u64::from(change.run.hi) + 1);
     for place in first..end {
         if has_router_at(segments, place, change.router) {
             return true;

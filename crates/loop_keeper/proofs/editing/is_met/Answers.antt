@@ -17,8 +17,8 @@ loop-place-preserved c = λ k d rs f b l m. ⊎_elim
 
 pub returns : goal.returns
 returns c = λ f form.
-    let E : ℕ → Type 0 = λ v. EndsBelow low_of c.args.segments.now (v + 1) c.count_below.result in
-    let F : ℕ → Type 0 = λ v. EndsBelow low_of c.args.segments.now (v + 1) c.count_below-end.result in
-    let end : c.count_below-end.result ≤ c.loop-place.place = omega arith in
-    out-unmet c.args.change.now c.args.segments.now c.count_below.result c.count_below-end.result (subst E c.from.ensures c.count_below.ensures) (subst F c.from-2.ensures c.count_below-end.ensures)
+    let E : ℕ → Type 0 = λ v. EndsBelow low_of c.args.segments.now (v + 1) c.count_below-begun.result in
+    let F : ℕ → Type 0 = λ v. EndsBelow low_of c.args.segments.now (v + 1) c.count_from-end.result in
+    let end : c.count_from-end.result ≤ c.loop-place.place = omega arith in
+    out-unmet c.args.change.now c.args.segments.now c.count_below-begun.result c.count_from-end.result (subst E c.from.ensures c.count_below-begun.ensures) (subst F c.from-2.ensures c.count_from-end.ensures)
     (λ k d rs a b l m. c.loop-place.invariant k d rs (omega (arith, c.saturating_sub-first.ensures)) (omega arith) l m) form

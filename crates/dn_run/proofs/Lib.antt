@@ -26,3 +26,4 @@ pub mod StopLemmas
 pub mod TakenLemmas
 pub mod UntakenLemmas
 pub mod VerdictLemmas
+pub mod WrittenLemmas

@@ -40,6 +40,35 @@ pub(crate) fn target_at<V: LabelView>(view: &V, r: RouterId, a: u32) -> Option<T
     None
 }
 
+/// Whether a router's column from a place on has what the router does with each of its rows.
+pub(crate) fn is_column<V: LabelView>(view: &V, r: RouterId, i: u64) -> bool {
+    if u32::from(r.0) >= view.routers() || i >= view.atoms() {
+        return false;
+    }
+    let mut column = [Target::Exit(0); 4];
+    let count = view.column(r, i, &mut column);
+    for k in 0..count {
+        if column[k] != view.target(r, i + k as u64) {
+            return false;
+        }
+    }
+    true
+}
+
+/// Whether the row at a place, for which there is this room, has what each router does with it.
+pub(crate) fn is_row<V: LabelView>(view: &V, i: u64, room: &mut [Target]) -> bool {
+    if room.len() != view.routers() as usize || i >= view.atoms() {
+        return false;
+    }
+    view.row(i, room);
+    for r in 0..view.routers() {
+        if room.get(r as usize) != Some(&view.target(RouterId(r as u16), i)) {
+            return false;
+        }
+    }
+    true
+}
+
 /// What the routers do with the addresses from `low` up to, and without, `past`.
 pub(crate) fn row(
     rt: &impl Abort,

@@ -1,6 +1,6 @@
 //! A view of two routers with links down.
 
-use crate::network::{FIRST, LAST, PAST, SECOND, crosses, row, target_at};
+use crate::network::{FIRST, LAST, PAST, SECOND, crosses, is_column, is_row, row, target_at};
 use base::{LinkId, List, Target};
 use label_view::{LabelView, ListView};
 use std::alloc::Global;
@@ -36,4 +36,20 @@ fn only_what_went_over_a_link_that_is_down_changes(rt: HostRuntime) {
     );
     assert_eq!(rt; target_at(&without, SECOND, 9), Some(OVER_FOUR));
     assert_eq!(rt; target_at(&without, FIRST, 10), Some(Target::NoRoute));
+}
+
+#[test]
+fn columns_and_rows_are_read_with_the_links_down(rt: HostRuntime) {
+    let view = pair(&rt, rt.alloc());
+    let down = [LinkId(3)];
+    let without = Without::new(&view, &down[..]);
+    let mut room = [Target::Exit(0); 2];
+    for i in 0..2u64 {
+        assert!(rt; is_column(&without, FIRST, i));
+        assert!(rt; is_column(&without, SECOND, i));
+        assert!(rt; is_row(&without, i, &mut room[..]));
+    }
+    assert!(rt; is_row(&without, 0, &mut room[..]));
+    assert_eq!(rt; room[0], Target::LinkDown(LinkId(3)));
+    assert_eq!(rt; room[1], OVER_FOUR);
 }

@@ -1,5 +1,5 @@
 -- A router's table stands in its group, at its place there.
-use Rattle.std.proofs.Common.{◌≡◌, ◌≢◌, Bool, true, false, ⊎_elim, ℕ, zero, suc, ◌+◌, ◌-◌, ◌*◌, ◌/◌, ◌%◌, ◌<◌, ◌≤◌, ◌∙◌, List, [], ◌∷◌, ◌++◌, length, get_or, set, take, replicate, refl, ap, sym, subst, arith}
+use Rattle.std.proofs.Common.{◌≡◌, ◌≢◌, Bool, true, false, IfNone, IfSome, IsPermutation, ⊎_elim, ℕ, zero, suc, ◌+◌, ◌-◌, ◌*◌, ◌/◌, ◌%◌, ◌<◌, ◌≤◌, ◌∙◌, List, [], ◌∷◌, ◌++◌, length, get_or, set, take, replicate, refl, ap, sym, subst, arith}
 use Rattle.std.specs.List.{All, flat_map, list_any}
 use Rattle.std.proofs.lemmas.Bool.{both_ways, or_cases, or_left, or_right}
 use Rattle.std.proofs.lemmas.List.Folds.{list_any-append}
@@ -7,11 +7,15 @@ use Rattle.std.proofs.lemmas.List.{get_or-append-add, get_or-set_other, get_or-s
 use Rattle.std.proofs.lemmas.List.Elements.{All-get_or, All-head, All-replicate, All-set, All-tail}
 use Rattle.std.proofs.lemmas.Nat.{div-add-mod', mod_below}
 use Rattle.base.specs.Cidr.{Cidr}
-use Rattle.dn_model.specs.Table.{is_of_prefix}
+use Rattle.base.specs.declared.run.Run.{Run}
+use Rattle.dn_model.specs.Table.{after_table_op, is_of_prefix, prefix_of_op, way_in}
 use Rattle.dn_model.specs.declared.entry.Route.{Route}
 use Rattle.dn_model.specs.declared.table_op.TableOp.{TableOp}
 use Rattle.dn_model.specs.declared.table_op.TableOp.TheVariants.{Put, Clear}
-use Rattle.route_table.specs.Own.{TellsNew, is_held}
+use Rattle.route_table.specs.Own.{AreOwnRuns, IsTurned, SetsOrHas, TellsNew, is_held}
+use Rattle.route_table.specs.Tables.{IsUpdateIn}
+use Rattle.route_table.specs.declared.table_update.TableUpdate.{TableUpdate}
+use Rattle.route_table.specs.declared.table_update.Told.{Told}
 use Rattle.net_engine.specs.Grouped.{AreGroups, tables_in}
 use Rattle.net_engine.proofs.Standing.{AllRoutes}
 
@@ -123,20 +127,21 @@ new-of-group routers groups g (Clear p m) true h t = t
 new-of-group routers groups g (Clear p m) false h t = tt
 
 -- what is found and made at a router: its group, and what the update makes of that
-pub record Finds (routers : ℕ) (groups : List AllRoutes) (tables group made : AllRoutes) (r n : ℕ) : Type 0 where
+pub record Finds (routers : ℕ) (groups : List AllRoutes) (tables group made : AllRoutes) (r n q : ℕ) : Type 0 where
   pub are : AreGroups routers groups
   pub seen : tables_in routers groups ≡ tables
   pub inside : r < length tables
   pub place : n ≡ r
+  pub lane : q ≡ r % 4
   pub found : group ≡ get_or groups (n / 4) group
-  pub others : made ≡ set group (n % 4) (get_or made (n % 4) [])
+  pub others : made ≡ set group (q) (get_or made (q) [])
 
-module _ (routers : ℕ) (groups : List AllRoutes) (tables group made : AllRoutes) (r n : ℕ) (h : Finds routers groups tables group made r n) where
-  lane : n % 4 < 4
-  lane = mod_below n 4 (omega arith)
+module _ (routers : ℕ) (groups : List AllRoutes) (tables group made : AllRoutes) (r n q : ℕ) (h : Finds routers groups tables group made r n q) where
+  lane : q < 4
+  lane = subst (λ k. k < 4) (sym h.lane) (mod_below r 4 (omega arith))
 
-  parts : r ≡ n / 4 * 4 + n % 4
-  parts = sym h.place ∙ sym (div-add-mod' n 4)
+  parts : r ≡ n / 4 * 4 + q
+  parts = sym (div-add-mod' r 4) ∙ ap (λ k. r / 4 * 4 + k) (sym h.lane) ∙ ap (λ k. k / 4 * 4 + q) (sym h.place)
 
   below : r < routers
   below = subst (λ k. r < k) (ap (λ (ts : AllRoutes). length ts) (sym h.seen) ∙ length-tables routers groups h.are) h.inside
@@ -145,32 +150,32 @@ module _ (routers : ℕ) (groups : List AllRoutes) (tables group made : AllRoute
   there =
       let below : r < routers = below in
       let enough : routers ≤ length groups * 4 = h.are.enough in
-      let parts : r ≡ n / 4 * 4 + n % 4 = parts in
+      let parts : r ≡ n / 4 * 4 + q = parts in
       omega arith
 
   group-is : group ≡ get_or groups (n / 4) []
   group-is = h.found ∙ get_or_default groups (n / 4) group [] there
 
-  before : get_or tables r [] ≡ get_or group (n % 4) []
+  before : get_or tables r [] ≡ get_or group (q) []
   before =
       ap (λ (ts : AllRoutes). get_or ts r []) (sym h.seen)
       ∙ get_or-take routers (joined groups) r [] below
-      ∙ get_or-joined groups (n / 4) (n % 4) r h.are.four lane parts
-      ∙ ap (λ (ts : AllRoutes). get_or ts (n % 4) []) (sym group-is)
+      ∙ get_or-joined groups (n / 4) (q) r h.are.four lane parts
+      ∙ ap (λ (ts : AllRoutes). get_or ts (q) []) (sym group-is)
 
-  placed : tables_in routers (set groups (n / 4) made) ≡ set tables r (get_or made (n % 4) [])
+  placed : tables_in routers (set groups (n / 4) made) ≡ set tables r (get_or made (q) [])
   placed =
-      ap (λ (ts : AllRoutes). tables_in routers (set groups (n / 4) ts)) (h.others ∙ ap (λ (ts : AllRoutes). set ts (n % 4) (get_or made (n % 4) [])) group-is)
-      ∙ ap (λ (ts : AllRoutes). take routers ts) (joined-set groups (n / 4) (n % 4) r (get_or made (n % 4) []) h.are.four lane parts)
-      ∙ take-of_set routers (joined groups) r (get_or made (n % 4) []) below
-      ∙ ap (λ (ts : AllRoutes). set ts r (get_or made (n % 4) [])) h.seen
+      ap (λ (ts : AllRoutes). tables_in routers (set groups (n / 4) ts)) (h.others ∙ ap (λ (ts : AllRoutes). set ts (q) (get_or made (q) [])) group-is)
+      ∙ ap (λ (ts : AllRoutes). take routers ts) (joined-set groups (n / 4) (q) r (get_or made (q) []) h.are.four lane parts)
+      ∙ take-of_set routers (joined groups) r (get_or made (q) []) below
+      ∙ ap (λ (ts : AllRoutes). set ts r (get_or made (q) [])) h.seen
 
-  after : get_or (tables_in routers (set groups (n / 4) made)) r [] ≡ get_or made (n % 4) []
-  after = ap (λ (ts : AllRoutes). get_or ts r []) placed ∙ get_or-set_same tables r (get_or made (n % 4) []) [] h.inside
+  after : get_or (tables_in routers (set groups (n / 4) made)) r [] ≡ get_or made (q) []
+  after = ap (λ (ts : AllRoutes). get_or ts r []) placed ∙ get_or-set_same tables r (get_or made (q) []) [] h.inside
 
   -- what holds of the table at its place in the group holds of it at the router's place in the list of all
-  pub at-router : (P : List Route → List Route → Type 0) → P (get_or group (n % 4) []) (get_or made (n % 4) []) → P (get_or tables r []) (get_or (tables_in routers (set groups (n / 4) made)) r [])
-  at-router P k = subst (λ (t : List Route). P t (get_or (tables_in routers (set groups (n / 4) made)) r [])) (sym before) (subst (λ (t : List Route). P (get_or group (n % 4) []) t) (sym after) k)
+  pub at-router : (P : List Route → List Route → Type 0) → P (get_or group (q) []) (get_or made (q) []) → P (get_or tables r []) (get_or (tables_in routers (set groups (n / 4) made)) r [])
+  at-router P k = subst (λ (t : List Route). P t (get_or (tables_in routers (set groups (n / 4) made)) r [])) (sym before) (subst (λ (t : List Route). P (get_or group (q) []) t) (sym after) k)
 
   -- and the others' are as before
   pub others-after : tables_in routers (set groups (n / 4) made) ≡ set tables r (get_or (tables_in routers (set groups (n / 4) made)) r [])
@@ -182,7 +187,7 @@ module _ (routers : ℕ) (groups : List AllRoutes) (tables group made : AllRoute
       let four : length (get_or groups (n / 4) []) ≡ 4 = All-get_or IsFour groups (n / 4) [] there h.are.four in
       let made_four : length made ≡ 4 =
       ap (λ (ts : AllRoutes). length ts) h.others
-      ∙ length-set group (n % 4) (get_or made (n % 4) [])
+      ∙ length-set group (q) (get_or made (q) [])
       ∙ ap (λ (ts : AllRoutes). length ts) group-is
       ∙ four in
       record {
@@ -190,14 +195,25 @@ module _ (routers : ℕ) (groups : List AllRoutes) (tables group made : AllRoute
         enough = subst (λ k. routers ≤ k * 4) (sym (length-set groups (n / 4) made)) h.are.enough;
         rest = λ k l.
             let apart : k ≢ r = λ e. let b : r < routers = below in omega arith in
-            ap (λ (ts : AllRoutes). get_or (joined (set groups (n / 4) ts)) k []) (h.others ∙ ap (λ (ts : AllRoutes). set ts (n % 4) (get_or made (n % 4) [])) group-is)
-            ∙ ap (λ (ts : AllRoutes). get_or ts k []) (joined-set groups (n / 4) (n % 4) r (get_or made (n % 4) []) h.are.four lane parts)
-            ∙ get_or-set_other (joined groups) r k (get_or made (n % 4) []) [] apart
+            ap (λ (ts : AllRoutes). get_or (joined (set groups (n / 4) ts)) k []) (h.others ∙ ap (λ (ts : AllRoutes). set ts (q) (get_or made (q) [])) group-is)
+            ∙ ap (λ (ts : AllRoutes). get_or ts k []) (joined-set groups (n / 4) (q) r (get_or made (q) []) h.are.four lane parts)
+            ∙ get_or-set_other (joined groups) r k (get_or made (q) []) [] apart
             ∙ h.are.rest k l;
       }
 
   -- what is told of a prefix in the group
-  pub new-at-router : (op : TableOp) (is_new : Bool) → TellsNew group op is_new → TellsNew tables op is_new
+  new-at-router : (op : TableOp) (is_new : Bool) → TellsNew group op is_new → TellsNew tables op is_new
   new-at-router op is_new t =
       subst (λ (ts : AllRoutes). TellsNew ts op is_new) h.seen
       (new-of-group routers groups (n / 4) op is_new h.are (subst (λ (ts : AllRoutes). TellsNew ts op is_new) group-is t))
+
+  -- what the update comes to
+  pub update-at-router : (u : TableUpdate) (told : Told) (runs : List Run) → IsUpdateIn q group made u told runs → IsUpdateIn r tables (tables_in routers (set groups (n / 4) made)) u told runs
+  update-at-router u told runs i = record {
+    table = at-router (λ old new. IsPermutation new (after_table_op u.alone old u.op)) i.table;
+    same = at-router (λ old new. IfNone told.after ((a : ℕ) → way_in new a ≡ way_in old a)) i.same;
+    turned = at-router (λ old new. IfSome told.after (IsTurned old new (prefix_of_op u.op))) i.turned;
+    own = at-router (λ old new. IfSome told.after (λ _. AreOwnRuns new (prefix_of_op u.op) runs)) i.own;
+    had = at-router (λ old new. IfSome told.after (λ _. SetsOrHas old u.op)) i.had;
+    is_new = new-at-router u.op told.is_new i.is_new;
+  }

@@ -1,17 +1,16 @@
 //! The routes of all routers.
 
-ghost use Rattle.std.specs.Prelude.{◌≡◌, ◌<◌, ℕ, [], IfOk, IfSome, IfNone, OnOk, IsPermutation};
-ghost use Rattle.std.specs.Prelude.{length, replicate, slice_set};
-ghost use Rattle.dn_model.specs.Table.{prefix_of_op};
+ghost use Rattle.std.specs.Prelude.{◌≡◌, ◌<◌, [], IfOk, length, replicate, slice_set};
 ghost use Rattle.dn_model.specs.Routes.{IsTable};
-ghost use Rattle.dn_model.specs.Table.{way_in};
-ghost use Rattle.net_engine.specs.Updates.{after_update, its_routes};
-ghost use Rattle.route_table.specs.Own.{AreOwnRuns, IsLooked, IsTurned, SetsOrHas, TellsNew};
+ghost use Rattle.dn_model.specs.Table.{prefix_of_op};
+ghost use Rattle.net_engine.specs.Updates.{its_routes};
+ghost use Rattle.route_table.specs.Own.{IsLooked};
+ghost use Rattle.route_table.specs.Tables.{IsUpdateIn};
 
 use crate::router_group::RouterGroup;
 use crate::update::Update;
 use dn_model::{OutOfMemory, Run};
-use route_table::{LANES, Told};
+use route_table::{LANES, Lane, Told};
 use std::alloc::Global;
 use std::marker::Model;
 use std::sync::ledger::Ledger;
@@ -60,26 +59,15 @@ impl RouterTables {
         steps: &mut Steps<L>,
     ) -> Result<Told, OutOfMemory>
         requires { update.now.router.0 < length self.old }
-        ensures table { OnOk result (
-            IsPermutation (its_routes update.now self.new) (after_update update.now (its_routes update.now self.old))) }
+        ensures made { IfOk result (λ told.
+            IsUpdateIn update.now.router.0 self.old self.new update.now.table told runs.new.items) }
         ensures others { self.new ≡ slice_set self.old update.now.router.0 (its_routes update.now self.new) }
         ensures form { IsTable (its_routes update.now self.new) }
-        ensures same { IfOk result (λ told. IfNone told.after ((a : ℕ) →
-            way_in (its_routes update.now self.new) a ≡ way_in (its_routes update.now self.old) a)) }
-        ensures turned { IfOk result (λ told. IfSome told.after (
-            IsTurned (its_routes update.now self.old) (its_routes update.now self.new)
-            (prefix_of_op update.now.table.op))) }
-        ensures runs { IfOk result (λ told. IfSome told.after (λ _.
-            AreOwnRuns (its_routes update.now self.new) (prefix_of_op update.now.table.op) runs.new.items)) }
-        ensures had { IfOk result (λ told. IfSome told.after (λ _.
-            SetsOrHas (its_routes update.now self.old) update.now.table.op)) }
-        ensures new { IfOk result (λ told. TellsNew self.old update.now.table.op told.is_new) }
         ensures cost { IsLooked (its_routes update.now self.old) (prefix_of_op update.now.table.op)
             steps.old steps.new }
     {
-        let place = usize::from(update.router.0);
-        let group = &mut self.groups[place / LANES];
-        group.update(alloc, place % LANES, &update.table, runs, steps)
+        let group = &mut self.groups[usize::from(update.router.0) / LANES];
+        group.update(alloc, Lane::of(update.router), &update.table, runs, steps)
     }
 
     /// The same routes again.

@@ -2,8 +2,8 @@
 
 ghost use Rattle.std.specs.Prelude.{◌≡◌, ◌<◌};
 
-use dn_model::{Prefix, Route, TableOp, Target, Way};
-use route_table::{RouteTable, RouteTables, TableUpdate};
+use dn_model::{Prefix, Route, RouterId, TableOp, Target, Way};
+use route_table::{Lane, RouteTable, RouteTables, TableUpdate};
 use std::alloc::Global;
 use std::marker::Brand;
 use std::process::Abort;
@@ -61,14 +61,14 @@ fn clear(metric: u32) -> TableUpdate {
 /// what it did before.
 #[derive(Drop)]
 struct Step {
-    lane: usize,
+    router: RouterId,
     update: TableUpdate,
     after: Option<Way>,
 }
 
-fn on_router(lane: usize, update: TableUpdate, after: Option<Way>) -> Step {
+fn on_router(router: u16, update: TableUpdate, after: Option<Way>) -> Step {
     Step {
-        lane,
+        router: RouterId(router),
         update,
         after,
     }
@@ -84,9 +84,15 @@ fn compare_steps<L: Ledger>(rt: &impl Abort, alloc: Global, list: &[Step], blank
     let mut tables = RouteTables::new();
     let mut runs = Vec::new(alloc);
     for step in list {
-        assert!(rt; step.lane < 4);
         let told = tables
-            .update(alloc, step.lane, &step.update, 0, &mut runs, &mut steps)
+            .update(
+                alloc,
+                Lane::of(step.router),
+                &step.update,
+                0,
+                &mut runs,
+                &mut steps,
+            )
             .expect(rt, "memory");
         assert_eq!(rt; told.after, step.after);
     }

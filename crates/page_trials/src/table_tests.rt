@@ -3,8 +3,8 @@
 ghost use Rattle.std.specs.Prelude.{◌≡◌, ◌<◌, ◌≤◌};
 
 use crate::draw::next_draw;
-use dn_model::{DropKind, Prefix, Route, Run, TableOp, Target, Way};
-use route_table::{RouteTable, RouteTables, TableUpdate};
+use dn_model::{DropKind, Prefix, Route, RouterId, Run, TableOp, Target, Way};
+use route_table::{Lane, RouteTable, RouteTables, TableUpdate};
 use std::alloc::Global;
 use std::marker::Brand;
 use std::process::Abort;
@@ -340,7 +340,7 @@ fn compare_update<L: Ledger>(
     let mut runs = Vec::new(alloc);
     let update = TableUpdate { op, alone: false };
     let told = tables
-        .update(alloc, 2, &update, 0, &mut runs, steps)
+        .update(alloc, Lane::of(RouterId(2)), &update, 0, &mut runs, steps)
         .expect(rt, "memory");
     let way = match want.after {
         Some(target) => Some(Way::Straight(target)),
@@ -372,16 +372,14 @@ fn put<L: Ledger>(
     rt: &impl Abort,
     alloc: Global,
     tables: &mut RouteTables,
-    lane: usize,
+    router: RouterId,
     op: TableOp,
     steps: &mut Steps<L>,
-)
-    requires { lane < 4 }
-{
+) {
     let mut runs = Vec::new(alloc);
     let update = TableUpdate { op, alone: false };
     tables
-        .update(alloc, lane, &update, 0, &mut runs, steps)
+        .update(alloc, Lane::of(router), &update, 0, &mut runs, steps)
         .expect(rt, "memory");
 }
 
@@ -395,9 +393,9 @@ fn set_at_neighbours<L: Ledger>(
     let all = setting(Prefix::new(0, 0), 1, Target::Local);
     let within = setting(Prefix::new(0x0A01_0200, 24), 1, Target::Exit(9));
     let same = setting(ten_one(), 1, Target::Exit(9));
-    put(rt, alloc, tables, 1, all, steps);
-    put(rt, alloc, tables, 3, within, steps);
-    put(rt, alloc, tables, 3, same, steps);
+    put(rt, alloc, tables, RouterId(1), all, steps);
+    put(rt, alloc, tables, RouterId(3), within, steps);
+    put(rt, alloc, tables, RouterId(3), same, steps);
 }
 
 fn updates_of_one_in_another<L: Ledger>(rt: &impl Abort, alloc: Global, blank: Blank)
@@ -494,22 +492,20 @@ fn update_beside<L: Ledger>(
     rt: &impl Abort,
     alloc: Global,
     tables: &mut RouteTables,
-    lane: usize,
+    router: RouterId,
     own: &mut RouteTable,
     draw: u64,
     steps: &mut Steps<L>,
-)
-    requires { lane < 4 }
-{
+) {
     let update = TableUpdate {
         op: some_op(draw),
-        alone: lane == 3,
+        alone: router == RouterId(3),
     };
     let before = copied(rt, own);
     let mut runs = Vec::new(alloc);
     let near = (draw >> 50) % 400;
     let told = tables
-        .update(alloc, lane, &update, near, &mut runs, steps)
+        .update(alloc, Lane::of(router), &update, near, &mut runs, steps)
         .expect(rt, "memory");
     update_table(rt, alloc, own, &update);
     compare_turned(rt, &before, own, &runs, told.after);
@@ -528,9 +524,9 @@ fn update_in_turn<L: Ledger>(
     let mut draw = seed;
     for _ in 0..200u32 {
         draw = next_draw(draw);
-        update_beside(rt, alloc, tables, 0, first, draw, steps);
+        update_beside(rt, alloc, tables, RouterId(0), first, draw, steps);
         draw = next_draw(draw);
-        update_beside(rt, alloc, tables, 3, last, draw, steps);
+        update_beside(rt, alloc, tables, RouterId(3), last, draw, steps);
     }
 }
 

@@ -7,6 +7,7 @@ pub mod Kept
 pub mod Known
 pub mod Listed
 pub mod Made
+pub mod Making
 pub mod OwnRuns
 pub mod OwnWalk
 pub mod Places

@@ -8,9 +8,10 @@ ghost use Rattle.route_table.specs.Searches.{IsBaseBefore};
 ghost use Rattle.route_table.specs.Rows.{slots_in, AreWhole};
 ghost use Rattle.route_table.specs.Slots.{key_of, slot_key};
 
+use crate::lane::Lane;
 use crate::lengths::Lengths;
 use crate::prefix::prefix_around;
-use crate::rows::{LANES, PrefixRow, first_of};
+use crate::rows::{PrefixRow, first_of};
 use crate::search::look;
 use dn_model::{Prefix, Way};
 use version_pages::Pages;
@@ -19,17 +20,16 @@ use version_pages::Pages;
 /// that of the prefix; the first address of the row before it may be at hand.
 pub fn first_above(
     rows: &Pages<PrefixRow>,
-    lane: usize,
+    lane: Lane,
     lengths: &Lengths,
     prefix: Prefix,
     place: u64,
     before: Option<u32>,
 ) -> Option<Way>
-    requires lane { lane < LANES }
     requires whole { AreWhole rows.now lengths.now }
-    requires place { IsPlace slot_key (slots_in lane rows.now) (key_of prefix) place }
-    requires before { IfSome before (IsBaseBefore (slots_in lane rows.now) place) }
-    ensures above { IsFirstAbove (slots_in lane rows.now) prefix result }
+    requires place { IsPlace slot_key (slots_in lane.index rows.now) (key_of prefix) place }
+    requires before { IfSome before (IsBaseBefore (slots_in lane.index rows.now) place) }
+    ensures above { IsFirstAbove (slots_in lane.index rows.now) prefix result }
     ensures sound { IsCidr prefix }
 {
     let mut len = prefix.len();
@@ -58,8 +58,8 @@ pub fn first_above(
 fn base_of(rows: &Pages<PrefixRow>, place: u64, before: Option<u32>) -> u32
     requires some { 0 < place }
     requires inside { place ≤ length rows.now }
-    ensures { (lane : ℕ) → IfSome before (IsBaseBefore (slots_in lane rows.now) place) →
-        IsBaseBefore (slots_in lane rows.now) place result }
+    ensures { (k : ℕ) → IfSome before (IsBaseBefore (slots_in k rows.now) place) →
+        IsBaseBefore (slots_in k rows.now) place result }
 {
     if let Some(base) = before {
         return base;

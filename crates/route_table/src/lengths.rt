@@ -3,6 +3,7 @@
 ghost use Rattle.std.specs.Prelude.{◌≡◌, ◌<◌, ◌≤◌, ℕ, true, false, IfSome, IfNone, replicate, slice_index_or, slice_set};
 ghost use Rattle.route_table.specs.Above.{shares};
 
+use dn_model::Prefix;
 use std::marker::Model;
 
 /// For each length from 0 to 32, whether a prefix of the length ever had a route. A contract sees the list.
@@ -35,11 +36,10 @@ impl Lengths {
     }
 
     /// Adds the length of a prefix that has a route.
-    pub fn add(&mut self, len: u8)
-        requires { len ≤ 32 }
-        ensures { self.new ≡ slice_set self.old len true }
+    pub fn add(&mut self, prefix: Prefix)
+        ensures { self.new ≡ slice_set self.old prefix.len true }
     {
-        self.had[len as usize] = true;
+        self.had[prefix.len() as usize] = true;
     }
 
     /// The greatest of the lengths below this one at which the prefix around an address has another address too.

@@ -3,6 +3,7 @@
 #![tactic(auto)]
 
 mod above;
+mod lane;
 mod lengths;
 mod metric_way;
 mod metrics;
@@ -16,7 +17,7 @@ mod tables;
 mod targets;
 mod update;
 
-pub use rows::LANES;
+pub use lane::{LANES, Lane};
 pub use table::RouteTable;
 pub use table_update::{TableUpdate, Told};
 pub use tables::RouteTables;

@@ -8,7 +8,8 @@ ghost use Rattle.route_table.specs.Own.{AreOwnRuns, IsPassed};
 ghost use Rattle.route_table.specs.Rows.{slots_in};
 ghost use Rattle.route_table.specs.Slots.{AreSlots, key_of, routes_of, slot_key};
 
-use crate::rows::{LANES, PrefixRow};
+use crate::lane::Lane;
+use crate::rows::PrefixRow;
 use dn_model::{OutOfMemory, Prefix, Run};
 use std::sync::ledger::Ledger;
 use step_count::Steps;
@@ -48,22 +49,21 @@ struct Walk {
 /// of those alone that don't lie within one that it has gone past.
 fn walk_page<L: Ledger>(
     page: &[PrefixRow],
-    lane: usize,
+    lane: Lane,
     at: u64,
     past: u64,
     runs: &mut Vec<Run>,
     steps: &mut Steps<L>,
 ) -> Result<Walk, OutOfMemory>
-    requires lane { lane < LANES }
-    requires form { AreSlots (slots_in lane page.now) }
+    requires form { AreSlots (slots_in lane.index page.now) }
     requires past { past ≤ 2 ^ 32 }
     ensures at { IfOk result (λ walk.
-        walk.at ≡ (along past (record { at = at; runs = runs.old.items; begun = [] }) (slots_in lane page.now)).at) }
+        walk.at ≡ (along past (record { at = at; runs = runs.old.items; begun = [] }) (slots_in lane.index page.now)).at) }
     ensures runs { OnOk result (runs.new.items ≡
-        (along past (record { at = at; runs = runs.old.items; begun = [] }) (slots_in lane page.now)).runs) }
-    ensures ended { IfOk result (λ walk. IsTrue walk.ended → begins_past past (slots_in lane page.now) ≡ true) }
+        (along past (record { at = at; runs = runs.old.items; begun = [] }) (slots_in lane.index page.now)).runs) }
+    ensures ended { IfOk result (λ walk. IsTrue walk.ended → begins_past past (slots_in lane.index page.now) ≡ true) }
     ensures cost { steps.new ≤ steps.old +
-        length (along past (record { at = at; runs = runs.old.items; begun = [] }) (slots_in lane page.now)).begun }
+        length (along past (record { at = at; runs = runs.old.items; begun = [] }) (slots_in lane.index page.now)).begun }
 {
     let mut at = at;
     for row in page {
@@ -83,18 +83,17 @@ fn walk_page<L: Ledger>(
 /// Adds the runs of a prefix's own addresses, where there is none yet. The place is that of its row.
 pub fn push_own_runs<L: Ledger>(
     rows: &Pages<PrefixRow>,
-    lane: usize,
+    lane: Lane,
     place: u64,
     prefix: Prefix,
     runs: &mut Vec<Run>,
     steps: &mut Steps<L>,
 ) -> Result<(), OutOfMemory>
-    requires lane { lane < LANES }
-    requires form { AreSlots (slots_in lane rows.now) }
-    requires place { IsFound slot_key (slots_in lane rows.now) (key_of prefix) place }
+    requires form { AreSlots (slots_in lane.index rows.now) }
+    requires place { IsFound slot_key (slots_in lane.index rows.now) (key_of prefix) place }
     requires empty { runs.old.items ≡ [] }
-    ensures own { OnOk result (AreOwnRuns (routes_of (slots_in lane rows.now)) prefix runs.new.items) }
-    ensures cost { IsPassed (routes_of (slots_in lane rows.now)) prefix steps.old steps.new }
+    ensures own { OnOk result (AreOwnRuns (routes_of (slots_in lane.index rows.now)) prefix runs.new.items) }
+    ensures cost { IsPassed (routes_of (slots_in lane.index rows.now)) prefix steps.old steps.new }
     ensures sound { IsCidr prefix }
 {
     let past = past_of(prefix);

@@ -8,15 +8,13 @@ ghost use Rattle.route_table.specs.Slots.{key_of, AreSlots, IsAddedAt, IsUnchang
 ghost use Rattle.route_table.specs.Targets.{metric_of, IsFirst};
 ghost use Rattle.route_table.specs.declared.rows.PrefixRow.{PrefixRow as Row};
 
+use crate::lane::{LANES, Lane};
 use crate::prefix::prefix_key;
 use crate::table_update::TableUpdate;
 use crate::targets::TargetsByMetric;
 use dn_model::{OutOfMemory, Prefix, Route, TableOp, Way};
 use std::alloc::{AllocError, Global};
 use version_pages::{Keyed, Pages};
-
-/// How many tables stand side by side. They are numbered from 0.
-pub const LANES: usize = 4;
 
 /// The routes of one prefix in each of the tables: what they do, by metric. What one table has of them is its slot in
 /// the row. A row whose routes are all cleared stays.
@@ -28,11 +26,10 @@ pub struct PrefixRow {
 
 impl PrefixRow {
     /// What the routes of one of the tables do.
-    pub fn targets(&self, lane: usize) -> &TargetsByMetric
-        requires { lane < LANES }
-        ensures { result.now ≡ (slot_in lane self.now).targets }
+    pub fn targets(&self, lane: Lane) -> &TargetsByMetric
+        ensures { result.now ≡ (slot_in lane.index self.now).targets }
     {
-        &self.lanes[lane]
+        &self.lanes[lane.index]
     }
 }
 
@@ -73,7 +70,7 @@ impl Keyed for PrefixRow {
 
 /// The place of the first row whose prefix doesn't go before this one.
 pub fn place_of(rows: &Pages<PrefixRow>, prefix: Prefix) -> u64
-    requires { (lane : ℕ) → AreSlots (slots_in lane rows.now) }
+    requires { (k : ℕ) → AreSlots (slots_in k rows.now) }
     ensures place { IsPlace row_key rows.now (key_of prefix) result }
     ensures sound { IsCidr prefix }
 {
@@ -105,9 +102,9 @@ pub fn row_at(rows: &Pages<PrefixRow>, place: u64, prefix: Prefix) -> Option<&Pr
 }
 
 /// What the route of a slot with the least metric does. It is none where the slot has no route.
-pub fn first_of(row: &PrefixRow, lane: usize) -> Option<Way>
-    requires { lane < LANES }
-    ensures { IsFirst (slot_in lane row.now).targets result }
+pub fn first_of(row: &PrefixRow, lane: Lane) -> Option<Way>
+    ensures first { IsFirst (slot_in lane.index row.now).targets result }
+    ensures metrics { AscendsFrom metric_of 0 (slot_in lane.index row.now).targets }
 {
     let first = row.targets(lane).first()?;
     Some(first.way)
@@ -118,7 +115,7 @@ fn is_held(row: &PrefixRow) -> bool
     ensures { IsTrue result → IsHeld row.now }
 {
     'lanes: for lane in 0..LANES {
-        if row.targets(lane).has(None) {
+        if row.lanes[lane].has(None) {
             return true;
         }
     }
@@ -136,10 +133,10 @@ pub fn is_first(row: &PrefixRow, op: &TableOp) -> bool
 }
 
 /// Whether an update of its prefix changes anything in a slot.
-pub fn changes(row: &PrefixRow, lane: usize, update: &TableUpdate) -> bool
-    requires { lane < LANES }
-    ensures same { IsFalse result → IsUnchangedBy update.now.alone (slot_in lane row.now).targets update.now.op }
-    ensures some { IsTrue result → SetsOrHasSome (slot_in lane row.now).targets update.now.op }
+pub fn changes(row: &PrefixRow, lane: Lane, update: &TableUpdate) -> bool
+    ensures same { IsFalse result →
+        IsUnchangedBy update.now.alone (slot_in lane.index row.now).targets update.now.op }
+    ensures some { IsTrue result → SetsOrHasSome (slot_in lane.index row.now).targets update.now.op }
 {
     let targets = row.targets(lane);
     match &update.op {
@@ -154,7 +151,6 @@ fn update_targets(targets: &mut TargetsByMetric, update: &TableUpdate) -> Result
     ensures ok { OnOk result (
         IsPermutation targets.new (updated_targets update.now.alone targets.old update.now.op)) }
     ensures err { OnErr result (targets.new ≡ targets.old) }
-    ensures metrics { AscendsFrom metric_of 0 targets.new }
 {
     match &update.op {
         TableOp::Put { metric, way, .. } => return targets.put(update.alone, *metric, *way),
@@ -166,16 +162,15 @@ fn update_targets(targets: &mut TargetsByMetric, update: &TableUpdate) -> Result
 /// `OutOfMemory`, for which alone it fails, the row is as before.
 fn update_in(
     row: &mut PrefixRow,
-    lane: usize,
+    lane: Lane,
     update: &TableUpdate,
 ) -> Result<Option<Way>, OutOfMemory>
-    requires { lane < LANES }
     ensures ok { IfOk result (λ first.
-        IsUpdatedIn (slot_in lane row.old) (slot_in lane row.new) update.now.alone update.now.op first) }
-    ensures others { (k : ℕ) → k ≢ lane → slot_in k row.new ≡ slot_in k row.old }
+        IsUpdatedIn (slot_in lane.index row.old) (slot_in lane.index row.new) update.now.alone update.now.op first) }
+    ensures others { (k : ℕ) → k ≢ lane.index → slot_in k row.new ≡ slot_in k row.old }
     ensures err { OnErr result (row.new ≡ row.old) }
 {
-    update_targets(&mut row.lanes[lane], update)?;
+    update_targets(&mut row.lanes[lane.index], update)?;
     Ok(first_of(row, lane))
 }
 
@@ -184,15 +179,15 @@ fn update_in(
 pub fn update_at(
     alloc: Global,
     rows: &mut Pages<PrefixRow>,
-    lane: usize,
+    lane: Lane,
     place: u64,
     update: &TableUpdate,
 ) -> Result<Option<Way>, OutOfMemory>
-    requires lane { lane < LANES }
     requires inside { place < length rows.old }
     ensures ok { IfOk result (λ first.
-        IsUpdatedAt (slots_in lane rows.old) (slots_in lane rows.new) place update.now.alone update.now.op first) }
-    ensures others { KeepsSlots lane rows.old rows.new }
+        IsUpdatedAt (slots_in lane.index rows.old) (slots_in lane.index rows.new) place
+        update.now.alone update.now.op first) }
+    ensures others { KeepsSlots lane.index rows.old rows.new }
     ensures err { OnErr result (rows.new ≡ rows.old) }
 {
     rows.change(
@@ -203,11 +198,11 @@ pub fn update_at(
 }
 
 /// A row with one route in one of the tables.
-fn row_of(alloc: Global, lane: usize, route: &Route) -> PrefixRow
-    requires { lane < LANES }
+fn row_of(alloc: Global, lane: Lane, route: &Route) -> PrefixRow
     ensures prefix { result.prefix ≡ route.now.prefix }
-    ensures targets { (slot_in lane result).targets ≡ record { metric = route.now.metric; way = route.now.way } ∷ [] }
-    ensures others { (k : ℕ) → k ≢ lane → (slot_in k result).targets ≡ [] }
+    ensures targets { (slot_in lane.index result).targets ≡
+        record { metric = route.now.metric; way = route.now.way } ∷ [] }
+    ensures others { (k : ℕ) → k ≢ lane.index → (slot_in k result).targets ≡ [] }
 {
     let mut lanes = [
         TargetsByMetric::none(alloc),
@@ -215,7 +210,7 @@ fn row_of(alloc: Global, lane: usize, route: &Route) -> PrefixRow
         TargetsByMetric::none(alloc),
         TargetsByMetric::none(alloc),
     ];
-    lanes[lane] = TargetsByMetric::one(alloc, route.metric, route.way);
+    lanes[lane.index] = TargetsByMetric::one(alloc, route.metric, route.way);
     PrefixRow {
         prefix: route.prefix,
         lanes,
@@ -227,15 +222,14 @@ fn row_of(alloc: Global, lane: usize, route: &Route) -> PrefixRow
 pub fn add_at(
     alloc: Global,
     rows: &mut Pages<PrefixRow>,
-    lane: usize,
+    lane: Lane,
     place: u64,
     route: &Route,
 ) -> Result<(), OutOfMemory>
-    requires lane { lane < LANES }
     requires inside { place ≤ length rows.old }
     requires sound { IsCidr route.now.prefix }
-    ensures ok { OnOk result (IsAddedAt (slots_in lane rows.old) (slots_in lane rows.new) place route.now) }
-    ensures others { OnOk result (AddsSlots lane rows.old rows.new place route.now.prefix) }
+    ensures ok { OnOk result (IsAddedAt (slots_in lane.index rows.old) (slots_in lane.index rows.new) place route.now) }
+    ensures others { OnOk result (AddsSlots lane.index rows.old rows.new place route.now.prefix) }
     ensures err { OnErr result (rows.new ≡ rows.old) }
 {
     let row = row_of(alloc, lane, route);

@@ -27,15 +27,15 @@ pub struct Spot<'a> {
 /// Where a search for the row of a prefix ends, where that is in the page of a place, and behind its first row or at
 /// the very beginning. It looks first there.
 fn look_near(rows: &Pages<PrefixRow>, near: u64, prefix: Prefix) -> Option<Spot<'_>>
-    requires { (lane : ℕ) → AreSlots (slots_in lane rows.now) }
+    requires { (k : ℕ) → AreSlots (slots_in k rows.now) }
     ensures place { IfSome result (λ spot. IsPlace row_key rows.now (key_of prefix) spot.place) }
     ensures found { IfSome result (λ spot. IfSome spot.row (λ _.
         IsFound row_key rows.now (key_of prefix) spot.place)) }
     ensures row { (d : Row) → IfSome result (λ spot. IfSome spot.row (λ row.
         row.now ≡ slice_index_or rows.now spot.place d)) }
     ensures gap { IfSome result (λ spot. IfNone spot.row (IsGap row_key rows.now (key_of prefix) spot.place)) }
-    ensures before { (lane : ℕ) → IfSome result (λ spot. IfSome spot.before (
-        IsBaseBefore (slots_in lane rows.now) spot.place)) }
+    ensures before { (k : ℕ) → IfSome result (λ spot. IfSome spot.before (
+        IsBaseBefore (slots_in k rows.now) spot.place)) }
 {
     let (page, first, here) = rows.page_near(near);
     let below = count_below_from(page, prefix_key(prefix), here);
@@ -55,7 +55,7 @@ fn look_near(rows: &Pages<PrefixRow>, near: u64, prefix: Prefix) -> Option<Spot<
 /// The first address of the prefix of the row before a place of a page, if there is one.
 fn base_before(page: &[PrefixRow], place: usize) -> Option<u32>
     requires { place ≤ length page.now }
-    ensures { (lane : ℕ) → IfSome result (IsBaseBefore (slots_in lane page.now) place) }
+    ensures { (k : ℕ) → IfSome result (IsBaseBefore (slots_in k page.now) place) }
 {
     if place == 0 {
         return None;
@@ -65,12 +65,12 @@ fn base_before(page: &[PrefixRow], place: usize) -> Option<u32>
 
 /// Where a search for the row of a prefix ends. It looks first at a place: any will do.
 pub fn look(rows: &Pages<PrefixRow>, near: u64, prefix: Prefix) -> Spot<'_>
-    requires { (lane : ℕ) → AreSlots (slots_in lane rows.now) }
+    requires { (k : ℕ) → AreSlots (slots_in k rows.now) }
     ensures place { IsPlace row_key rows.now (key_of prefix) result.place }
     ensures found { IfSome result.row (λ _. IsFound row_key rows.now (key_of prefix) result.place) }
     ensures row { (d : Row) → IfSome result.row (λ row. row.now ≡ slice_index_or rows.now result.place d) }
     ensures gap { IfNone result.row (IsGap row_key rows.now (key_of prefix) result.place) }
-    ensures before { (lane : ℕ) → IfSome result.before (IsBaseBefore (slots_in lane rows.now) result.place) }
+    ensures before { (k : ℕ) → IfSome result.before (IsBaseBefore (slots_in k rows.now) result.place) }
     ensures sound { IsCidr prefix }
 {
     if let Some(spot) = look_near(rows, near, prefix) {

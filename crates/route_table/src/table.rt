@@ -9,6 +9,7 @@ ghost use Rattle.dn_model.specs.declared.entry.Route.{Route as RouteIs};
 ghost use Rattle.route_table.specs.Rows.{slot_in, slots_in};
 ghost use Rattle.route_table.specs.Slots.{routes_at, routes_of};
 
+use crate::lane::Lane;
 use crate::lengths::Lengths;
 use crate::prefix::prefix_around;
 use crate::rows::{PrefixRow, place_of, row_at};
@@ -69,7 +70,7 @@ impl RouteTable {
         let Some(row) = row_at(&self.rows, place, prefix) else {
             return None;
         };
-        let Some(first) = row.targets(0).first() else {
+        let Some(first) = row.targets(Lane::FIRST).first() else {
             return None;
         };
         Some(first.route(prefix))
@@ -93,7 +94,14 @@ impl RouteTable {
             way,
         };
         let update = TableUpdate { op, alone: false };
-        make(alloc, &mut self.rows, 0, &mut self.lengths, &update, 0)?;
+        make(
+            alloc,
+            &mut self.rows,
+            Lane::FIRST,
+            &mut self.lengths,
+            &update,
+            0,
+        )?;
         Ok(())
     }
 
@@ -115,7 +123,14 @@ impl RouteTable {
             way,
         };
         let update = TableUpdate { op, alone: true };
-        make(alloc, &mut self.rows, 0, &mut self.lengths, &update, 0)?;
+        make(
+            alloc,
+            &mut self.rows,
+            Lane::FIRST,
+            &mut self.lengths,
+            &update,
+            0,
+        )?;
         Ok(())
     }
 
@@ -132,7 +147,14 @@ impl RouteTable {
     {
         let op = TableOp::Clear { prefix, metric };
         let update = TableUpdate { op, alone: false };
-        make(alloc, &mut self.rows, 0, &mut self.lengths, &update, 0)?;
+        make(
+            alloc,
+            &mut self.rows,
+            Lane::FIRST,
+            &mut self.lengths,
+            &update,
+            0,
+        )?;
         Ok(())
     }
 
@@ -144,7 +166,6 @@ impl RouteTable {
         ensures some { IfSome result (λ b.
             Contains self.now b × IsTrue (covers b.prefix a) × (b.prefix.len ≡ len) × ((r : RouteIs) →
             Contains self.now r → IsTrue (covers r.prefix a) → r.prefix.len ≡ len → b.metric ≤ r.metric)) }
-        ensures table { IsTable self.now }
     {
         self.least_of(prefix_around(a, len))
     }
@@ -216,5 +237,5 @@ fn push_run(routes: &mut Vec<Route>, run: &[PrefixRow]) -> Result<(), OutOfMemor
 fn push_slot(routes: &mut Vec<Route>, row: &PrefixRow) -> Result<(), OutOfMemory>
     ensures { OnOk result (routes.new.items ≡ routes.old.items ++ routes_at (slot_in 0 row.now)) }
 {
-    return row.targets(0).push_routes(routes, row.prefix);
+    return row.targets(Lane::FIRST).push_routes(routes, row.prefix);
 }

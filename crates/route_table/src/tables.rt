@@ -1,12 +1,12 @@
 //! The routing tables of four routers.
 
-ghost use Rattle.std.specs.Prelude.{◌≡◌, ◌<◌, ℕ, [], OnOk, IfOk, IfSome, IfNone, IsPermutation, replicate, slice_set};
-ghost use Rattle.dn_model.specs.Table.{prefix_of_op};
+ghost use Rattle.std.specs.Prelude.{◌≡◌, [], IfOk, replicate, slice_set};
 ghost use Rattle.dn_model.specs.Routes.{IsTable};
-ghost use Rattle.dn_model.specs.Table.{after_table_op, way_in};
-ghost use Rattle.route_table.specs.Own.{AreOwnRuns, IsLooked, IsTurned, SetsOrHas, TellsNew};
-ghost use Rattle.route_table.specs.Tables.{table_at};
+ghost use Rattle.dn_model.specs.Table.{prefix_of_op};
+ghost use Rattle.route_table.specs.Own.{IsLooked};
+ghost use Rattle.route_table.specs.Tables.{table_at, IsUpdateIn};
 
+use crate::lane::Lane;
 use crate::lengths::Lengths;
 use crate::own::push_own_runs;
 use crate::rows::PrefixRow;
@@ -62,7 +62,7 @@ impl RouteTables {
         self.rows.len()
     }
 
-    /// Makes an update of the router that has this number, from 0 to 3, and tells the runs of the own addresses of its
+    /// Makes an update of one of the routers, and tells the runs of the own addresses of its
     /// prefix, at which the router has no route of a longer one: it answers what the router does there after it. Where
     /// it answers nothing, the router does the same everywhere. It tells beside that whether it put a route of a prefix of
     /// which none of the four routers had one. The other routers' tables stay as they are. The row of the prefix is looked
@@ -77,26 +77,16 @@ impl RouteTables {
     pub fn update<L: Ledger>(
         &mut self,
         alloc: Global,
-        lane: usize,
+        lane: Lane,
         update: &TableUpdate,
         near: u64,
         runs: &mut Vec<Run>,
         steps: &mut Steps<L>,
     ) -> Result<Told, OutOfMemory>
-        requires { lane < 4 }
-        ensures table { OnOk result (IsPermutation (table_at self.new lane)
-            (after_table_op update.now.alone (table_at self.old lane) update.now.op)) }
-        ensures others { self.new ≡ slice_set self.old lane (table_at self.new lane) }
-        ensures form { IsTable (table_at self.new lane) }
-        ensures same { IfOk result (λ told. IfNone told.after ((a : ℕ) →
-            way_in (table_at self.new lane) a ≡ way_in (table_at self.old lane) a)) }
-        ensures turned { IfOk result (λ told. IfSome told.after (
-            IsTurned (table_at self.old lane) (table_at self.new lane) (prefix_of_op update.now.op))) }
-        ensures runs { IfOk result (λ told. IfSome told.after (λ _.
-            AreOwnRuns (table_at self.new lane) (prefix_of_op update.now.op) runs.new.items)) }
-        ensures had { IfOk result (λ told. IfSome told.after (λ _. SetsOrHas (table_at self.old lane) update.now.op)) }
-        ensures new { IfOk result (λ told. TellsNew self.old update.now.op told.is_new) }
-        ensures cost { IsLooked (table_at self.old lane) (prefix_of_op update.now.op) steps.old steps.new }
+        ensures made { IfOk result (λ told. IsUpdateIn lane.index self.old self.new update.now told runs.new.items) }
+        ensures others { self.new ≡ slice_set self.old lane.index (table_at self.new lane.index) }
+        ensures form { IsTable (table_at self.new lane.index) }
+        ensures cost { IsLooked (table_at self.old lane.index) (prefix_of_op update.now.op) steps.old steps.new }
     {
         let prefix = update.op.prefix();
         runs.clear();

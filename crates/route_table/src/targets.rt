@@ -103,6 +103,7 @@ impl TargetsByMetric {
         ensures none { IfNone result (self.now ≡ []) }
         ensures some { IfSome result (λ x. Contains self.now x ×
             ((y : Entry) → Contains self.now y → x.metric ≤ y.metric)) }
+        ensures metrics { AscendsFrom metric_of 0 self.now }
     {
         match &self.held {
             Held::Nothing => None,
@@ -156,7 +157,6 @@ impl TargetsByMetric {
     pub fn put(&mut self, alone: bool, metric: u32, way: Way) -> Result<(), OutOfMemory>
         ensures ok { OnOk result (IsPermutation self.new (placed alone self.old metric way)) }
         ensures err { OnErr result (self.new ≡ self.old) }
-        ensures metrics { AscendsFrom metric_of 0 self.new }
     {
         if alone {
             self.held = Held::One(MetricWay { metric, way });
@@ -169,7 +169,6 @@ impl TargetsByMetric {
     fn set(&mut self, metric: u32, way: Way) -> Result<(), OutOfMemory>
         ensures ok { OnOk result (IsPermutation self.new (with_target self.old metric way)) }
         ensures err { OnErr result (self.new ≡ self.old) }
-        ensures metrics { AscendsFrom metric_of 0 self.new }
     {
         let entry = MetricWay { metric, way };
         match &mut self.held {
@@ -193,7 +192,6 @@ impl TargetsByMetric {
     pub fn clear(&mut self, metric: Option<u32>) -> Result<(), OutOfMemory>
         ensures ok { OnOk result (self.new ≡ cleared self.old metric) }
         ensures err { OnErr result (self.new ≡ self.old) }
-        ensures metrics { AscendsFrom metric_of 0 self.new }
     {
         let Some(metric) = metric else {
             self.held = Held::Nothing;

@@ -1,20 +1,19 @@
 //! Updates of one of the tables.
 
-ghost use Rattle.std.specs.Prelude.{◌≡◌, ◌<◌, ◌+◌, None, IfOk, IfSome, IfNone, OnErr, IsPermutation, false};
+ghost use Rattle.std.specs.Prelude.{◌≡◌, ◌+◌, IfSome};
 ghost use Rattle.base.specs.Cidr.{IsCidr};
 ghost use Rattle.dn_model.specs.Table.{prefix_of_op};
-ghost use Rattle.dn_model.specs.Table.{after_table_op};
 ghost use Rattle.route_table.specs.Above.{IsDoneAbove};
 ghost use Rattle.route_table.specs.Ascending.{IsFound, IsGap};
-ghost use Rattle.route_table.specs.Made.{IsMade};
-ghost use Rattle.route_table.specs.Own.{TellsNew};
-ghost use Rattle.route_table.specs.Rows.{row_key, slots_in, tables_in, AreWhole, KeepsRoutes};
+ghost use Rattle.route_table.specs.Made.{IsMaking};
+ghost use Rattle.route_table.specs.Rows.{row_key, slots_in, AreWhole};
 ghost use Rattle.route_table.specs.Searches.{IsBaseBefore};
-ghost use Rattle.route_table.specs.Slots.{key_of, routes_of, slot_key};
+ghost use Rattle.route_table.specs.Slots.{key_of, slot_key};
 
 use crate::above::first_above;
+use crate::lane::Lane;
 use crate::lengths::Lengths;
-use crate::rows::{LANES, PrefixRow, add_at, changes, first_of, is_first, update_at};
+use crate::rows::{PrefixRow, add_at, changes, first_of, is_first, update_at};
 use crate::search::{Spot, look};
 use crate::table_update::TableUpdate;
 use dn_model::{OutOfMemory, Prefix, Route, TableOp, Target, Way};
@@ -48,23 +47,13 @@ struct Gap {
 pub fn make(
     alloc: Global,
     rows: &mut Pages<PrefixRow>,
-    lane: usize,
+    lane: Lane,
     lengths: &mut Lengths,
     update: &TableUpdate,
     near: u64,
 ) -> Result<Option<Made>, OutOfMemory>
-    requires lane { lane < LANES }
-    requires whole { AreWhole rows.old lengths.old }
-    ensures made { IfOk result (λ made. IfSome made (λ m. IsMade (slots_in lane rows.old) (slots_in lane rows.new)
-        update.now.alone update.now.op m.place m.base m.before m.first)) }
-    ensures same { IfOk result (λ made. IfNone made (rows.new ≡ rows.old)) }
-    ensures none { IfOk result (λ made. IfNone made (IsPermutation (routes_of (slots_in lane rows.old))
-        (after_table_op update.now.alone (routes_of (slots_in lane rows.old)) update.now.op))) }
-    ensures err { OnErr result (rows.new ≡ rows.old) }
-    ensures others { KeepsRoutes lane rows.old rows.new }
-    ensures whole { AreWhole rows.new lengths.new }
-    ensures new { IfOk result (λ made. IfSome made (λ m. TellsNew (tables_in rows.old) update.now.op m.is_new)) }
-    ensures known { IfOk result (λ made. IfNone made (TellsNew (tables_in rows.old) update.now.op false)) }
+    requires { AreWhole rows.old lengths.old }
+    ensures { IsMaking lane.index rows.old rows.new lengths.new update.now result }
 {
     let Spot {
         place,
@@ -93,26 +82,16 @@ pub fn make(
 fn make_first(
     alloc: Global,
     rows: &mut Pages<PrefixRow>,
-    lane: usize,
+    lane: Lane,
     lengths: &mut Lengths,
     update: &TableUpdate,
     gap: Gap,
 ) -> Result<Option<Made>, OutOfMemory>
-    requires lane { lane < LANES }
     requires whole { AreWhole rows.old lengths.old }
     requires gap { IsGap row_key rows.old (key_of (prefix_of_op update.now.op)) gap.place }
-    requires base { IfSome gap.base (IsBaseBefore (slots_in lane rows.old) gap.place) }
+    requires base { IfSome gap.base (IsBaseBefore (slots_in lane.index rows.old) gap.place) }
     requires sound { IsCidr (prefix_of_op update.now.op) }
-    ensures made { IfOk result (λ made. IfSome made (λ m. IsMade (slots_in lane rows.old) (slots_in lane rows.new)
-        update.now.alone update.now.op m.place m.base m.before m.first)) }
-    ensures same { IfOk result (λ made. IfNone made (rows.new ≡ rows.old)) }
-    ensures none { IfOk result (λ made. IfNone made (IsPermutation (routes_of (slots_in lane rows.old))
-        (after_table_op update.now.alone (routes_of (slots_in lane rows.old)) update.now.op))) }
-    ensures err { OnErr result (rows.new ≡ rows.old) }
-    ensures others { KeepsRoutes lane rows.old rows.new }
-    ensures whole { AreWhole rows.new lengths.new }
-    ensures new { IfOk result (λ made. IfSome made (λ m. TellsNew (tables_in rows.old) update.now.op m.is_new)) }
-    ensures known { IfOk result (λ made. IfNone made (TellsNew (tables_in rows.old) update.now.op false)) }
+    ensures { IsMaking lane.index rows.old rows.new lengths.new update.now result }
 {
     let TableOp::Put {
         prefix,
@@ -128,7 +107,7 @@ fn make_first(
         way: *way,
     };
     add_at(alloc, rows, lane, gap.place, &route)?;
-    lengths.add(prefix.len());
+    lengths.add(*prefix);
     Ok(Some(Made {
         place: gap.place,
         base: gap.base,
@@ -142,17 +121,16 @@ fn make_first(
 /// step, however many prefixes without routes are passed over on the way.
 pub fn done_above<L: Ledger>(
     rows: &Pages<PrefixRow>,
-    lane: usize,
+    lane: Lane,
     lengths: &Lengths,
     prefix: Prefix,
     made: Made,
     steps: &mut Steps<L>,
 ) -> Way
-    requires lane { lane < LANES }
     requires whole { AreWhole rows.now lengths.now }
-    requires found { IsFound slot_key (slots_in lane rows.now) (key_of prefix) made.place }
-    requires base { IfSome made.base (IsBaseBefore (slots_in lane rows.now) made.place) }
-    ensures above { IsDoneAbove (slots_in lane rows.now) prefix result }
+    requires found { IsFound slot_key (slots_in lane.index rows.now) (key_of prefix) made.place }
+    requires base { IfSome made.base (IsBaseBefore (slots_in lane.index rows.now) made.place) }
+    ensures above { IsDoneAbove (slots_in lane.index rows.now) prefix result }
     ensures cost { steps.new ≡ steps.old + 1 }
 {
     steps.tick();

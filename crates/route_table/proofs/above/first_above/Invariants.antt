@@ -8,9 +8,9 @@ use Rattle.route_table.proofs.above.first_above.Given as goal
 abbrev pub invariant-shorter : goal.invariant-shorter
 invariant-shorter l = record {
   fits : l.len ≤ l.prefix.len;
-  inside : l.place ≤ length (slots_in l.lane l.rows);
-  left : IsLeft (slots_in l.lane l.rows) l.prefix l.place l.len;
-  before : IfSome l.before (IsBaseBefore (slots_in l.lane l.rows) l.place);
+  inside : l.place ≤ length (slots_in l.lane.index l.rows);
+  left : IsLeft (slots_in l.lane.index l.rows) l.prefix l.place l.len;
+  before : IfSome l.before (IsBaseBefore (slots_in l.lane.index l.rows) l.place);
 }
 
 abbrev pub decreases-shorter : goal.decreases-shorter

@@ -8,10 +8,10 @@ abbrev pub invariant-pages : goal.invariant-pages
 invariant-pages g l = record {
   from : l.initial.place ≤ l.place;
   inside : l.place ≤ length l.rows;
-  at : l.at ≡ (along l.past (record { at = l.initial.at; runs = l.initial.runs.items; begun = [] }) (take (l.place - l.initial.place) (drop l.initial.place (slots_in l.lane l.rows)))).at;
-  runs : l.runs.items ≡ (along l.past (record { at = l.initial.at; runs = l.initial.runs.items; begun = [] }) (take (l.place - l.initial.place) (drop l.initial.place (slots_in l.lane l.rows)))).runs;
-  few : l.steps ≤ l.initial.steps + length (along l.past (record { at = l.initial.at; runs = l.initial.runs.items; begun = [] }) (take (l.place - l.initial.place) (drop l.initial.place (slots_in l.lane l.rows)))).begun;
-  ended : l.ended ≡ true → begins_past l.past (take (l.place - l.initial.place) (drop l.initial.place (slots_in l.lane l.rows))) ≡ true;
+  at : l.at ≡ (along l.past (record { at = l.initial.at; runs = l.initial.runs.items; begun = [] }) (take (l.place - l.initial.place) (drop l.initial.place (slots_in l.lane.index l.rows)))).at;
+  runs : l.runs.items ≡ (along l.past (record { at = l.initial.at; runs = l.initial.runs.items; begun = [] }) (take (l.place - l.initial.place) (drop l.initial.place (slots_in l.lane.index l.rows)))).runs;
+  few : l.steps ≤ l.initial.steps + length (along l.past (record { at = l.initial.at; runs = l.initial.runs.items; begun = [] }) (take (l.place - l.initial.place) (drop l.initial.place (slots_in l.lane.index l.rows)))).begun;
+  ended : l.ended ≡ true → begins_past l.past (take (l.place - l.initial.place) (drop l.initial.place (slots_in l.lane.index l.rows))) ≡ true;
 }
 
 abbrev pub decreases-pages : goal.decreases-pages

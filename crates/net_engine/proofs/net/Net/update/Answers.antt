@@ -27,55 +27,55 @@ cut_if_new-requires g c = c.requires.paired.labelled
 pub returns-in_default-clause-paired : goal.returns-in_default-clause-paired
 returns-in_default-clause-paired g c =
     let r : IsReady c.args.self.now.routers c.args.self.now.atoms c.cut_if_new.new.atoms c.args.self.now.labels c.cut_if_new.new.labels c.args.self.now.tables c.args.update.now.table.op =
-    ready _ _ _ _ _ _ _ c.in_ok-told.told.is_new c.prefix-prefix.result c.requires.paired c.prefix-prefix.ensures c.in_ok-told.ensures.new c.in_ok-near.ensures in
+    ready _ _ _ _ _ _ _ c.in_ok-told.told.is_new c.prefix-prefix.result c.requires.paired c.prefix-prefix.ensures c.in_ok-told.ensures.made.is_new c.in_ok-near.ensures in
     paired-now c.args.self.now.routers c.cut_if_new.new.atoms c.cut_if_new.new.labels c.cut_if_new.new.labels c.args.self.now.tables c.update.new.self (its_routes c.args.update.now c.args.self.now.tables) (its_routes c.args.update.now c.update.new.self) c.emptied.result c.args.update.now.router c.args.update.now.table.alone c.args.update.now.table.op c.update.ensures.others r.paired
-    (makes-same c.args.self.now.routers c.cut_if_new.new.atoms c.cut_if_new.new.labels c.args.self.now.tables (its_routes c.args.update.now c.update.new.self) c.emptied.result c.args.update.now.router c.args.update.now.table.alone c.args.update.now.table.op r.paired c.requires.router r.ends c.update.ensures.form c.in_ok-told.ensures.table (at-none _ c.in_ok-told.told.after c.in_default.is c.in_ok-told.ensures.same) c.emptied.ensures)
+    (makes-same c.args.self.now.routers c.cut_if_new.new.atoms c.cut_if_new.new.labels c.args.self.now.tables (its_routes c.args.update.now c.update.new.self) c.emptied.result c.args.update.now.router c.args.update.now.table.alone c.args.update.now.table.op r.paired c.requires.router r.ends c.update.ensures.form c.in_ok-told.ensures.made.table (at-none _ c.in_ok-told.told.after c.in_default.is c.in_ok-told.ensures.made.same) c.emptied.ensures)
 
 pub returns-in_default-clause-told : goal.returns-in_default-clause-told
 returns-in_default-clause-told g c =
     let r : IsReady c.args.self.now.routers c.args.self.now.atoms c.cut_if_new.new.atoms c.args.self.now.labels c.cut_if_new.new.labels c.args.self.now.tables c.args.update.now.table.op =
-    ready _ _ _ _ _ _ _ c.in_ok-told.told.is_new c.prefix-prefix.result c.requires.paired c.prefix-prefix.ensures c.in_ok-told.ensures.new c.in_ok-near.ensures in
+    ready _ _ _ _ _ _ _ c.in_ok-told.told.is_new c.prefix-prefix.result c.requires.paired c.prefix-prefix.ensures c.in_ok-told.ensures.made.is_new c.in_ok-near.ensures in
     updated c.args.self.now.routers c.args.self.now.atoms c.cut_if_new.new.atoms c.args.self.now.labels c.cut_if_new.new.labels c.cut_if_new.new.labels c.args.self.now.tables c.update.new.self c.args.update.now.table.op c.emptied.result r
     (retold-now c.args.self.now.routers c.cut_if_new.new.atoms c.cut_if_new.new.labels c.cut_if_new.new.labels c.args.self.now.tables c.update.new.self (its_routes c.args.update.now c.args.self.now.tables) (its_routes c.args.update.now c.update.new.self) c.emptied.result c.args.update.now.router c.args.update.now.table.alone c.args.update.now.table.op c.update.ensures.others r.paired
-    (makes-same c.args.self.now.routers c.cut_if_new.new.atoms c.cut_if_new.new.labels c.args.self.now.tables (its_routes c.args.update.now c.update.new.self) c.emptied.result c.args.update.now.router c.args.update.now.table.alone c.args.update.now.table.op r.paired c.requires.router r.ends c.update.ensures.form c.in_ok-told.ensures.table (at-none _ c.in_ok-told.told.after c.in_default.is c.in_ok-told.ensures.same) c.emptied.ensures))
+    (makes-same c.args.self.now.routers c.cut_if_new.new.atoms c.cut_if_new.new.labels c.args.self.now.tables (its_routes c.args.update.now c.update.new.self) c.emptied.result c.args.update.now.router c.args.update.now.table.alone c.args.update.now.table.op r.paired c.requires.router r.ends c.update.ensures.form c.in_ok-told.ensures.made.table (at-none _ c.in_ok-told.told.after c.in_default.is c.in_ok-told.ensures.made.same) c.emptied.ensures))
 
 pub reroute-requires-clause-labelled : goal.reroute-requires-clause-labelled
 reroute-requires-clause-labelled g c =
     let r : IsReady c.args.self.now.routers c.args.self.now.atoms c.cut_if_new.new.atoms c.args.self.now.labels c.cut_if_new.new.labels c.args.self.now.tables c.args.update.now.table.op =
-    ready _ _ _ _ _ _ _ c.in_ok-told.told.is_new c.prefix-prefix.result c.requires.paired c.prefix-prefix.ensures c.in_ok-told.ensures.new c.in_ok-near.ensures in
+    ready _ _ _ _ _ _ _ c.in_ok-told.told.is_new c.prefix-prefix.result c.requires.paired c.prefix-prefix.ensures c.in_ok-told.ensures.made.is_new c.in_ok-near.ensures in
     r.paired.labelled
 
 pub reroute-requires-clause-router : goal.reroute-requires-clause-router
 reroute-requires-clause-router g c =
     let r : IsReady c.args.self.now.routers c.args.self.now.atoms c.cut_if_new.new.atoms c.args.self.now.labels c.cut_if_new.new.labels c.args.self.now.tables c.args.update.now.table.op =
-    ready _ _ _ _ _ _ _ c.in_ok-told.told.is_new c.prefix-prefix.result c.requires.paired c.prefix-prefix.ensures c.in_ok-told.ensures.new c.in_ok-near.ensures in
+    ready _ _ _ _ _ _ _ c.in_ok-told.told.is_new c.prefix-prefix.result c.requires.paired c.prefix-prefix.ensures c.in_ok-told.ensures.made.is_new c.in_ok-near.ensures in
     subst (λ n. c.args.update.now.router.0 < n) (sym r.paired.same_routers) c.requires.router
 
 pub reroute-requires-clause-ends : goal.reroute-requires-clause-ends
 reroute-requires-clause-ends g c =
     let r : IsReady c.args.self.now.routers c.args.self.now.atoms c.cut_if_new.new.atoms c.args.self.now.labels c.cut_if_new.new.labels c.args.self.now.tables c.args.update.now.table.op =
-    ready _ _ _ _ _ _ _ c.in_ok-told.told.is_new c.prefix-prefix.result c.requires.paired c.prefix-prefix.ensures c.in_ok-told.ensures.new c.in_ok-near.ensures in
+    ready _ _ _ _ _ _ _ c.in_ok-told.told.is_new c.prefix-prefix.result c.requires.paired c.prefix-prefix.ensures c.in_ok-told.ensures.made.is_new c.in_ok-near.ensures in
     subst (RunsOfAtoms c.cut_if_new.new.atoms) (sym c.deref.ensures.value)
-    (runs-of-atoms c.cut_if_new.new.atoms c.cut_if_new.new.labels c.args.self.now.tables (its_routes c.args.update.now c.args.self.now.tables) (its_routes c.args.update.now c.update.new.self) c.args.update.now.router.0 c.args.update.now.table.alone c.args.update.now.table.op c.update.new.runs.items (r.paired.along c.args.update.now.router.0 c.requires.router) r.ends (at-some _ c.in_ok-told.told.after c.in-Some.way c.in-Some.is c.in_ok-told.ensures.had) c.in_ok-told.ensures.table (at-some _ c.in_ok-told.told.after c.in-Some.way c.in-Some.is c.in_ok-told.ensures.runs))
+    (runs-of-atoms c.cut_if_new.new.atoms c.cut_if_new.new.labels c.args.self.now.tables (its_routes c.args.update.now c.args.self.now.tables) (its_routes c.args.update.now c.update.new.self) c.args.update.now.router.0 c.args.update.now.table.alone c.args.update.now.table.op c.update.new.runs.items (r.paired.along c.args.update.now.router.0 c.requires.router) r.ends (at-some _ c.in_ok-told.told.after c.in-Some.way c.in-Some.is c.in_ok-told.ensures.made.had) c.in_ok-told.ensures.made.table (at-some _ c.in_ok-told.told.after c.in-Some.way c.in-Some.is c.in_ok-told.ensures.made.own))
 
 pub reroute-requires-clause-same : goal.reroute-requires-clause-same
 reroute-requires-clause-same g c =
     let r : IsReady c.args.self.now.routers c.args.self.now.atoms c.cut_if_new.new.atoms c.args.self.now.labels c.cut_if_new.new.labels c.args.self.now.tables c.args.update.now.table.op =
-    ready _ _ _ _ _ _ _ c.in_ok-told.told.is_new c.prefix-prefix.result c.requires.paired c.prefix-prefix.ensures c.in_ok-told.ensures.new c.in_ok-near.ensures in
+    ready _ _ _ _ _ _ _ c.in_ok-told.told.is_new c.prefix-prefix.result c.requires.paired c.prefix-prefix.ensures c.in_ok-told.ensures.made.is_new c.in_ok-near.ensures in
     rw c.deref.ensures.value
-    (same-before c.cut_if_new.new.atoms c.cut_if_new.new.labels (its_routes c.args.update.now c.args.self.now.tables) (its_routes c.args.update.now c.update.new.self) (prefix_of_op c.args.update.now.table.op) c.in-Some.way c.update.new.runs.items c.args.update.now.router.0 (r.paired.along c.args.update.now.router.0 c.requires.router) (at-some _ c.in_ok-told.told.after c.in-Some.way c.in-Some.is c.in_ok-told.ensures.turned) (at-some _ c.in_ok-told.told.after c.in-Some.way c.in-Some.is c.in_ok-told.ensures.runs))
+    (same-before c.cut_if_new.new.atoms c.cut_if_new.new.labels (its_routes c.args.update.now c.args.self.now.tables) (its_routes c.args.update.now c.update.new.self) (prefix_of_op c.args.update.now.table.op) c.in-Some.way c.update.new.runs.items c.args.update.now.router.0 (r.paired.along c.args.update.now.router.0 c.requires.router) (at-some _ c.in_ok-told.told.after c.in-Some.way c.in-Some.is c.in_ok-told.ensures.made.turned) (at-some _ c.in_ok-told.told.after c.in-Some.way c.in-Some.is c.in_ok-told.ensures.made.own))
 
 pub returns-clause-paired : goal.returns-clause-paired
 returns-clause-paired g c =
     let r : IsReady c.args.self.now.routers c.args.self.now.atoms c.cut_if_new.new.atoms c.args.self.now.labels c.cut_if_new.new.labels c.args.self.now.tables c.args.update.now.table.op =
-    ready _ _ _ _ _ _ _ c.in_ok-told.told.is_new c.prefix-prefix.result c.requires.paired c.prefix-prefix.ensures c.in_ok-told.ensures.new c.in_ok-near.ensures in
+    ready _ _ _ _ _ _ _ c.in_ok-told.told.is_new c.prefix-prefix.result c.requires.paired c.prefix-prefix.ensures c.in_ok-told.ensures.made.is_new c.in_ok-near.ensures in
     paired-now c.args.self.now.routers c.cut_if_new.new.atoms c.cut_if_new.new.labels c.reroute.new.labels c.args.self.now.tables c.update.new.self (its_routes c.args.update.now c.args.self.now.tables) (its_routes c.args.update.now c.update.new.self) c.in_ok-moved.moved.delta c.args.update.now.router c.args.update.now.table.alone c.args.update.now.table.op c.update.ensures.others r.paired
-    (makes-turned c.args.self.now.routers c.cut_if_new.new.atoms c.cut_if_new.new.labels c.reroute.new.labels c.args.self.now.tables (its_routes c.args.update.now c.update.new.self) c.in_ok-moved.moved.delta c.args.update.now.router c.args.update.now.table.alone c.args.update.now.table.op c.in-Some.way c.update.new.runs.items r.paired c.requires.router r.ends c.update.ensures.form c.in_ok-told.ensures.table (at-some _ c.in_ok-told.told.after c.in-Some.way c.in-Some.is c.in_ok-told.ensures.turned) (at-some _ c.in_ok-told.told.after c.in-Some.way c.in-Some.is c.in_ok-told.ensures.runs) (rw (sym c.deref.ensures.value, sym c.done_by-after.ensures) c.in_ok-moved.ensures))
+    (makes-turned c.args.self.now.routers c.cut_if_new.new.atoms c.cut_if_new.new.labels c.reroute.new.labels c.args.self.now.tables (its_routes c.args.update.now c.update.new.self) c.in_ok-moved.moved.delta c.args.update.now.router c.args.update.now.table.alone c.args.update.now.table.op c.in-Some.way c.update.new.runs.items r.paired c.requires.router r.ends c.update.ensures.form c.in_ok-told.ensures.made.table (at-some _ c.in_ok-told.told.after c.in-Some.way c.in-Some.is c.in_ok-told.ensures.made.turned) (at-some _ c.in_ok-told.told.after c.in-Some.way c.in-Some.is c.in_ok-told.ensures.made.own) (rw (sym c.deref.ensures.value, sym c.done_by-after.ensures) c.in_ok-moved.ensures))
 
 pub returns-clause-told : goal.returns-clause-told
 returns-clause-told g c =
     let r : IsReady c.args.self.now.routers c.args.self.now.atoms c.cut_if_new.new.atoms c.args.self.now.labels c.cut_if_new.new.labels c.args.self.now.tables c.args.update.now.table.op =
-    ready _ _ _ _ _ _ _ c.in_ok-told.told.is_new c.prefix-prefix.result c.requires.paired c.prefix-prefix.ensures c.in_ok-told.ensures.new c.in_ok-near.ensures in
+    ready _ _ _ _ _ _ _ c.in_ok-told.told.is_new c.prefix-prefix.result c.requires.paired c.prefix-prefix.ensures c.in_ok-told.ensures.made.is_new c.in_ok-near.ensures in
     updated c.args.self.now.routers c.args.self.now.atoms c.cut_if_new.new.atoms c.args.self.now.labels c.cut_if_new.new.labels c.reroute.new.labels c.args.self.now.tables c.update.new.self c.args.update.now.table.op c.in_ok-moved.moved.delta r
     (retold-now c.args.self.now.routers c.cut_if_new.new.atoms c.cut_if_new.new.labels c.reroute.new.labels c.args.self.now.tables c.update.new.self (its_routes c.args.update.now c.args.self.now.tables) (its_routes c.args.update.now c.update.new.self) c.in_ok-moved.moved.delta c.args.update.now.router c.args.update.now.table.alone c.args.update.now.table.op c.update.ensures.others r.paired
-    (makes-turned c.args.self.now.routers c.cut_if_new.new.atoms c.cut_if_new.new.labels c.reroute.new.labels c.args.self.now.tables (its_routes c.args.update.now c.update.new.self) c.in_ok-moved.moved.delta c.args.update.now.router c.args.update.now.table.alone c.args.update.now.table.op c.in-Some.way c.update.new.runs.items r.paired c.requires.router r.ends c.update.ensures.form c.in_ok-told.ensures.table (at-some _ c.in_ok-told.told.after c.in-Some.way c.in-Some.is c.in_ok-told.ensures.turned) (at-some _ c.in_ok-told.told.after c.in-Some.way c.in-Some.is c.in_ok-told.ensures.runs) (rw (sym c.deref.ensures.value, sym c.done_by-after.ensures) c.in_ok-moved.ensures)))
+    (makes-turned c.args.self.now.routers c.cut_if_new.new.atoms c.cut_if_new.new.labels c.reroute.new.labels c.args.self.now.tables (its_routes c.args.update.now c.update.new.self) c.in_ok-moved.moved.delta c.args.update.now.router c.args.update.now.table.alone c.args.update.now.table.op c.in-Some.way c.update.new.runs.items r.paired c.requires.router r.ends c.update.ensures.form c.in_ok-told.ensures.made.table (at-some _ c.in_ok-told.told.after c.in-Some.way c.in-Some.is c.in_ok-told.ensures.made.turned) (at-some _ c.in_ok-told.told.after c.in-Some.way c.in-Some.is c.in_ok-told.ensures.made.own) (rw (sym c.deref.ensures.value, sym c.done_by-after.ensures) c.in_ok-moved.ensures)))

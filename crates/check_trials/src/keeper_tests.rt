@@ -77,13 +77,13 @@ fn third_turns_back(rt: &impl Abort, alloc: Global) -> Delta {
 }
 
 /// So many cycles are kept.
-fn compare_count(rt: &impl Abort, alloc: Global, loops: &KeptLoops, count: usize) {
+pub(crate) fn compare_count(rt: &impl Abort, alloc: Global, loops: &KeptLoops, count: usize) {
     let cycles = loops.answer(alloc).expect(rt, "memory");
     assert_eq!(rt; cycles.len(), count);
 }
 
 /// The cycle at a place of the answer is of these routers, with this least address and so many addresses.
-fn compare(
+pub(crate) fn compare(
     rt: &impl Abort,
     alloc: Global,
     loops: &KeptLoops,

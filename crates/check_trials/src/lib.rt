@@ -3,6 +3,8 @@
 #![tactic(auto)]
 
 #[cfg(test)]
+mod counted;
+#[cfg(test)]
 mod delta_tests;
 #[cfg(test)]
 mod hole_tests;
@@ -18,6 +20,8 @@ mod one_thread;
 mod same;
 #[cfg(test)]
 mod scan_tests;
+#[cfg(test)]
+mod together_tests;
 #[cfg(test)]
 mod view_tests;
 #[cfg(test)]

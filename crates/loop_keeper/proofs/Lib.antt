@@ -1,11 +1,17 @@
 pub mod Advancing
+pub mod Along
 pub mod AnswerParts
 pub mod Crossing
+pub mod Fronts
+pub mod InOrder
 pub mod Leaving
+pub mod Looking
 pub mod Meeting
 pub mod Putting
+pub mod RowCycles
 pub mod Segments
 pub mod Starting
+pub mod Stretches
 pub mod Taking
 pub mod Turning
 pub mod Ways

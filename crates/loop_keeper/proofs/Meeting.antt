@@ -1,12 +1,10 @@
 -- Cycles found in the rows that the run of a change meets.
-use Rattle.std.proofs.Common.{◌≡◌, ℕ, zero, suc, ◌+◌, ◌-◌, ◌*◌, ◌<◌, ◌≤◌, ◌^◌, ◌∙◌, Bool, true, false, nat_le, nat_lt, Option, List, [], ◌∷◌, ◌++◌, length, get_or, take, drop, ap, sym, subst, ⊎_elim, arith}
-use Rattle.std.specs.Prelude.{Contains, cond, count_by}
-use Rattle.std.proofs.Math.Nat.{mul-add}
-use Rattle.std.proofs.lemmas.Bool.{and_from, and_parts, both_ways, cases_eq, cases_lt, false≢true, le-leb, leb-true, lt-ltb, or_cases}
-use Rattle.std.proofs.lemmas.List.{take-append-drop, take_more}
+use Rattle.std.proofs.Common.{◌≡◌, ℕ, zero, suc, ◌+◌, ◌-◌, ◌<◌, ◌≤◌, ◌^◌, ◌∙◌, true, false, nat_le, nat_lt, Option, List, [], ◌∷◌, ◌++◌, length, get_or, take, ap, sym, subst, ⊎_elim, arith}
+use Rattle.std.specs.Prelude.{Contains}
+use Rattle.std.proofs.lemmas.Bool.{and_parts, both_ways, cases_eq, cases_lt, false≢true, leb-true, lt-ltb, or_cases}
+use Rattle.std.proofs.lemmas.List.{take_more}
 use Rattle.std.proofs.lemmas.List.Elements.{Contains-append_left, Contains-push, Contains-push_cases}
-use Rattle.std.proofs.lemmas.List.Sums.{sum_by-cons}
-use Rattle.std.proofs.lemmas.Nat.{mul-le, pow_pos}
+use Rattle.std.proofs.lemmas.Nat.{pow_pos}
 use Rattle.base.specs.Cycles.{goes_round, goes_to, is_cycle}
 use Rattle.base.specs.Forwarding.{AreForwarding, does, row_low, row_past, target_in_row, target_of}
 use Rattle.base.specs.Rows.{CoverFrom}
@@ -16,7 +14,7 @@ use Rattle.base.specs.declared.change.Change.{Change}
 use Rattle.base.specs.declared.forwarding_row.ForwardingRow.{ForwardingRow}
 use Rattle.base.specs.declared.ids.LinkId.{LinkId}
 use Rattle.base.specs.declared.ids.RouterId.{RouterId}
-use Rattle.base.proofs.Covers.{first-low, high-at, holder-at, last-high, low-at, ordered-at, some-row}
+use Rattle.base.proofs.Covers.{first-low, high-at, holder-at, last-high, low-at, some-row}
 use Rattle.label_view.proofs.InRow.{some_row}
 use Rattle.base.specs.declared.target.Target.{Target}
 use Rattle.base.specs.declared.target.Target.TheVariants.{To}
@@ -25,7 +23,6 @@ use Rattle.loop_check.specs.Following.{IsInNone, is_among}
 use Rattle.loop_check.proofs.Rounds.{goes-nowhere, goes-on, one-shared}
 use Rattle.loop_keeper.specs.Finding.{AllInside, FindTouched, FindsAt, TellsAfter, FindsBetween, FindsMore, is_touched, touches}
 use Rattle.loop_keeper.specs.Following.{ComesBack, IsTurned}
-use Rattle.loop_keeper.specs.Looks.{meets, rows_met}
 use Rattle.loop_keeper.specs.declared.found.Found.{Found}
 use Rattle.loop_keeper.proofs.Advancing.{cycle-same}
 use Rattle.loop_keeper.proofs.Taking.{touched-append}
@@ -35,7 +32,7 @@ use Rattle.loop_keeper.proofs.Ways.{turned-cycle}
 -- ---- one row
 
 -- at an address of a row the cycles are those of the row
-row-cycle : (n : ℕ) (rows : List ForwardingRow) (i : ℕ) (d : ForwardingRow) (a : ℕ) (rs : List RouterId) → AreForwarding n rows → i < length rows → (get_or rows i d).low ≤ a → a < (get_or rows i d).past → goes_round (does rows) rs a ≡ is_cycle (target_of (get_or rows i d)) rs
+pub row-cycle : (n : ℕ) (rows : List ForwardingRow) (i : ℕ) (d : ForwardingRow) (a : ℕ) (rs : List RouterId) → AreForwarding n rows → i < length rows → (get_or rows i d).low ≤ a → a < (get_or rows i d).past → goes_round (does rows) rs a ≡ is_cycle (target_of (get_or rows i d)) rs
 row-cycle n rows i d a rs form l from to = cycle-same (at_address (does rows) a) (target_of (get_or rows i d)) rs (λ r m.
     ap (λ (o : Option ForwardingRow). target_in_row o r) (holder-at row_low row_past 0 rows i d a form.cover l from to))
 
@@ -105,7 +102,7 @@ finds-start rows i router found = record {
   sound = λ h. h;
   inside = λ h. h;
   kept = λ rs a h. h;
-  found = λ k d rs a from to lo hi goes m. absurd (omega arith);
+  found = λ k from to d rs a lo hi goes m. absurd (omega arith);
 }
 
 pub finds-next : (rows : List ForwardingRow) (first i : ℕ) (router : RouterId) (old now new : List Found) → FindsBetween rows first i router old now → FindsAt rows i router now new → FindsBetween rows first (i + 1) router old new
@@ -113,65 +110,27 @@ finds-next rows first i router old now new h at = record {
   sound = λ b. at.sound (h.sound b);
   inside = λ b. at.inside (h.inside b);
   kept = λ rs a b. at.kept rs a (h.kept rs a b);
-  found = λ k d rs a from to lo hi goes m. ⊎_elim
+  found = λ k from to d rs a lo hi goes m. ⊎_elim
       (λ (same : k ≡ i).
       let L : ℕ → Type 0 = λ v. (get_or rows v d).low ≤ a in
       let H : ℕ → Type 0 = λ v. a < (get_or rows v d).past in
       at.found d rs a (subst L same lo) (subst H same hi) goes m)
       (λ (other : k ≡ i → ⊥).
       let b : k < i = omega arith in
-      at.kept rs a (h.found k d rs a from b lo hi goes m))
+      at.kept rs a (h.found k from b d rs a lo hi goes m))
       (cases_eq k i);
 }
 
--- ---- the rows that a run meets
-
-count-cons : (p : ForwardingRow → Bool) (row : ForwardingRow) (rows : List ForwardingRow) → count_by p (row ∷ rows) ≡ cond (p row) 1 0 + count_by p rows
-count-cons p row rows = sum_by-cons (λ (x : ForwardingRow). cond (p x) 1 0) row rows
-
-count-meets : (c : Change) (row : ForwardingRow) (rows : List ForwardingRow) → c.run.lo < row.past → row.low ≤ c.run.hi → count_by (meets c) (row ∷ rows) ≡ 1 + count_by (meets c) rows
-count-meets c row rows lo hi =
-    let m : meets c row ≡ true = and_from (nat_lt c.run.lo row.past) (nat_le row.low c.run.hi) (lt-ltb c.run.lo row.past lo) (le-leb row.low c.run.hi hi) in
-    count-cons (meets c) row rows ∙ ap (λ (b : Bool). cond b 1 0 + count_by (meets c) rows) m
-
--- so many rows meet a run as there are from the one of its first address to the one of its last
-count-to : (c : Change) (start : ℕ) (rows : List ForwardingRow) (i j : ℕ) (d : ForwardingRow) → CoverFrom row_low row_past start rows → j < length rows → c.run.lo < (get_or rows i d).past → (get_or rows j d).low ≤ c.run.hi → j + 1 ≤ count_by (meets c) rows + i
-count-to c start [] i j d h l lo hi = absurd (omega arith)
-count-to c start (row ∷ rows) zero zero d h l lo hi =
-    let e : count_by (meets c) (row ∷ rows) ≡ 1 + count_by (meets c) rows = count-meets c row rows lo hi in
-    omega arith
-count-to c start (row ∷ rows) zero (suc j) d h l lo hi =
-    let k : j < length rows = omega arith in
-    let some : 0 < length rows = omega arith in
-    let order : row.low < row.past = h.1 in
-    let below : row.past ≤ (get_or rows j d).low = low-at row_low row_past row.past rows j d h.2 k in
-    let first : (get_or rows 0 d).low ≡ row.past = first-low row_low row_past row.past rows d h.2 some in
-    let wide : (get_or rows 0 d).low < (get_or rows 0 d).past = ordered-at row_low row_past row.past rows 0 d h.2 some in
-    let e : count_by (meets c) (row ∷ rows) ≡ 1 + count_by (meets c) rows = count-meets c row rows lo (omega arith) in
-    let rest : j + 1 ≤ count_by (meets c) rows + 0 = count-to c row.past rows zero j d h.2 k (omega arith) hi in
-    omega arith
-count-to c start (row ∷ rows) (suc i) zero d h l lo hi = omega arith
-count-to c start (row ∷ rows) (suc i) (suc j) d h l lo hi =
-    let k : j < length rows = omega arith in
-    let e : count_by (meets c) (row ∷ rows) ≡ cond (meets c row) 1 0 + count_by (meets c) rows = count-cons (meets c) row rows in
-    let rest : j + 1 ≤ count_by (meets c) rows + i = count-to c row.past rows i j d h.2 k lo hi in
-    omega arith
-
-pub rows-between : (n : ℕ) (rows : List ForwardingRow) (c : Change) (first last : ℕ) → AreForwarding n rows → last < length rows → ((d : ForwardingRow) → c.run.lo < (get_or rows first d).past) → ((d : ForwardingRow) → (get_or rows last d).low ≤ c.run.hi) → last + 1 - first ≤ rows_met rows (c ∷ [])
-rows-between n rows c first last form l lo hi =
-    let h : last + 1 ≤ count_by (meets c) rows + first = count-to c 0 rows first last some_row form.cover l (lo some_row) (hi some_row) in
-    omega arith
-
 -- ---- the row of an address
 
-record IsBetween (rows : List ForwardingRow) (i j a : ℕ) (d : ForwardingRow) : Type 0 where
-  place : ℕ
-  from : i ≤ place
-  to : place ≤ j
-  low : (get_or rows place d).low ≤ a
-  past : a < (get_or rows place d).past
+pub record IsBetween (rows : List ForwardingRow) (i j a : ℕ) (d : ForwardingRow) : Type 0 where
+  pub place : ℕ
+  pub from : i ≤ place
+  pub to : place ≤ j
+  pub low : (get_or rows place d).low ≤ a
+  pub past : a < (get_or rows place d).past
 
-row-between : (start : ℕ) (rows : List ForwardingRow) (i j a : ℕ) (d : ForwardingRow) → CoverFrom row_low row_past start rows → i < length rows → j < length rows → (get_or rows i d).low ≤ a → a < (get_or rows j d).past → IsBetween rows i j a d
+pub row-between : (start : ℕ) (rows : List ForwardingRow) (i j a : ℕ) (d : ForwardingRow) → CoverFrom row_low row_past start rows → i < length rows → j < length rows → (get_or rows i d).low ≤ a → a < (get_or rows j d).past → IsBetween rows i j a d
 row-between start [] i j a d h k l from to = absurd (omega arith)
 row-between start (row ∷ rows) zero zero a d h k l from to = record { place = zero; from = omega arith; to = omega arith; low = from; past = to }
 row-between start (row ∷ rows) zero (suc j) a d h k l from to = ⊎_elim
@@ -198,7 +157,7 @@ row-between start (row ∷ rows) (suc i) (suc j) a d h k l from to =
 
 -- ---- the router of a change
 
-touched-one : (c : Change) (rs : List RouterId) (a : ℕ) → is_touched (c ∷ []) rs a ≡ true → (is_among rs c.router ≡ true) × (c.run.lo ≤ a) × (a ≤ c.run.hi)
+pub touched-one : (c : Change) (rs : List RouterId) (a : ℕ) → is_touched (c ∷ []) rs a ≡ true → (is_among rs c.router ≡ true) × (c.run.lo ≤ a) × (a ≤ c.run.hi)
 touched-one c rs a t = ⊎_elim
     (λ (x : touches rs a c ≡ true).
     let p : (is_among rs c.router ≡ true) × (holds a c.run ≡ true) = and_parts (is_among rs c.router) (holds a c.run) x in
@@ -270,22 +229,6 @@ finds-outside n rows c far k found form tells to out = record {
       absurd (both_ways (nat_lt far.0 n) out (lt-ltb far.0 n inside));
 }
 
-pub finds-along : (n : ℕ) (rows : List ForwardingRow) (c : Change) (first last : ℕ) (old new : List Found) → AreForwarding n rows → first < length rows → last < length rows → ((d : ForwardingRow) → (get_or rows first d).low ≤ c.run.lo) → ((d : ForwardingRow) → c.run.hi < (get_or rows last d).past) → FindsBetween rows first (last + 1) c.router old new → FindsMore (does rows) (c ∷ []) old new
-finds-along n rows c first last old new form k l lo hi h = record {
-  sound = h.sound;
-  inside = h.inside;
-  kept = h.kept;
-  found = λ rs a b goes t.
-      let is = touched-one c rs a t in
-      let from : c.run.lo ≤ a = is.1 in
-      let to : a ≤ c.run.hi = is.2 in
-      let f : (get_or rows first some_row).low ≤ c.run.lo = lo some_row in
-      let p : c.run.hi < (get_or rows last some_row).past = hi some_row in
-      let at : IsBetween rows first last a some_row = row-between 0 rows first last a some_row form.cover k l (omega arith) (omega arith) in
-      let u : at.place ≤ last = at.to in
-      h.found at.place some_row rs a at.from (omega arith) at.low at.past goes is.0;
-}
-
 -- ---- change after change
 
 pub touched-none : (does_so : RouterId → ℕ → Target) (found : List Found) → FindTouched does_so [] found
@@ -297,33 +240,7 @@ touched-next does_so cs c old new h more = λ rs a b goes t. ⊎_elim
     (λ (x : is_touched (c ∷ []) rs a ≡ true). more.found rs a b goes x)
     (or_cases (is_touched cs rs a) (is_touched (c ∷ []) rs a) (sym (touched-append cs (c ∷ []) rs a) ∙ t))
 
-pub met-append : (rows : List ForwardingRow) (cs ds : List Change) → rows_met rows (cs ++ ds) ≡ rows_met rows cs + rows_met rows ds
-met-append rows [] ds = omega arith
-met-append rows (c ∷ cs) ds = let e : rows_met rows (cs ++ ds) ≡ rows_met rows cs + rows_met rows ds = met-append rows cs ds in omega arith
-
 pub touched-take : (does_so : RouterId → ℕ → Target) (cs : List Change) (k : ℕ) (d : Change) (old new : List Found) → k < length cs → FindTouched does_so (take k cs) old → FindsMore does_so (get_or cs k d ∷ []) old new → FindTouched does_so (take (k + 1) cs) new
 touched-take does_so cs k d old new l h more =
     let P : List Change → Type 0 = λ v. FindTouched does_so v new in
     subst P (sym (take_more cs k d l)) (touched-next does_so (take k cs) (get_or cs k d) old new h more)
-
--- ---- how many looks there are
-
-pub met-take : (rows : List ForwardingRow) (cs : List Change) (k : ℕ) (d : Change) → k < length cs → rows_met rows (take (k + 1) cs) ≡ rows_met rows (take k cs) + rows_met rows (get_or cs k d ∷ [])
-met-take rows cs k d l = ap (λ (v : List Change). rows_met rows v) (take_more cs k d l) ∙ met-append rows (take k cs) (get_or cs k d ∷ [])
-
-pub met-front : (rows : List ForwardingRow) (cs : List Change) (k : ℕ) → rows_met rows (take k cs) ≤ rows_met rows cs
-met-front rows cs k =
-    let e : rows_met rows cs ≡ rows_met rows (take k cs) + rows_met rows (drop k cs) = ap (λ (v : List Change). rows_met rows v) (sym (take-append-drop k cs)) ∙ met-append rows (take k cs) (drop k cs) in
-    omega arith
-
--- looks at so many rows, and then at more
-pub looks-more : (w first now new a b c : ℕ) → now ≤ first + w * a → new ≤ now + w * b → a + b ≤ c → new ≤ first + w * c
-looks-more w first now new a b c h k l =
-    let sum : w * (a + b) ≡ w * a + w * b = mul-add w a b in
-    let most : w * (a + b) ≤ w * c = mul-le w (a + b) w c (omega arith) l in
-    omega arith
-
-pub looks-most : (w first now a b : ℕ) → now ≤ first + w * a → a ≤ b → now ≤ first + w * b
-looks-most w first now a b h l =
-    let most : w * a ≤ w * b = mul-le w a w b (omega arith) l in
-    omega arith

@@ -46,7 +46,7 @@ tell-after f g cs h = λ k d l a lo hi.
 
 -- ---- rows
 
-apart : (start : ℕ) (rows : List ForwardingRow) (i j : ℕ) (d : ForwardingRow) → CoverFrom row_low row_past start rows → i < j → j < length rows → (get_or rows i d).past ≤ (get_or rows j d).low
+pub apart : (start : ℕ) (rows : List ForwardingRow) (i j : ℕ) (d : ForwardingRow) → CoverFrom row_low row_past start rows → i < j → j < length rows → (get_or rows i d).past ≤ (get_or rows j d).low
 apart start [] i j d h o l = absurd (omega arith)
 apart start (row ∷ rows) i zero d h o l = absurd (omega arith)
 apart start (row ∷ rows) zero (suc j) d h o l = low-at row_low row_past row.past rows j d h.2 (omega arith)

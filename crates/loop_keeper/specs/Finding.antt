@@ -1,5 +1,5 @@
 -- The cycles that rows show where changes meet them.
-use Rattle.std.specs.Prelude.{ℕ, Bool, List, ◌≡◌, ◌<◌, ◌≤◌, ◌^◌, ◌&&◌, Contains, IsTrue, length, slice_index_or}
+use Rattle.std.specs.Prelude.{ℕ, Bool, List, [], ◌∷◌, ◌≡◌, ◌-◌, ◌<◌, ◌≤◌, ◌^◌, ◌&&◌, Contains, IsTrue, length, slice_index_or}
 use Rattle.std.specs.List.{list_any}
 use Rattle.base.specs.Cycles.{goes_round}
 use Rattle.base.specs.Runs.{holds}
@@ -57,14 +57,28 @@ pub record FindsMore (does : RouterId → ℕ → Target) (changes : List Change
   pub kept : (routers : List RouterId) (a : ℕ) → HasFound old routers a → HasFound new routers a
   pub found : FindTouched does changes new
 
+-- each cycle of the row at a place that has a router is found
+abbrev pub FindRow : List ForwardingRow → List Found → RouterId → ℕ → Type 0
+FindRow rows found router i =
+    (d : ForwardingRow) (routers : List RouterId) (a : ℕ) → (slice_index_or rows i d).low ≤ a
+    → a < (slice_index_or rows i d).past → IsTrue (goes_round (does rows) routers a)
+    → IsTrue (is_among routers router) → HasFound found routers a
+
+-- so is that of the row before a place, if there is one
+abbrev pub FindLast : List ForwardingRow → List Found → RouterId → ℕ → Type 0
+FindLast rows found router place = 0 < place → FindRow rows found router (place - 1)
+
+-- cycles found beside others: those through the router of a change where its run is, also in the row before a place
+pub record FindsOn (rows : List ForwardingRow) (c : Change) (place : ℕ) (old new : List Found) : Type 0 where
+  pub more : FindsMore (does rows) (c ∷ []) old new
+  pub last : FindLast rows new c.router place
+
 -- cycles found beside others: that of the row at a place that has a router
 pub record FindsAt (rows : List ForwardingRow) (i : ℕ) (router : RouterId) (old new : List Found) : Type 0 where
   pub sound : AllGoRound (does rows) old → AllGoRound (does rows) new
   pub inside : AllInside old → AllInside new
   pub kept : (routers : List RouterId) (a : ℕ) → HasFound old routers a → HasFound new routers a
-  pub found : (d : ForwardingRow) (routers : List RouterId) (a : ℕ) → (slice_index_or rows i d).low ≤ a
-      → a < (slice_index_or rows i d).past → IsTrue (goes_round (does rows) routers a)
-      → IsTrue (is_among routers router) → HasFound new routers a
+  pub found : FindRow rows new router i
 
 -- cycles found beside others: those of the rows from a place up to, and without, another one that have a router
 pub record FindsBetween (rows : List ForwardingRow) (first past : ℕ) (router : RouterId) (old new : List Found)
@@ -72,6 +86,4 @@ pub record FindsBetween (rows : List ForwardingRow) (first past : ℕ) (router :
   pub sound : AllGoRound (does rows) old → AllGoRound (does rows) new
   pub inside : AllInside old → AllInside new
   pub kept : (routers : List RouterId) (a : ℕ) → HasFound old routers a → HasFound new routers a
-  pub found : (k : ℕ) (d : ForwardingRow) (routers : List RouterId) (a : ℕ) → first ≤ k → k < past
-      → (slice_index_or rows k d).low ≤ a → a < (slice_index_or rows k d).past
-      → IsTrue (goes_round (does rows) routers a) → IsTrue (is_among routers router) → HasFound new routers a
+  pub found : (k : ℕ) → first ≤ k → k < past → FindRow rows new router k

@@ -4,4 +4,7 @@ pub mod Finding
 pub mod Following
 pub mod Kept
 pub mod Looks
+pub mod Places
 pub mod Starts
+pub mod Together
+pub mod Whole

@@ -1,11 +1,11 @@
-//! The cycles that rows show where changes meet them.
+//! The cycles that rows show.
 
-ghost use Rattle.std.specs.Prelude.{◌≡◌, ◌+◌, ◌-◌, ◌*◌, ◌<◌, ◌≤◌, ℕ, OnOk, IfOk, IfSome, IsSome, IsTrue, IsFalse, List, [], ◌∷◌, length, slice_index_or};
-ghost use Rattle.base.specs.Delta.{IsChange, AreChanges};
+ghost use Rattle.std.specs.Prelude.{◌≡◌, ◌+◌, ◌-◌, ◌*◌, ◌<◌, ◌≤◌, ℕ, OnOk, IfSome, IsSome, IsTrue, IsFalse, List, [], ◌∷◌, length, slice_index_or};
+ghost use Rattle.base.specs.Delta.{IsChange};
 ghost use Rattle.base.specs.Forwarding.{AreForwarding, does};
 ghost use Rattle.base.specs.declared.forwarding_row.ForwardingRow.{ForwardingRow as Row};
-ghost use Rattle.loop_keeper.specs.Finding.{AllGoRound, AllInside, FindTouched, FindsMore, FindsAt, FindsBetween, TellsAfter, AllTellAfter};
-ghost use Rattle.loop_keeper.specs.Looks.{rows_met};
+ghost use Rattle.loop_keeper.specs.Finding.{AllInside, FindsMore, FindsAt, FindsBetween, TellsAfter};
+ghost use Rattle.loop_keeper.specs.Places.{AreMet};
 ghost use Rattle.loop_keeper.specs.Starts.{DoesSo, IsStartOf, start_of};
 ghost use Rattle.loop_keeper.specs.declared.found.Found.{Found as FoundIs};
 
@@ -17,13 +17,11 @@ use std::alloc::Global;
 use std::sync::ledger::Ledger;
 use step_count::Steps;
 
-/// What was found so far, the routers passed on the way that is followed, and the place that is asked first for a change's
-/// rows. One path serves all changes of an update.
+/// What was found so far, and the routers passed on the way that is followed. One path serves all changes of an update.
 #[derive(Drop)]
 pub(crate) struct Search {
     pub(crate) found: Vec<Found>,
     pub(crate) path: Vec<RouterId>,
-    near: u64,
 }
 
 /// The place of a row, and the address after the row's last.
@@ -31,6 +29,13 @@ pub(crate) struct Search {
 struct Spot {
     place: u64,
     past: u64,
+}
+
+/// The places of the first and the last row that a run meets.
+#[derive(Clone, Copy, Debug, PartialEq, Eq)]
+pub(crate) struct Places {
+    pub(crate) first: u64,
+    pub(crate) last: u64,
 }
 
 /// Finds the cycle of the row at a place that has a router, if there is one. What the router does there is given.
@@ -61,7 +66,7 @@ fn find_at<V: LabelView, L: Ledger>(
 
 /// Finds the cycles that have a router in the rows from a place up to, and without, another one. What the router does
 /// in these rows is given.
-fn find_between<V: LabelView, L: Ledger>(
+pub(crate) fn find_between<V: LabelView, L: Ledger>(
     alloc: Global,
     view: &V,
     first: u64,
@@ -85,7 +90,7 @@ fn find_between<V: LabelView, L: Ledger>(
 }
 
 /// Whether a cycle may go through the router of a change: it goes on to one of the view's routers then.
-fn goes_on<V: LabelView>(view: &V, change: &Change) -> bool
+pub(crate) fn goes_on<V: LabelView>(view: &V, change: &Change) -> bool
     ensures form { AreForwarding (V.width view.now) (V.rows view.now) }
     ensures start { IsTrue result → IsStartOf (V.width view.now) (start_of change.now) }
     ensures none { IsFalse result → TellsAfter (does (V.rows view.now)) change.now
@@ -148,59 +153,15 @@ fn row_from<V: LabelView>(view: &V, first: Spot, a: u32) -> u64
     view.atom_of(a)
 }
 
-/// Finds the cycles through the router of a change in the rows that its run meets, where it does what the change tells.
-fn find_along<V: LabelView, L: Ledger>(
-    alloc: Global,
-    view: &V,
-    change: &Change,
-    search: &mut Search,
-    steps: &mut Steps<L>,
-) -> Result<(), OutOfMemory>
+/// The places of the rows that the run of a change meets. The first of them is asked for near a place.
+pub(crate) fn places_of<V: LabelView>(view: &V, near: u64, change: &Change) -> Places
     requires { IsChange change.now }
-    ensures found { OnOk result (TellsAfter (does (V.rows view.now)) change.now
-        → FindsMore (does (V.rows view.now)) (change.now ∷ []) search.old.found.items search.new.found.items) }
-    ensures inside { OnOk result (AllInside search.old.found.items → AllInside search.new.found.items) }
-    ensures cost { steps.new ≤ steps.old + V.width view.now * rows_met (V.rows view.now) (change.now ∷ []) }
+    ensures { AreMet (V.rows view.now) change.now result.first result.last }
 {
-    if !goes_on(view, change) {
-        return Ok(());
-    }
-    let start = Start {
-        router: change.router,
-        target: change.after,
-    };
-    let first = row_near(view, search.near, change.run.lo);
+    let first = row_near(view, near, change.run.lo);
     let last = row_from(view, first, change.run.hi);
-    search.near = last.saturating_add(2);
-    find_between(alloc, view, first.place, last + 1, start, search, steps)
-}
-
-/// Finds the cycles through the routers of changes in the rows that their runs meet, where the routers do what the
-/// changes tell. The first row is asked for near a place, and the ways are followed in the memory of a path, which is handed
-/// back beside what was found.
-pub(crate) fn find_all<V: LabelView, L: Ledger>(
-    alloc: Global,
-    view: &V,
-    changes: &[Change],
-    near: u64,
-    path: Vec<RouterId>,
-    steps: &mut Steps<L>,
-) -> Result<Search, OutOfMemory>
-    requires { AreChanges changes.now }
-    ensures sound { IfOk result (λ search. AllTellAfter (does (V.rows view.now)) changes.now
-        → AllGoRound (does (V.rows view.now)) search.found.items) }
-    ensures inside { IfOk result (λ search. AllInside search.found.items) }
-    ensures all { IfOk result (λ search. AllTellAfter (does (V.rows view.now)) changes.now
-        → FindTouched (does (V.rows view.now)) changes.now search.found.items) }
-    ensures cost { steps.new ≤ steps.old + V.width view.now * rows_met (V.rows view.now) changes.now }
-{
-    let mut search = Search {
-        found: Vec::new(alloc),
-        path,
-        near,
-    };
-    for change in changes {
-        find_along(alloc, view, change, &mut search, steps)?;
+    Places {
+        first: first.place,
+        last,
     }
-    Ok(search)
 }

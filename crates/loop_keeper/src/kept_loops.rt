@@ -12,8 +12,9 @@ ghost use Rattle.loop_keeper.specs.Kept.{AreKept, AreSegments, IsLoopFree};
 ghost use Rattle.loop_keeper.specs.Looks.{rows_met};
 
 use crate::answer::cycles_of;
+use crate::changed::find_all;
 use crate::editing::{are_met, put_all_in, take_all_out};
-use crate::finding::{Search, find_all};
+use crate::finding::Search;
 use crate::found::Found;
 use crate::segment::Segment;
 use base::{Change, Cycle, List, OutOfMemory, RouterId};
@@ -97,9 +98,9 @@ impl KeptLoops {
     }
 
     /// Keeps the loops of a network through an update, from what it did before it to what the rows of the view say,
-    /// where `delta` is what changed. It works in place, and looks only at rows that meet a run of the delta: from the
-    /// router of a change from hop to hop. The first of them is asked for near a place: any place does. After `OutOfMemory`
-    /// what is kept is of neither.
+    /// where `delta` is what changed. It works in place, and looks only at rows that meet a run of the delta, at each
+    /// once: from the router of the change from hop to hop, or at all routers where runs of several meet. The first row
+    /// is asked for near a place: any place does. After `OutOfMemory` what is kept is of neither.
     pub fn advance<V: LabelView, L: Ledger>(
         &mut self,
         alloc: Global,
@@ -115,7 +116,7 @@ impl KeptLoops {
         let changes = delta.changes();
         let path = path_in(alloc, self.path.take());
         let search = find_all(alloc, view, changes, near, path, steps)?;
-        let Search { found, path, .. } = search;
+        let Search { found, path } = search;
         self.path = Some(path);
         if found.is_empty() && !are_met(&self.segments, changes) {
             return Ok(());

@@ -3,12 +3,17 @@
 #![tactic(auto)]
 
 mod answer;
+mod changed;
 mod editing;
 mod finding;
 mod following;
 mod found;
+mod in_turn;
 mod kept_cycle;
 mod kept_loops;
 mod segment;
+mod stretch;
+mod together;
+mod whole;
 
 pub use kept_loops::KeptLoops;

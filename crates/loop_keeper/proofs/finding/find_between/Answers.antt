@@ -1,5 +1,6 @@
 use Rattle.std.proofs.Common.{◌+◌, ◌-◌, ◌*◌, ◌≤◌, arith}
-use Rattle.loop_keeper.proofs.Meeting.{finds-next, finds-start, looks-more, looks-most}
+use Rattle.loop_keeper.proofs.Looking.{looks-more, looks-most}
+use Rattle.loop_keeper.proofs.Meeting.{finds-next, finds-start}
 use Rattle.loop_keeper.proofs.finding.find_between.Goals as goal
 
 pub loop-i-init : goal.loop-i-init
@@ -32,5 +33,5 @@ returns-clause-found g c = λ does.
       sound = so-far.sound;
       inside = so-far.inside;
       kept = so-far.kept;
-      found = λ k d rs a f b lo hi goes m. so-far.found k d rs a f (omega (arith, c.loop-i-test.false)) lo hi goes m;
+      found = λ k f b. so-far.found k f (omega (arith, c.loop-i-test.false));
     }

@@ -10,8 +10,8 @@ ghost use Rattle.dn_model.specs.declared.topology.Topology.{Topology as Topology
 
 use answer_equality::is_same_answer;
 use dn_model::{
-    Answer, Ask, Cycle, DropKind, Entry, LinkId, List, Name, Op, OutOfMemory, Prefix, Query,
-    RouterId, Target, Topology, plain_answer,
+    Answer, Ask, Cycle, DropKind, Entry, LinkId, List, Name, Op, OutOfMemory, Posted, Prefix,
+    Query, RouterId, Target, Topology, plain_answer,
 };
 use fast_pins::Shot;
 use std::alloc::Global;
@@ -182,6 +182,17 @@ fn all_five() -> [Entry; 5]
     ]
 }
 
+/// Posts an entry under a seat.
+fn post_under(store: &mut Store, seat: u32, entry: Entry) -> Result<u32, PostRefused>
+    requires routers { length store.old.basis.topology.routers ≡ 3 }
+    requires links { length store.old.basis.topology.links ≡ 2 }
+    requires entry { (t : TopologyIs) → length t.routers ≡ 3 → length t.links ≡ 2 → IsEntryOf t entry }
+    requires followed { IsFollowed entry }
+    ensures { store.new.basis ≡ store.old.basis }
+{
+    store.post(seat, &entry)
+}
+
 /// Posts an entry under seat 7.
 fn post(store: &mut Store, entry: Entry) -> Result<u32, PostRefused>
     requires routers { length store.old.basis.topology.routers ≡ 3 }
@@ -190,7 +201,7 @@ fn post(store: &mut Store, entry: Entry) -> Result<u32, PostRefused>
     requires followed { IsFollowed entry }
     ensures { store.new.basis ≡ store.old.basis }
 {
-    store.post(7, &entry)
+    post_under(store, 7, entry)
 }
 
 /// One link that is taken as down.
@@ -342,6 +353,93 @@ fn a_held_snapshot_stays(rt: HostRuntime) {
     compare(&rt, rt.alloc(), &held, &[to_second(), exit_at_second()]);
     let now = store.snap().expect(&rt, "memory");
     compare(&rt, rt.alloc(), &now, &all_five());
+}
+
+/// The entry at a place of a long history. Places count from 0.
+fn entry_at(place: u32) -> Entry
+    ensures own { (t : TopologyIs) → length t.routers ≡ 3 → length t.links ≡ 2 → IsEntryOf t result }
+    ensures followed { IsFollowed result }
+{
+    match place % 5 {
+        0 => to_second(),
+        1 => exit_at_second(),
+        2 => drop_at_first(),
+        3 => own(),
+        _ => clear_at_first(),
+    }
+}
+
+/// The first entries of a long history.
+fn first_entries(rt: &impl Abort, alloc: Global, count: u32) -> Vec<Entry>
+    ensures { (t : TopologyIs) → length t.routers ≡ 3 → length t.links ≡ 2 → All (IsEntryOf t) result.items }
+{
+    let mut entries = Vec::new(alloc);
+    for place in 0..count {
+        entries.push(entry_at(place)).expect(rt, "memory");
+    }
+    entries
+}
+
+/// A store has the first entries of a long history, of which each was posted under its place as the seat.
+fn compare_history(rt: &impl Abort, alloc: Global, store: &Store, count: u32) {
+    let pages = store.posted().expect(rt, "memory");
+    let history = store.history(alloc).expect(rt, "memory");
+    assert_eq!(rt;
+        (store.len(), pages.len()),
+        (u64::from(count), u64::from(count))
+    );
+    assert_eq!(rt; history.len(), count as usize);
+    for place in 0..count {
+        let posted = Posted {
+            seat: place,
+            entry: entry_at(place),
+        };
+        assert!(rt;
+            history.as_slice().get(place as usize) == Some(&posted),
+            "listed at {place}"
+        );
+        assert!(rt;
+            pages.get(u64::from(place)) == Some(&posted),
+            "in pages at {place}"
+        );
+    }
+}
+
+/// Posts entries of a long history, until there are so many, and looks at them.
+fn grow(rt: &impl Abort, alloc: Global, store: &mut Store, count: u32)
+    requires routers { length store.old.basis.topology.routers ≡ 3 }
+    requires links { length store.old.basis.topology.links ≡ 2 }
+    ensures { store.new.basis ≡ store.old.basis }
+{
+    for number in store.len()..u64::from(count) {
+        let place = number as u32;
+        let posted = post_under(store, place, entry_at(place));
+        assert_eq!(rt; posted, Ok(place + 1));
+    }
+    compare_history(rt, alloc, store, count);
+}
+
+/// Snapshots of 64 and of 65 entries stay, whatever is posted later.
+#[test]
+fn a_history_grows_by_pages(rt: HostRuntime) {
+    let mut store = store_of(&rt, rt.alloc(), 200);
+    grow(&rt, rt.alloc(), &mut store, 0);
+    grow(&rt, rt.alloc(), &mut store, 1);
+    grow(&rt, rt.alloc(), &mut store, 63);
+    grow(&rt, rt.alloc(), &mut store, 64);
+    let whole = store.snap().expect(&rt, "memory");
+    grow(&rt, rt.alloc(), &mut store, 65);
+    let longer = store.snap().expect(&rt, "memory");
+    grow(&rt, rt.alloc(), &mut store, 128);
+    grow(&rt, rt.alloc(), &mut store, 129);
+    grow(&rt, rt.alloc(), &mut store, 200);
+    compare(&rt, rt.alloc(), &whole, &first_entries(&rt, rt.alloc(), 64));
+    compare(
+        &rt,
+        rt.alloc(),
+        &longer,
+        &first_entries(&rt, rt.alloc(), 65),
+    );
 }
 
 /// The cycles; none where the answer is another.

@@ -33,10 +33,9 @@ use Rattle.loop_keeper.specs.Kept.{AreKept, IsLoopFree}
 use Rattle.loop_keeper.specs.Kept.{Kept as KeptCycle}
 use Rattle.loop_keeper.proofs.Advancing.{delta-alike, kept-alike}
 use Rattle.row_answers.proofs.SameAnswers.{without-none}
-use Rattle.version_store.specs.Kept.{IsPictureOf, IsStandingOf, IsVersionOf}
+use Rattle.version_store.specs.Kept.{IsPictureOf, IsVersionOf, StandsWith}
 use Rattle.version_store.specs.Prefixes.{most_rows}
 use Rattle.version_store.specs.declared.picture.Picture.{Picture}
-use Rattle.version_store.specs.declared.standing.Standing.{Standing}
 use Rattle.version_store.proofs.GoingOn.{delta-more, entries-more, version-more}
 use Rattle.version_store.proofs.Rows.{rows_few, rows_same}
 
@@ -79,44 +78,44 @@ loops-more t h e version changes old new kept is delta on =
     kept-alike shown after new (rows-show t (h ++ e ∷ []) version is) (on (does_after t h) kept told)
 
 -- what stands goes on by an entry
-pub standing-more : (t : Topology) (h : List Entry) (e : Entry) (old new : Standing) (changes : List Change) → IsStandingOf t h old → new.version.topology ≡ old.version.topology →
-    ((es : List Entry) → KeptStandsFor old.version es → KeptStandsFor new.version (es ++ e ∷ [])) →
-    ((es : List Entry) → KeptStandsFor old.version es → IsDeltaOf old.version.topology (es ++ e ∷ []) changes) →
-    ((before : RouterId → ℕ → Target) → AreKept before old.loops → IsDelta before (does (forwarding_of new.version)) changes → AreKept (does (forwarding_of new.version)) new.loops) →
-    IsStandingOf t (h ++ e ∷ []) new
-standing-more t h e old new changes is same stands delta on =
-    let version : IsVersionOf t (h ++ e ∷ []) new.version = version-more t h e old.version new.version is.version same stands in
+pub standing-more : (t : Topology) (h : List Entry) (e : Entry) (old new : Kept) (was loops : List KeptCycle) (changes : List Change) → StandsWith t h old was → new.topology ≡ old.topology →
+    ((es : List Entry) → KeptStandsFor old es → KeptStandsFor new (es ++ e ∷ [])) →
+    ((es : List Entry) → KeptStandsFor old es → IsDeltaOf old.topology (es ++ e ∷ []) changes) →
+    ((before : RouterId → ℕ → Target) → AreKept before was → IsDelta before (does (forwarding_of new)) changes → AreKept (does (forwarding_of new)) loops) →
+    StandsWith t (h ++ e ∷ []) new loops
+standing-more t h e old new was loops changes is same stands delta on =
+    let version : IsVersionOf t (h ++ e ∷ []) new = version-more t h e old new is.stands same stands in
     record {
-      version = version;
-      loops = loops-more t h e new.version changes old.loops new.loops is.loops version (delta-more t h e old.version changes is.version delta) on;
+      stands = version;
+      kept = loops-more t h e new changes was loops is.kept version (delta-more t h e old changes is.stands delta) on;
     }
 
 -- what stands goes on by the entry at a place of the history
-pub standing-read : (t : Topology) (h : List Posted) (i : ℕ) (p : Posted) (old new : Standing) → i < length h → p ≡ get_or h i p → IsStandingOf t (entries (take i h)) old →
-    ((s : Topology) (es : List Entry) → IsStandingOf s es old → IsStandingOf s (es ++ p.entry ∷ []) new) → IsStandingOf t (entries (take (i + 1) h)) new
-standing-read t h i p old new inside is stands on =
+pub standing-read : (t : Topology) (h : List Posted) (i : ℕ) (p : Posted) (old new : Kept) (was loops : List KeptCycle) → i < length h → p ≡ get_or h i p → StandsWith t (entries (take i h)) old was →
+    ((s : Topology) (es : List Entry) → StandsWith s es old was → StandsWith s (es ++ p.entry ∷ []) new loops) → StandsWith t (entries (take (i + 1) h)) new loops
+standing-read t h i p old new was loops inside is stands on =
     let front = take i h in
     let longer : entries (take (i + 1) h) ≡ entries (take i h) ++ p.entry ∷ [] =
     ap (λ (g : List Posted). entries g) (take_more h i p inside) ∙ entries-more front (get_or h i p) ∙ ap (λ (q : Posted). entries front ++ q.entry ∷ []) (sym is) in
-    subst (λ (es : List Entry). IsStandingOf t es new) (sym longer) (on t (entries front) stands)
+    subst (λ (es : List Entry). StandsWith t es new loops) (sym longer) (on t (entries front) stands)
 
 -- ---- the answer
 
--- the rows of what stands after a history stand for it
-pub rows-stand : (t : Topology) (h : List Entry) (standing : Standing) → IsStandingOf t h standing → StandsFor t (forwarding_of standing.version) h
-rows-stand t h standing is =
-    let P : Topology → Type 0 = λ s. StandsFor s (forwarding_of standing.version) h in
-    subst P is.version.topology is.version.stands.rows
+-- the rows of a version after a history stand for it
+pub rows-stand : (t : Topology) (h : List Entry) (version : Kept) → IsVersionOf t h version → StandsFor t (forwarding_of version) h
+rows-stand t h version is =
+    let P : Topology → Type 0 = λ s. StandsFor s (forwarding_of version) h in
+    subst P is.topology is.stands.rows
 
 -- the picture of what stands after a history
-pub picture-made : (t : Topology) (h : List Entry) (standing : Standing) (picture : Picture) → IsStandingOf t h standing → picture.rows.routers ≡ length standing.version.topology.routers →
-    picture.rows.rows ≡ forwarding_of standing.version → picture.loops ≡ standing.loops → IsPictureOf t h picture
-picture-made t h standing picture is routers rows loops = record {
-  routers = routers ∙ ap (λ (s : Topology). length s.routers) is.version.topology;
-  stands = subst (λ (rs : List ForwardingRow). StandsFor t rs h) (sym rows) (rows-stand t h standing is);
-  same = λ version stands. ap (λ (rs : List ForwardingRow). length rs) rows ∙ rows_same standing.version version h is.version.stands stands;
-  few = subst (λ (rs : List ForwardingRow). length rs ≤ most_rows h) (sym rows) (rows_few standing.version h is.version.stands);
-  loops = subst (λ (ls : List KeptCycle). AreKept (does_after t h) ls) (sym loops) is.loops;
+pub picture-made : (t : Topology) (h : List Entry) (version : Kept) (loops : List KeptCycle) (picture : Picture) → StandsWith t h version loops → picture.rows.routers ≡ length version.topology.routers →
+    picture.rows.rows ≡ forwarding_of version → picture.loops ≡ loops → IsPictureOf t h picture
+picture-made t h version loops picture is routers rows same = record {
+  routers = routers ∙ ap (λ (s : Topology). length s.routers) is.stands.topology;
+  stands = subst (λ (rs : List ForwardingRow). StandsFor t rs h) (sym rows) (rows-stand t h version is.stands);
+  same = λ other stands. ap (λ (rs : List ForwardingRow). length rs) rows ∙ rows_same version other h is.stands.stands stands;
+  few = subst (λ (rs : List ForwardingRow). length rs ≤ most_rows h) (sym rows) (rows_few version h is.stands.stands);
+  loops = subst (λ (ls : List KeptCycle). AreKept (does_after t h) ls) (sym same) is.kept;
 }
 
 -- kept loops tell the loops after a history

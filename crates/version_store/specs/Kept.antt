@@ -1,5 +1,5 @@
 -- What a store and a snapshot mean, and what they keep of a history.
-use Rattle.std.specs.Prelude.{ℕ, List, [], ◌∷◌, ◌++◌, Option, IfSome, length, ◌≡◌, ◌<◌, ◌≤◌, ◌^◌}
+use Rattle.std.specs.Prelude.{ℕ, List, [], ◌∷◌, ◌++◌, Option, IfSome, length, ◌≡◌, ◌≤◌}
 use Rattle.std.specs.List.{All}
 use Rattle.dn_model.specs.LastDelta.{IsDeltaOf}
 use Rattle.dn_model.specs.Entry.{IsEntryOf, entries}
@@ -12,10 +12,10 @@ use Rattle.dn_model.specs.declared.entry.Entry.{Entry}
 use Rattle.dn_model.specs.declared.entry.Posted.{Posted}
 use Rattle.dn_model.specs.declared.topology.Topology.{Topology}
 use Rattle.loop_keeper.specs.Kept.{AreKept}
+use Rattle.loop_keeper.specs.Kept.{Kept as KeptCycle}
 use Rattle.version_lock.specs.declared.book.Basis.{Basis}
 use Rattle.version_store.specs.Prefixes.{most_rows}
 use Rattle.version_store.specs.declared.picture.Picture.{Picture}
-use Rattle.version_store.specs.declared.standing.Standing.{Standing}
 
 -- a store: its network and limit, which stay, and the entries that were posted in it
 pub record Ledger : Type 0 where
@@ -53,17 +53,17 @@ pub record IsVersionOf (t : Topology) (history : List Entry) (version : Kept) : 
   pub stands : KeptStandsFor version history
 
 -- what stands after these entries: a version of this network, and all cycles that addresses go round then
-pub record IsStandingOf (t : Topology) (history : List Entry) (standing : Standing) : Type 0 where
-  pub version : IsVersionOf t history standing.version
-  pub loops : AreKept (does_after t history) standing.loops
+pub record StandsWith (t : Topology) (history : List Entry) (version : Kept) (loops : List KeptCycle) : Type 0 where
+  pub stands : IsVersionOf t history version
+  pub kept : AreKept (does_after t history) loops
 
--- What a store keeps of a history that is as long as the limit at most: what stands after it, if that is there, and the
--- changes that its last entry made.
-pub record IsKeptOf (t : Topology) (limit : ℕ) (history : List Posted) (standing : Option Standing) (changes : List Change) :
-    Type 0 where
+-- What a store keeps of a history that is as long as the limit at most: what stands after it, if the version is there, and
+-- the changes that its last entry made.
+pub record IsKeptOf (t : Topology) (limit : ℕ) (history : List Posted) (version : Option Kept) (loops : List KeptCycle)
+    (changes : List Change) : Type 0 where
   pub few : length history ≤ limit
   pub own : AreOf t history
-  pub stands : IfSome standing (IsStandingOf t (entries history))
+  pub stands : IfSome version (λ v. StandsWith t (entries history) v loops)
   pub delta : IsDeltaOf t (entries history) changes
 
 -- What is read of what stands after these entries: rows of this network that stand for them, as many as any version has
@@ -75,8 +75,8 @@ pub record IsPictureOf (t : Topology) (history : List Entry) (picture : Picture)
   pub few : length picture.rows.rows ≤ most_rows history
   pub loops : AreKept (does_after t history) picture.loops
 
--- what a snapshot keeps of a history of fewer than 2^32 entries: its picture, and the changes that its last entry made
-pub record IsPastOf (t : Topology) (history : List Posted) (picture : Picture) (changes : List Change) : Type 0 where
-  pub few : length history < 2 ^ 32
+-- what a snapshot keeps of a history: how many entries it has, its picture, and the changes that its last entry made
+pub record IsPastOf (t : Topology) (history : List Posted) (number : ℕ) (picture : Picture) (changes : List Change) : Type 0 where
+  pub counted : number ≡ length history
   pub shows : IsPictureOf t (entries history) picture
   pub delta : IsDeltaOf t (entries history) changes

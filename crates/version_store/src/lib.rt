@@ -3,6 +3,7 @@
 #![tactic(auto)]
 
 mod asking;
+mod history;
 mod picture;
 mod play;
 mod shot;

@@ -14,27 +14,32 @@ ghost use Rattle.version_store.specs.Kept.{IsPictureOf};
 ghost use Rattle.version_store.specs.Prefixes.{most_rows, prefixes_set};
 
 use crate::asking::{AskRefused, refusal_of};
+use crate::history::History;
 use crate::picture::Picture;
 use delta_graph::Delta;
-use dn_model::{Answer, OutOfMemory, Posted, Query, Topology};
+use dn_model::{Answer, OutOfMemory, Query, Topology};
 use std::alloc::Global;
 use std::marker::Model;
+use std::snapshot;
 use std::sync::Arc;
 use std::sync::ledger::Ledger;
 use std::thread::Threads;
 use step_count::Steps;
-use version_pages::Pages;
+
+/// A history as contracts see it. It has no bytes, and stands behind a count so that a copy of a snapshot has the same.
+pub(crate) type Seen = snapshot::Snapshot<History>;
 
 /// A snapshot of a network's history: it answers queries over the history as it was, whatever came later. A contract
 /// sees the network and that history.
 ///
-/// It keeps the history, what all routers did with all addresses after it, the loops of the network then and the changes
-/// that its last entry made; no routes, which no query reads. It shares them with the store that it was taken of, as far
-/// as nothing was posted there since, and with other snapshots.
+/// It keeps how many entries the history had, what all routers did with all addresses after it, the loops of the network
+/// then and the changes that its last entry made; no entries and no routes, which no query reads. It shares what it keeps
+/// with the store that it was taken of, as far as nothing was posted there since, and with other snapshots.
 #[derive(Drop)]
 pub struct Snapshot {
     topology: Arc<Topology, Global>,
-    history: Pages<Posted>,
+    history: Arc<Seen, Global>,
+    number: u32,
     picture: Picture,
     changes: Arc<Delta, Global>,
 }
@@ -45,28 +50,31 @@ impl Model for Snapshot {
 
     ghost Value = { Past };
 
-    ghost view = { λ s. record { topology = arc_value s.topology; history = s.history } };
+    ghost view = { λ s. record { topology = arc_value s.topology; history = (arc_value s.history).value } };
 
-    ghost invariant = { λ s. IsPastOf (arc_value s.topology) s.history s.picture (arc_value s.changes) };
+    ghost invariant = { λ s. IsPastOf (arc_value s.topology) (arc_value s.history).value s.number s.picture
+        (arc_value s.changes) };
 }
 
 impl Snapshot {
     /// The snapshot of a history, by its picture and the changes that its last entry made.
     pub(crate) fn of(
         topology: Arc<Topology, Global>,
-        history: Pages<Posted>,
+        history: Arc<Seen, Global>,
+        number: u32,
         picture: Picture,
         changes: Arc<Delta, Global>,
     ) -> Snapshot
-        requires few { length history < 2 ^ 32 }
-        requires picture { IsPictureOf (arc_value topology) (entries history) picture }
-        requires changes { IsDeltaOf (arc_value topology) (entries history) (arc_value changes) }
+        requires number { number ≡ length (arc_value history).value }
+        requires picture { IsPictureOf (arc_value topology) (entries (arc_value history).value) picture }
+        requires changes { IsDeltaOf (arc_value topology) (entries (arc_value history).value) (arc_value changes) }
         ensures topology { result.topology ≡ arc_value topology }
-        ensures history { result.history ≡ history }
+        ensures history { result.history ≡ (arc_value history).value }
     {
         Snapshot {
             topology,
             history,
+            number,
             picture,
             changes,
         }
@@ -77,17 +85,17 @@ impl Snapshot {
         ensures { IfOk result (λ snapshot. snapshot ≡ self.now) }
     {
         let topology = Arc::try_clone(&self.topology)?;
-        let history = self.history.copy()?;
+        let history = Arc::try_clone(&self.history)?;
         let picture = self.picture.copy()?;
         let changes = Arc::try_clone(&self.changes)?;
-        Ok(Snapshot::of(topology, history, picture, changes))
+        Ok(Snapshot::of(topology, history, self.number, picture, changes))
     }
 
     /// How many entries the history had.
     pub fn number(&self) -> u32
         ensures { result ≡ length self.now.history }
     {
-        self.history.len() as u32
+        self.number
     }
 
     /// How many rows, which are atoms, the version of the history has: as many as any version that stands for it, which

@@ -11,7 +11,7 @@ ghost use Rattle.base.specs.declared.ids.RouterId.{RouterId as RouterIs};
 ghost use Rattle.base.specs.declared.target.Target.{Target as TargetIs};
 ghost use Rattle.dn_model.specs.declared.topology.Topology.{Topology as TopologyIs};
 ghost use Rattle.loop_keeper.specs.Kept.{AreKept};
-ghost use Rattle.version_store.specs.Kept.{IsPictureOf, IsStandingOf, IsTaken};
+ghost use Rattle.version_store.specs.Kept.{IsPictureOf, IsTaken, StandsWith};
 
 use crate::picture::Picture;
 use delta_graph::Delta;
@@ -23,13 +23,6 @@ use std::marker::Brand;
 use std::sync::Arc;
 use std::sync::ledger::{Blank, Ledger};
 use step_count::Steps;
-
-/// The version of a network after a history, and the loops of the network then, which are kept from update to update.
-#[derive(Drop)]
-pub(crate) struct Standing {
-    version: Version,
-    loops: KeptLoops,
-}
 
 /// The version after an update, and where that changes what the router does. Nobody reads the count of steps, which takes
 /// no bytes.
@@ -72,60 +65,42 @@ fn keep<L: Ledger>(
     loops.advance(alloc, version, delta, version.near(), &mut steps)
 }
 
-impl Standing {
-    /// Before any update: no router has a route, and no address goes round.
-    pub(crate) fn empty(
-        alloc: Global,
-        topology: Arc<Topology, Global>,
-    ) -> Result<Standing, OutOfMemory>
-        ensures { IfOk result (IsStandingOf (arc_value topology) []) }
-    {
-        let version = Version::empty(alloc, topology)?;
-        Ok(Standing {
-            version,
-            loops: KeptLoops::empty(),
-        })
-    }
+/// Before any update: no router has a route, and no address goes round.
+pub(crate) fn empty_standing(
+    alloc: Global,
+    topology: Arc<Topology, Global>,
+) -> Result<(Version, KeptLoops), OutOfMemory>
+    ensures { IfOk result (λ made. StandsWith (arc_value topology) [] made.0 made.1) }
+{
+    let version = Version::empty(alloc, topology)?;
+    Ok((version, KeptLoops::empty()))
+}
 
-    /// What stands after one more entry, and the changes that this entry makes. Both the version and the loops are
-    /// changed in their own place; at `OutOfMemory`, for which alone it fails, they are dropped.
-    pub(crate) fn advance(
-        self,
-        alloc: Global,
-        entry: &Entry,
-    ) -> Result<(Standing, Delta), OutOfMemory>
-        requires { IsTaken self.version.topology entry.now }
-        ensures stands { IfOk result (λ made. (t : TopologyIs) → (history : List EntryIs) → IsStandingOf t history self
-            → IsStandingOf t (history ++ entry.now ∷ []) made.0) }
-        ensures delta { IfOk result (λ made. (t : TopologyIs) → (history : List EntryIs) → IsStandingOf t history self
-            → IsDeltaOf t (history ++ entry.now ∷ []) made.1) }
-    {
-        let Standing { version, mut loops } = self;
-        let (next, delta) = update::<Brand>(alloc, version, entry, Blank::new(1))?;
-        keep::<Brand>(alloc, &mut loops, &next, &delta, Blank::new(1))?;
-        Ok((
-            Standing {
-                version: next,
-                loops,
-            },
-            delta,
-        ))
-    }
+/// What stands after one more entry, and the changes that this entry makes. Both the version and the loops are changed in
+/// their own place; at `OutOfMemory`, for which alone it fails, the version is dropped, and the loops are of neither history.
+pub(crate) fn advance(
+    alloc: Global,
+    version: Version,
+    loops: &mut KeptLoops,
+    entry: &Entry,
+) -> Result<(Version, Delta), OutOfMemory>
+    requires { IsTaken version.topology entry.now }
+    ensures stands { IfOk result (λ made. (t : TopologyIs) → (history : List EntryIs)
+        → StandsWith t history version loops.old → StandsWith t (history ++ entry.now ∷ []) made.0 loops.new) }
+    ensures delta { IfOk result (λ made. (t : TopologyIs) → (history : List EntryIs)
+        → StandsWith t history version loops.old → IsDeltaOf t (history ++ entry.now ∷ []) made.1) }
+{
+    let (next, delta) = update::<Brand>(alloc, version, entry, Blank::new(1))?;
+    keep::<Brand>(alloc, loops, &next, &delta, Blank::new(1))?;
+    Ok((next, delta))
+}
 
-    /// Takes changes back that `advance` gave, in whose memory the next update tells. What stands is as before.
-    pub(crate) fn take_back(&mut self, changes: Delta)
-        ensures { self.new ≡ self.old }
-    {
-        self.version.take_back(changes);
-    }
-
-    /// What queries read of it, which shares all with it. It fails for want of memory alone.
-    pub(crate) fn picture(&self) -> Result<Picture, OutOfMemory>
-        ensures { IfOk result (λ picture. (t : TopologyIs) → (history : List EntryIs) → IsStandingOf t history self.now
-            → IsPictureOf t history picture) }
-    {
-        let rows = self.version.shown()?;
-        let loops = self.loops.copy()?;
-        Ok(Picture { rows, loops })
-    }
+/// What queries read of what stands, which shares all with it. It fails for want of memory alone.
+pub(crate) fn picture_with(version: &Version, loops: &KeptLoops) -> Result<Picture, OutOfMemory>
+    ensures { IfOk result (λ picture. (t : TopologyIs) → (history : List EntryIs)
+        → StandsWith t history version.now loops.now → IsPictureOf t history picture) }
+{
+    let rows = version.shown()?;
+    let loops = loops.copy()?;
+    Ok(Picture { rows, loops })
 }

@@ -5,12 +5,15 @@ ghost use Rattle.std.specs.Arc.{arc_value};
 ghost use Rattle.version_store.specs.Events.{IsEventOf, IsRefusedPlay, pins, posts};
 ghost use Rattle.version_store.specs.Kept.{AreOf, IsTaken};
 
+use crate::history::History;
 use crate::play::{Event, play_one};
-use crate::snapshot::Snapshot;
-use crate::standing::Standing;
-use crate::versions::{next_standing, picture_of};
+use crate::snapshot::{Seen, Snapshot};
+use crate::standing::empty_standing;
+use crate::versions::{next_version, picture_of};
 use delta_graph::Delta;
 use dn_model::{Entry, List, OutOfMemory, Posted, Topology};
+use loop_keeper::KeptLoops;
+use net_engine::Version;
 use std::alloc::Global;
 use std::marker::Model;
 use std::mem;
@@ -23,15 +26,16 @@ use version_pages::Pages;
 /// history.
 ///
 /// A post changes the version and the loops in their own place. Where it finds no memory half way, the history is as
-/// before and both are gone: they are made again, update by update, at the next post, and by each snapshot for itself
-/// until then.
+/// before, the version is gone and the loops are of no history: both are made again, update by update, at the next post,
+/// and by each snapshot for itself until then.
 #[derive(Drop)]
 pub struct Store {
     alloc: Global,
     topology: Arc<Topology, Global>,
     limit: u32,
-    history: Pages<Posted>,
-    standing: Option<Standing>,
+    history: History,
+    version: Option<Version>,
+    loops: KeptLoops,
     changes: Arc<Delta, Global>,
 }
 
@@ -46,14 +50,14 @@ impl Model for Store {
       history = s.history;
     } };
 
-    ghost invariant = { λ s. IsKeptOf (arc_value s.topology) s.limit s.history s.standing (arc_value s.changes) };
+    ghost invariant = { λ s. IsKeptOf (arc_value s.topology) s.limit s.history s.version s.loops (arc_value s.changes) };
 }
 
 /// Adds a seat's entry to a history, and puts the changes that it makes in the place of those before, which it hands
 /// out. After `OutOfMemory`, for which alone it fails, both are as before.
 fn put_with(
     alloc: Global,
-    entries: &mut Pages<Posted>,
+    entries: &mut History,
     changes: &mut Delta,
     seat: u32,
     entry: &Entry,
@@ -76,7 +80,7 @@ fn put_with(
 /// handed out.
 fn post_with(
     alloc: Global,
-    history: &mut Pages<Posted>,
+    history: &mut History,
     changes: &mut Arc<Delta, Global>,
     seat: u32,
     entry: &Entry,
@@ -113,14 +117,15 @@ impl Store {
         ensures basis { IfOk result (λ store. store.basis ≡ record { topology = arc_value topology; limit = limit }) }
         ensures empty { IfOk result (λ store. store.history ≡ []) }
     {
-        let standing = Standing::empty(alloc, Arc::try_clone(&topology)?)?;
+        let (version, loops) = empty_standing(alloc, Arc::try_clone(&topology)?)?;
         let changes = Arc::new(alloc, Delta::new(alloc))?;
         Ok(Store {
             alloc,
             topology,
             limit,
-            history: Pages::new(),
-            standing: Some(standing),
+            history: History::new(alloc),
+            version: Some(version),
+            loops,
             changes,
         })
     }
@@ -130,18 +135,20 @@ impl Store {
         ensures value { result ≡ length self.now.history }
         ensures few { length self.now.history ≤ self.now.basis.limit }
     {
+        // What it holds is below 2^32, and so is the length.
+        let _limit = self.limit;
         self.history.len()
     }
 
     /// The entries of the history, in order, each with the seat that posted it: a list that shares the store's pages, so
-    /// that none of them is copied. It fails for want of memory alone.
+    /// that only its last entries are copied. It fails for want of memory alone.
     pub fn posted(&self) -> Result<Pages<Posted>, OutOfMemory>
         ensures entries { IfOk result (λ history. history ≡ self.now.history) }
         ensures few { length self.now.history ≤ self.now.basis.limit }
         ensures own { AreOf self.now.basis.topology self.now.history }
     {
-        let _ = &self.standing;
-        self.history.copy()
+        let _ = &self.version;
+        self.history.in_pages(self.alloc)
     }
 
     /// The same as a list of their own. It fails for want of memory alone.
@@ -150,13 +157,9 @@ impl Store {
         ensures few { length self.now.history ≤ self.now.basis.limit }
         ensures own { AreOf self.now.basis.topology self.now.history }
     {
-        let count = self.history.len() as usize;
-        let mut history = Vec::with_capacity(alloc, count)?;
-        'pages: while history.len() < count {
-            let run = self.history.run_from(history.len() as u64);
-            history.extend_from_slice(run)?;
-        }
-        Ok(List::from_vec(history))
+        // What it holds is below 2^32, and so is the length.
+        let _limit = self.limit;
+        self.history.to_list(alloc)
     }
 
     /// Plays events, of which each entry is one that the store takes, under a seat's number: a snapshot for each Pin, in
@@ -195,12 +198,13 @@ impl Store {
         ensures number { IfOk result (λ n. n ≡ length self.new.history) }
         ensures err { OnErr result (self.new.history ≡ self.old.history) }
     {
-        let taken = self.standing.take();
-        let (mut standing, changes) = next_standing(
+        let taken = self.version.take();
+        let (mut version, changes) = next_version(
             self.alloc,
             &self.topology,
             &self.history,
             taken,
+            &mut self.loops,
             entry,
         )?;
         let spare = post_with(
@@ -211,8 +215,8 @@ impl Store {
             entry,
             changes,
         )?;
-        standing.take_back(spare);
-        self.standing = Some(standing);
+        version.take_back(spare);
+        self.version = Some(version);
         Ok(self.history.len() as u32)
     }
 }
@@ -242,11 +246,19 @@ impl Book for Store {
     }
 
     fn snap(&self) -> Result<Snapshot, OutOfMemory> {
-        let picture = picture_of(self.alloc, &self.topology, &self.history, &self.standing)?;
+        let picture = picture_of(
+            self.alloc,
+            &self.topology,
+            &self.history,
+            &self.version,
+            &self.loops,
+        )?;
         let topology = Arc::try_clone(&self.topology)?;
-        let history = self.history.copy()?;
+        let history = Arc::new(self.alloc, Seen::of(&self.history))?;
         let changes = Arc::try_clone(&self.changes)?;
-        prove!(self.history.len() <= self.limit as u64);
-        Ok(Snapshot::of(topology, history, picture, changes))
+        // What it holds is below 2^32, and so is the length.
+        let _limit = self.limit;
+        let number = self.history.len() as u32;
+        Ok(Snapshot::of(topology, history, number, picture, changes))
     }
 }

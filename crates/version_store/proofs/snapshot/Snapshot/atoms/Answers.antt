@@ -1,4 +1,5 @@
 use Rattle.std.proofs.Common.{◌≡◌, ◌≤◌, ◌∙◌, length, subst, arith}
+use Rattle.std.specs.Arc.{arc_value}
 use Rattle.dn_model.specs.Entry.{entries}
 use Rattle.net_engine.specs.Version.{Kept, KeptStandsFor, forwarding_of}
 use Rattle.version_store.specs.Kept.{Past}
@@ -12,7 +13,7 @@ returns-clause-rows c =
 
 pub returns-clause-few : goal.returns-clause-few
 returns-clause-few c =
-    let few : length c.self.inside.picture.rows.rows ≤ most_rows (entries c.self.inside.history) = c.self.invariant.shows.few in
+    let few : length c.self.inside.picture.rows.rows ≤ most_rows (entries (arc_value c.self.inside.history).value) = c.self.invariant.shows.few in
     let is : c.atoms.result ≡ length c.self.inside.picture.rows.rows = c.atoms.ensures in
     let P : Past → Type 0 = λ p. c.atoms.result ≤ most_rows (entries p.history) in
     subst P c.self.view_is (omega arith)

@@ -3,8 +3,8 @@ use Rattle.std.proofs.lemmas.Result.{err_from_is_err_and}
 use Rattle.std.specs.Arc.{arc_value}
 use Rattle.base.specs.declared.change.Change.{Change}
 use Rattle.dn_model.specs.declared.entry.Posted.{Posted}
+use Rattle.net_engine.specs.Version.{Kept}
 use Rattle.version_store.specs.Kept.{IsKeptOf, IsTaken, Ledger}
-use Rattle.version_store.specs.declared.standing.Standing.{Standing}
 use Rattle.version_store.proofs.GoingOn.{kept-more}
 use Rattle.version_store.proofs.store.Store.add.Goals as goal
 
@@ -12,14 +12,14 @@ pub invariant_of-self-2 : goal.invariant_of-self-2
 invariant_of-self-2 c =
     let s = c.self.inside in
     let posted : Posted = record { seat = c.args.seat; entry = c.args.entry.now } in
-    let kept : Standing → List Posted → List Change → Type 0 = λ standing h cs. IsKeptOf (arc_value s.topology) s.limit h (Some standing) cs in
-    subst (λ (standing : Standing). kept standing c.post_with.new.history (arc_value c.post_with.new.changes)) (sym c.take_back.ensures)
-    (subst (λ (h : List Posted). kept c.in_ok-standing.standing h (arc_value c.post_with.new.changes)) (sym c.in_ok-spare.ensures.entries)
-    (subst (λ (cs : List Change). kept c.in_ok-standing.standing (s.history ++ posted ∷ []) cs) (sym c.in_ok-spare.ensures.changes)
-    (kept-more (arc_value s.topology) s.limit s.history posted s.standing c.in_ok-standing.standing (arc_value s.changes) c.in_ok-standing.changes c.self.invariant
+    let kept : Kept → List Posted → List Change → Type 0 = λ version h cs. IsKeptOf (arc_value s.topology) s.limit h (Some version) c.next_version.new.loops cs in
+    subst (λ (version : Kept). kept version c.post_with.new.history (arc_value c.post_with.new.changes)) (sym c.take_back.ensures)
+    (subst (λ (h : List Posted). kept c.in_ok-version.version h (arc_value c.post_with.new.changes)) (sym c.in_ok-spare.ensures.entries)
+    (subst (λ (cs : List Change). kept c.in_ok-version.version (s.history ++ posted ∷ []) cs) (sym c.in_ok-spare.ensures.changes)
+    (kept-more (arc_value s.topology) s.limit s.history posted s.version c.in_ok-version.version s.loops c.next_version.new.loops (arc_value s.changes) c.in_ok-version.changes c.self.invariant
     (subst (λ (l : Ledger). length l.history < l.basis.limit) (sym c.self.view_is) c.requires.room)
     (subst (λ (l : Ledger). IsTaken l.basis.topology c.args.entry.now) (sym c.self.view_is) c.requires.entry)
-    c.in_ok-standing.ensures.standing c.in_ok-standing.ensures.changes)))
+    c.in_ok-version.ensures.stands c.in_ok-version.ensures.changes)))
 
 pub returns-in_err-spare-clause-ok : goal.returns-in_err-spare-clause-ok
 returns-in_err-spare-clause-ok c =

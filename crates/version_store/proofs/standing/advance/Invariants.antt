@@ -1,4 +1,4 @@
-use Rattle.version_store.proofs.standing.Standing.advance.Given as goal
+use Rattle.version_store.proofs.standing.advance.Given as goal
 
 -- the ledgers of the blanks
 abbrev pub ghosts-keep : goal.ghosts-keep

@@ -3,7 +3,8 @@
 use crate::network::{TO_SECOND, TO_THIRD, clear, no_object, object, set, set_by, ten, ten_one};
 use crate::topologies::three_and_vrf;
 use dn_model::{
-    Entry, Prefix, Replace, RouterId, Target, Topology, plain_objects, plain_routes, plain_target,
+    Entry, Prefix, Replace, RouterId, Target, Topology, Way, plain_objects, plain_routes,
+    plain_target,
 };
 use nexthop_objects::Objects;
 use std::alloc::Global;
@@ -191,4 +192,81 @@ fn a_history_without_objects_does_the_same(rt: HostRuntime) {
     compare_histories(&rt, rt.alloc(), &entries[..4], &flat[..4]);
     compare_histories(&rt, rt.alloc(), &entries[..5], &flat[..5]);
     compare_histories(&rt, rt.alloc(), &entries, &flat);
+}
+
+/// 10.0.0.0/16.
+fn ten_zero() -> Prefix {
+    Prefix::new(0x0A00_0000, 16)
+}
+
+#[test]
+fn users_come_in_their_order(rt: HostRuntime) {
+    let mut objects = Objects::new(rt.alloc());
+    let want = [
+        (FIRST, ten(), 1),
+        (FIRST, ten(), 2),
+        (FIRST, ten_zero(), 0),
+        (FIRST, ten_one(), 1),
+        (VRF, ten(), 0),
+    ];
+    for user in want.iter().rev() {
+        add(&rt, &mut objects, 7, *user);
+    }
+    compare_users(&rt, &objects, 7, &want);
+}
+
+/// The users of an object are the routes by it in the tables of the first device and of its VRF after these entries.
+fn compare_with_tables(
+    rt: &impl Abort,
+    alloc: Global,
+    entries: &[Entry],
+    objects: &Objects,
+    id: u32,
+) {
+    let t = three_and_vrf(alloc, Replace::Prefix).expect(rt, "memory");
+    let users = objects.users(FIRST, id).expect(rt, "memory");
+    let mut by_id = Vec::new(alloc);
+    for router in [FIRST, VRF] {
+        let routes = plain_routes(alloc, &t, entries, router).expect(rt, "memory");
+        for route in routes.as_slice() {
+            if route.way == Way::By(id) {
+                let user = (router, route.prefix, route.metric);
+                assert!(rt; users.as_slice().contains(&user));
+                by_id.push(user).expect(rt, "memory");
+            }
+        }
+    }
+    assert_eq!(rt; users.len(), by_id.len());
+}
+
+#[test]
+fn users_are_the_routes_of_tables(rt: HostRuntime) {
+    let alloc = rt.alloc();
+    let entries = [
+        set_by(3, ten(), 30, 7),
+        set_by(0, ten(), 30, 7),
+        set_by(0, ten(), 40, 8),
+        set_by(0, ten_one(), 5, 7),
+        set(0, ten_one(), 9, TO_THIRD),
+        set_by(0, ten(), 50, 7),
+        no_object(0, 7),
+    ];
+    let mut objects = Objects::new(alloc);
+    add(&rt, &mut objects, 7, (VRF, ten(), 30));
+    add(&rt, &mut objects, 7, (FIRST, ten(), 30));
+    compare_with_tables(&rt, alloc, &entries[..2], &objects, 7);
+    add(&rt, &mut objects, 8, (FIRST, ten(), 40));
+    remove(&mut objects, 7, (FIRST, ten(), 30));
+    add(&rt, &mut objects, 7, (FIRST, ten_one(), 5));
+    compare_with_tables(&rt, alloc, &entries[..4], &objects, 7);
+    compare_with_tables(&rt, alloc, &entries[..4], &objects, 8);
+    remove(&mut objects, 7, (FIRST, ten_one(), 5));
+    add(&rt, &mut objects, 7, (FIRST, ten(), 50));
+    remove(&mut objects, 8, (FIRST, ten(), 40));
+    compare_with_tables(&rt, alloc, &entries[..6], &objects, 7);
+    compare_with_tables(&rt, alloc, &entries[..6], &objects, 8);
+    for user in objects.users(FIRST, 7).expect(&rt, "memory").as_slice() {
+        remove(&mut objects, 7, *user);
+    }
+    compare_with_tables(&rt, alloc, &entries, &objects, 7);
 }

@@ -1,26 +1,26 @@
 -- A flat history does what the history does.
-use Rattle.std.proofs.Common.{◌≡◌, ℕ, ◌<◌, ◌∙◌, ◌==◌, not, Bool, true, false, cond, Option, Some, None, List, [], ◌∷◌, ◌++◌, filter, fold, length, map, refl, ap, sym, subst, ⊎_elim, IfSome}
+use Rattle.std.proofs.Common.{◌≡◌, ℕ, ◌<◌, ◌∙◌, ◌==◌, Bool, true, false, cond, Option, Some, None, List, [], ◌∷◌, ◌++◌, fold, length, map, refl, ap, sym, subst, ⊎_elim}
 use Rattle.std.specs.Prelude.{option_map}
 use Rattle.std.specs.List.{All, Contains, flat_map}
 use Rattle.std.proofs.lemmas.Bool.{both_ways, cases_Bool, eq-eqb, eqb-true}
 use Rattle.std.proofs.lemmas.List.{append-nil, append_assoc}
-use Rattle.std.proofs.lemmas.List.Elements.{All-head, All-tail, Contains-push_cases}
-use Rattle.std.proofs.lemmas.Option.{none-some, same_Some}
-use Rattle.base.specs.Cidr.{Cidr, IsCidr}
+use Rattle.std.proofs.lemmas.List.Elements.{All-head, All-tail}
+use Rattle.base.specs.Cidr.{IsCidr}
+use Rattle.base.specs.Links.{without}
 use Rattle.base.specs.declared.ids.RouterId.{RouterId}
 use Rattle.base.specs.declared.target.Target.{Target}
 use Rattle.base.proofs.DeltaParts.{same-router}
-use Rattle.base.proofs.Elements.{contains-map, contains-none, filter-contains}
-use Rattle.dn_model.specs.Entry.{object_op, op_on, prefix_set, IsEntryOf}
+use Rattle.base.proofs.Elements.{contains-map}
+use Rattle.dn_model.specs.Downs.{downs}
+use Rattle.dn_model.specs.Entry.{object_op, op_on, IsEntryOf}
 use Rattle.dn_model.specs.Routes.{IsTable}
-use Rattle.dn_model.specs.Table.{Object as ObjectIs, after_object, after_op, after_table_op, best, followed, has_key, is_by, is_of_prefix, is_replaced, objects, ops_on, table, target_after, way_or_none}
+use Rattle.dn_model.specs.Table.{Object as ObjectIs, after_object, after_op, best, does_after, followed, is_by, objects, ops_on, table, target_after, way_or_none}
 use Rattle.dn_model.specs.Tables.{device_of, replaces_prefix}
 use Rattle.dn_model.specs.declared.entry.Entry.{Entry}
 use Rattle.dn_model.specs.declared.entry.Entry.TheVariants.{Route, Link}
 use Rattle.dn_model.specs.declared.entry.Op.{Op}
 use Rattle.dn_model.specs.declared.entry.Op.TheVariants as ops
 use Rattle.dn_model.specs.declared.entry.Route as route
-use Rattle.dn_model.specs.declared.table_op.TableOp.TheVariants.{Put}
 use Rattle.dn_model.specs.declared.topology.Topology.{Topology}
 use Rattle.dn_model.specs.declared.way.Way.{Way}
 use Rattle.dn_model.specs.declared.way.Way.TheVariants.{Straight, By}
@@ -28,7 +28,8 @@ use Rattle.dn_model.proofs.DeviceTables.{device-own}
 use Rattle.dn_model.proofs.Keys.{table-keys}
 use Rattle.dn_model.proofs.SameRoutes.{SameRoutes, same-after, same-best, same-refl}
 use Rattle.dn_model.proofs.Tables.{op-other, op-own, table-push_other, table-push_own}
-use Rattle.nexthop_objects.specs.Flat.{flat, flat_entry, flat_from, routers_of, routes_by, HasPrefix}
+use Rattle.nexthop_objects.specs.Flat.{flat, flat_entry, flat_from, routers_of, routes_by}
+use Rattle.nexthop_objects.proofs.FlatEnds.{flat_links}
 use Rattle.nexthop_objects.proofs.FlatRoutes.{best-straight, by_object, clear-again, clear_all, clear-straight, others, set_all, set-straight, straight, straight-clear, straight-put, straightened}
 use Rattle.nexthop_objects.proofs.FlatSteps.{all-told, alike-after, does-after, has-router, none-told, objects-other, objects-own, router-has, table-append, table-apart, table-apart_keys, told}
 
@@ -42,12 +43,12 @@ same-by F G os new xs ys f o x h =
     (subst (λ z. SameRoutes F (straight z ys)) (sym o)
     (subst (λ z. SameRoutes F (straight os z)) (sym x) h))
 
-op-none : (t : Topology) (r q : RouterId) (n : ℕ) (op : Op) → object_op op ≡ None → (q.0 == r.0) ≡ false → op_on t r (Route q n op) ≡ None
+pub op-none : (t : Topology) (r q : RouterId) (n : ℕ) (op : Op) → object_op op ≡ None → (q.0 == r.0) ≡ false → op_on t r (Route q n op) ≡ None
 op-none t r q n op none off = rw off (⊎_elim (λ (y : (q.0 == (device_of t r).0) ≡ true). rw y none) (λ (z : (q.0 == (device_of t r).0) ≡ false). rw z refl) (cases_Bool (q.0 == (device_of t r).0)))
 
 -- ---- an update of a route
 
-objects-kept : (t : Topology) (before : List Entry) (r q : RouterId) (n : ℕ) (op : Op) → object_op op ≡ None → ((os : List ObjectIs) → after_object os op ≡ os) → objects t (before ++ Route q n op ∷ []) r ≡ objects t before r
+pub objects-kept : (t : Topology) (before : List Entry) (r q : RouterId) (n : ℕ) (op : Op) → object_op op ≡ None → ((os : List ObjectIs) → after_object os op ≡ os) → objects t (before ++ Route q n op ∷ []) r ≡ objects t before r
 objects-kept t before r q n op none keeps = ⊎_elim
     (λ (y : (q.0 == (device_of t r).0) ≡ true). objects-own t before (Route q n op) r op (op-own t (device_of t r) q n op (eqb-true q.0 (device_of t r).0 y)) ∙ keeps (objects t before r))
     (λ (z : (q.0 == (device_of t r).0) ≡ false). objects-other t before (Route q n op) r (op-none t (device_of t r) q n op none z))
@@ -192,67 +193,15 @@ steps t r made before (e ∷ es) sound h =
     subst (λ z. IsFlatAt t z (before ++ e ∷ es) r) (append_assoc made (flat_entry t before e) (flat_from t (before ++ e ∷ []) es))
     (subst (λ z. IsFlatAt t ((made ++ flat_entry t before e) ++ flat_from t (before ++ e ∷ []) es) z r) (append_assoc before (e ∷ []) es) rest)
 
--- ---- prefixes
-
-AreBlocks : List route.Route → Type 0
-AreBlocks xs = (x : route.Route) → Contains xs x → IsCidr x.prefix
-
-blocks-filter : (p : route.Route → Bool) (xs : List route.Route) → AreBlocks xs → AreBlocks (filter p xs)
-unfolding AreBlocks
-blocks-filter p xs h x i = h x (filter-contains p x xs i).0
-
-blocks-put : (alone : Bool) (xs : List route.Route) (p : Cidr) (m : ℕ) (w : Way) → IsCidr p → AreBlocks xs → AreBlocks (after_table_op alone xs (Put p m w))
-unfolding AreBlocks
-blocks-put alone xs p m w sound h x i =
-    let new : route.Route = record { prefix = p; metric = m; way = w } in
-    ⊎_elim
-    (λ (old : Contains (filter (λ r. not (is_replaced alone p m r)) xs) x). blocks-filter (λ r. not (is_replaced alone p m r)) xs h x old)
-    (λ (same : new ≡ x). let P : route.Route → Type 0 = λ y. IsCidr y.prefix in subst P same sound)
-    (Contains-push_cases (filter (λ r. not (is_replaced alone p m r)) xs) new x i)
-
-blocks-after : (alone : Bool) (xs : List route.Route) (op : Op) → IfSome (prefix_set op) IsCidr → AreBlocks xs → AreBlocks (after_op alone xs op)
-blocks-after alone xs (ops.Set p m v) sound h = blocks-put alone xs p m (Straight v) sound h
-blocks-after alone xs (ops.SetBy p m id) sound h = blocks-put alone xs p m (By id) sound h
-blocks-after alone xs (ops.Clear p None) sound h = blocks-filter (λ r. not (is_of_prefix p r)) xs h
-blocks-after alone xs (ops.Clear p (Some m)) sound h = blocks-filter (λ r. not (has_key p m r)) xs h
-blocks-after alone xs (ops.Object id v) sound h = h
-blocks-after alone xs (ops.NoObject id) sound h = blocks-filter (λ r. not (is_by id r.way)) xs h
-
-of-object : (o op : Op) → object_op o ≡ Some op → IfSome (prefix_set op) IsCidr
-of-object (ops.Set p m v) op h = absurd (none-some op h)
-of-object (ops.SetBy p m id) op h = absurd (none-some op h)
-of-object (ops.Clear p m) op h = absurd (none-some op h)
-of-object (ops.Object id v) op h = subst (λ (x : Op). IfSome (prefix_set x) IsCidr) (same_Some (ops.Object id v) op h) tt
-of-object (ops.NoObject id) op h = subst (λ (x : Op). IfSome (prefix_set x) IsCidr) (same_Some (ops.NoObject id) op h) tt
-
-op-block : (t : Topology) (r : RouterId) (e : Entry) (op : Op) → HasPrefix e → op_on t r e ≡ Some op → IfSome (prefix_set op) IsCidr
-op-block t r (Link j l down) op sound h = absurd (none-some op h)
-op-block t r (Route q n o) op sound h = ⊎_elim
-    (λ (y : (q.0 == r.0) ≡ true). let is : Some o ≡ Some op = rw y at h in subst (λ (x : Op). IfSome (prefix_set x) IsCidr) (same_Some o op is) sound)
-    (λ (z : (q.0 == r.0) ≡ false). ⊎_elim
-    (λ (y : (q.0 == (device_of t r).0) ≡ true). let is : object_op o ≡ Some op = rw (z, y) at h in of-object o op is)
-    (λ (w : (q.0 == (device_of t r).0) ≡ false). let is : None ≡ Some op = rw (z, w) at h in absurd (none-some op is))
-    (cases_Bool (q.0 == (device_of t r).0)))
-    (cases_Bool (q.0 == r.0))
-
-blocks-from : (t : Topology) (r : RouterId) (xs : List route.Route) (es : List Entry) → All HasPrefix es → AreBlocks xs → AreBlocks (fold (after_op (replaces_prefix t r)) xs (ops_on t r es))
-blocks-from t r xs [] sound h = h
-blocks-from t r xs (e ∷ es) sound h = by (λ ys k. blocks-from t r ys es (All-tail HasPrefix e es sound) k) (op_on t r e) refl
-  where
-    by : ((ys : List route.Route) → AreBlocks ys → AreBlocks (fold (after_op (replaces_prefix t r)) ys (ops_on t r es))) → (o : Option Op) → op_on t r e ≡ o → AreBlocks (fold (after_op (replaces_prefix t r)) xs (ops_on t r (e ∷ es)))
-    by more None is = rw is (more xs h)
-    by more (Some op) is = rw is (more (after_op (replaces_prefix t r) xs op) (blocks-after (replaces_prefix t r) xs op (op-block t r e op (All-head HasPrefix e es sound) is) h))
-
 -- ---- what a flat history does
 
-flat-table : (t : Topology) (history : List Entry) (r : RouterId) → All (IsEntryOf t) history → All HasPrefix history → SameRoutes (table t (flat t history) r) (straight (objects t history r) (table t history r)) → IsTable (table t (flat t history) r)
-unfolding AreBlocks
-flat-table t history r sound prefixes same = record {
+flat-table : (t : Topology) (history : List Entry) (r : RouterId) → ((x : route.Route) → Contains (table t history r) x → IsCidr x.prefix) → SameRoutes (table t (flat t history) r) (straight (objects t history r) (table t history r)) → IsTable (table t (flat t history) r)
+flat-table t history r prefixes same = record {
   keys = table-keys t (flat t history) r;
   prefixes = λ x i.
       let w : (y : route.Route) × Contains (table t history r) y × (straightened (objects t history r) y ≡ x) = contains-map (straightened (objects t history r)) (table t history r) x (same.there x i) in
       let P : route.Route → Type 0 = λ z. IsCidr z.prefix in
-      subst P w.2 (blocks-from t r [] history prefixes (λ y j. absurd (contains-none y j)) w.0 w.1);
+      subst P w.2 (prefixes w.0 w.1);
 }
 
 straight-follows : (os other : List ObjectIs) (o : Option route.Route) → followed other (way_or_none (option_map (straightened os) o)) ≡ followed os (way_or_none o)
@@ -260,11 +209,16 @@ straight-follows os other None = refl
 straight-follows os other (Some x) = refl
 
 -- of a network's history the routers do the same with each address without objects
-pub flat_is_same : (t : Topology) (history : List Entry) → All (IsEntryOf t) history → All HasPrefix history → (r : RouterId) (a : ℕ) → target_after t (flat t history) r a ≡ target_after t history r a
-flat_is_same t history sound prefixes r a =
+pub flat_is_same : (t : Topology) (history : List Entry) → All (IsEntryOf t) history → (r : RouterId) (a : ℕ) → ((x : route.Route) → Contains (table t history r) x → IsCidr x.prefix) → target_after t (flat t history) r a ≡ target_after t history r a
+flat_is_same t history sound r a prefixes =
     let os : List ObjectIs = objects t history r in
     let xs : List route.Route = table t history r in
     let same : SameRoutes (table t (flat t history) r) (straight os xs) = steps t r [] [] history sound (same-refl []) in
     let first : best (table t (flat t history) r) a ≡ option_map (straightened os) (best xs a) =
-    same-best (table t (flat t history) r) (straight os xs) a (flat-table t history r sound prefixes same) same ∙ best-straight os xs a in
+    same-best (table t (flat t history) r) (straight os xs) a (flat-table t history r prefixes same) same ∙ best-straight os xs a in
     ap (λ o. followed (objects t (flat t history) r) (way_or_none o)) first ∙ straight-follows os (objects t (flat t history) r) (best xs a)
+
+-- and so they do where links are down
+pub flat_does_same : (t : Topology) (history : List Entry) → All (IsEntryOf t) history → (r : RouterId) (a : ℕ) → ((x : route.Route) → Contains (table t history r) x → IsCidr x.prefix) → does_after t (flat t history) r a ≡ does_after t history r a
+flat_does_same t history sound r a prefixes =
+    ap (λ down. without down (target_after t (flat t history) r a)) (flat_links t history) ∙ ap (without (downs history)) (flat_is_same t history sound r a prefixes)

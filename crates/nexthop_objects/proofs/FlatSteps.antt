@@ -72,7 +72,7 @@ made-push id (x ∷ xs) op = by (list_any (names_object id) xs) (names_object id
     by false true f g h k = let any : list_any (names_object id) (xs ++ op ∷ []) ≡ true = rw (f, g) at k in let is : last_made id (xs ++ op ∷ []) ≡ object_made op = rw g at h in rw (any, g) is
     by false false f g h k = let any : list_any (names_object id) (xs ++ op ∷ []) ≡ false = rw (f, g) at k in rw (any, g, f) refl
 
-object-push : (t : Topology) (history : List Entry) (e : Entry) (r : RouterId) (op : Op) (id : ℕ) → op_on t (device_of t r) e ≡ Some op
+pub object-push : (t : Topology) (history : List Entry) (e : Entry) (r : RouterId) (op : Op) (id : ℕ) → op_on t (device_of t r) e ≡ Some op
     → lookup (λ i. i == id) (objects t (history ++ e ∷ []) r) ≡ cond (names_object id op) (object_made op) (lookup (λ i. i == id) (objects t history r))
 object-push t history e r op id h =
     object-last t (history ++ e ∷ []) r id

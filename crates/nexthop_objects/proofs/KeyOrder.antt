@@ -17,7 +17,7 @@ use Rattle.base.specs.Lists.{all_differ}
 use Rattle.base.specs.declared.ids.RouterId.{RouterId}
 use Rattle.base.specs.declared.target.Target.{Target}
 use Rattle.nexthop_objects.specs.Keys.{first_key, key_of, last_key, object_at, AreUserKeys, IsUserKey}
-use Rattle.nexthop_objects.specs.Objects.{Standing, User, has_user, is_object, is_same_object, is_same_user, target_of, user_of, users_among}
+use Rattle.nexthop_objects.specs.Objects.{Standing, User, cmp_user, has_user, is_object, is_same_object, is_same_user, target_of, user_of, users_among}
 use Rattle.nexthop_objects.specs.declared.keys.ObjectKey.{ObjectKey}
 use Rattle.nexthop_objects.specs.declared.keys.UserKey.{UserKey}
 use Rattle.nexthop_objects.specs.contracts.keys.ObjectKeyOrd.TheImpl.{cmp-value as cmp_objects}
@@ -113,6 +113,31 @@ distinct-once d i (k ∷ ks) h = ⊎_elim
 -- keys in order stand for each user once
 pub sorted-once : (d : RouterId) (i : ℕ) (keys : List UserKey) → IsStrictlySortedBy cmp_users.it keys → all_differ is_same_user (users_among d i keys) ≡ true
 sorted-once d i keys h = distinct-once d i keys (IsDistinct-from_sorted cmp_users.it keys h)
+
+-- ---- users in order
+
+after-equal : (a o : Ordering) → is_eq a ≡ true → ordering_then a o ≡ Less → o ≡ Less
+after-equal Less o h k = absurd (both_ways false refl h)
+after-equal Equal o h k = k
+after-equal Greater o h k = absurd (both_ways false refl h)
+
+users-behind : (d : RouterId) (i : ℕ) (k : UserKey) (ks : List UserKey) → is_object d i k.object ≡ true → AllByRecursion (λ y. cmp_users.it k y ≡ Less) ks → AllByRecursion (λ u. cmp_user (user_of k) u ≡ Less) (users_among d i ks)
+users-behind d i k [] own h = tt
+users-behind d i k (y ∷ ys) own h = ⊎_elim
+    (λ (by : is_object d i y.object ≡ true).
+    let same : is_eq (cmp_objects.it k.object y.object) ≡ true = at-object k.object.device k.object.id y.object ∙ same-object d i k.object y.object own by in
+    rw by (after-equal (cmp_objects.it k.object y.object) (cmp_user (user_of k) (user_of y)) same h.0, users-behind d i k ys own h.1))
+    (λ (other : is_object d i y.object ≡ false). rw other (users-behind d i k ys own h.1))
+    (cases_Bool (is_object d i y.object))
+
+-- the users of an object stand in their order where all keys do
+pub sorted-order : (d : RouterId) (i : ℕ) (keys : List UserKey) → IsStrictlySortedBy cmp_users.it keys → IsStrictlySortedBy cmp_user (users_among d i keys)
+unfolding IsStrictlySortedBy
+sorted-order d i [] h = tt
+sorted-order d i (k ∷ ks) h = ⊎_elim
+    (λ (own : is_object d i k.object ≡ true). rw own (users-behind d i k ks own h.0, sorted-order d i ks h.1))
+    (λ (other : is_object d i k.object ≡ false). rw other (sorted-order d i ks h.1))
+    (cases_Bool (is_object d i k.object))
 
 -- ---- the users of an object between two keys
 

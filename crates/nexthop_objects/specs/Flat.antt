@@ -1,11 +1,9 @@
 -- A history without next-hop objects that does the same: routes are set to what their objects do, and set again where
 -- those change.
-use Rattle.std.specs.Prelude.{ℕ, List, [], ◌∷◌, ◌++◌, ◌+◌, ◌==◌, Some, IsSome, IfSome, filter, map}
+use Rattle.std.specs.Prelude.{ℕ, List, [], ◌∷◌, ◌++◌, ◌+◌, ◌==◌, Some, IsSome, filter, map}
 use Rattle.std.specs.List.{flat_map}
 use Rattle.std.specs.Map.{lookup}
-use Rattle.base.specs.Cidr.{IsCidr}
 use Rattle.base.specs.declared.ids.RouterId.{RouterId}
-use Rattle.dn_model.specs.Entry.{prefix_set}
 use Rattle.dn_model.specs.Table.{followed, is_by, objects, table}
 use Rattle.dn_model.specs.Tables.{device_of}
 use Rattle.dn_model.specs.declared.entry.Entry.{Entry}
@@ -69,8 +67,3 @@ HasNoObject (Route r n (SetBy p m id)) = ⊥
 HasNoObject (Route r n (Object id target)) = ⊥
 HasNoObject (Route r n (NoObject id)) = ⊥
 HasNoObject _ = Unit {0}
-
--- the prefix of a route that an entry sets has no host bits
-abbrev pub HasPrefix : Entry → Type 0
-HasPrefix (Link job l down) = Unit {0}
-HasPrefix (Route r n op) = IfSome (prefix_set op) IsCidr

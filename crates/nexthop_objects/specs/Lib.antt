@@ -1,3 +1,4 @@
+pub mod Book
 pub mod Flat
 pub mod Keys
 pub mod Objects

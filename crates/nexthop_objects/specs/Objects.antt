@@ -1,7 +1,10 @@
 -- Next-hop objects (RTM_NEWNEXTHOP of rtnetlink(7)) as they stand: what each does, and which routes go by it.
-use Rattle.std.specs.Prelude.{ℕ, Bool, List, [], Option, IsTrue, map, filter, ◌≡◌, ◌==◌, ◌&&◌, if◌then◌else◌}
+use Rattle.std.specs.Prelude.{ℕ, Bool, false, List, [], Option, IsTrue, map, filter, ◌≡◌, ◌==◌, ◌&&◌, if◌then◌else◌}
 use Rattle.std.specs.List.{list_any}
+use Rattle.std.specs.List.Sorted.{IsStrictlySortedBy}
 use Rattle.std.specs.Map.{lookup}
+use Rattle.std.specs.Ordering.{nat_cmp, ordering_then}
+use Rattle.std.specs.declared.cmp.Ordering.{Ordering}
 use Rattle.base.specs.Cidr.{Cidr}
 use Rattle.base.specs.Lists.{all_differ}
 use Rattle.base.specs.declared.ids.RouterId.{RouterId}
@@ -62,6 +65,30 @@ SetsUser old new device id user b =
     (d : RouterId) (i : ℕ) (u : User) →
     has_user new d i u ≡ (if is_same_object device id d i && is_same_user user u then b else has_user old d i u)
 
+-- a route, and the id of the object of its router's device that it goes by
+abbrev pub Use : Type 0
+Use = ℕ × User
+
+abbrev pub is_same_use : Use → Use → Bool
+is_same_use x y = (x.0 == y.0) && is_same_user x.1 y.1
+
+-- these routes go by these objects of a device no more, and each other route goes by the objects that it went by
+abbrev pub TakesUsers : Standing → Standing → RouterId → List Use → Type 0
+TakesUsers old new device uses =
+    (d : RouterId) (i : ℕ) (u : User) →
+    has_user new d i u ≡
+    (if (device.0 == d.0) && list_any (is_same_use (i, u)) uses then false else has_user old d i u)
+
 -- none of these users stands twice
 abbrev pub AreOnce : List User → Type 0
 AreOnce users = IsTrue (all_differ is_same_user users)
+
+-- the order of routes by an object: by router, first address, length and metric
+abbrev pub cmp_user : User → User → Ordering
+cmp_user u v =
+    ordering_then (nat_cmp u.0.0 v.0.0)
+    (ordering_then (nat_cmp u.1.base v.1.base) (ordering_then (nat_cmp u.1.len v.1.len) (nat_cmp u.2 v.2)))
+
+-- each of these users stands before the next
+abbrev pub AreInOrder : List User → Type 0
+AreInOrder users = IsStrictlySortedBy cmp_user users

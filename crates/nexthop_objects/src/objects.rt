@@ -2,7 +2,8 @@
 
 ghost use Rattle.std.specs.Prelude.{◌≡◌, IfOk, None, OnErr, OnOk, Some, false, is_some, true};
 ghost use Rattle.nexthop_objects.specs.Keys.{AreUserKeys};
-ghost use Rattle.nexthop_objects.specs.Objects.{nothing, target_of, users_among, users_of, AreOnce, SetsTarget, SetsUser};
+ghost use Rattle.nexthop_objects.specs.Objects.{nothing, target_of, users_among, users_of};
+ghost use Rattle.nexthop_objects.specs.Objects.{AreInOrder, AreOnce, SetsTarget, SetsUser};
 
 use crate::keys::{ObjectKey, UserKey};
 use dn_model::{List, OutOfMemory, Prefix, RouterId, Target};
@@ -119,6 +120,7 @@ impl Objects {
     ) -> Result<List<(RouterId, Prefix, u32)>, OutOfMemory>
         ensures all { IfOk result (λ users. users ≡ users_of self.now device id) }
         ensures once { AreOnce (users_of self.now device id) }
+        ensures order { AreInOrder (users_of self.now device id) }
     {
         let users = users_in(self.alloc, &self.users, ObjectKey { device, id })?;
         Ok(List::from_vec(users))
@@ -148,6 +150,7 @@ fn users_in(
     requires { AreUserKeys keys.now.keys }
     ensures all { IfOk result (λ users. users.items ≡ users_among object.device object.id keys.now.keys) }
     ensures once { AreOnce (users_among object.device object.id keys.now.keys) }
+    ensures order { AreInOrder (users_among object.device object.id keys.now.keys) }
 {
     let first = UserKey::first(object);
     let last = UserKey::last(object);

@@ -3,7 +3,7 @@ use Rattle.std.specs.List.{AllByRecursion}
 use Rattle.nexthop_objects.specs.Keys.{IsUserKey}
 use Rattle.nexthop_objects.specs.Objects.{User, is_object, user_of}
 use Rattle.nexthop_objects.specs.declared.keys.UserKey.{UserKey}
-use Rattle.nexthop_objects.proofs.KeyOrder.{each-filtered, each-key, range-keys, sorted-once}
+use Rattle.nexthop_objects.proofs.KeyOrder.{each-filtered, each-key, range-keys, sorted-once, sorted-order}
 use Rattle.nexthop_objects.proofs.objects.users_in.Goals as goal
 
 pub loop-key-init : goal.loop-key-init
@@ -24,3 +24,9 @@ returns-in_err-push-clause-once c = sorted-once c.args.object.device c.args.obje
 
 pub returns-clause-once : goal.returns-clause-once
 returns-clause-once c = sorted-once c.args.object.device c.args.object.id c.args.keys.now.keys c.range-key-items.ensures.ordered
+
+pub returns-in_err-push-clause-order : goal.returns-in_err-push-clause-order
+returns-in_err-push-clause-order c = sorted-order c.args.object.device c.args.object.id c.args.keys.now.keys c.range-key-items.ensures.ordered
+
+pub returns-clause-order : goal.returns-clause-order
+returns-clause-order c = sorted-order c.args.object.device c.args.object.id c.args.keys.now.keys c.range-key-items.ensures.ordered

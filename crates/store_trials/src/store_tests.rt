@@ -380,32 +380,34 @@ fn first_entries(rt: &impl Abort, alloc: Global, count: u32) -> Vec<Entry>
     entries
 }
 
-/// A store has the first entries of a long history, of which each was posted under its place as the seat.
+/// Whether an entry is the one at this place of a long history, posted under the place as its seat.
+fn is_at(posted: Option<&Posted>, place: u32) -> bool {
+    match posted {
+        Some(posted) => posted.seat == place && posted.entry == entry_at(place),
+        None => false,
+    }
+}
+
+/// A store has the first entries of a long history.
 fn compare_history(rt: &impl Abort, alloc: Global, store: &Store, count: u32) {
     let pages = store.posted().expect(rt, "memory");
     let history = store.history(alloc).expect(rt, "memory");
-    assert_eq!(rt;
-        (store.len(), pages.len()),
-        (u64::from(count), u64::from(count))
-    );
+    assert_eq!(rt; store.len(), u64::from(count));
+    assert_eq!(rt; pages.len(), u64::from(count));
     assert_eq!(rt; history.len(), count as usize);
     for place in 0..count {
-        let posted = Posted {
-            seat: place,
-            entry: entry_at(place),
-        };
         assert!(rt;
-            history.as_slice().get(place as usize) == Some(&posted),
-            "listed at {place}"
+            is_at(pages.get(u64::from(place)), place),
+            "in pages at {place}"
         );
         assert!(rt;
-            pages.get(u64::from(place)) == Some(&posted),
-            "in pages at {place}"
+            is_at(history.as_slice().get(place as usize), place),
+            "listed at {place}"
         );
     }
 }
 
-/// Posts entries of a long history, until there are so many, and looks at them.
+/// Posts entries of a long history until there are so many, and looks at them.
 fn grow(rt: &impl Abort, alloc: Global, store: &mut Store, count: u32)
     requires routers { length store.old.basis.topology.routers ≡ 3 }
     requires links { length store.old.basis.topology.links ≡ 2 }
@@ -419,7 +421,19 @@ fn grow(rt: &impl Abort, alloc: Global, store: &mut Store, count: u32)
     compare_history(rt, alloc, store, count);
 }
 
-/// Snapshots of 64 and of 65 entries stay, whatever is posted later.
+/// A snapshot, held while its store grows from so many entries to 129, is of these entries.
+fn compare_held(rt: &impl Abort, alloc: Global, store: &mut Store, count: u32)
+    requires routers { length store.old.basis.topology.routers ≡ 3 }
+    requires links { length store.old.basis.topology.links ≡ 2 }
+{
+    grow(rt, alloc, store, count);
+    let held = store.snap().expect(rt, "memory");
+    grow(rt, alloc, store, 129);
+    let entries = first_entries(rt, alloc, count);
+    compare(rt, alloc, &held, &entries);
+}
+
+/// Entries go to the pages 64 at once.
 #[test]
 fn a_history_grows_by_pages(rt: HostRuntime) {
     let mut store = store_of(&rt, rt.alloc(), 200);
@@ -427,19 +441,22 @@ fn a_history_grows_by_pages(rt: HostRuntime) {
     grow(&rt, rt.alloc(), &mut store, 1);
     grow(&rt, rt.alloc(), &mut store, 63);
     grow(&rt, rt.alloc(), &mut store, 64);
-    let whole = store.snap().expect(&rt, "memory");
     grow(&rt, rt.alloc(), &mut store, 65);
-    let longer = store.snap().expect(&rt, "memory");
     grow(&rt, rt.alloc(), &mut store, 128);
     grow(&rt, rt.alloc(), &mut store, 129);
     grow(&rt, rt.alloc(), &mut store, 200);
-    compare(&rt, rt.alloc(), &whole, &first_entries(&rt, rt.alloc(), 64));
-    compare(
-        &rt,
-        rt.alloc(),
-        &longer,
-        &first_entries(&rt, rt.alloc(), 65),
-    );
+}
+
+#[test]
+fn a_snapshot_of_a_whole_page_stays(rt: HostRuntime) {
+    let mut store = store_of(&rt, rt.alloc(), 200);
+    compare_held(&rt, rt.alloc(), &mut store, 64);
+}
+
+#[test]
+fn a_snapshot_past_a_whole_page_stays(rt: HostRuntime) {
+    let mut store = store_of(&rt, rt.alloc(), 200);
+    compare_held(&rt, rt.alloc(), &mut store, 65);
 }
 
 /// The cycles; none where the answer is another.

@@ -5,6 +5,7 @@
 //! one.
 #![tactic(auto)]
 
+mod asked;
 mod decimal;
 mod error_line;
 pub mod frame_cause;
@@ -19,6 +20,7 @@ mod told;
 pub mod topology_cause;
 mod topology_fault;
 
+pub use asked::Asked;
 pub use decimal::read_number;
 pub use error_line::ErrorLine;
 pub use laws::{

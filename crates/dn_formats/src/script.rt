@@ -1,6 +1,7 @@
 //! Scripts: what a job does, line by line.
 
-use dn_model::{List, Query, RouterId};
+use crate::asked::Asked;
+use dn_model::{List, RouterId};
 
 /// A line of a script that does something. Lines count from 1, those that pass included.
 #[derive(Drop)]
@@ -14,7 +15,7 @@ pub enum Line {
     /// Asks a query.
     Ask {
         line: u32,
-        query: Query,
+        query: Asked,
     },
 }
 

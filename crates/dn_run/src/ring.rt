@@ -5,7 +5,7 @@ ghost use Rattle.base.specs.Name.{is_byte_of_name};
 ghost use Rattle.dn_model.specs.Tables.{parts};
 ghost use Rattle.dn_run.specs.Made.{made_end, made_link, made_lines, made_network, made_table, made_take, numbered, router_numbers};
 
-use dn_formats::{Line, Script};
+use dn_formats::{Asked, Line, Script};
 use dn_model::{
     Ask, List, Name, OutOfMemory, Query, Replace, RouterId, RouterTable, TopoEnd, TopoLink,
     Topology,
@@ -152,9 +152,10 @@ pub fn made_script(alloc: Global) -> Result<Script, OutOfMemory>
     ensures { IfOk result (λ script. script.lines ≡ made_lines) }
 {
     let mut lines = takes(alloc)?;
+    let query = Asked::new(alloc, Query::of(alloc, Ask::Loops))?;
     lines.push(Line::Ask {
         line: u32::from(ROUTERS) + 1,
-        query: Query::of(alloc, Ask::Loops),
+        query,
     })?;
     Ok(Script { lines })
 }

@@ -44,7 +44,7 @@ fn do_line<S: Source, G: Gate, R: Threads + Wait + Sync>(
 {
     match line {
         Line::Take { router, count, .. } => take_of(rt, desk, seat, shown, feeds, *router, *count),
-        Line::Ask { line, query } => ask(rt, desk, seat, *line, query, told),
+        Line::Ask { line, query } => ask(rt, desk, seat, *line, query.get(), told),
     }
 }
 

@@ -101,7 +101,7 @@ impl<'a, G: Gate> Bench<'a, G> {
         for line in lines {
             match line {
                 Line::Take { .. } => unreachable!(),
-                Line::Ask { line, query } => self.ask(rt, reader, *line, query, told)?,
+                Line::Ask { line, query } => self.ask(rt, reader, *line, query.get(), told)?,
             }
         }
         Ok(())

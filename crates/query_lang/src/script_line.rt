@@ -12,7 +12,7 @@ use crate::name_index::router_at;
 use crate::query_line::read_query;
 use crate::text_cut::{has_first, next_word, two_words};
 use dn_formats::script_cause::{BAD_LINE, TAKE_UNKNOWN, TAKEN_TWICE};
-use dn_formats::{Line, read_number};
+use dn_formats::{Asked, Line, read_number};
 use dn_model::{List, OutOfMemory, RouterId, Topology, is_name};
 use std::alloc::Global;
 use std::collections::HashMap;
@@ -162,6 +162,7 @@ fn read_ask_line(
     let Some(query) = read_query(alloc, verb, operands)? else {
         return Err(LineRefused::Cause(BAD_LINE));
     };
+    let query = Asked::new(alloc, query)?;
     lines.push(Line::Ask { line, query })?;
     Ok(())
 }

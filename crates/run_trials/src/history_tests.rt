@@ -10,7 +10,7 @@ ghost use Rattle.feed_threads.specs.AllJobs.{AreNumberedApart};
 ghost use Rattle.feed_threads.specs.Jobs.{AreApart, IsFresh};
 
 use crate::whole_run::set_frame;
-use dn_formats::{FeedEnd, Line, Outcome, Script, Told};
+use dn_formats::{Asked, FeedEnd, Line, Outcome, Script, Told};
 use dn_io::{MemSource, NoGate, Source};
 use dn_model::{Ask, Entry, List, Name, Op, Posted, Prefix, Query, RouterId, Target, Topology};
 use feed_threads::{Job, JobDone, JobList, run_history};
@@ -86,9 +86,10 @@ fn path_line(rt: &impl Abort, alloc: Global, line: u32, router: &[u8]) -> Line
     requires { IsTrue (is_name_text router.now) }
 {
     let router = Name::from_text(alloc, router).expect(rt, "memory");
+    let query = Query::of(alloc, Ask::Path(router, 0x0A00_0001));
     Line::Ask {
         line,
-        query: Query::of(alloc, Ask::Path(router, 0x0A00_0001)),
+        query: Asked::new(alloc, query).expect(rt, "memory"),
     }
 }
 

@@ -94,6 +94,7 @@ fn compare_loops(rt: &impl Abort, line: &Line, number: u32) {
         panic!(rt; "a line that asks");
     };
     assert_eq!(rt; *line, number);
+    let query = query.get();
     assert!(rt; matches!(query.ask(), Ask::Loops));
     assert!(rt; query.without().is_empty());
 }

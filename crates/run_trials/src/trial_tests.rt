@@ -143,7 +143,7 @@ impl Trial {
             if let Line::Ask { line, query } = line {
                 let at = from.saturating_add(tolds.len());
                 let pin = self.chosen.pins.get(at).copied().expect(rt, "a position");
-                let told = self.told(rt, alloc, pin, *line, query);
+                let told = self.told(rt, alloc, pin, *line, query.get());
                 tolds.push(told).expect(rt, "memory");
             }
         }

@@ -233,7 +233,7 @@ fn prints_black_holes(rt: HostRuntime) {
 /// The query of a script's only line.
 fn query_of(rt: &impl Abort, alloc: Global, lines: &[Line]) -> Query {
     match lines {
-        [Line::Ask { query, .. }] => query.copy(alloc).expect(rt, "memory"),
+        [Line::Ask { query, .. }] => query.get().copy(alloc).expect(rt, "memory"),
         _ => panic!(rt; "other lines"),
     }
 }

@@ -1,8 +1,10 @@
 //! A script that is read.
 
 use crate::two_routers::network;
-use dn_model::RouterId;
+use dn_formats::{Line, Script};
+use dn_model::{Ask, Name, Query, RouterId};
 use query_lang::read_script;
+use std::process::Abort;
 
 /// Its bound alone says that scripts may cross threads; none is started.
 fn crosses<T: Send + Sync>(_value: &T) {}
@@ -21,4 +23,93 @@ fn scripts_are_send_and_sync(rt: HostRuntime) {
     let script = script.expect(&rt, "a script");
     crosses(&script);
     assert_eq!(rt; script.lines.as_slice().len(), 2);
+}
+
+/// A script has up to 65,536 lines, most of which take frames, so none of them has room for a query.
+const _: () = prove!(size_of::<Line>() <= 24);
+
+/// Every kind of query, among lines that take and lines that are passed over.
+const EACH_QUERY: &str = "take r1 2
+path p 10.1.2.3
+# of two routers
+reach p q
+uses l
+
+loops
+blackholes q
+take r1 all
+waypoint p q r
+delta
+without l,m path q 255.255.255.255
+";
+
+/// A name has these bytes.
+fn is_name_of(name: &Name, text: &str) -> bool {
+    name.as_bytes() == text.as_bytes()
+}
+
+/// The query at a place among a script's lines, which stands in this line of the text.
+fn query_at<'a>(rt: &impl Abort, script: &'a Script, place: usize, number: u32) -> &'a Query {
+    let Some(Line::Ask { line, query }) = script.lines.as_slice().get(place) else {
+        panic!(rt; "a line that asks at {place}");
+    };
+    assert_eq!(rt; *line, number);
+    query.get()
+}
+
+/// What a query asks with all links up.
+fn ask_at<'a>(rt: &impl Abort, script: &'a Script, place: usize, number: u32) -> &'a Ask {
+    let query = query_at(rt, script, place, number);
+    assert!(rt; query.without().is_empty(), "line {number}");
+    query.ask()
+}
+
+/// A query asks for the path of an address from this router.
+fn asks_path(ask: &Ask, router: &str, address: u32) -> bool {
+    match ask {
+        Ask::Path(from, to) => is_name_of(from, router) && *to == address,
+        _ => false,
+    }
+}
+
+/// A query asks for what reaches `q` from `p`.
+fn asks_reach(ask: &Ask) -> bool {
+    match ask {
+        Ask::Reach(from, to) => is_name_of(from, "p") && is_name_of(to, "q"),
+        _ => false,
+    }
+}
+
+/// A query asks for what comes from `p` to `q` around `r`.
+fn asks_waypoint(ask: &Ask) -> bool {
+    match ask {
+        Ask::Waypoint(from, to, through) => {
+            is_name_of(from, "p") && is_name_of(to, "q") && is_name_of(through, "r")
+        }
+        _ => false,
+    }
+}
+
+#[test]
+fn reads_each_query(rt: HostRuntime) {
+    let alloc = rt.alloc();
+    let network = network(&rt, alloc);
+    let script = read_script(alloc, EACH_QUERY.as_bytes(), &network, &[RouterId(0)], &[]);
+    let script = script.expect(&rt, "a script");
+    assert_eq!(rt; script.lines.as_slice().len(), 10);
+    assert!(rt; asks_path(ask_at(&rt, &script, 1, 2), "p", 0x0a01_0203));
+    assert!(rt; asks_reach(ask_at(&rt, &script, 2, 4)));
+    assert!(rt; matches!(ask_at(&rt, &script, 3, 5), Ask::Uses(link) if is_name_of(link, "l")));
+    assert!(rt; matches!(ask_at(&rt, &script, 4, 7), Ask::Loops));
+    assert!(rt;
+        matches!(ask_at(&rt, &script, 5, 8), Ask::Blackholes(from) if is_name_of(from, "q"))
+    );
+    assert!(rt; asks_waypoint(ask_at(&rt, &script, 7, 10)));
+    assert!(rt; matches!(ask_at(&rt, &script, 8, 11), Ask::Delta));
+    let last = query_at(&rt, &script, 9, 12);
+    assert!(rt; asks_path(last.ask(), "q", u32::MAX));
+    let [first, second] = last.without() else {
+        panic!(rt; "two links");
+    };
+    assert!(rt; is_name_of(first, "l") && is_name_of(second, "m"));
 }

@@ -1,3 +1,6 @@
+use Rattle.std.proofs.Common.{ap, sym, ◌∙◌}
+use Rattle.dn_model.specs.Query.{Question}
+use Rattle.dn_formats.specs.declared.script.Line.TheVariants as line
 use Rattle.feed_threads.proofs.DoesLemmas.{breaks-took, breaks-asked, does-took, does-asked}
 use Rattle.feed_threads.proofs.PlaceLemmas.{read-none}
 use Rattle.feed_threads.proofs.ShownLemmas.{shows-still}
@@ -11,7 +14,8 @@ returns-in-Take-clause-does g c =
 pub returns-in-Ask-clause-does : goal.returns-in-Ask-clause-does
 returns-in-Ask-clause-does g c =
     does-asked c.args.desk.now g.S.Source.left g.S.Source.faults g.S.Source.place c.ask.result c.args.seat.now c.ask.new.seat c.args.feeds.now.items c.args.told.now c.ask.new.told
-    c.args.line.now c.in-Ask.line c.in-Ask.query c.in-Ask.is c.ask.ensures.saw c.ask.ensures.own c.ask.ensures.told
+    c.args.line.now c.in-Ask.line c.get.result.now (c.in-Ask.is ∙ ap (λ (q : Question). line.Ask c.in-Ask.line q) (sym c.get.ensures))
+    c.ask.ensures.saw c.ask.ensures.own c.ask.ensures.told
 
 pub returns-in-Ask-clause-reads : goal.returns-in-Ask-clause-reads
 returns-in-Ask-clause-reads g c = read-none c.args.desk.now.setup.basis.topology g.S.Source.left g.S.Source.faults g.S.Source.place c.args.desk.now.setup.basis.limit c.args.feeds.now.items

@@ -3,10 +3,9 @@ use Rattle.std.proofs.Common.{◌≡◌, ℕ, true, List, [], ◌∷◌, Option,
 use Rattle.std.proofs.lemmas.List.{append-nil}
 use Rattle.dn_formats.specs.declared.error_line.ErrorLine.{ErrorLine}
 use Rattle.dn_run.specs.Ending.{Ending, Ruled, Stopped}
+use Rattle.dn_run.specs.Exit.{Exit, ByVerdict, ByWriteFault, ByMemory}
 use Rattle.dn_run.specs.Run.{IsFinished, IsLine}
 use Rattle.dn_run.specs.Stage.{AreAsked, AsksFor, IsFrontOf, WereAsked, may_end_early}
-use Rattle.dn_run.specs.declared.status.Status.{Status}
-use Rattle.dn_run.specs.declared.status.Status.TheVariants as statuses
 use Rattle.dn_run.specs.declared.status.Verdict.{Verdict}
 use Rattle.dn_run.specs.declared.status.Verdict.TheVariants.{Done, Refusals, BadWords, BadTopology, BadScript, ReadFault}
 
@@ -67,13 +66,8 @@ front-asked BadTopology asked names is = is
 front-asked BadScript asked names is = is
 front-asked ReadFault asked names is = is
 
--- what a verdict says of the names, its status says
-pub asks-for : (v : Verdict) (text : List ℕ) (s : Status) (old new : Option (List ℕ)) (asked names : List (List ℕ)) → IsFinished v text s old new → WereAsked v asked names → AsksFor s asked names
-asks-for v text statuses.Done old new asked names done is = subst (λ (w : Verdict). WereAsked w asked names) done.0 is
-asks-for v text statuses.Refusals old new asked names done is = subst (λ (w : Verdict). WereAsked w asked names) done.0 is
-asks-for v text statuses.BadWords old new asked names done is = front-asked v asked names is
-asks-for v text statuses.BadTopology old new asked names done is = front-asked v asked names is
-asks-for v text statuses.BadScript old new asked names done is = front-asked v asked names is
-asks-for v text statuses.ReadFault old new asked names done is = front-asked v asked names is
-asks-for v text statuses.WriteFault old new asked names done is = front-asked v asked names is
-asks-for v text statuses.OutOfMemory old new asked names done is = absurd done
+-- what the verdict says of the names, the program's end says
+pub asks-for : (v : Verdict) (text : List ℕ) (exit : Exit) (old new : Option (List ℕ)) (asked names : List (List ℕ)) → IsFinished v text exit old new → WereAsked v asked names → AsksFor exit asked names
+asks-for v text (ByVerdict due) old new asked names done is = subst (λ (w : Verdict). WereAsked w asked names) done.0 is
+asks-for v text ByWriteFault old new asked names done is = front-asked v asked names is
+asks-for v text ByMemory old new asked names done is = absurd done

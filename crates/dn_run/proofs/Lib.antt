@@ -19,6 +19,7 @@ pub mod PremiseLemmas
 pub mod ProgramLemmas
 pub mod RanLemmas
 pub mod ReadLemmas
+pub mod ReportLemmas
 pub mod RingLemmas
 pub mod RoutersLemmas
 pub mod StepLemmas

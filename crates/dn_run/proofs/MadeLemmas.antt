@@ -1,6 +1,7 @@
 -- The run over the generated input: its readers, what its one job tells, and that it tells one thing alone.
 use Rattle.std.proofs.Common.{◌≡◌, ℕ, ◌+◌, ◌<◌, Bool, true, List, [], ◌∷◌, All, length, map, filter, take, Option, Some, refl, ap, ap₂, sym, ◌∙◌, subst, arith}
 use Rattle.std.specs.List.{AllZip}
+use Rattle.std.proofs.lemmas.Grind.{common_steps}
 use Rattle.std.proofs.lemmas.List.Elements.{All-cons, All-head, All-nil, All-tail}
 use Rattle.dn_formats.specs.Feed.{IsReading}
 use Rattle.dn_formats.specs.Lawful.{IsLawful, IsOutcome, Job, Tells, TellsAll, feed_jobs, jobs_of, takes_feed, untaken_feeds}
@@ -59,6 +60,8 @@ from_feeds n = refl
 pub feeds_count : (n : ℕ) → length (feeds_below made_routers n) ≡ 8
 unfolding feeds_below
 feeds_count n = refl
+
+pub ruleset of_feeds = (common_steps, from_feeds, feeds_count)
 
 fresh-each : (t : Topology) (n : ℕ) (is : List ℕ) → All (λ i. i < length t.routers) is → All (IsFresh t sure_faults) (map (made_reader n) is)
 fresh-each t n [] all = All-nil (IsFresh t sure_faults)

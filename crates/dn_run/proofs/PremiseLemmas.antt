@@ -1,7 +1,7 @@
 -- The jobs that a run's readers are dealt to are such as may be run.
-use Rattle.std.proofs.Common.{◌≡◌, ℕ, suc, ◌+◌, ◌==◌, ◌≤◌, Bool, true, false, not, ◌&&◌, ◌||◌, cond, List, [], ◌∷◌, ◌++◌, length, get_or, map, filter, All, refl, ap, ap₂, ◌∙◌, subst, arith}
+use Rattle.std.proofs.Common.{◌≡◌, ℕ, suc, ◌+◌, ◌==◌, ◌≤◌, Bool, true, false, IsTrue, not, ◌&&◌, ◌||◌, cond, List, [], ◌∷◌, ◌++◌, length, get_or, map, filter, All, refl, ap, ap₂, ◌∙◌, subst, arith}
 use Rattle.std.specs.List.{list_any}
-use Rattle.std.proofs.lemmas.List.{length-append, map-append}
+use Rattle.std.proofs.lemmas.List.{append-nil, length-append, map-append}
 use Rattle.std.proofs.lemmas.List.Elements.{All-cons, All-head, All-tail, All-nil}
 use Rattle.std.proofs.lemmas.List.Sorted.{All-permutation, IsPermutation-map, length_permutation}
 use Rattle.dn_formats.specs.declared.script.Line.{Line}
@@ -12,8 +12,10 @@ use Rattle.route_feed.specs.FeedReader.{Reader}
 use Rattle.feed_threads.specs.AllJobs.{AreNumberedApart}
 use Rattle.feed_threads.specs.Jobs.{AreApart, IsFresh as IsUnread, Task}
 use Rattle.dn_run.specs.Deal.{left_over, own_tasks, readers_of, script_tasks, tasks_of}
-use Rattle.dn_run.specs.Jobs.{AreFewJobs, AreNumbered, HaveRoutersApart, IsFresh, routers_of_readers}
+use Rattle.dn_run.specs.Jobs.{AreFewJobs, AreNumbered, HaveRoutersApart, IsFresh, routers_of_readers, same_router, scripts_of}
 use Rattle.dn_run.specs.Run.{untaken}
+use Rattle.dn_run.specs.Work.{IsReady}
+use Rattle.dn_run.specs.declared.jobs.Work.{Work}
 use Rattle.dn_run.proofs.DealLemmas.{Differ, is_left, left-is, readers-dealt}
 use Rattle.dn_run.proofs.DealSteps.{script-count}
 use Rattle.dn_run.proofs.InOrder.{IsFrom}
@@ -137,3 +139,15 @@ module _ {S : Type 0} where
   -- every reader has one job
   pub readers-count : (scripts : List (List Line)) (readers : List (Reader S)) → length (readers_of (tasks_of scripts readers)) ≡ length readers
   readers-count scripts readers = length_permutation readers (readers_of (tasks_of scripts readers)) (readers-dealt scripts readers)
+
+-- ---- once all feeds are open
+
+module _ {S : Type 0} (faults : S → ℕ) (work : Work S) (ready : IsReady faults work []) where
+  pub all-few-jobs : AreFewJobs (scripts_of work.scripts.items) (routers_of_readers work.readers.items)
+  all-few-jobs = subst (λ rs. AreFewJobs (scripts_of work.scripts.items) rs) (append-nil (routers_of_readers work.readers.items)) ready.few_jobs
+
+  pub all-apart : HaveRoutersApart work.readers.items
+  all-apart = subst (λ rs. IsTrue (all_differ same_router rs)) (append-nil (routers_of_readers work.readers.items)) ready.are_open.apart
+
+  pub all-few : length work.readers.items ≤ 64
+  all-few = let few = ready.are_open.few in omega (arith, few)

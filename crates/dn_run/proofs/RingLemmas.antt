@@ -1,6 +1,7 @@
 -- The generated network and script, as the code makes them.
 use Rattle.std.proofs.Common.{◌≡◌, ℕ, ◌+◌, ◌<◌, ◌++◌, ◌∷◌, List, [], IsTrue, true, map, refl, arith, append_assoc, decimal, sym, ◌∙◌}
 use Rattle.std.proofs.lemmas.Bool.Decides.{nat_tests}
+use Rattle.std.proofs.lemmas.Grind.{common_steps}
 use Rattle.std.specs.List.{range_with_len}
 use Rattle.std.proofs.lemmas.List.FromFn.{map-range_with_len_more}
 use Rattle.dn_formats.proofs.Decimals.{decimal_of_one}
@@ -13,6 +14,8 @@ row_none f = refl
 
 pub row_more : {X : Type 0} (f : ℕ → X) (i : ℕ) → map f (range_with_len 0 (i + 1)) ≡ map f (range_with_len 0 i) ++ f i ∷ []
 row_more f i = map-range_with_len_more f 0 i i (omega arith)
+
+pub ruleset rows = (common_steps, row_none, row_more)
 
 digit_byte : (d : ℕ) → d < 10 → is_byte_of_name (48 + d) ≡ true
 digit_byte d lt = grind (arith, nat_tests, lt)

@@ -1,6 +1,5 @@
 -- What each step of a run is due by, once its file was read, refused or failed.
-use Rattle.std.proofs.Common.{◌≡◌, ℕ, ◌+◌, Bool, true, false, nat_lt, Result, Err, MatchResult, List, [], ◌∷◌, ◌++◌, length, map, Option, refl, ap, sym, ◌∙◌, subst}
-use Rattle.std.specs.Bool.{MatchBool}
+use Rattle.std.proofs.Common.{◌≡◌, ℕ, ◌+◌, true, false, nat_lt, Result, Err, List, [], ◌∷◌, ◌++◌, length, map, Option, refl, ap, sym, ◌∙◌, subst, if◌then◌else◌}
 use Rattle.dn_io.specs.Calls.{Call, CallState, Back, call_of, state_failed}
 use Rattle.dn_io.specs.Files.{Files}
 use Rattle.dn_formats.specs.ScriptText.{ScriptFault, script_of}
@@ -20,9 +19,9 @@ use Rattle.dn_run.specs.Feeds.{Opens}
 use Rattle.dn_run.specs.Loaded.{SaysTopology, SaysScript}
 use Rattle.dn_run.specs.Opened.{text_limit, FailsWhereTold, OnBytes}
 use Rattle.dn_run.specs.Limits.{most_jobs}
-use Rattle.dn_run.specs.Run.{IsErrorLine, IsLine, FromJobs, FromScripts, FromRouters, FromTopology, OnFile, feed_files, untaken, taken_by_scripts, routers_of}
+use Rattle.dn_run.specs.Run.{Fails, Follows, IsLine, Knows, Reads, Runs, Steps, feed_files, or_fails, read_scripts, routers_of, taken_by_scripts, untaken}
 use Rattle.dn_run.specs.Stage.{Stage}
-use Rattle.dn_run.specs.Stops.{AreTaken, from_feeds}
+use Rattle.dn_run.specs.Stops.{AreTaken, Due, from_feeds, from_jobs, from_scripts}
 use Rattle.dn_run.specs.declared.load.Loaded.TheVariants as loaded
 use Rattle.dn_run.specs.declared.status.Verdict.{Verdict}
 use Rattle.dn_run.specs.declared.status.Verdict.TheVariants.{BadWords, BadTopology, BadScript, ReadFault}
@@ -30,24 +29,52 @@ use Rattle.route_feed.specs.FeedReader.{Reader}
 use Rattle.dn_run.proofs.ProgramLemmas.{or-go, or-map, on-bytes-map, on-fault}
 use Rattle.dn_run.proofs.TakenLemmas.{script_of-same}
 
-pub match-true : (b : Bool) (P Q : Type 0) → b ≡ true → P → MatchBool b P Q
-match-true b P Q is p = subst (λ c. MatchBool c P Q) (sym is) p
+-- ---- the steps from the routers and from the topology on
 
-pub match-false : (b : Bool) (P Q : Type 0) → b ≡ false → Q → MatchBool b P Q
-match-false b P Q is q = subst (λ c. MatchBool c P Q) (sym is) q
+abbrev pub find_routers : PartsSaid → Topology → Steps
+find_routers said t = or_fails (routers_of t said.feeds) BadWords (λ error. error) (λ routers. read_scripts t routers [] said.scripts said.feeds)
 
--- ---- an error line
+abbrev pub read_network : PartsSaid → List ℕ → Steps
+read_network said bytes = or_fails (topology_of bytes) BadTopology errors.Topology (λ network. Knows network (find_routers said))
 
-same-line : (ending : Ending) (line error : ErrorLine) (verdict : Verdict) → line ≡ error → IsLine ending verdict line → IsLine ending verdict error
-same-line ending line error verdict is says = subst (λ (e : ErrorLine). IsLine ending verdict e) is says
+-- ---- a file that is read
+
+-- and the run goes on by its bytes
+pub read-on : (files : Option Files) (name : List ℕ) (fault : ErrorLine) (next : List ℕ → Steps) (after : Steps) (left : Option (List ℕ)) (more : List Call) (ending : Ending) →
+    OnBytes files name left (λ bytes. next bytes ≡ after) → OrStops ending more (Follows files after more ending) →
+    Follows files (Reads name fault next) (call_of name (Back false left) ∷ more) ending
+read-on files name fault next after left more ending says due = (
+  refl,
+  or-map ending more (Follows files after more ending) _
+      (λ here. on-bytes-map files name left (λ bytes. next bytes ≡ after) (λ bytes. Follows files (next bytes) more ending) (λ bytes is. subst (λ (s : Steps). Follows files s more ending) (sym is) here) says) due,
+)
+
+-- it is refused
+read-refused : (files : Option Files) (name : List ℕ) (fault : ErrorLine) (next : List ℕ → Steps) (verdict : Verdict) (error : ErrorLine) (left : Option (List ℕ)) (ending : Ending) →
+    OnBytes files name left (λ bytes. next bytes ≡ Fails verdict error) → IsLine ending verdict error →
+    Follows files (Reads name fault next) (call_of name (Back false left) ∷ []) ending
+read-refused files name fault next verdict error left ending says line =
+    read-on files name fault next (Fails verdict error) left [] ending says (or-go ending [] _ (refl, line))
+
+-- it failed
+read-failed : (files : Option Files) (name : List ℕ) (fault : ErrorLine) (next : List ℕ → Steps) (state : CallState) (ending : Ending) →
+    state_failed state ≡ true → FailsWhereTold files name text_limit state → IsLine ending ReadFault fault →
+    Follows files (Reads name fault next) (call_of name state ∷ []) ending
+read-failed files name fault next state ending failed fails line = (refl, or-go ending [] _ (on-fault files name state _ _ failed fails (refl, line)))
 
 -- ---- the jobs
 
 pub too-many : (files : Option Files) (t : Topology) (routers : List RouterId) (scripts : List (List Line)) (feeds : List (ℕ × FeedWords)) (ending : Ending) →
     nat_lt most_jobs (length scripts + length (untaken scripts routers)) ≡ true → IsLine ending BadWords errors.TooManyJobs →
-    FromJobs files t routers scripts feeds [] ending
+    from_jobs files t routers scripts feeds ending []
 too-many files t routers scripts feeds ending many line =
-    match-true (nat_lt most_jobs (length scripts + length (untaken scripts routers))) _ _ many (refl, line)
+    subst (λ b. Follows files (if b then Fails BadWords errors.TooManyJobs else Runs (record { t = t; routers = routers; scripts = scripts; feeds = feeds })) [] ending) (sym many) (refl, line)
+
+pub not-too-many : (files : Option Files) (t : Topology) (routers : List RouterId) (scripts : List (List Line)) (feeds : List (ℕ × FeedWords)) (calls : List Call) (ending : Ending) →
+    nat_lt most_jobs (length scripts + length (untaken scripts routers)) ≡ false → from_feeds files t routers scripts feeds ending calls →
+    from_jobs files t routers scripts feeds ending calls
+not-too-many files t routers scripts feeds calls ending few due =
+    subst (λ b. Follows files (if b then Fails BadWords errors.TooManyJobs else Runs (record { t = t; routers = routers; scripts = scripts; feeds = feeds })) calls ending) (sym few) due
 
 module _ {S : Type 0} where
   opens-first : (ending : Ending) (t : Topology) (faults : S → ℕ) (left : S → Option (List ℕ)) (files : Option Files) (routers : List RouterId) (scripts : List (List Line))
@@ -78,97 +105,73 @@ module _ {S : Type 0} where
 
 -- ---- a script
 
--- what is made of a script's bytes, after these were read and before those are
-abbrev Meant : Topology → List RouterId → List (List Line) → ℕ → (List (List Line) → Type 0) → (ErrorLine → Type 0) → List ℕ → Type 0
-Meant t routers read part next refused bytes =
-    MatchResult (script_of t.routers routers (taken_by_scripts read) bytes) (λ lines. next (read ++ lines ∷ [])) (λ fault. refused (errors.Script part fault.line fault.cause))
-
-meant-read : (files : Option Files) (t : Topology) (routers taken : List RouterId) (read : List (List Line)) (part : ℕ) (file : List ℕ) (script : Script) (left : Option (List ℕ)) (next : List (List Line) → Type 0) (refused : ErrorLine → Type 0) →
-    AreTaken taken read → OnBytes files file left (λ bytes. SaysScript t routers taken part bytes (loaded.Read script)) → next (read ++ script.lines ∷ []) →
-    OnBytes files file left (Meant t routers read part next refused)
-meant-read files t routers taken read part file script left next refused are says after =
-    on-bytes-map files file left (λ bytes. SaysScript t routers taken part bytes (loaded.Read script)) (Meant t routers read part next refused)
-    (λ bytes is. subst (λ (r : Result (List Line) ScriptFault). MatchResult r (λ lines. next (read ++ lines ∷ [])) (λ fault. refused (errors.Script part fault.line fault.cause)))
-    (sym (script_of-same t.routers routers taken (taken_by_scripts read) bytes are ∙ is)) after) says
-
-meant-refused : (files : Option Files) (t : Topology) (routers taken : List RouterId) (read : List (List Line)) (part : ℕ) (file : List ℕ) (line : ErrorLine) (left : Option (List ℕ)) (next : List (List Line) → Type 0) (refused : ErrorLine → Type 0) →
-    AreTaken taken read → OnBytes files file left (λ bytes. SaysScript t routers taken part bytes (loaded.Refused line)) → refused line →
-    OnBytes files file left (Meant t routers read part next refused)
-meant-refused files t routers taken read part file line left next refused are says is =
-    on-bytes-map files file left (λ bytes. SaysScript t routers taken part bytes (loaded.Refused line)) (Meant t routers read part next refused)
-    (λ bytes p. subst (λ (r : Result (List Line) ScriptFault). MatchResult r (λ lines. next (read ++ lines ∷ [])) (λ fault. refused (errors.Script part fault.line fault.cause)))
-    (sym (script_of-same t.routers routers taken (taken_by_scripts read) bytes are ∙ p.1)) (subst refused p.2 is)) says
+-- what a script's bytes are made of, behind those that were read
+abbrev after_script : Topology → List RouterId → List (List Line) → ℕ → List (ℕ × List ℕ) → List (ℕ × FeedWords) → Result (List Line) ScriptFault → Steps
+after_script t routers read part scripts feeds said =
+    or_fails said BadScript (λ fault. errors.Script part fault.line fault.cause) (λ lines. read_scripts t routers (read ++ lines ∷ []) scripts feeds)
 
 pub script-read : (files : Option Files) (t : Topology) (routers taken : List RouterId) (read : List (List Line)) (part : ℕ) (file : List ℕ) (scripts : List (ℕ × List ℕ)) (feeds : List (ℕ × FeedWords)) (script : Script) (left : Option (List ℕ)) (more : List Call) (ending : Ending) →
     AreTaken taken read → OnBytes files file left (λ bytes. SaysScript t routers taken part bytes (loaded.Read script)) →
-    OrStops ending more (FromScripts files t routers (read ++ script.lines ∷ []) scripts feeds more ending) →
-    FromScripts files t routers read ((part, file) ∷ scripts) feeds (call_of file (Back false left) ∷ more) ending
-script-read files t routers taken read part file scripts feeds script left more ending are says after = (
-  refl,
-  or-map ending more (FromScripts files t routers (read ++ script.lines ∷ []) scripts feeds more ending) _
-      (meant-read files t routers taken read part file script left (λ scripts-read. FromScripts files t routers scripts-read scripts feeds more ending) (IsErrorLine ending more BadScript) are says) after,
-)
+    OrStops ending more (from_scripts files t routers (read ++ script.lines ∷ []) scripts feeds ending more) →
+    from_scripts files t routers read ((part, file) ∷ scripts) feeds ending (call_of file (Back false left) ∷ more)
+script-read files t routers taken read part file scripts feeds script left more ending are says after =
+    read-on files file (errors.ReadPart part) (λ bytes. after_script t routers read part scripts feeds (script_of t.routers routers (taken_by_scripts read) bytes))
+    (read_scripts t routers (read ++ script.lines ∷ []) scripts feeds) left more ending
+    (on-bytes-map files file left (λ bytes. SaysScript t routers taken part bytes (loaded.Read script))
+    (λ bytes. after_script t routers read part scripts feeds (script_of t.routers routers (taken_by_scripts read) bytes) ≡ read_scripts t routers (read ++ script.lines ∷ []) scripts feeds)
+    (λ bytes is. ap (after_script t routers read part scripts feeds) (script_of-same t.routers routers taken (taken_by_scripts read) bytes are ∙ is)) says) after
 
 pub script-refused : (files : Option Files) (t : Topology) (routers taken : List RouterId) (read : List (List Line)) (part : ℕ) (file : List ℕ) (scripts : List (ℕ × List ℕ)) (feeds : List (ℕ × FeedWords)) (line : ErrorLine) (left : Option (List ℕ)) (ending : Ending) →
     AreTaken taken read → OnBytes files file left (λ bytes. SaysScript t routers taken part bytes (loaded.Refused line)) → IsLine ending BadScript line →
-    FromScripts files t routers read ((part, file) ∷ scripts) feeds (call_of file (Back false left) ∷ []) ending
-script-refused files t routers taken read part file scripts feeds line left ending are says prints = (
-  refl,
-  or-go ending [] _
-      (meant-refused files t routers taken read part file line left (λ scripts-read. FromScripts files t routers scripts-read scripts feeds [] ending) (IsErrorLine ending [] BadScript) are says (refl, prints)),
-)
+    from_scripts files t routers read ((part, file) ∷ scripts) feeds ending (call_of file (Back false left) ∷ [])
+script-refused files t routers taken read part file scripts feeds line left ending are says prints =
+    read-refused files file (errors.ReadPart part) (λ bytes. after_script t routers read part scripts feeds (script_of t.routers routers (taken_by_scripts read) bytes))
+    BadScript line left ending
+    (on-bytes-map files file left (λ bytes. SaysScript t routers taken part bytes (loaded.Refused line))
+    (λ bytes. after_script t routers read part scripts feeds (script_of t.routers routers (taken_by_scripts read) bytes) ≡ Fails BadScript line)
+    (λ bytes p. ap (after_script t routers read part scripts feeds) (script_of-same t.routers routers taken (taken_by_scripts read) bytes are ∙ p.1) ∙ ap (Fails BadScript) (sym p.2)) says) prints
 
 pub script-failed : (files : Option Files) (t : Topology) (routers : List RouterId) (read : List (List Line)) (part : ℕ) (file : List ℕ) (scripts : List (ℕ × List ℕ)) (feeds : List (ℕ × FeedWords)) (state : CallState) (ending : Ending) →
     state_failed state ≡ true → FailsWhereTold files file text_limit state → IsLine ending ReadFault (errors.ReadPart part) →
-    FromScripts files t routers read ((part, file) ∷ scripts) feeds (call_of file state ∷ []) ending
+    from_scripts files t routers read ((part, file) ∷ scripts) feeds ending (call_of file state ∷ [])
 script-failed files t routers read part file scripts feeds state ending failed fails line =
-    (refl, or-go ending [] _ (on-fault files file state _ _ failed fails (refl, line)))
+    read-failed files file (errors.ReadPart part) (λ bytes. after_script t routers read part scripts feeds (script_of t.routers routers (taken_by_scripts read) bytes)) state ending failed fails line
 
 -- ---- the topology
 
-topology-made : (files : Option Files) (file : List ℕ) (said : PartsSaid) (t : Topology) (left : Option (List ℕ)) (more : List Call) (ending : Ending) →
-    OnBytes files file left (λ bytes. SaysTopology bytes (loaded.Read t)) → FromRouters said files t more ending →
-    OnFile files file (Back false left) (IsErrorLine ending more ReadFault errors.ReadTopology) (λ bytes.
-    MatchResult (topology_of bytes) (λ network. (u : Topology) × (parts u ≡ network) × FromRouters said files u more ending)
-    (λ fault. IsErrorLine ending more BadTopology (errors.Topology fault)))
-topology-made files file said t left more ending says after =
-    on-bytes-map files file left (λ bytes. SaysTopology bytes (loaded.Read t))
-    (λ bytes. MatchResult (topology_of bytes) (λ network. (u : Topology) × (parts u ≡ network) × FromRouters said files u more ending)
-    (λ fault. IsErrorLine ending more BadTopology (errors.Topology fault)))
-    (λ bytes is. subst (λ (r : Result Parts TopoFault). MatchResult r (λ network. (u : Topology) × (parts u ≡ network) × FromRouters said files u more ending)
-    (λ fault. IsErrorLine ending more BadTopology (errors.Topology fault)))
-    (sym is) (t, refl, after)) says
+abbrev pub from_topology : List ℕ → PartsSaid → Option Files → Due
+from_topology topology said files ending calls = Follows files (Reads topology errors.ReadTopology (read_network said)) calls ending
+
+abbrev pub from_routers : PartsSaid → Option Files → Topology → Due
+from_routers said files t ending calls = Follows files (find_routers said t) calls ending
+
+abbrev after_topology : PartsSaid → Result Parts TopoFault → Steps
+after_topology said made = or_fails made BadTopology errors.Topology (λ network. Knows network (find_routers said))
 
 pub topology-read : (files : Option Files) (file : List ℕ) (said : PartsSaid) (t : Topology) (left : Option (List ℕ)) (more : List Call) (ending : Ending) →
-    OnBytes files file left (λ bytes. SaysTopology bytes (loaded.Read t)) → OrStops ending more (FromRouters said files t more ending) →
-    FromTopology file said files (call_of file (Back false left) ∷ more) ending
+    OnBytes files file left (λ bytes. SaysTopology bytes (loaded.Read t)) → OrStops ending more (from_routers said files t ending more) →
+    from_topology file said files ending (call_of file (Back false left) ∷ more)
 topology-read files file said t left more ending says after =
-    (refl, or-map ending more (FromRouters said files t more ending) _ (topology-made files file said t left more ending says) after)
+    read-on files file errors.ReadTopology (read_network said) (Knows (parts t) (find_routers said)) left more ending
+    (on-bytes-map files file left (λ bytes. SaysTopology bytes (loaded.Read t)) (λ bytes. read_network said bytes ≡ Knows (parts t) (find_routers said))
+    (λ bytes is. ap (after_topology said) is) says)
+    (or-map ending more (from_routers said files t ending more) (Follows files (Knows (parts t) (find_routers said)) more ending) (λ due. (t, refl, due)) after)
 
 pub topology-refused : (files : Option Files) (file : List ℕ) (said : PartsSaid) (line : ErrorLine) (left : Option (List ℕ)) (ending : Ending) →
-    OnBytes files file left (λ bytes. SaysTopology bytes (loaded.Refused line)) → IsLine ending BadTopology line → FromTopology file said files (call_of file (Back false left) ∷ []) ending
-topology-refused files file said line left ending says prints = (
-  refl,
-  or-go ending [] _ (
-      on-bytes-map files file left (λ bytes. SaysTopology bytes (loaded.Refused line))
-      (λ bytes. MatchResult (topology_of bytes) (λ network. (u : Topology) × (parts u ≡ network) × FromRouters said files u [] ending)
-      (λ fault. IsErrorLine ending [] BadTopology (errors.Topology fault)))
-      (λ bytes p. subst (λ (r : Result Parts TopoFault). MatchResult r (λ network. (u : Topology) × (parts u ≡ network) × FromRouters said files u [] ending)
-      (λ fault. IsErrorLine ending [] BadTopology (errors.Topology fault)))
-      (sym p.1) (refl, same-line ending line (errors.Topology p.0) BadTopology p.2 prints))
-      says
-      ),
-)
+    OnBytes files file left (λ bytes. SaysTopology bytes (loaded.Refused line)) → IsLine ending BadTopology line → from_topology file said files ending (call_of file (Back false left) ∷ [])
+topology-refused files file said line left ending says prints =
+    read-refused files file errors.ReadTopology (read_network said) BadTopology line left ending
+    (on-bytes-map files file left (λ bytes. SaysTopology bytes (loaded.Refused line)) (λ bytes. read_network said bytes ≡ Fails BadTopology line)
+    (λ bytes p. ap (after_topology said) p.1 ∙ ap (Fails BadTopology) (sym p.2)) says) prints
 
 pub topology-failed : (files : Option Files) (file : List ℕ) (said : PartsSaid) (state : CallState) (ending : Ending) →
-    state_failed state ≡ true → FailsWhereTold files file text_limit state → IsLine ending ReadFault errors.ReadTopology → FromTopology file said files (call_of file state ∷ []) ending
-topology-failed files file said state ending failed fails line =
-    (refl, or-go ending [] _ (on-fault files file state _ _ failed fails (refl, line)))
+    state_failed state ≡ true → FailsWhereTold files file text_limit state → IsLine ending ReadFault errors.ReadTopology → from_topology file said files ending (call_of file state ∷ [])
+topology-failed files file said state ending failed fails line = read-failed files file errors.ReadTopology (read_network said) state ending failed fails line
 
 -- ---- the routers
 
 pub routers-refused : (files : Option Files) (t : Topology) (said : PartsSaid) (line : ErrorLine) (ending : Ending) →
-    routers_of t said.feeds ≡ Err line → IsLine ending BadWords line → FromRouters said files t [] ending
+    routers_of t said.feeds ≡ Err line → IsLine ending BadWords line → from_routers said files t ending []
 routers-refused files t said line ending refused prints =
-    subst (λ (r : Result (List RouterId) ErrorLine). MatchResult r (λ routers. FromScripts files t routers [] said.scripts said.feeds [] ending) (λ error. IsErrorLine ending [] BadWords error))
+    subst (λ (r : Result (List RouterId) ErrorLine). Follows files (or_fails r BadWords (λ error. error) (λ routers. read_scripts t routers [] said.scripts said.feeds)) [] ending)
     (sym refused) (refl, prints)

@@ -1,6 +1,6 @@
 -- How the steps before the jobs follow one another, and how one of them ends the run.
 use Rattle.std.proofs.lemmas.Bool.Decides.{nat_tests}
-use Rattle.std.proofs.Common.{◌≡◌, ℕ, ◌+◌, arith, true, false, nat_lt, Result, Ok, Err, IfOk, IfErr, MatchResult, List, [], ◌∷◌, ◌++◌, length, Option, refl, sym, inl, inr, subst}
+use Rattle.std.proofs.Common.{◌≡◌, ℕ, ◌+◌, arith, true, false, nat_lt, Result, Ok, Err, IfOk, IfErr, List, [], ◌∷◌, ◌++◌, length, Option, refl, sym, inl, inr, subst}
 use Rattle.std.specs.Result.{IsErrAnd}
 use Rattle.dn_io.specs.Calls.{Call, Back}
 use Rattle.dn_io.specs.Files.{Files}
@@ -20,7 +20,7 @@ use Rattle.dn_run.specs.Opened.{MayCallOne}
 use Rattle.dn_run.specs.PartsRead.{ArePartsRefused}
 use Rattle.dn_run.specs.RoutersFound.{AreRoutersRefused}
 use Rattle.dn_run.specs.Limits.{most_jobs}
-use Rattle.dn_run.specs.Run.{IsErrorLine, IsLine, FromScripts, FromRouters, FromTopology, feed_files, names_due, names_of_parts, names_of_run, untaken, routers_of, script_files}
+use Rattle.dn_run.specs.Run.{Follows, IsLine, Reads, Steps, feed_files, or_fails, read_scripts, names_due, names_of_parts, names_of_run, untaken, routers_of, script_files}
 use Rattle.dn_run.specs.Stage.{Stage, is_fault, may_end_early}
 use Rattle.dn_run.specs.Stops.{AreTaken, Due, EndsWith, GoesOn, Reaches, ScriptEnds, ScriptGoesOn, ScriptsEnd, ScriptsGoOn, Stops, StopsAs, TakeNoneOf, names_left, from_feeds, from_jobs, from_run, from_scripts, stop_of_parts, stop_of_routers}
 use Rattle.dn_run.specs.declared.load.Loaded.{Loaded}
@@ -35,7 +35,7 @@ use Rattle.dn_run.specs.declared.stop.Stop.{Stop}
 use Rattle.dn_run.specs.declared.stop.Stop.TheVariants.{Line, OutOfMemory}
 use Rattle.dn_run.proofs.ApartLemmas.{clear}
 use Rattle.dn_run.proofs.ProgramLemmas.{on-bytes-out, or-map, stage-line, stage-may, stage-none, stage-read, stage-stops}
-use Rattle.dn_run.proofs.StepLemmas.{match-false, routers-refused, script-failed, script-read, script-refused, too-many, topology-failed, topology-read, topology-refused}
+use Rattle.dn_run.proofs.StepLemmas.{from_routers, from_topology, not-too-many, read_network, routers-refused, script-failed, script-read, script-refused, too-many, topology-failed, topology-read, topology-refused}
 
 -- ---- steps
 
@@ -75,20 +75,20 @@ stage-due ending old new names inner due step stage = record {
 
 -- ---- the parts
 
-abbrev pub from_topology : List ℕ → PartsSaid → Option Files → Due
-from_topology topology said files ending calls = FromTopology topology said files calls ending
+abbrev after_parts : RunWords → Result PartsSaid ErrorLine → Steps
+after_parts command said = or_fails said BadWords (λ error. error) (λ parts. Reads command.topology errors.ReadTopology (read_network parts))
 
 parts-read : (command : RunWords) (files : Option Files) (calls : List Call) (said : PartsSaid) → parts_of command.parts ≡ Ok said →
     GoesOn calls (names_of_parts command.topology (parts_of command.parts)) (from_run command files) calls (names_due command.topology said) (from_topology command.topology said files)
 parts-read command files calls said is = λ ending last stage.
     subst (λ (r : Result PartsSaid ErrorLine). Stage calls last (names_of_parts command.topology r) ending
-    (λ calls. MatchResult r (λ said. FromTopology command.topology said files calls ending) (λ error. IsErrorLine ending calls BadWords error))) (sym is) stage
+    (λ calls. Follows files (after_parts command r) calls ending)) (sym is) stage
 
 parts-stop : (command : RunWords) (files : Option Files) (calls : List Call) (e : PartsRefused) → ArePartsRefused e (parts_of command.parts) →
     EndsWith calls (names_of_parts command.topology (parts_of command.parts)) (from_run command files) calls (stop_of_parts e)
 parts-stop command files calls (parts_refused.Line error) is =
     ends-line calls (names_of_parts command.topology (parts_of command.parts)) (from_run command files) BadWords error refl refl
-    (λ ending line. subst (λ (r : Result PartsSaid ErrorLine). MatchResult r (λ said. FromTopology command.topology said files [] ending) (λ error. IsErrorLine ending [] BadWords error)) (sym is) (refl, line))
+    (λ ending line. subst (λ (r : Result PartsSaid ErrorLine). Follows files (after_parts command r) [] ending) (sym is) (refl, line))
 parts-stop command files calls parts_refused.OutOfMemory is =
     ends-memory calls (names_of_parts command.topology (parts_of command.parts)) (from_run command files)
 
@@ -100,9 +100,6 @@ pub stops-parts : (files : Option Files) (command : RunWords) (e : PartsRefused)
 stops-parts files command e refused = parts-stop command files [] e refused
 
 -- ---- the topology
-
-abbrev pub from_routers : PartsSaid → Option Files → Topology → Due
-from_routers said files t ending calls = FromRouters said files t calls ending
 
 pub topology-read-on : (files : Option Files) (old new : List Call) (name : List ℕ) (names : List (List ℕ)) (said : PartsSaid) (t : Topology) → LoadsTopology files old name new (Read t) →
     GoesOn old (name ∷ names) (from_topology name said files) new names (from_routers said files t)
@@ -156,7 +153,7 @@ routers-read : (files : Option Files) (calls : List Call) (names : List (List �
     GoesOn calls names (from_routers said files t) calls names (from_scripts files t routers [] said.scripts said.feeds)
 routers-read files calls names said t routers is = λ ending last stage.
     subst (λ (r : Result (List RouterId) ErrorLine). Stage calls last names ending
-    (λ calls. MatchResult r (λ routers. FromScripts files t routers [] said.scripts said.feeds calls ending) (λ error. IsErrorLine ending calls BadWords error))) (sym is) stage
+    (λ calls. Follows files (or_fails r BadWords (λ error. error) (λ routers. read_scripts t routers [] said.scripts said.feeds)) calls ending)) (sym is) stage
 
 routers-stop : (files : Option Files) (calls : List Call) (names : List (List ℕ)) (said : PartsSaid) (t : Topology) (e : RoutersRefused) → AreRoutersRefused e (routers_of t said.feeds) →
     EndsWith calls names (from_routers said files t) calls (stop_of_routers e)
@@ -265,7 +262,7 @@ jobs-few : (files : Option Files) (t : Topology) (routers : List RouterId) (scri
     GoesOn calls (feed_files feeds) (from_jobs files t routers scripts feeds) calls (feed_files feeds) (from_feeds files t routers scripts feeds)
 jobs-few files t routers scripts feeds calls few = λ ending last stage.
     stage-due ending calls last (feed_files feeds) (from_feeds files t routers scripts feeds ending) (from_jobs files t routers scripts feeds ending)
-    (λ more due. match-false (nat_lt most_jobs (length scripts + length (untaken scripts routers))) _ _ few due) stage
+    (λ more due. not-too-many files t routers scripts feeds more ending few due) stage
 
 jobs-many : (files : Option Files) (t : Topology) (routers : List RouterId) (scripts : List (List script_line)) (feeds : List (ℕ × FeedWords)) (calls : List Call) →
     nat_lt most_jobs (length scripts + length (untaken scripts routers)) ≡ true →

@@ -1,6 +1,5 @@
 -- Words, files and the states of the calls fix what a run comes to.
-use Rattle.std.proofs.Common.{◌≡◌, ℕ, suc, Bool, true, false, Result, Ok, Err, IsSomeAnd, MatchResult, MatchOption, List, [], ◌∷◌, ◌++◌, All, Option, None, Some, refl, ap, sym, ◌∙◌, ◌⊎◌, inl, inr, subst, nat_lt, ◌+◌, length, if◌then◌else◌}
-use Rattle.std.specs.Bool.{MatchBool}
+use Rattle.std.proofs.Common.{◌≡◌, ℕ, suc, Bool, true, false, IsSomeAnd, MatchOption, List, [], ◌∷◌, ◌++◌, All, Option, None, Some, refl, ap, sym, ◌∙◌, ◌⊎◌, inl, inr, subst, nat_lt, ◌+◌, length, if◌then◌else◌}
 use Rattle.std.proofs.lemmas.List.{append_cancel_right}
 use Rattle.std.proofs.lemmas.List.Elements.{All-head, All-tail}
 use Rattle.dn_io.specs.Calls.{Call, CallState, Out, Refused, Back}
@@ -8,10 +7,8 @@ use Rattle.dn_io.specs.Files.{Files, bytes_of}
 use Rattle.dn_formats.specs.Feed.{IsReading, IsFaultedReading}
 use Rattle.dn_formats.specs.Frames.{frames_text, rest_kind}
 use Rattle.dn_formats.specs.Lawful.{IsWhole, IsKept}
-use Rattle.dn_formats.specs.ScriptText.{script_of}
 use Rattle.dn_formats.specs.Steps.{FeedRead, updates, told_of}
-use Rattle.dn_formats.specs.TopologyText.{topology_of}
-use Rattle.dn_formats.specs.Words.{FeedWords, PartsSaid, parts_of}
+use Rattle.dn_formats.specs.Words.{FeedWords}
 use Rattle.dn_formats.proofs.FeedLemmas.{reading_once, faulted_once}
 use Rattle.dn_formats.proofs.LawfulLemmas.{whole}
 use Rattle.dn_model.specs.declared.entry.Entry.{Entry}
@@ -23,13 +20,13 @@ use Rattle.dn_formats.specs.declared.script.Line.{Line}
 use Rattle.dn_formats.specs.declared.told.FeedEnd.TheVariants as ends
 use Rattle.dn_formats.specs.declared.told.FeedTold.{FeedTold}
 use Rattle.dn_run.specs.Alike.{AreAlike, AreRunsOfOne}
-use Rattle.dn_run.specs.CommandLine.{CommandWords, Make, Run, RunWords, command_of}
+use Rattle.dn_run.specs.CommandLine.{CommandWords, Make, Run, command_of}
 use Rattle.dn_run.specs.Ending.{Ruled}
-use Rattle.dn_run.specs.Limits.{feed_limit, history_limit, most_jobs}
-use Rattle.dn_run.specs.Run.{AreReadOf, FromCommand, FromFeeds, FromJobs, FromParts, FromRouters, FromScripts, FromTopology, FromWords, IsErrorLine, IsReadOf, IsReadOfBytes, IsRunOf, IsToldOf, OnFile, OnFeed, OpenedFeed, all_well, routers_of, some_faulted, taken_by_scripts, untaken, verdict_of}
+use Rattle.dn_run.specs.Limits.{feed_limit, history_limit}
+use Rattle.dn_run.specs.Run.{AreReadOf, Fails, Follows, FromCommand, FromFeeds, FromWords, IsErrorLine, IsReadOf, IsReadOfBytes, IsRunOf, IsToldOf, Knows, OnFeed, OnFile, OpenedFeed, Reads, Runs, Steps, all_well, some_faulted, steps_of, verdict_of}
 use Rattle.dn_run.specs.Stage.{may_end_early, is_fault}
 use Rattle.dn_run.specs.declared.status.Verdict.{Verdict}
-use Rattle.dn_run.specs.declared.status.Verdict.TheVariants.{Done, Refusals, BadWords, BadTopology, BadScript, ReadFault}
+use Rattle.dn_run.specs.declared.status.Verdict.TheVariants.{Done, Refusals, BadWords, ReadFault}
 use Rattle.dn_run.proofs.MadeOnce.{ending-not-full, made-once, same-topology}
 
 -- ---- a feed has one reading
@@ -141,15 +138,6 @@ both-some : {A R : Type 0} (o : Option A) (P Q : A → Type 0) → ((a : A) → 
 both-some None P Q f p q = absurd p
 both-some (Some a) P Q f p q = f a p q
 
-both-results : {A E R : Type 0} (r : Result A E) (P P' : A → Type 0) (Q Q' : E → Type 0) → ((a : A) → P a → P' a → R) → ((e : E) → Q e → Q' e → R) →
-    MatchResult r P Q → MatchResult r P' Q' → R
-both-results (Ok a) P P' Q Q' f g p q = f a p q
-both-results (Err e) P P' Q Q' f g p q = g e p q
-
-both-bools : {R : Type 0} (b : Bool) (P P' Q Q' : Type 0) → (P → P' → R) → (Q → Q' → R) → MatchBool b P Q → MatchBool b P' Q' → R
-both-bools true P P' Q Q' f g p q = f p q
-both-bools false P P' Q Q' f g p q = g p q
-
 both-files : {R : Type 0} (fs : Files) (name : List ℕ) (state : CallState) (F G : Type 0) (P Q : List ℕ → Type 0) → (F → G → R) → ((bytes : List ℕ) → P bytes → Q bytes → R) →
     OnFile (Some fs) name state F P → OnFile (Some fs) name state G Q → R
 both-files fs name Out F G P Q f g p q = absurd p
@@ -178,43 +166,20 @@ both-feeds fs t routers scripts opened (feed ∷ feeds) (call ∷ more) v w x y 
     both-opened fs feed.0 feed.1.file opened call.state more v w x y (λ later. FromFeeds (Some fs) t routers scripts later feeds more (Ruled v x)) (λ later. FromFeeds (Some fs) t routers scripts later feeds more (Ruled w y))
     (λ later all a b. both-feeds fs t routers scripts later feeds more v w x y all a b) told p.1 q.1
 
-both-jobs : (fs : Files) (t : Topology) (routers : List RouterId) (scripts : List (List Line)) (feeds : List (ℕ × FeedWords)) (calls : List Call) (v w : Verdict) (x y : List ℕ) →
-    FromJobs (Some fs) t routers scripts feeds calls (Ruled v x) → FromJobs (Some fs) t routers scripts feeds calls (Ruled w y) → AreAlike v x w y
-both-jobs fs t routers scripts feeds calls v w x y p q =
-    both-bools (nat_lt most_jobs (length scripts + length (untaken scripts routers))) _ _ _ _ (both-lines calls BadWords errors.TooManyJobs v w x y) (both-feeds fs t routers scripts [] feeds calls v w x y tt) p q
-
-both-scripts : (fs : Files) (t : Topology) (routers : List RouterId) (read : List (List Line)) (scripts : List (ℕ × List ℕ)) (feeds : List (ℕ × FeedWords)) (calls : List Call) (v w : Verdict) (x y : List ℕ) →
-    FromScripts (Some fs) t routers read scripts feeds calls (Ruled v x) → FromScripts (Some fs) t routers read scripts feeds calls (Ruled w y) → AreAlike v x w y
-both-scripts fs t routers read [] feeds calls v w x y p q = both-jobs fs t routers read feeds calls v w x y p q
-both-scripts fs t routers read (script ∷ scripts) feeds [] v w x y p q = absurd p
-both-scripts fs t routers read (script ∷ scripts) feeds (call ∷ more) v w x y p q =
-    both-files fs script.1 call.state _ _ _ _ (both-lines more ReadFault (errors.ReadPart script.0) v w x y)
-    (λ bytes a b. both-results (script_of t.routers routers (taken_by_scripts read) bytes) _ _ _ _
-    (λ lines c d. both-scripts fs t routers (read ++ lines ∷ []) scripts feeds more v w x y c d) (λ fault c d. both-lines more BadScript (errors.Script script.0 fault.line fault.cause) v w x y c d) a b) p.1 q.1
-
-both-routers : (said : PartsSaid) (fs : Files) (t u : Topology) (calls : List Call) (v w : Verdict) (x y : List ℕ) → t ≡ u →
-    FromRouters said (Some fs) t calls (Ruled v x) → FromRouters said (Some fs) u calls (Ruled w y) → AreAlike v x w y
-both-routers said fs t u calls v w x y same p q =
-    both-results (routers_of t said.feeds) _ _ _ _ (λ routers a b. both-scripts fs t routers [] said.scripts said.feeds calls v w x y a b) (λ error a b. both-lines calls BadWords error v w x y a b)
-    p (subst (λ (z : Topology). FromRouters said (Some fs) z calls (Ruled w y)) (sym same) q)
-
-both-topologies : (topology : List ℕ) (said : PartsSaid) (fs : Files) (calls : List Call) (v w : Verdict) (x y : List ℕ) →
-    FromTopology topology said (Some fs) calls (Ruled v x) → FromTopology topology said (Some fs) calls (Ruled w y) → AreAlike v x w y
-both-topologies topology said fs [] v w x y p q = absurd p
-both-topologies topology said fs (call ∷ more) v w x y p q =
-    both-files fs topology call.state _ _ _ _ (both-lines more ReadFault errors.ReadTopology v w x y)
-    (λ bytes a b. both-results (topology_of bytes) _ _ _ _
-    (λ network c d. both-routers said fs c.0 d.0 more v w x y (same-topology c.0 d.0 (c.1 ∙ sym d.1)) c.2 d.2) (λ fault c d. both-lines more BadTopology (errors.Topology fault) v w x y c d) a b) p.1 q.1
-
-both-parts : (command : RunWords) (fs : Files) (calls : List Call) (v w : Verdict) (x y : List ℕ) →
-    FromParts command (Some fs) calls (Ruled v x) → FromParts command (Some fs) calls (Ruled w y) → AreAlike v x w y
-both-parts command fs calls v w x y p q =
-    both-results (parts_of command.parts) _ _ _ _ (λ said a b. both-topologies command.topology said fs calls v w x y a b) (λ error a b. both-lines calls BadWords error v w x y a b) p q
+both-steps : (fs : Files) (steps : Steps) (calls : List Call) (v w : Verdict) (x y : List ℕ) →
+    Follows (Some fs) steps calls (Ruled v x) → Follows (Some fs) steps calls (Ruled w y) → AreAlike v x w y
+both-steps fs (Fails verdict error) calls v w x y p q = both-lines calls verdict error v w x y p q
+both-steps fs (Reads name fault next) [] v w x y p q = absurd p
+both-steps fs (Reads name fault next) (call ∷ more) v w x y p q =
+    both-files fs name call.state _ _ _ _ (both-lines more ReadFault fault v w x y) (λ bytes a b. both-steps fs (next bytes) more v w x y a b) p.1 q.1
+both-steps fs (Knows network next) calls v w x y p q =
+    both-steps fs (next p.0) calls v w x y p.2 (subst (λ (t : Topology). Follows (Some fs) (next t) calls (Ruled w y)) (same-topology q.0 p.0 (q.1 ∙ sym p.1)) q.2)
+both-steps fs (Runs input) calls v w x y p q = both-feeds fs input.t input.routers input.scripts [] input.feeds calls v w x y tt p q
 
 both-commands : (command : Option CommandWords) (fs : Files) (calls : List Call) (v w : Verdict) (x y : List ℕ) (line line' : Type 0) → (line → line' → AreAlike v x w y) →
     MatchOption command line (λ c. FromCommand c (Some fs) calls (Ruled v x)) → MatchOption command line' (λ c. FromCommand c (Some fs) calls (Ruled w y)) → AreAlike v x w y
 both-commands None fs calls v w x y line line' f p q = f p q
-both-commands (Some (Run command)) fs calls v w x y line line' f p q = both-parts command fs calls v w x y p q
+both-commands (Some (Run command)) fs calls v w x y line line' f p q = both-steps fs (steps_of command) calls v w x y p q
 both-commands (Some (Make n)) fs calls v w x y line line' f p q = (p.1.0 ∙ sym q.1.0, inl (made-once n x y p.1.1 q.1.1))
 
 pub runs-alike : (words : List (List ℕ)) (fs : Files) (calls : List Call) (v w : Verdict) (x y : List ℕ) →

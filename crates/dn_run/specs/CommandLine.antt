@@ -1,6 +1,7 @@
 -- What the words of a command line mean. The command is one of clap, whose own definitions say which words it takes,
 -- and which of them is whose value; a word that asks for help is none that it takes.
-use Rattle.std.specs.Prelude.{ℕ, true, codes, List, [], ◌∷◌, Option, None, Some, option_map, option_and_then, unwrap_or, if◌then◌else◌}
+use Rattle.std.specs.Prelude.{ℕ, true, codes, List, [], ◌∷◌, Option, None, Some, option_map, option_and_then, unwrap_or}
+use Rattle.std.specs.Prelude.{if◌then◌else◌}
 use Rattle.std.specs.Str.{bytes_eq}
 use Rattle.clap.specs.Walk.{Row, Rule, Text, first_of, all_of}
 use Rattle.clap.specs.Simple.{App, new_app, new_rule, on_top, with_rule, with_subcommand, subcommand_of}
@@ -37,7 +38,8 @@ make_command = with_rule (new_app (codes "make")) number_rule
 unfoldable pub command_line : App
 command_line =
     with_subcommand (with_subcommand
-    (on_top (λ top. record top { subcommand_required = true }) (new_app (codes "deltanet"))) run_command.top) make_command.top
+    (on_top (λ top. record top { subcommand_required = true }) (new_app (codes "deltanet")))
+    run_command.top) make_command.top
 
 -- ---- what words mean
 
@@ -54,7 +56,8 @@ pub data CommandWords : Type 0 where
 -- the run that the values of `run` say
 abbrev pub run_of_rows : List Row → Option RunWords
 run_of_rows rows =
-    option_map (λ topology. record { topology = topology; parts = unwrap_or (all_of (codes "part") rows) [] }) (first_of (codes "topology") rows)
+    option_map (λ topology. record { topology = topology; parts = unwrap_or (all_of (codes "part") rows) [] })
+    (first_of (codes "topology") rows)
 
 -- the number of updates that the values of `make` say: 1 to 1,000,000 in digits, without sign or leading zero
 abbrev pub number_of_rows : List Row → Option ℕ
@@ -74,4 +77,5 @@ unless_refused (fault ∷ more) said = None
 
 -- what a whole command line means, the program's name first, if it means something
 abbrev pub command_of : List (List ℕ) → Option CommandWords
-command_of words = unless_refused (fault_of command_line words) (option_and_then meaning_of (subcommand_of command_line words))
+command_of words =
+    unless_refused (fault_of command_line words) (option_and_then meaning_of (subcommand_of command_line words))

@@ -1,5 +1,6 @@
 -- What the jobs of a run came to.
-use Rattle.std.specs.Prelude.{◌≡◌, ℕ, suc, ◌+◌, ◌<◌, ◌≤◌, ◌^◌, ◌==◌, Bool, true, false, IsTrue, map, List, [], ◌∷◌, length, Option, Some}
+use Rattle.std.specs.Prelude.{◌≡◌, ℕ, suc, ◌+◌, ◌<◌, ◌≤◌, ◌^◌, ◌==◌, Bool, true, false, IsTrue, map, List, [], ◌∷◌}
+use Rattle.std.specs.Prelude.{length, Option, Some}
 use Rattle.std.specs.List.{list_any}
 use Rattle.dn_formats.specs.Lawful.{IsLawful, jobs_of}
 use Rattle.dn_formats.specs.Steps.{FeedRead, told_of}
@@ -7,7 +8,6 @@ use Rattle.dn_model.specs.Entry.{entries}
 use Rattle.dn_model.specs.declared.entry.Posted.{Posted}
 use Rattle.base.specs.Lists.{all_differ}
 use Rattle.base.specs.declared.ids.RouterId.{RouterId}
-use Rattle.dn_formats.specs.declared.script.Line.{Line}
 use Rattle.dn_formats.specs.declared.script.Script.{Script}
 use Rattle.dn_model.specs.declared.topology.Topology.{Topology}
 use Rattle.dn_formats.specs.declared.told.FeedTold.{FeedTold}
@@ -15,10 +15,10 @@ use Rattle.dn_formats.specs.declared.told.JobTold.{JobTold}
 use Rattle.route_feed.specs.FeedReader.{Reader, told_so_far}
 use Rattle.feed_threads.specs.Feeds.{CountsBy, StandsBy}
 use Rattle.dn_run.specs.Limits.{history_limit, most_jobs}
-use Rattle.dn_run.specs.Run.{takes_router, untaken}
+use Rattle.dn_run.specs.Run.{ScriptLines, takes_router, untaken}
 
 -- the lines of scripts
-abbrev pub scripts_of : List Script → List (List Line)
+abbrev pub scripts_of : List Script → ScriptLines
 scripts_of scripts = map (λ script. script.lines) scripts
 
 -- a reader that has read nothing yet, of a router's feed
@@ -47,17 +47,19 @@ abbrev pub routers_of_readers : {S : Type 0} → List (Reader S) → List Router
 routers_of_readers readers = map (λ r. r.told.router) readers
 
 -- no two scripts take from one router
-abbrev pub TakeApart : List (List Line) → Type 0
+abbrev pub TakeApart : ScriptLines → Type 0
 TakeApart [] = Unit {0}
-TakeApart (lines ∷ scripts) = ((r : RouterId) → takes_router r lines ≡ true → list_any (takes_router r) scripts ≡ false) × TakeApart scripts
+TakeApart (lines ∷ scripts) =
+    ((r : RouterId) → takes_router r lines ≡ true → list_any (takes_router r) scripts ≡ false) × TakeApart scripts
 
 -- scripts over feeds of these routers are no more jobs than a run has
-abbrev pub AreFewJobs : List (List Line) → List RouterId → Type 0
+abbrev pub AreFewJobs : ScriptLines → List RouterId → Type 0
 AreFewJobs scripts routers = length scripts + length (untaken scripts routers) ≤ most_jobs
 
--- A feed was read to this end by a reader that began as `start`, and its source came back: its count of faults goes with
--- the end, and this is told of the feed. Where the source told its bytes, these steps are what they come to.
-pub record IsReadAs {S : Type 0} (t : Topology) (left : S → Option (List ℕ)) (faults : S → ℕ) (start : Reader S) (source : S) (told : FeedTold) (f : FeedRead) : Type 0 where
+-- A feed was read to this end by a reader that began as `start`, and its source came back: its count of faults goes
+-- with the end, and this is told of the feed. Where the source told its bytes, these steps are what they come to.
+pub record IsReadAs {S : Type 0} (t : Topology) (left : S → Option (List ℕ)) (faults : S → ℕ) (start : Reader S)
+    (source : S) (told : FeedTold) (f : FeedRead) : Type 0 where
   pub reader : Reader S
   pub source_is : reader.source ≡ source
   pub reader_router : reader.told.router ≡ start.told.router
@@ -66,18 +68,22 @@ pub record IsReadAs {S : Type 0} (t : Topology) (left : S → Option (List ℕ))
   pub router : f.router ≡ start.told.router
   pub told_is : told ≡ told_of f
   pub counts : CountsBy (Some f.end) (faults source)
-  pub stands : (bytes : List ℕ) → left start.source ≡ Some bytes → StandsBy (Some f.end) t reader (left source) bytes f.steps
+  pub stands : (bytes : List ℕ) → left start.source ≡ Some bytes →
+      StandsBy (Some f.end) t reader (left source) bytes f.steps
 
 -- the same of all feeds, in order
-abbrev pub AreReadAs : {S : Type 0} → Topology → (S → Option (List ℕ)) → (S → ℕ) → List (Reader S) → List S → List FeedTold → List FeedRead → Type 0
+abbrev pub AreReadAs : {S : Type 0} → Topology → (S → Option (List ℕ)) → (S → ℕ) → List (Reader S) → List S →
+    List FeedTold → List FeedRead → Type 0
 AreReadAs t left faults [] [] [] [] = Unit {0}
 AreReadAs t left faults (start ∷ starts) (source ∷ sources) (told ∷ tolds) (f ∷ fs) =
     IsReadAs t left faults start source told f × AreReadAs t left faults starts sources tolds fs
 AreReadAs t left faults starts sources tolds fs = ⊥
 
--- The jobs were run, and the feeds read to their ends: the history is a lawful one of what these gave, and so is what is
--- told of each job.
-pub record HasRun {S : Type 0} (t : Topology) (left : S → Option (List ℕ)) (faults : S → ℕ) (starts : List (Reader S)) (sources : List S) (tolds : List FeedTold) (history : List Posted) (scripts : List (List Line)) (jobs : List JobTold) : Type 0 where
+-- The jobs were run, and the feeds read to their ends: the history is a lawful one of what these gave, and so is what
+-- is told of each job.
+pub record HasRun {S : Type 0} (t : Topology) (left : S → Option (List ℕ)) (faults : S → ℕ) (starts : List (Reader S))
+    (sources : List S) (tolds : List FeedTold) (history : List Posted) (scripts : ScriptLines)
+    (jobs : List JobTold) : Type 0 where
   pub feeds : List FeedRead
   pub read : AreReadAs t left faults starts sources tolds feeds
   pub lawful : IsLawful t history_limit feeds (jobs_of scripts feeds) (entries history) jobs

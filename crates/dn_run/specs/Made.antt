@@ -1,5 +1,5 @@
--- What `make N` comes to: a run over the generated input of N updates, whose one script takes every feed and then asks for
--- the loops.
+-- What `make N` comes to: a run over the generated input of N updates, whose one script takes every feed and then asks
+-- for the loops.
 use Rattle.std.specs.Prelude.{ℕ, ◌+◌, ◌%◌, ◌≡◌, codes, decimal, List, [], ◌∷◌, ◌++◌, length, map, sum, None, false}
 use Rattle.std.specs.List.{AllZip, range_with_len}
 use Rattle.dn_formats.specs.Feed.{IsReading}
@@ -102,8 +102,8 @@ summary_text n cycles =
     codes "updates " ++ (decimal n ++ (codes "\ncycles " ++ (decimal (length cycles)
     ++ (codes "\naddresses " ++ (decimal (sum (map (λ c. c.addresses) cycles)) ++ codes "\n")))))
 
--- A run over the generated input of n updates, whose jobs tell this: the feeds are read whole, and the history is the one
--- that the script makes of them.
+-- A run over the generated input of n updates, whose jobs tell this: the feeds are read whole, and the history is the
+-- one that the script makes of them.
 pub record IsMadeRun (n : ℕ) (told : List JobTold) : Type 0 where
   pub t : Topology
   pub feeds : List FeedRead
@@ -118,4 +118,5 @@ TellsCycles told = (pin : ℕ) × (cycles : List Cycle) × (told ≡ told_cycles
 
 -- the summary of the cycles that the run over the generated input of n updates tells
 abbrev pub IsMade : ℕ → List ℕ → Type 0
-IsMade n text = (pin : ℕ) × (cycles : List Cycle) × IsMadeRun n (told_cycles pin cycles ∷ []) × (text ≡ summary_text n cycles)
+IsMade n text =
+    (pin : ℕ) × (cycles : List Cycle) × IsMadeRun n (told_cycles pin cycles ∷ []) × (text ≡ summary_text n cycles)

@@ -1,8 +1,10 @@
 -- What the parts that were read say, and when parts are refused.
-use Rattle.std.specs.Prelude.{◌≡◌, ◌++◌, ◌+◌, ℕ, List, [], ◌∷◌, length, nat_le, if◌then◌else◌, Option, None, Some, Result, Ok, Err, map}
+use Rattle.std.specs.Prelude.{◌≡◌, ◌++◌, ◌+◌, ℕ, List, [], ◌∷◌, length, nat_le, if◌then◌else◌, Option, None, Some}
+use Rattle.std.specs.Prelude.{Result, Ok, Err, map}
 use Rattle.std.specs.String.{string_bytes}
 use Rattle.dn_formats.specs.ScriptText.{has_bytes}
-use Rattle.dn_formats.specs.Words.{FeedWords, Part, FeedPart as feed_part, ScriptPart as script_part, PartsSaid, most_feeds, most_scripts}
+use Rattle.dn_formats.specs.Words.{FeedWords, Part, FeedPart as feed_part, ScriptPart as script_part, PartsSaid}
+use Rattle.dn_formats.specs.Words.{most_feeds, most_scripts}
 use Rattle.dn_formats.specs.declared.error_line.ErrorLine.{ErrorLine}
 use Rattle.dn_formats.specs.declared.error_line.ErrorLine.TheVariants.{BadPart, TooManyParts}
 use Rattle.dn_run.specs.declared.parts.FeedPart.{FeedPart}

@@ -1,14 +1,16 @@
--- What a run comes to: its steps in order, of which the first that refuses ends it.
-use Rattle.std.specs.Prelude.{ℕ, suc, Bool, true, false, List, [], ◌∷◌, ◌++◌, ◌≡◌, ◌≤◌, ◌+◌, ◌==◌, ◌&&◌, nat_lt, not, All, length, map, filter, Option, None, Some, MatchOption, MatchResult, Result, Ok, Err, if◌then◌else◌}
+-- What a run comes to: its steps in order, of which the first that fails ends it.
+use Rattle.std.specs.Prelude.{ℕ, suc, Bool, true, false, List, [], ◌∷◌, ◌++◌, ◌≡◌, ◌≤◌, ◌+◌, ◌==◌, ◌&&◌, nat_lt, not}
+use Rattle.std.specs.Prelude.{All, length, map, filter, Option, None, Some, MatchOption, Result, Ok, Err}
+use Rattle.std.specs.Prelude.{if◌then◌else◌}
 use Rattle.std.specs.List.{list_all, list_any, filter_map, flat_map}
 use Rattle.std.specs.Option.{option_to_list}
-use Rattle.std.specs.Bool.{MatchBool}
 use Rattle.dn_io.specs.Told.{with_end, NothingLeft}
 use Rattle.dn_io.specs.Files.{Files}
 use Rattle.dn_io.specs.Calls.{Call, CallState, Out, Refused, Back, state_failed}
 use Rattle.dn_formats.specs.Words.{FeedWords, PartsSaid, parts_of, unless_faulty}
 use Rattle.dn_formats.specs.TopologyText.{topology_of}
 use Rattle.dn_model.specs.Tables.{parts}
+use Rattle.dn_model.specs.Topology.{Parts}
 use Rattle.dn_model.specs.Lookup.{router_of}
 use Rattle.dn_formats.specs.ScriptText.{script_of}
 use Rattle.dn_formats.specs.Feed.{IsReading, IsFaultedReading}
@@ -28,13 +30,24 @@ use Rattle.dn_formats.specs.declared.error_line.ErrorLine.{ErrorLine}
 use Rattle.dn_formats.specs.declared.error_line.ErrorLine.TheVariants as errors
 use Rattle.dn_run.specs.CommandLine.{CommandWords, Run, Make, RunWords, command_of}
 use Rattle.dn_run.specs.Ending.{Ending, Ruled, Stopped, IfRuled, OrStops}
+use Rattle.dn_run.specs.Exit.{Exit, ByVerdict, ByWriteFault, ByMemory}
 use Rattle.dn_run.specs.Limits.{feed_limit, history_limit, most_jobs}
 use Rattle.dn_run.specs.Made.{IsMade}
 use Rattle.dn_run.specs.Opened.{text_limit, IsReadFront, OnBytes, WithBytes, FailsWhereTold}
 use Rattle.dn_run.specs.declared.status.Verdict.{Verdict}
-use Rattle.dn_run.specs.declared.status.Verdict.TheVariants.{Done, Refusals, BadWords, BadTopology, BadScript, ReadFault}
-use Rattle.dn_run.specs.declared.status.Status.{Status}
-use Rattle.dn_run.specs.declared.status.Status.TheVariants as statuses
+use Rattle.dn_run.specs.declared.status.Verdict.TheVariants.{Done, Refusals, BadWords, BadTopology, BadScript}
+use Rattle.dn_run.specs.declared.status.Verdict.TheVariants.{ReadFault}
+
+-- the lines of scripts, one list for each
+abbrev pub ScriptLines : Type 0
+ScriptLines = List (List Line)
+
+-- scripts, by their files, and feeds, by their routers and files, each with the number of its part
+abbrev pub ScriptParts : Type 0
+ScriptParts = List (ℕ × List ℕ)
+
+abbrev pub FeedParts : Type 0
+FeedParts = List (ℕ × FeedWords)
 
 -- this verdict, with this error line
 abbrev pub IsLine : Ending → Verdict → ErrorLine → Type 0
@@ -48,23 +61,13 @@ IsErrorLine ending calls due error = (calls ≡ []) × IsLine ending due error
 
 -- whether a feed ended well, at its own end
 abbrev pub ended_well : Option FeedEnd → Bool
-ended_well None = false
 ended_well (Some ends.End) = true
-ended_well (Some (ends.CutShort o)) = false
-ended_well (Some (ends.Lost o cause)) = false
-ended_well (Some ends.TooLong) = false
-ended_well (Some ends.Full) = false
-ended_well (Some ends.Faulted) = false
+ended_well _ = false
 
 -- whether reading a feed failed
 abbrev pub is_faulted : Option FeedEnd → Bool
-is_faulted None = false
-is_faulted (Some ends.End) = false
-is_faulted (Some (ends.CutShort o)) = false
-is_faulted (Some (ends.Lost o cause)) = false
-is_faulted (Some ends.TooLong) = false
-is_faulted (Some ends.Full) = false
 is_faulted (Some ends.Faulted) = true
+is_faulted _ = false
 
 -- whether reading some feed failed
 abbrev pub some_faulted : List FeedTold → Bool
@@ -80,9 +83,10 @@ verdict_of tolds = if some_faulted tolds then ReadFault else (if all_well tolds 
 
 -- ---- the report
 
--- The report of a run, which tells this of the feeds: one lawful history, a shuffle of what the feeds gave, in which each
--- job's own entries stand in the order in which it takes them; and each query's answer over its pin.
-pub record IsReported (t : Topology) (scripts : List (List Line)) (feeds : List FeedRead) (tolds : List FeedTold) (text : List ℕ) : Type 0 where
+-- The report of a run, which tells this of the feeds: one lawful history, a shuffle of what the feeds gave, in which
+-- each job's own entries stand in the order in which it takes them; and each query's answer over its pin.
+pub record IsReported (t : Topology) (scripts : ScriptLines) (feeds : List FeedRead) (tolds : List FeedTold)
+    (text : List ℕ) : Type 0 where
   pub history : List Entry
   pub told : List JobTold
   pub lawful : IsLawful t history_limit feeds (jobs_of scripts feeds) history told
@@ -92,32 +96,32 @@ pub record IsReported (t : Topology) (scripts : List (List Line)) (feeds : List 
 abbrev pub IsReadToEnd : FeedEnd → Option (List ℕ) → Type 0
 IsReadToEnd ends.End left = NothingLeft left
 IsReadToEnd (ends.CutShort o) left = NothingLeft left
-IsReadToEnd (ends.Lost o cause) left = Unit {0}
-IsReadToEnd ends.TooLong left = Unit {0}
-IsReadToEnd ends.Full left = Unit {0}
-IsReadToEnd ends.Faulted left = Unit {0}
+IsReadToEnd _ left = Unit {0}
 
 -- What was read of a feed whose file has these bytes: all of it up to the limit, or where reading failed what came
 -- before the bytes that are left. No byte past one beyond the limit is read.
 abbrev pub IsReadOfBytes : Topology → List ℕ → CallState → FeedRead → Type 0
-IsReadOfBytes t bytes Out f = ⊥
-IsReadOfBytes t bytes Refused f = ⊥
 IsReadOfBytes t bytes (Back false left) f =
-    IsReading t f.router bytes feed_limit f.steps f.end × IsReadFront bytes (feed_limit + 1) left × IsReadToEnd f.end left
-IsReadOfBytes t bytes (Back true None) f = ⊥
-IsReadOfBytes t bytes (Back true (Some left)) f = (read : List ℕ) × (bytes ≡ read ++ left) × (length read ≤ feed_limit) × IsFaultedReading t f.router read f.steps × (f.end ≡ ends.Faulted)
+    IsReading t f.router bytes feed_limit f.steps f.end
+    × IsReadFront bytes (feed_limit + 1) left × IsReadToEnd f.end left
+IsReadOfBytes t bytes (Back true (Some left)) f =
+    (read : List ℕ) × (bytes ≡ read ++ left) × (length read ≤ feed_limit)
+    × IsFaultedReading t f.router read f.steps × (f.end ≡ ends.Faulted)
+IsReadOfBytes t bytes _ f = ⊥
 
 -- Of a feed whose bytes aren't told: its end tells a fault exactly where reading it failed, and never a full history.
 abbrev pub IsReadOf : Topology → Option (List ℕ) → CallState → FeedRead → Type 0
 IsReadOf t None state f = (is_faulted (Some f.end) ≡ state_failed state) × (f.end ≡ ends.Full → ⊥)
 IsReadOf t (Some bytes) state f = IsReadOfBytes t bytes state f
 
--- What the report tells of a feed: what was read of it, with its counts; where its bytes aren't told, its number, router and end.
+-- What the report tells of a feed: what was read of it, with its counts; where its bytes aren't told, its number,
+-- router and end.
 abbrev pub IsToldOf : Option (List ℕ) → FeedRead → FeedTold → Type 0
 IsToldOf None f told = (told.feed_no ≡ f.feed_no) × (told.router ≡ f.router) × (told.end ≡ Some f.end)
 IsToldOf (Some bytes) f told = told ≡ told_of f
 
--- a feed that was opened: the bytes of its file, where the world tells them, and what became of the call that asked for it
+-- a feed that was opened: the bytes of its file, where the world tells them, and what became of the call that asked for
+-- it
 pub record OpenedFeed : Type 0 where
   pub bytes : Option (List ℕ)
   pub state : CallState
@@ -126,11 +130,13 @@ pub record OpenedFeed : Type 0 where
 abbrev pub AreReadOf : Topology → ℕ → List RouterId → List OpenedFeed → List FeedRead → List FeedTold → Type 0
 AreReadOf t n [] [] [] [] = Unit {0}
 AreReadOf t n (r ∷ rs) (o ∷ os) (f ∷ fs) (told ∷ tolds) =
-    (f.feed_no ≡ n) × (f.router ≡ r) × IsReadOf t o.bytes o.state f × IsToldOf o.bytes f told × AreReadOf t (suc n) rs os fs tolds
+    (f.feed_no ≡ n) × (f.router ≡ r) × IsReadOf t o.bytes o.state f × IsToldOf o.bytes f told
+    × AreReadOf t (suc n) rs os fs tolds
 AreReadOf t n _ _ _ _ = ⊥
 
 -- the feeds, whose files were handed out and given back, are read, and the report is printed
-pub record IsRunOf (t : Topology) (routers : List RouterId) (scripts : List (List Line)) (opened : List OpenedFeed) (verdict : Verdict) (text : List ℕ) : Type 0 where
+pub record IsRunOf (t : Topology) (routers : List RouterId) (scripts : ScriptLines) (opened : List OpenedFeed)
+    (verdict : Verdict) (text : List ℕ) : Type 0 where
   pub feeds : List FeedRead
   pub tolds : List FeedTold
   pub read : AreReadOf t 1 routers opened feeds tolds
@@ -139,8 +145,8 @@ pub record IsRunOf (t : Topology) (routers : List RouterId) (scripts : List (Lis
 
 -- ---- the steps
 
--- A name was asked for first, and its state and the further calls are these. Where memory is wanted the run stops after it,
--- or goes on like any other.
+-- A name was asked for first, and its state and the further calls are these. Where memory is wanted the run stops after
+-- it, or goes on like any other.
 abbrev pub Asks : Ending → List Call → List ℕ → (CallState → List Call → Type 0) → Type 0
 Asks ending [] name next = ⊥
 Asks ending (call ∷ more) name next = (call.name ≡ name) × OrStops ending more (next call.state more)
@@ -162,15 +168,19 @@ abbrev pub IsUntouched : OpenedFeed → Type 0
 IsUntouched o = IsUnread o.bytes o.state
 
 -- What follows where a feed is opened. Where it can't be, the run ends, and no byte of the feeds before it was read.
-abbrev pub OnFeed : Option Files → ℕ → List ℕ → List OpenedFeed → CallState → List Call → Ending → (List OpenedFeed → Type 0) → Type 0
+abbrev pub OnFeed : Option Files → ℕ → List ℕ → List OpenedFeed → CallState → List Call → Ending →
+    (List OpenedFeed → Type 0) → Type 0
 OnFeed files part name opened Out more ending next = ⊥
-OnFeed files part name opened Refused more ending next = All IsUntouched opened × IsErrorLine ending more ReadFault (errors.ReadPart part)
+OnFeed files part name opened Refused more ending next =
+    All IsUntouched opened × IsErrorLine ending more ReadFault (errors.ReadPart part)
 OnFeed files part name opened (Back failed left) more ending next =
     WithBytes files name (λ bytes. next (opened ++ record { bytes = bytes; state = Back failed left } ∷ []))
 
 -- the feeds are opened in order, and then the jobs run
-abbrev pub FromFeeds : Option Files → Topology → List RouterId → List (List Line) → List OpenedFeed → List (ℕ × FeedWords) → List Call → Ending → Type 0
-FromFeeds files t routers scripts opened [] calls ending = (calls ≡ []) × IfRuled ending (λ verdict text. IsRunOf t routers scripts opened verdict text)
+abbrev pub FromFeeds : Option Files → Topology → List RouterId → ScriptLines → List OpenedFeed → FeedParts →
+    List Call → Ending → Type 0
+FromFeeds files t routers scripts opened [] calls ending =
+    (calls ≡ []) × IfRuled ending (IsRunOf t routers scripts opened)
 FromFeeds files t routers scripts opened (feed ∷ feeds) calls ending =
     Asks ending calls feed.1.file (λ state more. OnFeed files feed.0 feed.1.file opened state more ending
     (λ opened. FromFeeds files t routers scripts opened feeds more ending))
@@ -180,15 +190,8 @@ abbrev pub takes_router : RouterId → List Line → Bool
 takes_router r lines = list_any (takes r) lines
 
 -- the feeds' routers that no script takes
-abbrev pub untaken : List (List Line) → List RouterId → List RouterId
+abbrev pub untaken : ScriptLines → List RouterId → List RouterId
 untaken scripts routers = filter (λ r. not (list_any (takes_router r) scripts)) routers
-
--- each script is a job, and so is each feed that no script takes; the jobs must not be too many
-abbrev pub FromJobs : Option Files → Topology → List RouterId → List (List Line) → List (ℕ × FeedWords) → List Call → Ending → Type 0
-FromJobs files t routers scripts feeds calls ending =
-    MatchBool (nat_lt most_jobs (length scripts + length (untaken scripts routers)))
-    (IsErrorLine ending calls BadWords errors.TooManyJobs)
-    (FromFeeds files t routers scripts [] feeds calls ending)
 
 -- the routers whose feeds a line takes
 abbrev pub taken_by_line : Line → List RouterId
@@ -196,61 +199,90 @@ taken_by_line (Take l r count) = r ∷ []
 taken_by_line (Ask l q) = []
 
 -- the routers whose feeds scripts take
-abbrev pub taken_by_scripts : List (List Line) → List RouterId
+abbrev pub taken_by_scripts : ScriptLines → List RouterId
 taken_by_scripts scripts = flat_map (flat_map taken_by_line) scripts
 
--- the scripts are read in order
-abbrev pub FromScripts : Option Files → Topology → List RouterId → List (List Line) → List (ℕ × List ℕ) → List (ℕ × FeedWords) → List Call → Ending → Type 0
-FromScripts files t routers read [] feeds calls ending = FromJobs files t routers read feeds calls ending
-FromScripts files t routers read (script ∷ scripts) feeds calls ending =
-    Asks ending calls script.1 (λ state more.
-    OnFile files script.1 state (IsErrorLine ending more ReadFault (errors.ReadPart script.0)) (λ bytes.
-    MatchResult (script_of t.routers routers (taken_by_scripts read) bytes)
-    (λ lines. FromScripts files t routers (read ++ lines ∷ []) scripts feeds more ending)
-    (λ fault. IsErrorLine ending more BadScript (errors.Script script.0 fault.line fault.cause))))
-
--- the faults of a feed's router, which these routers of feeds stand before: the topology doesn't have it, or it is one of them
+-- the faults of a feed's router, which these routers of feeds stand before: the topology doesn't have it, or it is one
+-- of them
 abbrev pub router_faults : List RouterId → ℕ → Option RouterId → List ErrorLine
 router_faults before part None = errors.UnknownRouter part ∷ []
 router_faults before part (Some r) = if list_any (λ q. q.0 == r.0) before then errors.RouterTwice part ∷ [] else []
 
 -- the routers of feeds that the topology has
-abbrev pub routers_said : Topology → List (ℕ × FeedWords) → List RouterId
+abbrev pub routers_said : Topology → FeedParts → List RouterId
 routers_said t feeds = filter_map (λ feed. router_of t feed.1.router) feeds
 
 -- the faults of the routers of feeds in order, which these routers stand before
-abbrev pub routers_faults : Topology → List RouterId → List (ℕ × FeedWords) → List ErrorLine
+abbrev pub routers_faults : Topology → List RouterId → FeedParts → List ErrorLine
 routers_faults t before [] = []
 routers_faults t before (feed ∷ feeds) =
     router_faults before feed.0 (router_of t feed.1.router)
     ++ routers_faults t (before ++ option_to_list (router_of t feed.1.router)) feeds
 
 -- the routers of feeds, or the first fault of one
-abbrev pub routers_of : Topology → List (ℕ × FeedWords) → Result (List RouterId) ErrorLine
+abbrev pub routers_of : Topology → FeedParts → Result (List RouterId) ErrorLine
 routers_of t feeds = unless_faulty (routers_faults t [] feeds) (routers_said t feeds)
 
--- the feeds' routers are looked up
-abbrev pub FromRouters : PartsSaid → Option Files → Topology → List Call → Ending → Type 0
-FromRouters said files t calls ending =
-    MatchResult (routers_of t said.feeds)
-    (λ routers. FromScripts files t routers [] said.scripts said.feeds calls ending)
-    (λ error. IsErrorLine ending calls BadWords error)
+-- ---- the steps before the feeds
 
--- the topology is read
-abbrev pub FromTopology : List ℕ → PartsSaid → Option Files → List Call → Ending → Type 0
-FromTopology topology said files calls ending =
-    Asks ending calls topology (λ state more.
-    OnFile files topology state (IsErrorLine ending more ReadFault errors.ReadTopology) (λ bytes.
-    MatchResult (topology_of bytes)
-    (λ network. (t : Topology) × (parts t ≡ network) × FromRouters said files t more ending)
-    (λ fault. IsErrorLine ending more BadTopology (errors.Topology fault))))
+-- what the jobs of a run are over: a network, the routers of its feeds, the lines of its scripts, and the feeds
+pub record RunInput : Type 0 where
+  pub t : Topology
+  pub routers : List RouterId
+  pub scripts : ScriptLines
+  pub feeds : FeedParts
 
--- the parts are read
-abbrev pub FromParts : RunWords → Option Files → List Call → Ending → Type 0
-FromParts command files calls ending =
-    MatchResult (parts_of command.parts)
-    (λ said. FromTopology command.topology said files calls ending)
-    (λ error. IsErrorLine ending calls BadWords error)
+-- The steps of a run before its feeds are opened: it fails with an error line; it reads a file and goes on by its
+-- bytes, or fails with this line of the fault; it knows the parts of its network and goes on with that; or it runs over
+-- its input.
+pub data Steps : Type 0 where
+  Fails : (verdict : Verdict) (error : ErrorLine) → Steps
+  Reads : (name : List ℕ) (fault : ErrorLine) (next : List ℕ → Steps) → Steps
+  Knows : (network : Parts) (next : Topology → Steps) → Steps
+  Runs : (input : RunInput) → Steps
+
+-- a run goes on with what was said, or fails with the line of its fault
+abbrev pub or_fails : {A E : Type 0} → Result A E → Verdict → (E → ErrorLine) → (A → Steps) → Steps
+or_fails (Ok said) verdict line next = next said
+or_fails (Err fault) verdict line next = Fails verdict (line fault)
+
+-- each script is a job, and so is each feed that no script takes; the jobs must not be too many
+abbrev pub count_jobs : RunInput → Steps
+count_jobs input =
+    if nat_lt most_jobs (length input.scripts + length (untaken input.scripts input.routers))
+    then Fails BadWords errors.TooManyJobs else Runs input
+
+-- these scripts are read in order, behind those that were read
+abbrev pub read_scripts : Topology → List RouterId → ScriptLines → ScriptParts → FeedParts → Steps
+read_scripts t routers read [] feeds =
+    count_jobs (record { t = t; routers = routers; scripts = read; feeds = feeds })
+read_scripts t routers read (script ∷ scripts) feeds =
+    Reads script.1 (errors.ReadPart script.0) (λ bytes.
+    or_fails (script_of t.routers routers (taken_by_scripts read) bytes)
+    BadScript (λ fault. errors.Script script.0 fault.line fault.cause) (λ lines.
+    read_scripts t routers (read ++ lines ∷ []) scripts feeds))
+
+-- all steps: the parts, the topology, the feeds' routers, the scripts, and the number of jobs
+abbrev pub steps_of : RunWords → Steps
+steps_of command =
+    or_fails (parts_of command.parts) BadWords (λ error. error) (λ said.
+    Reads command.topology errors.ReadTopology (λ bytes.
+    or_fails (topology_of bytes) BadTopology errors.Topology (λ network.
+    Knows network (λ t.
+    or_fails (routers_of t said.feeds) BadWords (λ error. error) (λ routers.
+    read_scripts t routers [] said.scripts said.feeds)))))
+
+-- What follows by steps. Where one fails no further name is asked for; the files are asked for in the order of the
+-- steps, and then the feeds.
+abbrev pub Follows : Option Files → Steps → List Call → Ending → Type 0
+Follows files (Fails verdict error) calls ending = IsErrorLine ending calls verdict error
+Follows files (Reads name fault next) calls ending =
+    Asks ending calls name (λ state more.
+    OnFile files name state (IsErrorLine ending more ReadFault fault) (λ bytes. Follows files (next bytes) more ending))
+Follows files (Knows network next) calls ending =
+    (t : Topology) × (parts t ≡ network) × Follows files (next t) calls ending
+Follows files (Runs input) calls ending =
+    FromFeeds files input.t input.routers input.scripts [] input.feeds calls ending
 
 -- the input of so many updates is made and run over: no name is asked for
 abbrev pub FromMade : ℕ → List Call → Ending → Type 0
@@ -258,7 +290,7 @@ FromMade n calls ending = (calls ≡ []) × IfRuled ending (λ verdict text. (ve
 
 -- one of the commands
 abbrev pub FromCommand : CommandWords → Option Files → List Call → Ending → Type 0
-FromCommand (Run command) files calls ending = FromParts command files calls ending
+FromCommand (Run command) files calls ending = Follows files (steps_of command) calls ending
 FromCommand (Make n) files calls ending = FromMade n calls ending
 
 -- the words are read
@@ -268,52 +300,34 @@ FromWords words files calls ending =
     (IsErrorLine ending calls BadWords errors.Words)
     (λ command. FromCommand command files calls ending)
 
--- What the words, the files and the states of the calls make of a run. Where memory is wanted, its calls are the first of a
--- run that goes on like this.
+-- What the words, the files and the states of the calls make of a run. Where memory is wanted, its calls are the first
+-- of a run that goes on like this.
 abbrev pub IsDue : List (List ℕ) → Option Files → List Call → Ending → Type 0
 IsDue words files calls ending = OrStops ending calls (FromWords words files calls ending)
 
 -- ---- what is written
 
--- what a verdict is as a status
-abbrev pub status_of : Verdict → Status
-status_of Done = statuses.Done
-status_of Refusals = statuses.Refusals
-status_of BadWords = statuses.BadWords
-status_of BadTopology = statuses.BadTopology
-status_of BadScript = statuses.BadScript
-status_of ReadFault = statuses.ReadFault
-
--- What was written at each status: all of the text that was due, a front of it where writing failed, or nothing.
-abbrev pub IsWritten : (Ending → Type 0) → Status → Option (List ℕ) → Option (List ℕ) → Type 0
-IsWritten due statuses.Done old new = (text : List ℕ) × due (Ruled Done text) × (new ≡ with_end old text)
-IsWritten due statuses.Refusals old new = (text : List ℕ) × due (Ruled Refusals text) × (new ≡ with_end old text)
-IsWritten due statuses.BadWords old new = (text : List ℕ) × due (Ruled BadWords text) × (new ≡ with_end old text)
-IsWritten due statuses.BadTopology old new = (text : List ℕ) × due (Ruled BadTopology text) × (new ≡ with_end old text)
-IsWritten due statuses.BadScript old new = (text : List ℕ) × due (Ruled BadScript text) × (new ≡ with_end old text)
-IsWritten due statuses.ReadFault old new = (text : List ℕ) × due (Ruled ReadFault text) × (new ≡ with_end old text)
-IsWritten due statuses.WriteFault old new =
+-- What was written: all of the text that was due by a verdict, a front of it where writing failed, or nothing.
+abbrev pub IsWritten : (Ending → Type 0) → Exit → Option (List ℕ) → Option (List ℕ) → Type 0
+IsWritten due (ByVerdict verdict) old new = (text : List ℕ) × due (Ruled verdict text) × (new ≡ with_end old text)
+IsWritten due ByWriteFault old new =
     (verdict : Verdict) × (front back : List ℕ) × due (Ruled verdict (front ++ back)) × (new ≡ with_end old front)
-IsWritten due statuses.OutOfMemory old new = due Stopped × (new ≡ old)
+IsWritten due ByMemory old new = due Stopped × (new ≡ old)
 
--- the text of a verdict was written whole, and the status is the verdict's; or a front of it, where writing failed
-abbrev pub IsFinished : Verdict → List ℕ → Status → Option (List ℕ) → Option (List ℕ) → Type 0
-IsFinished verdict text statuses.WriteFault old new = (front back : List ℕ) × (text ≡ front ++ back) × (new ≡ with_end old front)
-IsFinished verdict text statuses.OutOfMemory old new = ⊥
-IsFinished verdict text statuses.Done old new = (verdict ≡ Done) × (new ≡ with_end old text)
-IsFinished verdict text statuses.Refusals old new = (verdict ≡ Refusals) × (new ≡ with_end old text)
-IsFinished verdict text statuses.BadWords old new = (verdict ≡ BadWords) × (new ≡ with_end old text)
-IsFinished verdict text statuses.BadTopology old new = (verdict ≡ BadTopology) × (new ≡ with_end old text)
-IsFinished verdict text statuses.BadScript old new = (verdict ≡ BadScript) × (new ≡ with_end old text)
-IsFinished verdict text statuses.ReadFault old new = (verdict ≡ ReadFault) × (new ≡ with_end old text)
+-- the text of a verdict was written whole, or a front of it, where writing failed
+abbrev pub IsFinished : Verdict → List ℕ → Exit → Option (List ℕ) → Option (List ℕ) → Type 0
+IsFinished verdict text (ByVerdict due) old new = (verdict ≡ due) × (new ≡ with_end old text)
+IsFinished verdict text ByWriteFault old new =
+    (front back : List ℕ) × (text ≡ front ++ back) × (new ≡ with_end old front)
+IsFinished verdict text ByMemory old new = ⊥
 
 -- ---- the names that are asked for
 
 -- the files of feeds, and of scripts
-abbrev pub feed_files : List (ℕ × FeedWords) → List (List ℕ)
+abbrev pub feed_files : FeedParts → List (List ℕ)
 feed_files feeds = map (λ feed. feed.1.file) feeds
 
-abbrev pub script_files : List (ℕ × List ℕ) → List (List ℕ)
+abbrev pub script_files : ScriptParts → List (List ℕ)
 script_files scripts = map (λ script. script.1) scripts
 
 -- the names that a run's files have, in the order in which they are opened: topology, scripts, feeds

@@ -1,10 +1,10 @@
 -- What ends a run before its jobs, and how far its steps came.
-use Rattle.std.specs.Prelude.{◌≡◌, ◌<◌, ◌≤◌, ◌==◌, ℕ, true, false, List, [], ◌∷◌, ◌++◌, length, map, All, IsTrue, Option}
+use Rattle.std.specs.Prelude.{◌≡◌, ◌<◌, ◌≤◌, ◌==◌, ℕ, true, false, List, [], ◌∷◌, ◌++◌, length, map, All, IsTrue}
+use Rattle.std.specs.Prelude.{Option}
 use Rattle.std.specs.List.{list_any}
 use Rattle.std.specs.Arc.{arc_value}
 use Rattle.dn_io.specs.Calls.{Call}
 use Rattle.dn_io.specs.Files.{Files}
-use Rattle.dn_formats.specs.Words.{FeedWords}
 use Rattle.dn_formats.specs.declared.error_line.ErrorLine.{ErrorLine}
 use Rattle.dn_formats.specs.declared.script.Line.{Line as script_line}
 use Rattle.base.specs.Lists.{all_differ}
@@ -14,7 +14,9 @@ use Rattle.dn_run.specs.CommandLine.{RunWords}
 use Rattle.dn_run.specs.Ending.{Ending, Stopped}
 use Rattle.dn_run.specs.Jobs.{scripts_of, same_router, AreFewJobs, TakeApart}
 use Rattle.dn_run.specs.PartsRead.{feed_texts}
-use Rattle.dn_run.specs.Run.{FromFeeds, FromJobs, FromParts, FromScripts, FromWords, IsLine, names_of_run, feed_files, script_files, taken_by_scripts, takes_router}
+use Rattle.dn_run.specs.Run.{FeedParts, Follows, FromFeeds, FromWords, IsLine, ScriptLines, ScriptParts, count_jobs}
+use Rattle.dn_run.specs.Run.{feed_files, names_of_run, read_scripts, script_files, steps_of, taken_by_scripts}
+use Rattle.dn_run.specs.Run.{takes_router}
 use Rattle.dn_run.specs.Stage.{Stage}
 use Rattle.dn_run.specs.declared.input.Input.{Input}
 use Rattle.dn_run.specs.declared.load.Loaded.{Loaded}
@@ -44,16 +46,18 @@ Due = Ending → List Call → Type 0
 -- A step made these calls: whatever comes of what is due after it, over further names, comes of what was due before it.
 abbrev pub GoesOn : List Call → List (List ℕ) → Due → List Call → List (List ℕ) → Due → Type 0
 GoesOn old names due new rest after =
-    (ending : Ending) (last : List Call) → Stage new last rest ending (after ending) → Stage old last names ending (due ending)
+    (ending : Ending) (last : List Call) → Stage new last rest ending (after ending) →
+    Stage old last names ending (due ending)
 
 -- a step made these calls, and the run ends there
 abbrev pub EndsWith : List Call → List (List ℕ) → Due → List Call → Stop → Type 0
-EndsWith old names due new (Line verdict error) = (ending : Ending) → IsLine ending verdict error → Stage old new names ending (due ending)
+EndsWith old names due new (Line verdict error) =
+    (ending : Ending) → IsLine ending verdict error → Stage old new names ending (due ending)
 EndsWith old names due new OutOfMemory = Stage old new names Stopped (due Stopped)
 
 -- what is due of a run
 abbrev pub from_run : RunWords → Option Files → Due
-from_run words files ending calls = FromParts words files calls ending
+from_run words files ending calls = Follows files (steps_of words) calls ending
 
 -- a run came as far as these calls, and this is due then
 abbrev pub Reaches : RunWords → Option Files → List Call → List (List ℕ) → Due → Type 0
@@ -67,59 +71,68 @@ Stops words files calls stop = EndsWith [] (names_of_run words) (from_run words 
 abbrev pub from_words : List (List ℕ) → Option Files → Due
 from_words words files ending calls = FromWords words files calls ending
 
--- what is due once the topology, the routers of the feeds and the scripts were read, and there are no more jobs than may be
-abbrev pub from_feeds : Option Files → Topology → List RouterId → List (List script_line) → List (ℕ × FeedWords) → Due
+-- what is due once the topology, the routers of the feeds and the scripts were read, and there are no more jobs than
+-- may be
+abbrev pub from_feeds : Option Files → Topology → List RouterId → ScriptLines → FeedParts → Due
 from_feeds files t routers scripts feeds ending calls = FromFeeds files t routers scripts [] feeds calls ending
 
 -- what is due before these scripts are read, after those
-abbrev pub from_scripts : Option Files → Topology → List RouterId → List (List script_line) → List (ℕ × List ℕ) → List (ℕ × FeedWords) → Due
-from_scripts files t routers read scripts feeds ending calls = FromScripts files t routers read scripts feeds calls ending
+abbrev pub from_scripts : Option Files → Topology → List RouterId → ScriptLines → ScriptParts → FeedParts → Due
+from_scripts files t routers read scripts feeds ending calls =
+    Follows files (read_scripts t routers read scripts feeds) calls ending
 
 -- the names of these scripts' and these feeds' files
-abbrev pub names_left : List (ℕ × List ℕ) → List (ℕ × FeedWords) → List (List ℕ)
+abbrev pub names_left : ScriptParts → FeedParts → List (List ℕ)
 names_left scripts feeds = script_files scripts ++ feed_files feeds
 
 -- these routers are those from which scripts take, in any order
-abbrev pub AreTaken : List RouterId → List (List script_line) → Type 0
-AreTaken taken scripts = (r : RouterId) → list_any (λ q. q.0 == r.0) taken ≡ list_any (λ q. q.0 == r.0) (taken_by_scripts scripts)
+abbrev pub AreTaken : List RouterId → ScriptLines → Type 0
+AreTaken taken scripts =
+    (r : RouterId) → list_any (λ q. q.0 == r.0) taken ≡ list_any (λ q. q.0 == r.0) (taken_by_scripts scripts)
 
 -- these lines take from none of these routers
 abbrev pub TakeNoneOf : List RouterId → List script_line → Type 0
 TakeNoneOf taken lines = (r : RouterId) → takes_router r lines ≡ true → list_any (λ q. q.0 == r.0) taken ≡ false
 
 -- the script of this part was read, after scripts that take from these routers
-abbrev pub ScriptGoesOn : Option Files → Topology → List RouterId → List RouterId → List Call → ℕ × List ℕ → List Call → List script_line → Type 0
+abbrev pub ScriptGoesOn : Option Files → Topology → List RouterId → List RouterId → List Call → ℕ × List ℕ →
+    List Call → List script_line → Type 0
 ScriptGoesOn files t routers taken old part new lines =
-    (read : List (List script_line)) (scripts : List (ℕ × List ℕ)) (feeds : List (ℕ × FeedWords)) → AreTaken taken read →
+    (read : ScriptLines) (scripts : ScriptParts) (feeds : FeedParts) → AreTaken taken read →
     GoesOn old (part.1 ∷ names_left scripts feeds) (from_scripts files t routers read (part ∷ scripts) feeds)
     new (names_left scripts feeds) (from_scripts files t routers (read ++ lines ∷ []) scripts feeds)
 
 -- the run ends with the script of this part, after scripts that take from these routers
-abbrev pub ScriptEnds : Option Files → Topology → List RouterId → List RouterId → List Call → ℕ × List ℕ → List Call → Stop → Type 0
+abbrev pub ScriptEnds : Option Files → Topology → List RouterId → List RouterId → List Call → ℕ × List ℕ →
+    List Call → Stop → Type 0
 ScriptEnds files t routers taken old part new stop =
-    (read : List (List script_line)) (scripts : List (ℕ × List ℕ)) (feeds : List (ℕ × FeedWords)) → AreTaken taken read →
+    (read : ScriptLines) (scripts : ScriptParts) (feeds : FeedParts) → AreTaken taken read →
     EndsWith old (part.1 ∷ names_left scripts feeds) (from_scripts files t routers read (part ∷ scripts) feeds) new stop
 
 -- these scripts were read, and then whatever comes of the rest of all comes of all
-abbrev pub ScriptsGoOn : Option Files → Topology → List RouterId → List Call → List (ℕ × List ℕ) → List Call → List (List script_line) → List (ℕ × List ℕ) → Type 0
+abbrev pub ScriptsGoOn : Option Files → Topology → List RouterId → List Call → ScriptParts → List Call →
+    ScriptLines → ScriptParts → Type 0
 ScriptsGoOn files t routers old all new read rest =
-    (feeds : List (ℕ × FeedWords)) → GoesOn old (names_left all feeds) (from_scripts files t routers [] all feeds)
+    (feeds : FeedParts) → GoesOn old (names_left all feeds) (from_scripts files t routers [] all feeds)
     new (names_left rest feeds) (from_scripts files t routers read rest feeds)
 
 -- the run ends with one of these scripts
-abbrev pub ScriptsEnd : Option Files → Topology → List RouterId → List Call → List (ℕ × List ℕ) → List Call → Stop → Type 0
+abbrev pub ScriptsEnd : Option Files → Topology → List RouterId → List Call → ScriptParts → List Call → Stop → Type 0
 ScriptsEnd files t routers old all new stop =
-    (feeds : List (ℕ × FeedWords)) → EndsWith old (names_left all feeds) (from_scripts files t routers [] all feeds) new stop
+    (feeds : FeedParts) →
+    EndsWith old (names_left all feeds) (from_scripts files t routers [] all feeds) new stop
 
 -- what is due once all were
-abbrev pub from_jobs : Option Files → Topology → List RouterId → List (List script_line) → List (ℕ × FeedWords) → Due
-from_jobs files t routers scripts feeds ending calls = FromJobs files t routers scripts feeds calls ending
+abbrev pub from_jobs : Option Files → Topology → List RouterId → ScriptLines → FeedParts → Due
+from_jobs files t routers scripts feeds ending calls =
+    Follows files (count_jobs (record { t = t; routers = routers; scripts = scripts; feeds = feeds })) calls ending
 
--- The input of a run that came as far as these calls: its feeds, its scripts, of which no two take from one router, its jobs,
--- no more than may be, and the routers of the feeds, which the topology has and which differ.
+-- The input of a run that came as far as these calls: its feeds, its scripts, of which no two take from one router, its
+-- jobs, no more than may be, and the routers of the feeds, which the topology has and which differ.
 pub record Starts (words : RunWords) (files : Option Files) (calls : List Call) (input : Input) : Type 0 where
   pub reaches : Reaches words files calls (feed_files (map feed_texts input.feeds.items))
-      (from_feeds files (arc_value input.topology) input.routers.items (scripts_of input.scripts.items) (map feed_texts input.feeds.items))
+      (from_feeds files (arc_value input.topology) input.routers.items (scripts_of input.scripts.items)
+      (map feed_texts input.feeds.items))
   pub as_many : length input.routers.items ≡ length input.feeds.items
   pub few : length input.feeds.items ≤ 64
   pub few_jobs : AreFewJobs (scripts_of input.scripts.items) input.routers.items

@@ -5,7 +5,8 @@ ghost use Rattle.std.specs.Prelude.{vec_capacity};
 ghost use Rattle.std.specs.List.{flat_map};
 ghost use Rattle.std.specs.List.Sorted.{IsPermutation};
 ghost use Rattle.feed_threads.specs.Jobs.{lines_of};
-ghost use Rattle.dn_run.specs.Deal.{left_by_lines, left_over, own_tasks, readers_of, script_tasks, takes_reader, tasks_of, unread_back};
+ghost use Rattle.dn_run.specs.Deal.{left_by_lines, left_over, own_tasks, readers_of, script_tasks, takes_reader};
+ghost use Rattle.dn_run.specs.Deal.{tasks_of, unread_back};
 ghost use Rattle.dn_run.specs.Jobs.{scripts_of};
 
 use crate::backs::{append, append_readers};

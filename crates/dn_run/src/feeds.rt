@@ -1,23 +1,23 @@
 //! The feeds of a run: opened in order, read by the jobs, and given back.
 
-ghost use Rattle.std.specs.Prelude.{◌≡◌, ◌+◌, ◌<◌, ◌≤◌, ◌++◌, ◌∷◌, ◌^◌, [], ℕ, List, length, map, All, IfOk, IsErr, MatchOption, MatchResult, Option, Some, vec_len};
-ghost use Rattle.std.specs.Prelude.{vec_capacity};
+ghost use Rattle.std.specs.Prelude.{◌≡◌, ◌+◌, ◌<◌, ◌≤◌, ◌∷◌, ◌^◌, [], ℕ, List};
+ghost use Rattle.std.specs.Prelude.{length, map, IfOk, IsErr, MatchOption, MatchResult, Option, vec_capacity};
 ghost use Rattle.std.specs.Arc.{arc_value};
 ghost use Rattle.dn_formats.specs.Report.{report};
-ghost use Rattle.dn_io.specs.Calls.{names_of, back_with, with_state, state_at};
 ghost use Rattle.dn_model.specs.Entry.{entries};
 ghost use Rattle.dn_run.specs.Ending.{ending_of};
-ghost use Rattle.dn_run.specs.Feeds.{AreOpen, AreLeft, Opens, opened, some_rose};
-ghost use Rattle.dn_run.specs.Jobs.{AreFewJobs, TakeApart, routers_of_readers, scripts_of};
+ghost use Rattle.dn_run.specs.Feeds.{AreLeft, Opens, opened, some_rose};
+ghost use Rattle.dn_run.specs.Jobs.{routers_of_readers, scripts_of};
 ghost use Rattle.dn_run.specs.PartsRead.{feed_texts};
 ghost use Rattle.dn_run.specs.Run.{IsRunOf, verdict_of};
 ghost use Rattle.dn_run.specs.Stage.{is_fault};
+ghost use Rattle.dn_run.specs.Work.{HaveRoom, IsReady};
 
-use crate::jobs::{JobsDone, into_sources, run_jobs};
+use crate::jobs::{JobsDone, Rooms, Work, into_sources, run_jobs};
 use crate::parts::FeedPart;
 use crate::ruling::{Ruling, refusal, reported};
 use crate::status::Verdict;
-use dn_formats::{ErrorLine, Script};
+use dn_formats::ErrorLine;
 use dn_io::{Gate, Source, World, WorldRefused};
 use dn_model::{OutOfMemory, RouterId, Topology};
 use route_feed::FeedReader;
@@ -51,24 +51,32 @@ fn report_jobs(
 fn run_readers<S: Source, G: Gate, R: Threads + Wait + Sync>(
     rt: &R,
     alloc: Global,
-    topology: &Arc<Topology, Global>,
-    scripts: Vec<Script>,
-    readers: Vec<FeedReader<S>>,
-    room: Vec<S>,
+    work: Work<'_, S>,
+    rooms: Rooms<S>,
     gate: &G,
 ) -> (Result<Ruling, OutOfMemory>, Vec<S>)
-    requires open { AreOpen (arc_value topology.now) S.faults readers.items [] }
-    requires jobs { AreFewJobs (scripts_of scripts.items) (routers_of_readers readers.items) }
-    requires apart_scripts { TakeApart (scripts_of scripts.items) }
-    requires room { (room.items ≡ []) × (length readers.items ≤ vec_capacity room) }
-    ensures same { map S.place result.1.items ≡ map (λ r. S.place r.source) readers.items }
-    ensures ran { IfOk result.0 (λ ruling. (files : List (Option (List ℕ))) → AreLeft S.left readers.items files →
-        IsRunOf (arc_value topology.now) (routers_of_readers readers.items) (scripts_of scripts.items)
-        (opened S.faults S.left files result.1.items) ruling.verdict ruling.text) }
+    requires ready { IsReady S.faults work [] }
+    requires room { HaveRoom (length work.readers.items) rooms }
+    ensures same { map S.place result.1.items ≡ map (λ r. S.place r.source) work.entry.readers.items }
+    ensures ran { IfOk result.0 (λ ruling. (files : List (Option (List ℕ)))
+        → AreLeft S.left work.entry.readers.items files
+        → IsRunOf (arc_value work.entry.topology.now) (routers_of_readers work.entry.readers.items)
+        (scripts_of work.entry.scripts.items) (opened S.faults S.left files result.1.items)
+        ruling.verdict ruling.text) }
     ensures faults { IfOk result.0 (λ ruling. some_rose S.faults result.1.items ≡ is_fault ruling.verdict) }
 {
-    let (done, sources) = run_jobs(rt, alloc, topology, scripts, readers, room, gate);
+    let topology = work.topology;
+    let (done, sources) = run_jobs(rt, alloc, work, rooms, gate);
     (report_jobs(alloc, topology, done), sources)
+}
+
+/// A run while its feeds are opened: what its jobs are over, so far, the room for what comes back of all its feeds, and
+/// the feeds that are still to be opened, with the router of each.
+pub struct Opening<'a, S: Source> {
+    pub work: Work<'a, S>,
+    pub rooms: Rooms<S>,
+    pub feeds: &'a [FeedPart],
+    pub routers: &'a [RouterId],
 }
 
 /// The first of the feeds with its router, and the feeds and routers behind it; nothing where there is none.
@@ -86,46 +94,50 @@ fn first_feed<'a>(
     }
 }
 
-/// Opens the feeds that are still to be opened, of these routers, runs the jobs over all, and gives those feeds back. The
-/// sources of the readers before come back in order.
+/// Opens the feeds that are still to be opened, runs the jobs over all, and gives those feeds back. The sources of the
+/// readers before come back in order.
 pub fn from_feeds<W: World, G: Gate, R: Threads + Wait + Sync>(
     rt: &R,
     alloc: Global,
-    topology: &Arc<Topology, Global>,
-    routers: &[RouterId],
-    scripts: Vec<Script>,
-    feeds: &[FeedPart],
-    readers: Vec<FeedReader<W::Src>>,
-    room: Vec<W::Src>,
+    opening: Opening<'_, W::Src>,
     world: &mut W,
     gate: &G,
 ) -> (Result<Ruling, OutOfMemory>, Vec<W::Src>)
-    requires room { length (W.calls world.old) + length feeds.now ≤ 2 ^ 32 }
-    requires as_many { length routers.now ≡ length feeds.now }
-    requires open { AreOpen (arc_value topology.now) W.Src.faults readers.items routers.now }
-    requires jobs { AreFewJobs (scripts_of scripts.items) (routers_of_readers readers.items ++ routers.now) }
-    requires apart_scripts { TakeApart (scripts_of scripts.items) }
-    requires reserved { length readers.items + length feeds.now ≤ vec_capacity readers }
-    requires back { (room.items ≡ []) × (length readers.items + length feeds.now ≤ vec_capacity room) }
-    ensures same { map W.Src.place result.1.items ≡ map (λ r. W.Src.place r.source) readers.items }
-    ensures opens { Opens (arc_value topology.now) W.Src.faults W.Src.left (W.files world.old) routers.now
-        (scripts_of scripts.items)
-        readers.items result.1.items (map feed_texts feeds.now) (W.calls world.old) (W.calls world.new)
+    requires calls { length (W.calls world.old) + length opening.feeds.now ≤ 2 ^ 32 }
+    requires as_many { length opening.routers.now ≡ length opening.feeds.now }
+    requires ready { IsReady W.Src.faults opening.work opening.routers.now }
+    requires reserved { length opening.work.readers.items + length opening.feeds.now
+        ≤ vec_capacity opening.work.readers }
+    requires room { HaveRoom (length opening.work.readers.items + length opening.feeds.now) opening.rooms }
+    ensures same { map W.Src.place result.1.items ≡ map (λ r. W.Src.place r.source) opening.entry.work.readers.items }
+    ensures opens { Opens (arc_value opening.entry.work.topology.now) W.Src.faults W.Src.left (W.files world.old)
+        opening.entry.routers.now (scripts_of opening.entry.work.scripts.items) opening.entry.work.readers.items
+        result.1.items (map feed_texts opening.entry.feeds.now) (W.calls world.old) (W.calls world.new)
         (ending_of result.0) }
     ensures same_files { W.files world.new ≡ W.files world.old }
 {
+    let Opening {
+        work,
+        rooms,
+        feeds,
+        routers,
+    } = opening;
     let Some((feed, router, later, others)) = first_feed(feeds, routers) else {
-        return run_readers(rt, alloc, topology, scripts, readers, room, gate);
+        return run_readers(rt, alloc, work, rooms, gate);
     };
     match world.source_of(feed.file.as_str()) {
         Ok(source) => {
-            let number = readers.len() as u32 + 1;
-            let mut readers = readers;
+            let number = work.readers.len() as u32 + 1;
+            let mut work = work;
             let reader = FeedReader::new(alloc, source, router, number, FEED_LIMIT);
-            readers.push_reserved(reader);
-            let (ruling, mut sources) = from_feeds(
-                rt, alloc, topology, others, scripts, later, readers, room, world, gate,
-            );
+            work.readers.push_reserved(reader);
+            let opening = Opening {
+                work,
+                rooms,
+                feeds: later,
+                routers: others,
+            };
+            let (ruling, mut sources) = from_feeds(rt, alloc, opening, world, gate);
             let Some(source) = sources.pop() else {
                 return (ruling, sources);
             };
@@ -135,8 +147,10 @@ pub fn from_feeds<W: World, G: Gate, R: Threads + Wait + Sync>(
         Err(WorldRefused::Failed) => {
             let line = ErrorLine::ReadPart { part: feed.part };
             let ruling = refusal(alloc, Verdict::ReadFault, line);
-            (ruling, into_sources(readers, room))
+            (ruling, into_sources(work.readers, rooms.sources))
         }
-        Err(WorldRefused::OutOfMemory) => (Err(OutOfMemory), into_sources(readers, room)),
+        Err(WorldRefused::OutOfMemory) => {
+            (Err(OutOfMemory), into_sources(work.readers, rooms.sources))
+        }
     }
 }

@@ -5,7 +5,8 @@ ghost use Rattle.dn_io.specs.Told.{with_front, NothingLeft};
 ghost use Rattle.dn_io.specs.Faults.{Rose};
 ghost use Rattle.dn_run.specs.Opened.{WasRead, IsReadTo, WasFault, MayCallOne, LeavesFront};
 ghost use Rattle.dn_run.specs.Refusals.{as_file_refused};
-ghost use Rattle.dn_run.specs.declared.files.FileRefused.TheVariants.{Failed as file_failed, OutOfMemory as file_memory};
+ghost use Rattle.dn_run.specs.declared.files.FileRefused.TheVariants.{Failed as file_failed};
+ghost use Rattle.dn_run.specs.declared.files.FileRefused.TheVariants.{OutOfMemory as file_memory};
 
 use dn_io::{Failed, Source, World, WorldRefused};
 use std::alloc::{AllocError, Global};

@@ -5,10 +5,11 @@ ghost use Rattle.std.specs.List.{flat_map, list_any};
 ghost use Rattle.dn_run.specs.Jobs.{TakeApart, scripts_of};
 ghost use Rattle.dn_run.specs.PartsRead.{script_texts};
 ghost use Rattle.dn_run.specs.Run.{taken_by_line};
-ghost use Rattle.dn_run.specs.Stops.{AreTaken, ScriptEnds, ScriptGoesOn, ScriptsEnd, ScriptsGoOn, Starts, Stops, StopsAs, TakeNoneOf};
+ghost use Rattle.dn_run.specs.Stops.{AreTaken, ScriptEnds, ScriptGoesOn, ScriptsEnd, ScriptsGoOn, Starts, Stops};
+ghost use Rattle.dn_run.specs.Stops.{StopsAs, TakeNoneOf};
 ghost use Rattle.dn_run.specs.WordsRefused.{run_texts};
 
-use crate::load::{Loaded, load_script, load_topology};
+use crate::load::{Loaded, Scope, load_script, load_topology};
 use crate::parts::{FeedPart, ScriptPart, read_parts};
 use crate::routers::{find_routers, is_among};
 use crate::status::Verdict;
@@ -97,26 +98,24 @@ impl ScriptsRead {
     }
 }
 
-/// Reads the script of this part, in a run with feeds of these routers, some of which earlier scripts take.
+/// Reads the script of this part.
 fn read_part<W: World>(
     alloc: Global,
     part: &ScriptPart,
-    topology: &Topology,
-    routers: &[RouterId],
-    taken: &[RouterId],
+    scope: Scope<'_>,
     world: &mut W,
 ) -> Result<Script, Stop>
     requires room { length (W.calls world.old) < 2 ^ 32 }
-    ensures ok { IfOk result (λ script. ScriptGoesOn (W.files world.old) topology.now routers.now taken.now
-        (W.calls world.old) (script_texts part.now) (W.calls world.new) script.lines) }
-    ensures stops { IfErr result (ScriptEnds (W.files world.old) topology.now routers.now taken.now (W.calls world.old)
-        (script_texts part.now) (W.calls world.new)) }
-    ensures clear { IfOk result (λ script. TakeNoneOf taken.now script.lines) }
+    ensures ok { IfOk result (λ script. ScriptGoesOn (W.files world.old) scope.entry.topology.now
+        scope.entry.routers.now scope.entry.taken.now (W.calls world.old) (script_texts part.now) (W.calls world.new)
+        script.lines) }
+    ensures stops { IfErr result (ScriptEnds (W.files world.old) scope.entry.topology.now scope.entry.routers.now
+        scope.entry.taken.now (W.calls world.old) (script_texts part.now) (W.calls world.new)) }
+    ensures clear { IfOk result (λ script. TakeNoneOf scope.entry.taken.now script.lines) }
     ensures few { IfOk result (λ script. length (W.calls world.new) ≤ length (W.calls world.old) + 1) }
     ensures same_files { W.files world.new ≡ W.files world.old }
 {
-    let name = part.file.as_str();
-    let loaded = load_script(alloc, name, part.part, topology, routers, taken, world)?;
+    let loaded = load_script(alloc, part, scope, world)?;
     loaded.or_stop(Verdict::BadScript, ErrorLine::ReadPart { part: part.part })
 }
 
@@ -143,14 +142,19 @@ fn read_scripts<W: World>(
         taken: Vec::new(alloc),
     };
     for part in parts {
-        let script = read_part(alloc, part, topology, routers, read.taken.as_slice(), world)?;
+        let scope = Scope {
+            topology,
+            routers,
+            taken: read.taken.as_slice(),
+        };
+        let script = read_part(alloc, part, scope, world)?;
         read.add(script)?;
     }
     Ok(read.scripts)
 }
 
-/// Reads the parts of a run's words, the topology and the scripts, looks up the feeds' routers, and counts the jobs. The
-/// first that is refused or fails ends the run.
+/// Reads the parts of a run's words, the topology and the scripts, looks up the feeds' routers, and counts the jobs.
+/// The first that is refused or fails ends the run.
 pub fn read_input<W: World>(
     alloc: Global,
     command: &RunCommand,

@@ -1,7 +1,7 @@
 //! The jobs of a run, side by side: one for each script, and one for each feed that no script takes.
 
-ghost use Rattle.std.specs.Prelude.{◌≡◌, ◌≤◌, ◌<◌, ◌^◌, ◌+◌, ◌++◌, ◌∷◌, ◌||◌, [], length, map, All, IfOk};
-ghost use Rattle.std.specs.Prelude.{vec_capacity};
+ghost use Rattle.std.specs.Prelude.{◌≡◌, ◌≤◌, ◌<◌, ◌+◌, ◌++◌, ◌∷◌, ◌||◌, []};
+ghost use Rattle.std.specs.Prelude.{length, map, vec_capacity, All, IfOk};
 ghost use Rattle.std.specs.Arc.{arc_value};
 ghost use Rattle.std.specs.List.{flat_map, list_any};
 ghost use Rattle.std.specs.List.Sorted.{IsPermutation};
@@ -9,7 +9,8 @@ ghost use Rattle.feed_threads.specs.AllJobs.{AreNumberedApart, told_by};
 ghost use Rattle.feed_threads.specs.Jobs.{AreApart, IsFresh as IsUnread};
 ghost use Rattle.dn_run.specs.Deal.{readers_of};
 ghost use Rattle.dn_run.specs.Feeds.{sources_of};
-ghost use Rattle.dn_run.specs.Jobs.{AreFewJobs, AreNumbered, HasRun, HaveRoutersApart, IsFresh, TakeApart, routers_of_readers, scripts_of};
+ghost use Rattle.dn_run.specs.Jobs.{HasRun, scripts_of};
+ghost use Rattle.dn_run.specs.Work.{HaveRoom, IsReady};
 ghost use Rattle.dn_run.specs.Ran.{ListRan, RanAs, back_tag, reader_tag};
 ghost use Rattle.dn_run.specs.Limits.{history_limit};
 
@@ -38,6 +39,14 @@ pub struct JobsDone {
     pub jobs: Vec<JobTold>,
 }
 
+/// What the jobs of a run are over: its network, its scripts, and a reader of each feed.
+#[derive(Drop)]
+pub struct Work<'a, S: Source> {
+    pub topology: &'a Arc<Topology, Global>,
+    pub scripts: Vec<Script>,
+    pub readers: Vec<FeedReader<S>>,
+}
+
 /// The sources of readers, into room that they have, in order.
 pub fn into_sources<S: Source>(readers: Vec<FeedReader<S>>, room: Vec<S>) -> Vec<S>
     requires empty { room.items ≡ [] }
@@ -52,22 +61,23 @@ pub fn into_sources<S: Source>(readers: Vec<FeedReader<S>>, room: Vec<S>) -> Vec
     sources
 }
 
-/// The memory that a run's jobs need to come back: for their sources, for what is told of the feeds, and of the jobs.
+/// Empty lists with room for all that comes back of a run's jobs, so that every source comes back whatever happens: for
+/// the sources, for these with what is told of their feeds, for what is told of the feeds, and of the jobs.
 #[derive(Drop)]
-struct Rooms<S: Source> {
-    backs: Vec<(S, FeedTold)>,
-    feeds: Vec<FeedTold>,
-    jobs: Vec<JobTold>,
+pub struct Rooms<S: Source> {
+    pub sources: Vec<S>,
+    pub backs: Vec<(S, FeedTold)>,
+    pub feeds: Vec<FeedTold>,
+    pub jobs: Vec<JobTold>,
 }
 
 impl<S: Source> Rooms<S> {
     /// Room for so many feeds, and for as many jobs as a run may have.
-    fn new(alloc: Global, feeds: usize) -> Result<Rooms<S>, OutOfMemory>
-        ensures empty { IfOk result (λ r. (r.backs.items ≡ []) × (r.feeds.items ≡ []) × (r.jobs.items ≡ [])) }
-        ensures room { IfOk result (λ r. (feeds ≤ vec_capacity r.backs) × (feeds ≤ vec_capacity r.feeds)
-            × (64 ≤ vec_capacity r.jobs)) }
+    pub fn new(alloc: Global, feeds: usize) -> Result<Rooms<S>, OutOfMemory>
+        ensures { IfOk result (HaveRoom feeds) }
     {
         Ok(Rooms {
+            sources: Vec::with_capacity(alloc, feeds)?,
             backs: Vec::with_capacity(alloc, feeds)?,
             feeds: Vec::with_capacity(alloc, feeds)?,
             jobs: Vec::with_capacity(alloc, MOST_JOBS)?,
@@ -216,28 +226,27 @@ fn run_list<S: Source, G: Gate, R: Threads + Wait + Sync>(
 fn run_dealt<S: Source, G: Gate, R: Threads + Wait + Sync>(
     rt: &R,
     alloc: Global,
-    topology: &Arc<Topology, Global>,
-    scripts: Vec<Script>,
-    readers: Vec<FeedReader<S>>,
+    work: Work<'_, S>,
     rooms: (Vec<(S, FeedTold)>, Vec<JobTold>),
     gate: &G,
 ) -> (
     Result<(Pages<Posted>, Vec<JobTold>), OutOfMemory>,
     Vec<(S, FeedTold)>,
 )
-    requires fresh { All (IsFresh (arc_value topology.now) S.faults) readers.items }
-    requires numbered { AreNumbered 1 readers.items }
-    requires apart { HaveRoutersApart readers.items }
-    requires few { length readers.items ≤ 64 }
-    requires jobs { AreFewJobs (scripts_of scripts.items) (routers_of_readers readers.items) }
-    requires apart_scripts { TakeApart (scripts_of scripts.items) }
+    requires ready { IsReady S.faults work [] }
     requires empty { (rooms.0.items ≡ []) × (rooms.1.items ≡ []) }
-    requires room { (length readers.items ≤ vec_capacity rooms.0) × (64 ≤ vec_capacity rooms.1) }
-    ensures ran { IfOk result.0 (λ made. RanAs (arc_value topology.now) S.left S.faults readers.items result.1.items
-        made.0 (scripts_of scripts.items) made.1.items) }
-    ensures tags { IsPermutation (map (reader_tag S.place) readers.items) (map (back_tag S.place) result.1.items) }
-    ensures count { length result.1.items ≡ length readers.items }
+    requires room { (length work.readers.items ≤ vec_capacity rooms.0) × (64 ≤ vec_capacity rooms.1) }
+    ensures ran { IfOk result.0 (λ made. RanAs (arc_value work.entry.topology.now) S.left S.faults
+        work.entry.readers.items result.1.items made.0 (scripts_of work.entry.scripts.items) made.1.items) }
+    ensures tags { IsPermutation (map (reader_tag S.place) work.entry.readers.items)
+        (map (back_tag S.place) result.1.items) }
+    ensures count { length result.1.items ≡ length work.entry.readers.items }
 {
+    let Work {
+        topology,
+        scripts,
+        readers,
+    } = work;
     match deal(alloc, scripts, readers) {
         Ok(list) => run_list(rt, alloc, topology, list, rooms, gate),
         Err(undealt) => (Err(OutOfMemory), undealt.give_back(rooms.0)),
@@ -256,29 +265,25 @@ fn run_dealt<S: Source, G: Gate, R: Threads + Wait + Sync>(
 pub fn run_jobs<S: Source, G: Gate, R: Threads + Wait + Sync>(
     rt: &R,
     alloc: Global,
-    topology: &Arc<Topology, Global>,
-    scripts: Vec<Script>,
-    readers: Vec<FeedReader<S>>,
-    room: Vec<S>,
+    work: Work<'_, S>,
+    rooms: Rooms<S>,
     gate: &G,
 ) -> (Result<JobsDone, OutOfMemory>, Vec<S>)
-    requires fresh { All (IsFresh (arc_value topology.now) S.faults) readers.items }
-    requires numbered { AreNumbered 1 readers.items }
-    requires apart { HaveRoutersApart readers.items }
-    requires few { length readers.items ≤ 64 }
-    requires jobs { AreFewJobs (scripts_of scripts.items) (routers_of_readers readers.items) }
-    requires apart_scripts { TakeApart (scripts_of scripts.items) }
-    requires room { (room.items ≡ []) × (length readers.items ≤ vec_capacity room) }
-    ensures ran { IfOk result.0 (λ done. HasRun (arc_value topology.now) S.left S.faults readers.items result.1.items
-        done.feeds.items done.history (scripts_of scripts.items) done.jobs.items) }
-    ensures same { map S.place result.1.items ≡ map (λ r. S.place r.source) readers.items }
+    requires ready { IsReady S.faults work [] }
+    requires room { HaveRoom (length work.readers.items) rooms }
+    ensures ran { IfOk result.0 (λ done. HasRun (arc_value work.entry.topology.now) S.left S.faults
+        work.entry.readers.items result.1.items done.feeds.items done.history (scripts_of work.entry.scripts.items)
+        done.jobs.items) }
+    ensures same { map S.place result.1.items ≡ map (λ r. S.place r.source) work.entry.readers.items }
 {
-    let Ok(rooms) = Rooms::new(alloc, readers.len()) else {
-        return (Err(OutOfMemory), into_sources(readers, room));
-    };
-    let Rooms { backs, feeds, jobs } = rooms;
-    let (made, backs) = run_dealt(rt, alloc, topology, scripts, readers, (backs, jobs), gate);
-    let (sources, feeds) = part_backs(in_order(backs), room, feeds);
+    let Rooms {
+        sources,
+        backs,
+        feeds,
+        jobs,
+    } = rooms;
+    let (made, backs) = run_dealt(rt, alloc, work, (backs, jobs), gate);
+    let (sources, feeds) = part_backs(in_order(backs), sources, feeds);
     match made {
         Ok((history, jobs)) => (
             Ok(JobsDone {

@@ -22,7 +22,7 @@ mod sure;
 mod untaken;
 mod words;
 
-pub use laws::runs_have_one_verdict;
+pub use laws::{reports_tell_one_history, runs_have_one_verdict};
 pub use program::run;
 pub use status::Status;
 pub use sure::run_surely;

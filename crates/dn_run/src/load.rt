@@ -1,10 +1,12 @@
 //! The topology and the scripts, read from their files.
 
 ghost use Rattle.std.specs.Prelude.{◌≡◌, ◌<◌, ◌^◌, length, IfOk, OnErr};
+ghost use Rattle.std.specs.String.{string_bytes};
 ghost use Rattle.dn_run.specs.Opened.{MayCallOne};
 ghost use Rattle.dn_run.specs.Loaded.{LoadsTopology, SaysTopology, LoadsScript, SaysScript};
 
 use crate::files::{FileRefused, read_file};
+use crate::parts::ScriptPart;
 use dn_formats::{ErrorLine, Script, TopoRefused};
 use dn_io::World;
 use dn_model::{OutOfMemory, RouterId, Topology};
@@ -55,19 +57,26 @@ pub fn load_topology<W: World>(
     }
 }
 
-/// The script that a text says, which this part names, in a run with feeds of these routers, some of which earlier
-/// scripts take.
+/// What a script is read over: the network, the routers that have feeds, and those of them from which earlier scripts
+/// take.
+#[derive(Clone, Copy)]
+pub struct Scope<'a> {
+    pub topology: &'a Topology,
+    pub routers: &'a [RouterId],
+    pub taken: &'a [RouterId],
+}
+
+/// The script that a text says, which this part names.
 fn script_in(
     alloc: Global,
     bytes: &[u8],
-    topology: &Topology,
-    routers: &[RouterId],
-    taken: &[RouterId],
     part: u32,
+    scope: Scope<'_>,
 ) -> Result<Loaded<Script>, OutOfMemory>
-    ensures { IfOk result (SaysScript topology.now routers.now taken.now part bytes.now) }
+    ensures { IfOk result (SaysScript scope.entry.topology.now scope.entry.routers.now scope.entry.taken.now part
+        bytes.now) }
 {
-    match read_script(alloc, bytes, topology, routers, taken) {
+    match read_script(alloc, bytes, scope.topology, scope.routers, scope.taken) {
         Ok(script) => Ok(Loaded::Read(script)),
         Err(ScriptRefused::Fault { line, cause }) => {
             Ok(Loaded::Refused(ErrorLine::Script { part, line, cause }))
@@ -76,25 +85,21 @@ fn script_in(
     }
 }
 
-/// The script that a file says, which this part names, in a run with feeds of these routers, some of which earlier
-/// scripts take.
+/// The script that the file of a part says.
 pub fn load_script<W: World>(
     alloc: Global,
-    name: &str,
-    part: u32,
-    topology: &Topology,
-    routers: &[RouterId],
-    taken: &[RouterId],
+    part: &ScriptPart,
+    scope: Scope<'_>,
     world: &mut W,
 ) -> Result<Loaded<Script>, OutOfMemory>
     requires { length (W.calls world.old) < 2 ^ 32 }
-    ensures loads { IfOk result (LoadsScript topology.now routers.now taken.now part (W.files world.old)
-        (W.calls world.old) name.now (W.calls world.new)) }
-    ensures memory { OnErr result (MayCallOne (W.calls world.old) name.now (W.calls world.new)) }
+    ensures loads { IfOk result (LoadsScript scope.entry.topology.now scope.entry.routers.now scope.entry.taken.now
+        part.now.part (W.files world.old) (W.calls world.old) (string_bytes part.now.file) (W.calls world.new)) }
+    ensures memory { OnErr result (MayCallOne (W.calls world.old) (string_bytes part.now.file) (W.calls world.new)) }
     ensures same_files { W.files world.new ≡ W.files world.old }
 {
-    match read_file(alloc, world, name, TEXT_LIMIT) {
-        Ok(bytes) => script_in(alloc, bytes.as_slice(), topology, routers, taken, part),
+    match read_file(alloc, world, part.file.as_str(), TEXT_LIMIT) {
+        Ok(bytes) => script_in(alloc, bytes.as_slice(), part.part, scope),
         Err(FileRefused::Failed) => Ok(Loaded::Failed),
         Err(FileRefused::OutOfMemory) => Err(OutOfMemory),
     }

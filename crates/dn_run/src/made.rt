@@ -7,7 +7,7 @@ ghost use Rattle.dn_run.specs.MadeReaders.{made_readers, reader_of};
 ghost use Rattle.dn_run.specs.WordsRefused.{CanBeMade};
 
 use crate::feeds::FEED_LIMIT;
-use crate::jobs::run_jobs;
+use crate::jobs::{Rooms, Work, run_jobs};
 use crate::ring::{made_script, made_topology};
 use crate::ruling::Ruling;
 use crate::status::Verdict;
@@ -32,7 +32,7 @@ fn reader(alloc: Global, router: u16, feed: Text) -> FeedReader<SureSource>
 }
 
 /// Readers of the generated feeds, in order.
-#[tactic(auto, using(std::proofs::lemmas::Grind::common_steps, crate::proofs::MadeLemmas::from_feeds, crate::proofs::MadeLemmas::feeds_count))]
+#[tactic(auto, using(crate::proofs::MadeLemmas::of_feeds))]
 fn readers(alloc: Global, n: u32) -> Result<Vec<FeedReader<SureSource>>, OutOfMemory>
     requires { CanBeMade n }
     ensures { IfOk result (λ readers. readers.items ≡ made_readers n) }
@@ -59,8 +59,13 @@ fn run_made<G: Gate, R: Threads + Wait + Sync>(
     let topology = Arc::new(alloc, made_topology(alloc)?)?;
     let scripts = Vec::from_array(alloc, [made_script(alloc)?])?;
     let readers = readers(alloc, n)?;
-    let room = Vec::with_capacity(alloc, readers.len())?;
-    let (done, _sources) = run_jobs(rt, alloc, &topology, scripts, readers, room, gate);
+    let rooms = Rooms::new(alloc, readers.len())?;
+    let work = Work {
+        topology: &topology,
+        scripts,
+        readers,
+    };
+    let (done, _sources) = run_jobs(rt, alloc, work, rooms, gate);
     Ok(done?.jobs)
 }
 

@@ -3,7 +3,8 @@
 ghost use Rattle.std.specs.Prelude.{◌≡◌, ◌≤◌, IfOk, IfErr, OnOk, Ok, length, map, option_map};
 ghost use Rattle.std.specs.String.{string_bytes};
 ghost use Rattle.dn_formats.specs.Words.{feed_of_part, is_equals_sign, part_of, parts_of, FeedPart as feed_part};
-ghost use Rattle.dn_run.specs.PartsRead.{ArePartsRefused, feed_texts, next_number, parts_texts, script_named, with_part};
+ghost use Rattle.dn_run.specs.PartsRead.{ArePartsRefused, feed_texts, next_number, parts_texts, script_named};
+ghost use Rattle.dn_run.specs.PartsRead.{with_part};
 
 use dn_formats::ErrorLine;
 use dn_model::{Name, OutOfMemory, is_name};

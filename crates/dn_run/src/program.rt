@@ -8,13 +8,15 @@ ghost use Rattle.base.specs.Lists.{all_differ};
 ghost use Rattle.dn_run.specs.Ending.{ending_of};
 ghost use Rattle.dn_run.specs.Jobs.{AreFewJobs, TakeApart, scripts_of, same_router};
 ghost use Rattle.dn_run.specs.PartsRead.{feed_texts};
-ghost use Rattle.dn_run.specs.Run.{IsDue, IsWritten, IsFinished, status_of, names_of_run, names_of_words, feed_files};
+ghost use Rattle.dn_run.specs.Exit.{ByVerdict, exit_of};
+ghost use Rattle.dn_run.specs.Run.{IsDue, IsWritten, IsFinished, names_of_run, names_of_words, feed_files};
 ghost use Rattle.dn_run.specs.Stage.{Stage, AsksFor, AnswersCalls, CountsWrites};
 ghost use Rattle.dn_run.specs.Stops.{from_feeds as feeds_due, from_run as run_due, from_words as words_due};
 ghost use Rattle.dn_run.specs.WordsRefused.{run_texts};
 
-use crate::feeds::from_feeds;
+use crate::feeds::{Opening, from_feeds};
 use crate::input::{Input, read_input};
+use crate::jobs::{Rooms, Work};
 use crate::made::make;
 use crate::ruling::{Ruling, refusal};
 use crate::status::{Status, Verdict};
@@ -54,19 +56,19 @@ fn run_input<W: World, G: Gate, R: Threads + Wait + Sync>(
         routers,
     } = input;
     let readers = Vec::with_capacity(alloc, feeds.len())?;
-    let room = Vec::with_capacity(alloc, feeds.len())?;
-    let (ruling, _none) = from_feeds(
-        rt,
-        alloc,
-        &topology,
-        routers.as_slice(),
+    let rooms = Rooms::new(alloc, feeds.len())?;
+    let work = Work {
+        topology: &topology,
         scripts,
-        feeds.as_slice(),
         readers,
-        room,
-        world,
-        gate,
-    );
+    };
+    let opening = Opening {
+        work,
+        rooms,
+        feeds: feeds.as_slice(),
+        routers: routers.as_slice(),
+    };
+    let (ruling, _none) = from_feeds(rt, alloc, opening, world, gate);
     ruling
 }
 
@@ -111,9 +113,8 @@ fn rule<W: World, G: Gate, R: Threads + Wait + Sync>(
 
 /// Writes what a run came to, and tells its status.
 fn finish<K: Sink>(sink: &mut K, ruling: Ruling) -> Status
-    ensures done { IsFinished ruling.verdict ruling.text result (K.written sink.old)
-        (K.written sink.new) }
-    ensures counts { CountsWrites result (K.faults sink.old) (K.faults sink.new) }
+    ensures done { IsFinished ruling.verdict ruling.text (exit_of result) (K.written sink.old) (K.written sink.new) }
+    ensures counts { CountsWrites (exit_of result) (K.faults sink.old) (K.faults sink.new) }
     ensures not_memory { result ≡ Status.OutOfMemory → ⊥ }
 {
     let Ruling { verdict, text } = ruling;
@@ -125,7 +126,7 @@ fn finish<K: Sink>(sink: &mut K, ruling: Ruling) -> Status
 
 /// The status of a verdict whose text was written whole.
 fn status_of(verdict: Verdict) -> Status
-    ensures { result ≡ status_of verdict }
+    ensures { exit_of result ≡ ByVerdict verdict }
 {
     match verdict {
         Verdict::Done => Status::Done,
@@ -137,9 +138,9 @@ fn status_of(verdict: Verdict) -> Status
     }
 }
 
-/// Runs the program over the words of the command line, the program's name first: `run TOPOLOGY [ROUTER=FEED | @SCRIPT]..`
-/// or `make N`. Reads the files from the world, and writes one report, or one error line, to the sink. `make` makes its
-/// input, of 1 to 1,000,000 updates, asks the world for nothing, and writes a summary of three lines.
+/// Runs the program over the words of the command line, the program's name first: `run TOPOLOGY [ROUTER=FEED |
+/// @SCRIPT]..` or `make N`. Reads the files from the world, and writes one report, or one error line, to the sink.
+/// `make` makes its input, of 1 to 1,000,000 updates, asks the world for nothing, and writes a summary of three lines.
 ///
 /// The world was asked for no name yet, and no write of the sink has failed yet.
 pub fn run<W: World, K: Sink, G: Gate, R: Threads + Wait + Sync>(
@@ -153,14 +154,15 @@ pub fn run<W: World, K: Sink, G: Gate, R: Threads + Wait + Sync>(
     requires fresh_world { W.calls world.old ≡ [] }
     requires fresh_sink { K.faults sink.old ≡ 0 }
     // What was written is what is due by the words, the files' bytes and what became of each file that was asked for.
-    ensures headline { IsWritten (IsDue (map string_bytes words.now) (W.files world.old) (W.calls world.new)) result
-        (K.written sink.old) (K.written sink.new) }
+    ensures headline { IsWritten (IsDue (map string_bytes words.now) (W.files world.old) (W.calls world.new))
+        (exit_of result) (K.written sink.old) (K.written sink.new) }
     // The names of the words are asked for in order: all of them at the statuses 0 and 1, else the first of them.
-    ensures names { AsksFor result (names_of (W.calls world.new)) (names_of_words (map string_bytes words.now)) }
+    ensures names { AsksFor (exit_of result) (names_of (W.calls world.new))
+        (names_of_words (map string_bytes words.now)) }
     // Every source was given back, and one failed exactly where the status says so.
-    ensures files { AnswersCalls result (W.calls world.new) }
+    ensures files { AnswersCalls (exit_of result) (W.calls world.new) }
     // A write failed exactly where the status says so, and nothing was written where memory was wanted.
-    ensures writes { CountsWrites result (K.faults sink.old) (K.faults sink.new) }
+    ensures writes { CountsWrites (exit_of result) (K.faults sink.old) (K.faults sink.new) }
     ensures nothing { result ≡ Status.OutOfMemory → K.written sink.new ≡ K.written sink.old }
 {
     match rule(rt, alloc, words, world, gate) {

@@ -3,7 +3,8 @@
 ghost use Rattle.std.specs.Prelude.{◌≡◌, ◌<◌, ◌∷◌, [], IsTrue, IfOk, codes, map};
 ghost use Rattle.base.specs.Name.{is_byte_of_name};
 ghost use Rattle.dn_model.specs.Tables.{parts};
-ghost use Rattle.dn_run.specs.Made.{made_end, made_link, made_lines, made_network, made_table, made_take, numbered, router_numbers};
+ghost use Rattle.dn_run.specs.Made.{made_end, made_link, made_lines, made_network, made_table, made_take, numbered};
+ghost use Rattle.dn_run.specs.Made.{router_numbers};
 
 use dn_formats::{Asked, Line, Script};
 use dn_model::{
@@ -26,7 +27,7 @@ fn name(alloc: Global, letter: u8, digit: u16) -> Result<Name, OutOfMemory>
 }
 
 /// The names of the routers.
-#[tactic(auto, using(std::proofs::lemmas::Grind::common_steps, crate::proofs::RingLemmas::row_none, crate::proofs::RingLemmas::row_more))]
+#[tactic(auto, using(crate::proofs::RingLemmas::rows))]
 fn routers(alloc: Global) -> Result<List<Name>, OutOfMemory>
     ensures { IfOk result (λ names. names ≡ map (numbered (codes "m")) router_numbers) }
 {
@@ -49,7 +50,7 @@ fn table(router: u16) -> RouterTable
 }
 
 /// The tables of the routers.
-#[tactic(auto, using(std::proofs::lemmas::Grind::common_steps, crate::proofs::RingLemmas::row_none, crate::proofs::RingLemmas::row_more))]
+#[tactic(auto, using(crate::proofs::RingLemmas::rows))]
 fn tables(alloc: Global) -> Result<List<RouterTable>, OutOfMemory>
     ensures { IfOk result (λ tables. tables ≡ map made_table router_numbers) }
 {
@@ -84,7 +85,7 @@ fn link(alloc: Global, i: u16) -> Result<TopoLink, OutOfMemory>
 }
 
 /// The links.
-#[tactic(auto, using(std::proofs::lemmas::Grind::common_steps, crate::proofs::RingLemmas::row_none, crate::proofs::RingLemmas::row_more))]
+#[tactic(auto, using(crate::proofs::RingLemmas::rows))]
 fn links(alloc: Global) -> Result<List<TopoLink>, OutOfMemory>
     ensures { IfOk result (λ links. links ≡ map made_link router_numbers) }
 {
@@ -96,7 +97,7 @@ fn links(alloc: Global) -> Result<List<TopoLink>, OutOfMemory>
 }
 
 /// The edges.
-#[tactic(auto, using(std::proofs::lemmas::Grind::common_steps, crate::proofs::RingLemmas::row_none, crate::proofs::RingLemmas::row_more))]
+#[tactic(auto, using(crate::proofs::RingLemmas::rows))]
 fn edges(alloc: Global) -> Result<List<TopoEnd>, OutOfMemory>
     ensures { IfOk result (λ edges. edges ≡ map (made_end 1) router_numbers) }
 {
@@ -136,7 +137,7 @@ fn take(i: u16) -> Line
 }
 
 /// The lines that take the feeds.
-#[tactic(auto, using(std::proofs::lemmas::Grind::common_steps, crate::proofs::RingLemmas::row_none, crate::proofs::RingLemmas::row_more))]
+#[tactic(auto, using(crate::proofs::RingLemmas::rows))]
 fn takes(alloc: Global) -> Result<List<Line>, OutOfMemory>
     ensures { IfOk result (λ lines. lines ≡ map made_take router_numbers) }
 {

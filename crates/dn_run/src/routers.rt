@@ -52,7 +52,8 @@ pub fn is_among(routers: &[RouterId], router: RouterId) -> bool
     routers.iter().any(|other| other.0 == router.0)
 }
 
-/// The router of a feed, which these routers of feeds stand before; or the line that tells why it may not have the feed.
+/// The router of a feed, which these routers of feeds stand before; or the line that tells why it may not have the
+/// feed.
 fn find_router(
     topology: &Topology,
     before: &[RouterId],
@@ -73,8 +74,8 @@ fn find_router(
     Ok(router)
 }
 
-/// The routers of feeds, in order: each is in the topology, and no two feeds have one router; or the line that tells the
-/// first fault.
+/// The routers of feeds, in order: each is in the topology, and no two feeds have one router; or the line that tells
+/// the first fault.
 pub fn find_routers(
     alloc: Global,
     topology: &Topology,

@@ -37,30 +37,14 @@ pub fn refusal(alloc: Global, verdict: Verdict, error: ErrorLine) -> Result<Ruli
 fn has_ended_well(end: Option<FeedEnd>) -> bool
     ensures { result ≡ ended_well end }
 {
-    match end {
-        Some(FeedEnd::End) => true,
-        Some(FeedEnd::CutShort { .. }) => false,
-        Some(FeedEnd::Lost { .. }) => false,
-        Some(FeedEnd::TooLong) => false,
-        Some(FeedEnd::Full) => false,
-        Some(FeedEnd::Faulted) => false,
-        None => false,
-    }
+    matches!(end, Some(FeedEnd::End))
 }
 
 /// Whether reading a feed failed.
 fn has_faulted(end: Option<FeedEnd>) -> bool
     ensures { result ≡ is_faulted end }
 {
-    match end {
-        Some(FeedEnd::Faulted) => true,
-        Some(FeedEnd::End) => false,
-        Some(FeedEnd::CutShort { .. }) => false,
-        Some(FeedEnd::Lost { .. }) => false,
-        Some(FeedEnd::TooLong) => false,
-        Some(FeedEnd::Full) => false,
-        None => false,
-    }
+    matches!(end, Some(FeedEnd::Faulted))
 }
 
 /// Whether reading some feed failed.

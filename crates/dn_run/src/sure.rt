@@ -4,6 +4,7 @@ ghost use Rattle.std.specs.Prelude.{◌≡◌, [], None, Some, map};
 ghost use Rattle.std.specs.String.{string_bytes};
 ghost use Rattle.dn_io.specs.Calls.{names_of};
 ghost use Rattle.dn_io.specs.Worlds.{sure_files};
+ghost use Rattle.dn_run.specs.Exit.{exit_of};
 ghost use Rattle.dn_run.specs.Run.{IsDue, IsWritten, names_of_words};
 ghost use Rattle.dn_run.specs.Stage.{AnswersCalls, AsksFor};
 
@@ -14,8 +15,9 @@ use std::alloc::Global;
 use std::sync::Wait;
 use std::thread::Threads;
 
-/// Runs the program over files in memory and a sink, neither of which ever fails, and tells its status. No such run ends
-/// with a fault of reading or of writing; all else is as `run` promises. The sink keeps nothing of what is written.
+/// Runs the program over files in memory and a sink, neither of which ever fails, and tells its status. No such run
+/// ends with a fault of reading or of writing; all else is as `run` promises. The sink keeps nothing of what is
+/// written.
 ///
 /// The world was asked for no name yet.
 pub fn run_surely<G: Gate, R: Threads + Wait + Sync>(
@@ -27,11 +29,11 @@ pub fn run_surely<G: Gate, R: Threads + Wait + Sync>(
 ) -> Status
     requires { world.old.calls ≡ [] }
     ensures headline { IsWritten (IsDue (map string_bytes words.now) (Some (sure_files world.old)) world.new.calls)
-        result None None }
+        (exit_of result) None None }
     ensures no_read_fault { result ≡ Status.ReadFault → ⊥ }
     ensures no_write_fault { result ≡ Status.WriteFault → ⊥ }
-    ensures names { AsksFor result (names_of world.new.calls) (names_of_words (map string_bytes words.now)) }
-    ensures files { AnswersCalls result world.new.calls }
+    ensures names { AsksFor (exit_of result) (names_of world.new.calls) (names_of_words (map string_bytes words.now)) }
+    ensures files { AnswersCalls (exit_of result) world.new.calls }
 {
     let mut sink = SureSink;
     let status = run(rt, alloc, words, world, &mut sink, gate);

@@ -5,7 +5,8 @@ ghost use Rattle.std.specs.String.{string_bytes};
 ghost use Rattle.clap.specs.Matches.{found_of};
 ghost use Rattle.clap.specs.Simple.{app_of, subcommand_rows_of};
 ghost use Rattle.clap.specs.Walk.{all_of, rows_of};
-ghost use Rattle.dn_run.specs.CommandLine.{Make, Run, command_line, command_of, meaning_of, number_of_rows, run_of_rows};
+ghost use Rattle.dn_run.specs.CommandLine.{Make, Run, command_line, command_of, meaning_of, number_of_rows};
+ghost use Rattle.dn_run.specs.CommandLine.{run_of_rows};
 ghost use Rattle.dn_run.specs.WordsRefused.{AreRefused, IsWithin, command_words};
 
 use clap::error::ErrorKind;
@@ -151,9 +152,9 @@ fn read_subcommand(alloc: Global, matches: &ArgMatches) -> Result<Command, Words
     }
 }
 
-/// What a whole command line asks for, the program's name first: `run TOPOLOGY [PART]..` or `make N`. Up to a first `--` a
-/// word that begins with `-`, but for `-` alone, is an option, of which there is none. Words that ask for help are refused
-/// too, and so is an N other than 1 to 1,000,000 in digits, without sign or leading zero.
+/// What a whole command line asks for, the program's name first: `run TOPOLOGY [PART]..` or `make N`. Up to a first
+/// `--` a word that begins with `-`, but for `-` alone, is an option, of which there is none. Words that ask for help
+/// are refused too, and so is an N other than 1 to 1,000,000 in digits, without sign or leading zero.
 pub fn read_words(alloc: Global, words: &[String]) -> Result<Command, WordsRefused>
     ensures ok { IfOk result (λ c. command_of (map string_bytes words.now) ≡ Some (command_words c)) }
     ensures refused { IfErr result (λ e. AreRefused e (command_of (map string_bytes words.now))) }

@@ -5,10 +5,10 @@ use Rattle.dn_run.proofs.feeds.run_readers.Goals as goal
 
 pub returns-clause-ran : goal.returns-clause-ran
 returns-clause-ran g c =
-    ran c.run_jobs-done.result.0 c.report_jobs.result (arc_value c.args.topology.now) g.S.Source.faults g.S.Source.left c.args.readers.items c.run_jobs-done.result.1.items (scripts_of c.args.scripts.items)
-    c.requires.open.numbered c.requires.open.limits c.run_jobs-done.ensures.ran c.report_jobs.ensures
+    ran c.run_jobs-done.result.0 c.report_jobs.result (arc_value c.args.work.topology.now) g.S.Source.faults g.S.Source.left c.args.work.readers.items c.run_jobs-done.result.1.items (scripts_of c.args.work.scripts.items)
+    c.requires.ready.are_open.numbered c.requires.ready.are_open.limits c.run_jobs-done.ensures.ran c.report_jobs.ensures
 
 pub returns-clause-faults : goal.returns-clause-faults
 returns-clause-faults g c =
-    rose c.run_jobs-done.result.0 c.report_jobs.result (arc_value c.args.topology.now) g.S.Source.faults g.S.Source.left c.args.readers.items c.run_jobs-done.result.1.items (scripts_of c.args.scripts.items)
+    rose c.run_jobs-done.result.0 c.report_jobs.result (arc_value c.args.work.topology.now) g.S.Source.faults g.S.Source.left c.args.work.readers.items c.run_jobs-done.result.1.items (scripts_of c.args.work.scripts.items)
     c.run_jobs-done.ensures.ran c.report_jobs.ensures

@@ -10,8 +10,8 @@ use Rattle.dn_run.proofs.program.run_input.Goals as goal
 pub returns-in_err-readers : goal.returns-in_err-readers
 returns-in_err-readers g c = rw (stops-at _ c.from_residual.result c.from_residual.ensures.1) (stage-stops _ _ _)
 
-pub returns-in_err-room : goal.returns-in_err-room
-returns-in_err-room g c = rw (stops-at _ c.from_residual-in_err-room.result c.from_residual-in_err-room.ensures.1) (stage-stops _ _ _)
+pub returns-in_err-rooms : goal.returns-in_err-rooms
+returns-in_err-rooms g c = rw (stops-at _ c.from_residual-in_err-rooms.result c.from_residual-in_err-rooms.ensures.1) (stage-stops _ _ _)
 
 pub returns : goal.returns
 returns g c =

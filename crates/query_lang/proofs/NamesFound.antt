@@ -1,7 +1,13 @@
 -- Routers, found by name from the last to the first.
-use Rattle.std.proofs.Common.{◌≡◌, ℕ, Bool, true, false, cond, List, [], ◌∷◌, ◌++◌, Option, None, Some, Bor, find, length, refl, ap, sym, ◌∙◌}
-use Rattle.std.specs.Option.{option_or}
+use Rattle.std.proofs.Common.{◌≡◌, ℕ, Bool, true, false, cond, List, [], ◌∷◌, ◌++◌, Option, None, Some, Bor, find, length, refl, ap, sym, ◌∙◌, subst, IsTrue, All, IfSome, get_or, ltb, ◌<◌}
+use Rattle.std.specs.Option.{is_some, option_copied, option_or}
+use Rattle.std.specs.Str.{bytes_eq}
+use Rattle.std.proofs.lemmas.Bool.{ltb-true}
 use Rattle.std.proofs.lemmas.List.{nil_from_length}
+use Rattle.std.proofs.lemmas.List.Elements.{All-get_or}
+use Rattle.std.proofs.lemmas.Slice.Eq.{bytes_eq-Decides}
+use Rattle.dn_formats.specs.ScriptText.{is_named}
+use Rattle.base.specs.Name.{is_name_text}
 use Rattle.base.specs.declared.ids.RouterId.{RouterId}
 use Rattle.query_lang.specs.NameIndex.{router_in}
 
@@ -45,3 +51,23 @@ pub found-first : (p : RouterId → Bool) (fed : List RouterId) (index : List (B
 unfolding router_in
 found-first p fed index name e =
     ap (λ (es : List (Bor (List ℕ) × RouterId)). option_or (find p fed) (router_in es name)) e ∙ or-none (find p fed)
+
+-- what holds of each element holds of the one that is read at a place
+pub All-copied : {X : Type 0} (P : X → Type 0) (xs : List X) (i : ℕ) (o : Option (Bor X)) (r : Option X) → r ≡ option_copied o
+    → is_some o ≡ ltb i (length xs) → IfSome o (λ x. x.now ≡ get_or xs i x.now) → All P xs → IfSome r P
+All-copied {X} P xs i None r is within value all = subst (λ (m : Option X). IfSome m P) (sym is) tt
+All-copied {X} P xs i (Some x) r is within value all =
+    let inside : i < length xs = ltb-true i (length xs) (sym within) in
+    subst (λ (m : Option X). IfSome m P) (sym is) (subst P (sym value) (All-get_or P xs i x.now inside all))
+
+-- a name of the same bytes has the same router
+pub found-same : (routers : List (List ℕ)) (fed : List RouterId) (a b : List ℕ) (r : RouterId) → bytes_eq a b ≡ true
+    → find (is_named routers a) fed ≡ Some r → find (is_named routers b) fed ≡ Some r
+found-same routers fed a b r same found =
+    subst (λ (name : List ℕ). find (is_named routers name) fed ≡ Some r) ((bytes_eq-Decides a b).0 same) found
+
+-- and is a name too
+pub name-same : (a b : List ℕ) → bytes_eq a b ≡ true → IsTrue (is_name_text a) → IsTrue (is_name_text b)
+name-same a b same name = subst (λ (text : List ℕ). IsTrue (is_name_text text)) ((bytes_eq-Decides a b).0 same) name
+
+pub ruleset same_name = (found-same, name-same)

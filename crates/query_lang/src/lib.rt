@@ -6,6 +6,7 @@
 
 mod address;
 mod answer_lines;
+mod name_guess;
 mod name_index;
 mod query_line;
 mod query_text;

@@ -1,6 +1,7 @@
 //! The routers that have a feed, found by their names.
 
-ghost use Rattle.std.specs.Prelude.{◌≡◌, IfOk, OnOk, option_map};
+ghost use Rattle.std.specs.Prelude.{◌≡◌, IfOk, IfSome, IsTrue, OnOk, option_map};
+ghost use Rattle.base.specs.Name.{is_name_text};
 ghost use Rattle.std.specs.List.{slice_get};
 ghost use Rattle.std.specs.Str.{bytes_eq};
 ghost use Rattle.query_lang.specs.NameIndex.{router_in, IsAdded, IsIndex, IsPut};
@@ -10,8 +11,9 @@ use std::alloc::Global;
 use std::collections::HashMap;
 
 /// The name of a router, if it is one of the topology.
-fn name_of(topology: &Topology, router: RouterId) -> Option<&[u8]>
-    ensures { option_map (λ n. n.now) result ≡ slice_get topology.now.routers router.0 }
+pub fn name_of(topology: &Topology, router: RouterId) -> Option<&[u8]>
+    ensures router { option_map (λ n. n.now) result ≡ slice_get topology.now.routers router.0 }
+    ensures name { IfSome result (λ n. IsTrue (is_name_text n.now)) }
 {
     match topology.routers.as_slice().get(usize::from(router.0)) {
         Some(name) => Some(name.as_bytes()),

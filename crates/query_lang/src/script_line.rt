@@ -1,16 +1,18 @@
 //! One line of a script.
 
-ghost use Rattle.std.specs.Prelude.{◌≡◌, ◌≤◌, ℕ, length, find, ◌∷◌, codes, IfErr, OnOk, Ok};
+ghost use Rattle.std.specs.Prelude.{◌≡◌, ◌≤◌, ℕ, length, find, ◌∷◌, codes, All, IfErr, IfSome, IsTrue, OnOk, Ok, Some};
+ghost use Rattle.base.specs.Name.{is_name_text};
 ghost use Rattle.std.specs.List.{list_any};
 ghost use Rattle.std.specs.Str.{bytes_eq};
-ghost use Rattle.dn_formats.specs.ScriptText.{line_meaning, words_of, count_of, is_named, same_router, take_from, take_meaning, two_of, command_meaning, ask_meaning};
+ghost use Rattle.dn_formats.specs.ScriptText.{line_meaning, words_of, count_of, is_named, same_router, take_count, take_from, take_meaning, two_of, command_meaning, ask_meaning};
 ghost use Rattle.dn_formats.specs.QueryWords.{query_of};
-ghost use Rattle.query_lang.specs.NameIndex.{IsIndex};
+ghost use Rattle.query_lang.specs.NameIndex.{IsIndex, IsNamed};
 ghost use Rattle.query_lang.specs.ScriptRefused.{IsRefusedLine, added};
 
+use crate::name_guess::{Guesses, Named};
 use crate::name_index::router_at;
 use crate::query_line::read_query;
-use crate::text_cut::{has_first, next_word, two_words};
+use crate::text_cut::{has_first, is_same, next_word, two_words};
 use dn_formats::script_cause::{BAD_LINE, TAKE_UNKNOWN, TAKEN_TWICE};
 use dn_formats::{Asked, Line, read_number};
 use dn_model::{List, OutOfMemory, RouterId, Topology, is_name};
@@ -51,7 +53,10 @@ pub struct Feeds<'a> {
     pub taken: &'a [RouterId],
     /// The routers that have a feed, by name.
     pub index: HashMap<&'a [u8], RouterId>,
+    /// Most of them again, where a look costs less.
+    pub guesses: Guesses<'a>,
     ghost indexed: { IsIndex topology.now.routers fed.now index.entries },
+    ghost named: { All (IsNamed topology.now.routers fed.now) guesses.named.items },
 }
 
 /// Whether a word is `take`.
@@ -92,11 +97,54 @@ fn router_named(feeds: &Feeds<'_>, name: &[u8]) -> Option<RouterId>
     router_at(&feeds.index, name)
 }
 
+/// A name that may be this one.
+fn guess<'a>(feeds: &Feeds<'a>, name: &[u8]) -> Option<Named<'a>>
+    ensures { IfSome result (IsNamed feeds.now.topology.now.routers feeds.now.fed.now) }
+{
+    let place = feeds.guesses.place_of(name);
+    feeds.guesses.named.get(place).copied()
+}
+
+/// The first of the routers with a feed that has this name, where it is guessed. The text is a name then.
+#[tactic(auto, using(crate::proofs::NamesFound::same_name))]
+fn router_guessed(feeds: &Feeds<'_>, name: &[u8]) -> Option<RouterId>
+    ensures router { IfSome result (λ r. find (is_named feeds.now.topology.now.routers name.now) feeds.now.fed.now ≡ Some r) }
+    ensures name { IfSome result (λ r. IsTrue (is_name_text name.now)) }
+{
+    let named = guess(feeds, name)?;
+    if !is_same(named.name, name) {
+        return None;
+    }
+    Some(named.router)
+}
+
 /// Whether a router is among these.
 fn is_among(routers: &[RouterId], router: RouterId) -> bool
     ensures { result ≡ list_any (same_router router) routers.now }
 {
     routers.iter().any(|other| other.0 == router.0)
+}
+
+/// Adds the line that takes so many frames from a router with a feed.
+fn add_take(
+    feeds: &Feeds<'_>,
+    line: u32,
+    router: RouterId,
+    count: Option<u32>,
+    lines: &mut List<Line>,
+) -> Result<(), LineRefused>
+    ensures ok { OnOk result (added lines.old (take_from line feeds.now.taken.now count (Some router)) ≡ Ok lines.new) }
+    ensures refused { IfErr result (λ e. IsRefusedLine e (take_from line feeds.now.taken.now count (Some router))) }
+{
+    if is_among(feeds.taken, router) {
+        return Err(LineRefused::Cause(TAKEN_TWICE));
+    }
+    lines.push(Line::Take {
+        line,
+        router,
+        count,
+    })?;
+    Ok(())
 }
 
 /// Adds the line that takes so many frames from the router of this name.
@@ -107,21 +155,19 @@ fn take_of(
     count: Option<u32>,
     lines: &mut List<Line>,
 ) -> Result<(), LineRefused>
-    ensures ok { OnOk result (added lines.old (take_from line feeds.now.taken.now count (find (is_named feeds.now.topology.now.routers name.now) feeds.now.fed.now)) ≡ Ok lines.new) }
-    ensures refused { IfErr result (λ e. IsRefusedLine e (take_from line feeds.now.taken.now count (find (is_named feeds.now.topology.now.routers name.now) feeds.now.fed.now))) }
+    ensures ok { OnOk result (added lines.old (take_count feeds.now.topology.now.routers feeds.now.fed.now feeds.now.taken.now line name.now (Some count)) ≡ Ok lines.new) }
+    ensures refused { IfErr result (λ e. IsRefusedLine e (take_count feeds.now.topology.now.routers feeds.now.fed.now feeds.now.taken.now line name.now (Some count))) }
 {
+    if let Some(router) = router_guessed(feeds, name) {
+        return add_take(feeds, line, router, count, lines);
+    }
+    if !is_name(name) {
+        return Err(LineRefused::Cause(BAD_LINE));
+    }
     let Some(router) = router_named(feeds, name) else {
         return Err(LineRefused::Cause(TAKE_UNKNOWN));
     };
-    if is_among(feeds.taken, router) {
-        return Err(LineRefused::Cause(TAKEN_TWICE));
-    }
-    lines.push(Line::Take {
-        line,
-        router,
-        count,
-    })?;
-    Ok(())
+    add_take(feeds, line, router, count, lines)
 }
 
 #[tactic(auto, using(crate::proofs::Questions::operands_missing))]
@@ -141,9 +187,6 @@ fn read_take(
     let Some(count) = read_count(count) else {
         return Err(LineRefused::Cause(BAD_LINE));
     };
-    if !is_name(name) {
-        return Err(LineRefused::Cause(BAD_LINE));
-    }
     take_of(feeds, line, name, count, lines)
 }
 

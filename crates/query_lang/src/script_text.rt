@@ -4,6 +4,7 @@ ghost use Rattle.std.specs.Prelude.{◌≡◌, ◌≤◌, IfOk, IfErr, OnOk, Ok}
 ghost use Rattle.dn_formats.specs.ScriptText.{script_of, lines_meaning, line_meaning, lines_of, numbered};
 ghost use Rattle.query_lang.specs.ScriptRefused.{IsRefused, added};
 
+use crate::name_guess::guesses_of;
 use crate::name_index::index_of;
 use crate::script_line::{Feeds, LineRefused, read_line};
 use crate::text_cut::first_line;
@@ -99,11 +100,13 @@ pub fn read_script(
         });
     }
     let index = index_of(alloc, topology, feeds)?;
+    let guesses = guesses_of(alloc, topology, feeds, &index)?;
     let feeds = Feeds {
         topology,
         fed: feeds,
         taken,
         index,
+        guesses,
     };
     let lines = read_lines(alloc, &feeds, bytes)?;
     Ok(Script { lines })

@@ -1,10 +1,13 @@
 //! A script that is read.
 
 use crate::two_routers::network;
+use dn_formats::script_cause::{BAD_LINE, TAKE_UNKNOWN};
 use dn_formats::{Line, Script};
-use dn_model::{Ask, Name, Query, RouterId};
-use query_lang::read_script;
+use dn_model::{Ask, Name, Query, RouterId, Topology};
+use query_lang::{ScriptRefused, read_script};
+use std::alloc::Global;
 use std::process::Abort;
+use topology::read_topology;
 
 /// Its bound alone says that scripts may cross threads; none is started.
 fn crosses<T: Send + Sync>(_value: &T) {}
@@ -112,4 +115,61 @@ fn reads_each_query(rt: HostRuntime) {
         panic!(rt; "two links");
     };
     assert!(rt; is_name_of(first, "l") && is_name_of(second, "m"));
+}
+
+/// Routers whose names are alike: of five the first byte and the last two are the same.
+const ALIKE: &str =
+    "routers = [\"m10\", \"m-10\", \"m210\", \"mm10\", \"m1110\", \"m\", \"m1\", \"1m\"]\n";
+
+/// The network of these routers.
+fn alike(rt: &impl Abort, alloc: Global) -> Topology {
+    read_topology(alloc, ALIKE.as_bytes()).expect(rt, "a topology")
+}
+
+/// The routers from which the lines of a script take, in order.
+fn compare_takes(rt: &impl Abort, script: &Script, want: &[u16]) {
+    assert_eq!(rt; script.lines.as_slice().len(), want.len());
+    for (line, wanted) in script.lines.as_slice().iter().zip(want) {
+        let Line::Take { line, router, .. } = line else {
+            panic!(rt; "a line that takes");
+        };
+        assert_eq!(rt; router.0, *wanted, "line {line}");
+    }
+}
+
+#[test]
+fn takes_from_routers_of_like_names(rt: HostRuntime) {
+    let alloc = rt.alloc();
+    let network = alike(&rt, alloc);
+    let feeds = [7, 6, 5, 4, 3, 2, 1, 0].map(RouterId);
+    let text =
+        b"take m10 1\ntake m-10 1\ntake m210 1\ntake mm10 1\ntake m1110 1\ntake m 1\ntake m1 1\ntake 1m 1\n\
+take m10 1\ntake mm10 1\ntake mm10 1\n";
+    let script = read_script(alloc, text, &network, &feeds, &[]).expect(&rt, "a script");
+    compare_takes(&rt, &script, &[0, 1, 2, 3, 4, 5, 6, 7, 0, 3, 3]);
+}
+
+/// With feeds of `m10` and `m1` alone a line that takes from this router is refused for this cause.
+fn compare_refused(rt: &impl Abort, alloc: Global, name: &str, cause: u8) {
+    let network = alike(rt, alloc);
+    let feeds = [RouterId(0), RouterId(6)];
+    let text = format!(in alloc; "take m10 1\ntake m1 1\ntake {name} 1\n").expect(rt, "memory");
+    match read_script(alloc, text.as_bytes(), &network, &feeds, &[]) {
+        Ok(_) => panic!(rt; "a script"),
+        Err(refused) => assert!(rt;
+            refused == ScriptRefused::Fault { line: 3, cause },
+            "{name}"
+        ),
+    }
+}
+
+#[test]
+fn refuses_names_like_that_of_a_feed(rt: HostRuntime) {
+    let alloc = rt.alloc();
+    for name in ["m-10", "m210", "m", "1m", "m-1", "10"] {
+        compare_refused(&rt, alloc, name, TAKE_UNKNOWN);
+    }
+    for name in ["m.10", "mM10", "M1"] {
+        compare_refused(&rt, alloc, name, BAD_LINE);
+    }
 }

@@ -3,6 +3,9 @@ use Rattle.std.specs.Arc.{arc_value}
 use Rattle.dn_run.proofs.DealtLemmas.{came-jobs, came-ran, came-sources, came-tags}
 use Rattle.dn_run.proofs.jobs.run_list.Goals as goal
 
+pub run_history-requires-clause-fresh : goal.run_history-requires-clause-fresh
+run_history-requires-clause-fresh g c κs within = rw c.deref.ensures c.requires.fresh
+
 pub gather-backs-requires-clause-backs : goal.gather-backs-requires-clause-backs
 gather-backs-requires-clause-backs g c κs within =
     let count = came-sources (arc_value c.args.topology.now) g.S.Source.left g.S.Source.faults g.S.Source.place c.deref.result.now c.in-Ok.store.basis.limit c.in-Ok-run_history.ran.0.history c.args.list c.in-Ok-run_history.ran.1.items

@@ -1,13 +1,9 @@
 -- What frames come to, one after another: the steps of one more frame, and that the steps are determined.
-use Rattle.std.proofs.Common.{◌≡◌, ℕ, zero, suc, ◌+◌, ◌-◌, ◌≤◌, Bool, true, false, nat_lt, Option, List, [], ◌∷◌, ◌++◌, length, take, None, Some, refl, ap, sym, ◌∙◌, subst, arith, length-append, add-zero, inl, inr}
+use Rattle.std.proofs.Common.{◌≡◌, ℕ, ◌+◌, Bool, nat_lt, List, [], ◌∷◌, ◌++◌, length, take, None, Some, refl, ap, sym, ◌∙◌, subst, arith, length-append, add-zero, inl, inr}
 use Rattle.dn_formats.specs.Feed.{AreSteps, IsStep, step_of, IsReading, IsFaultedReading, IsKept, ending}
 use Rattle.dn_formats.specs.Frames.{Frame, FrameRest, NoRest, CutFrame, BadVersion, BadFrameLength, frame_text, frames_text, lost_cause}
-use Rattle.std.specs.Prelude.{if◌then◌else◌}
-use Rattle.dn_formats.specs.Attributes.{padded}
-use Rattle.dn_formats.specs.Payload.{IsPayload, Ruling, Refuses, Skips, said, said_after, ruling_of, nothing_more, message_length}
 use Rattle.dn_formats.specs.Steps.{FrameStep}
 use Rattle.base.specs.declared.ids.RouterId.{RouterId}
-use Rattle.dn_formats.specs.declared.payload.Payload.{Payload}
 use Rattle.dn_model.specs.declared.topology.Topology.{Topology}
 use Rattle.dn_formats.specs.declared.told.FeedEnd.{FeedEnd}
 use Rattle.dn_formats.specs.declared.told.FeedEnd.TheVariants.{Lost}
@@ -72,29 +68,3 @@ is_kept NoRest e = tt
 is_kept CutFrame e = tt
 is_kept BadVersion e = cc
 is_kept BadFrameLength e = cc
-
--- a message has more bytes than none, so a payload says no more messages than it has bytes
-said-few : (at : ℕ) (bytes : List ℕ) (o : Option Ruling) (more : Payload) → length (said at bytes o more).items ≤ 1 + length more.items
-said-few at bytes None more = omega arith
-said-few at bytes (Some (Refuses cause)) more = omega arith
-said-few at bytes (Some (Skips skip)) more = omega arith
-
-few_either : (b : Bool) (x y : Payload) (n : ℕ) → length x.items ≤ n → length y.items ≤ n → length (if b then x else y).items ≤ n
-few_either true x y n h k = h
-few_either false x y n h k = k
-
-said_after-few : (at left : ℕ) (bytes : List ℕ) → length (said_after at left bytes).items ≤ length bytes
-unfolding said_after
-said_after-few at left [] = omega arith
-said_after-few at (suc left) (byte ∷ bytes) = let rest : length (said_after (at + 1) left bytes).items ≤ length bytes = said_after-few (at + 1) left bytes in omega arith
-said_after-few at zero (byte ∷ bytes) =
-    let skip : ℕ = padded (message_length (byte ∷ bytes)) - 1 in
-    let rest : length (said_after (at + 1) skip bytes).items ≤ length bytes = said_after-few (at + 1) skip bytes in
-    let here : length (said at (byte ∷ bytes) (ruling_of (byte ∷ bytes)) (said_after (at + 1) skip bytes)).items ≤ 1 + length (said_after (at + 1) skip bytes).items =
-    said-few at (byte ∷ bytes) (ruling_of (byte ∷ bytes)) (said_after (at + 1) skip bytes) in
-    few_either (nat_lt (length (byte ∷ bytes)) 4) nothing_more (said at (byte ∷ bytes) (ruling_of (byte ∷ bytes)) (said_after (at + 1) skip bytes)) (length (byte ∷ bytes))
-    (omega arith) (omega arith)
-
--- a payload says no more messages than it has bytes
-pub messages-few : (bytes : List ℕ) (p : Payload) → IsPayload bytes p → length p.items ≤ length bytes
-messages-few bytes p e = subst (λ (x : Payload). length x.items ≤ length bytes) (sym e) (said_after-few 0 0 bytes)

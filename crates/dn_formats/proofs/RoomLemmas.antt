@@ -1,14 +1,14 @@
 -- How many bytes the updates of a payload take: a route message has a header of 16 bytes and a `struct rtmsg` of 12, and
 -- the next message begins at its end or after it.
 use Rattle.std.proofs.Common.{◌≡◌, ℕ, zero, suc, ◌+◌, ◌-◌, ◌*◌, ◌≤◌, Bool, true, false, nat_lt, Option, None, Some, List, [], ◌∷◌, length, refl, sym, subst, arith, inl, inr}
-use Rattle.std.specs.Prelude.{◌||◌, if◌then◌else◌}
+use Rattle.std.specs.Prelude.{◌||◌, if◌then◌else◌, Ok}
 use Rattle.std.specs.List.{cons_option}
 use Rattle.std.proofs.lemmas.Bool.{ltb-false}
 use Rattle.dn_formats.specs.Attributes.{padded}
 use Rattle.dn_formats.specs.Feed.{ops_among, step_by, refusals_of, skipped_among, IsStep}
 use Rattle.dn_formats.specs.Frames.{Frame}
 use Rattle.dn_formats.specs.Message.{op_of}
-use Rattle.dn_formats.specs.Payload.{IsPayload, Ruling, Refuses, Skips, said, said_after, ruling_of, nothing_more, message_length, route_of}
+use Rattle.dn_formats.specs.Payload.{IsPayload, Ruling, Refuses, Skips, said_by, message_said, item_of, said, said_after, ruling_of, nothing_more, message_length, route_of}
 use Rattle.dn_formats.specs.Steps.{Accepted}
 use Rattle.dn_model.specs.declared.entry.Op.{Op}
 use Rattle.base.specs.declared.ids.RouterId.{RouterId}
@@ -45,13 +45,15 @@ after_message m n ops more h k o r = omega arith
 
 said_room : (t : Topology) (r : RouterId) (at n : ℕ) (bytes : List ℕ) (o : Option Ruling) (more : Payload) → length bytes ≡ 1 + n →
     (o ≡ None → (28 ≤ message_length bytes) × (message_length bytes ≤ length bytes)) →
-    28 * length (ops_among t r more.items) ≤ n - (padded (message_length bytes) - 1) → 28 * length (ops_among t r (said at bytes o more).items) ≤ length bytes
+    28 * length (ops_among t r more.items) ≤ n - (padded (message_length bytes) - 1) →
+    28 * length (ops_among t r (said at (said_by o (item_of bytes)) more).items) ≤ length bytes
 said_room t r at n bytes (Some (Refuses cause)) more e h k = omega arith
 said_room t r at n bytes (Some (Skips skip)) more e h k = omega arith
 said_room t r at n bytes None more e h k =
     let room : (28 ≤ message_length bytes) × (message_length bytes ≤ length bytes) = h refl in
-    subst (λ (x : ℕ). 28 * length (ops_among t r (said at bytes None more).items) ≤ x) (sym e)
-    (after_message (message_length bytes) n (length (ops_among t r (said at bytes None more).items)) (length (ops_among t r more.items))
+    let all : List Op = ops_among t r (said at (Ok (item_of bytes)) more).items in
+    subst (λ (x : ℕ). 28 * length all ≤ x) (sym e)
+    (after_message (message_length bytes) n (length all) (length (ops_among t r more.items))
     room.0 (subst (λ (x : ℕ). message_length bytes ≤ x) e room.1) (one_more (op_of t r (route_of bytes)) (ops_among t r more.items)) k)
 
 room_either : (t : Topology) (r : RouterId) (b : Bool) (x y : Payload) (n : ℕ) → 28 * length (ops_among t r x.items) ≤ n → 28 * length (ops_among t r y.items) ≤ n →
@@ -70,7 +72,7 @@ said_after-room t r at (suc left) (byte ∷ bytes) =
     let rest : 28 * length (ops_among t r (said_after (at + 1) left bytes).items) ≤ length bytes - left = said_after-room t r (at + 1) left bytes in omega arith
 said_after-room t r at zero (byte ∷ bytes) =
     let skip : ℕ = padded (message_length (byte ∷ bytes)) - 1 in
-    all_left _ _ (room_either t r (nat_lt (length (byte ∷ bytes)) 4) nothing_more (said at (byte ∷ bytes) (ruling_of (byte ∷ bytes)) (said_after (at + 1) skip bytes)) (length (byte ∷ bytes))
+    all_left _ _ (room_either t r (nat_lt (length (byte ∷ bytes)) 4) nothing_more (said at (message_said (byte ∷ bytes)) (said_after (at + 1) skip bytes)) (length (byte ∷ bytes))
     (omega arith)
     (said_room t r at (length bytes) (byte ∷ bytes) (ruling_of (byte ∷ bytes)) (said_after (at + 1) skip bytes) (omega arith)
     (route_room (byte ∷ bytes)) (said_after-room t r (at + 1) skip bytes)))

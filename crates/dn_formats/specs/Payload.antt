@@ -2,7 +2,7 @@
 -- set or delete a route (RTM_NEWROUTE, RTM_DELROUTE of linux/rtnetlink.h) are read. Numbers are little-endian, as the
 -- sender's are; an address is in network byte order. Which messages are refused or skipped is the project's own
 -- profile.
-use Rattle.std.specs.Prelude.{◌≡◌, ℕ, zero, suc, ◌+◌, ◌-◌, ◌%◌, ◌^◌, ◌==◌, nat_lt, Bool, true, false, ◌&&◌, ◌||◌, not, if◌then◌else◌, List, [], ◌∷◌, length, take, drop, slice_index, Option, None, Some, is_none, unwrap_or, IsSome}
+use Rattle.std.specs.Prelude.{◌≡◌, ℕ, zero, suc, ◌+◌, ◌-◌, ◌%◌, ◌^◌, ◌==◌, nat_lt, Bool, true, false, ◌&&◌, ◌||◌, not, if◌then◌else◌, List, [], ◌∷◌, ◌++◌, length, take, drop, slice_index, Option, None, Some, is_none, unwrap_or, IsSome, Result, Ok, Err}
 use Rattle.std.specs.List.{list_any}
 use Rattle.std.specs.Int.{w16, w32, from_le_bytes}
 use Rattle.base.specs.Cidr.{Cidr, IsCidr}
@@ -122,23 +122,42 @@ pub data Ruling : Type 0 where
   Refuses : (cause : ℕ) → Ruling
   Skips : (skip : Skip) → Ruling
 
--- The first row that holds of a message decides; a message of which none holds says its route.
-abbrev pub message_rows : List (Ruling × (List ℕ → Bool))
-message_rows = (
+-- a row: what becomes of a message of which its test holds
+abbrev pub Row : Type 0
+Row = Ruling × (List ℕ → Bool)
+
+-- of a message's header
+abbrev pub header_rows : List Row
+header_rows = (
   Refuses causes.bad_length,
   λ m. nat_lt (length m) 16 || nat_lt (message_length m) 16
       || nat_lt (length m) (message_length m),
 )
     ∷ (Skips OtherType, λ m. not (is_set m || is_deletion m))
-    ∷ (Refuses causes.short, λ m. nat_lt (message_length m) 28)
+    ∷ []
+
+-- of a route message's fixed part, its attributes and its table
+abbrev pub part_rows : List Row
+part_rows =
+    (Refuses causes.short, λ m. nat_lt (message_length m) 28)
     ∷ (Skips OtherFamily, λ m. not (family m == 2))
     ∷ (Refuses causes.bad_attr, λ m. list_any (is_bad (is_set m)) (attributes m))
     ∷ (Skips OtherTable, λ m. not (is_main (table_of m)))
-    ∷ (Refuses causes.bad_prefix_length, λ m. nat_lt 32 (prefix_length m))
+    ∷ []
+
+-- of its prefix
+abbrev pub prefix_rows : List Row
+prefix_rows =
+    (Refuses causes.bad_prefix_length, λ m. nat_lt 32 (prefix_length m))
     ∷ (Refuses causes.source_or_tos, λ m. not (source_length m == 0) || not (service_type m == 0))
     ∷ (Refuses causes.no_destination, λ m. nat_lt 0 (prefix_length m) && is_none (destination m))
     ∷ (Refuses causes.host_bits, λ m. not ((prefix_of m).base % 2 ^ (32 - prefix_length m) == 0))
-    ∷ (Refuses causes.route_type, λ m. is_set m && is_none (kind_of (route_type m)))
+    ∷ []
+
+-- of its next hop
+abbrev pub hop_rows : List Row
+hop_rows =
+    (Refuses causes.route_type, λ m. is_set m && is_none (kind_of (route_type m)))
     ∷ (Refuses causes.multipath, λ m. is_set m && has rta_multipath (attributes m))
     ∷ (
       Refuses causes.encap,
@@ -149,12 +168,34 @@ message_rows = (
     ∷ (Refuses causes.no_interface, λ m. is_set m && route_type m == 1 && is_none (interface m))
     ∷ []
 
-abbrev pub first_ruling : {A : Type 0} → List (Ruling × (A → Bool)) → A → Option Ruling
-first_ruling [] x = None
-first_ruling (row ∷ rows) x = if row.1 x then Some row.0 else first_ruling rows x
+abbrev pub route_rows : List Row
+route_rows = part_rows ++ (prefix_rows ++ hop_rows)
+
+-- The first row that holds of a message decides; a message of which none holds says its item.
+abbrev pub message_rows : List Row
+message_rows = header_rows ++ route_rows
+
+abbrev pub first_ruling : List Row → List ℕ → Option Ruling
+first_ruling [] m = None
+first_ruling (row ∷ rows) m = if row.1 m then Some row.0 else first_ruling rows m
 
 unfoldable pub ruling_of : List ℕ → Option Ruling
 ruling_of bytes = first_ruling message_rows bytes
+
+-- ---- what a message says
+
+-- the item of a message of which no row holds
+abbrev pub item_of : List ℕ → ItemKind
+item_of bytes = Route (route_of bytes)
+
+-- what a message with this item says that is ruled so, or the cause by which it is refused
+abbrev pub said_by : Option Ruling → ItemKind → Result ItemKind ℕ
+said_by (Some (Refuses cause)) what = Err cause
+said_by (Some (Skips skip)) what = Ok (Skipped skip)
+said_by None what = Ok what
+
+abbrev pub message_said : List ℕ → Result ItemKind ℕ
+message_said bytes = said_by (ruling_of bytes) (item_of bytes)
 
 -- ---- a whole payload
 
@@ -164,11 +205,10 @@ nothing_more = record { items = []; refused = None }
 abbrev pub before : Item → Payload → Payload
 before item more = record { items = item ∷ more.items; refused = more.refused }
 
--- what is said from a message at this place on, which begins these bytes and is ruled so, and which has this after it
-abbrev pub said : ℕ → List ℕ → Option Ruling → Payload → Payload
-said at bytes (Some (Refuses cause)) more = record { items = []; refused = Some (record { at = at; cause = cause }) }
-said at bytes (Some (Skips skip)) more = before (record { at = at; what = Skipped skip }) more
-said at bytes None more = before (record { at = at; what = Route (route_of bytes) }) more
+-- what is said from a message at this place on, which says this, and which has this after it
+abbrev pub said : ℕ → Result ItemKind ℕ → Payload → Payload
+said at (Err cause) more = record { items = []; refused = Some (record { at = at; cause = cause }) }
+said at (Ok what) more = before (record { at = at; what = what }) more
 
 -- What these bytes say, the first of which stands at this place of the payload, where the first so many are still those
 -- of the message before. The next message begins after the message's padding. Fewer than 4 bytes at the end are
@@ -178,7 +218,7 @@ said_after at left [] = nothing_more
 said_after at (suc left) (byte ∷ bytes) = said_after (at + 1) left bytes
 said_after at zero (byte ∷ bytes) =
     if nat_lt (length (byte ∷ bytes)) 4 then nothing_more
-    else said at (byte ∷ bytes) (ruling_of (byte ∷ bytes))
+    else said at (message_said (byte ∷ bytes))
     (said_after (at + 1) (padded (message_length (byte ∷ bytes)) - 1) bytes)
 
 -- the messages of a payload up to the first that is refused, and that one

@@ -1,9 +1,7 @@
 -- The table of what is refused and what is skipped, part after part.
 use Rattle.std.proofs.Common.{◌≡◌, ℕ, Bool, true, false, List, [], ◌∷◌, ◌++◌, refl, ◌∙◌, Option, None, Some}
-use Rattle.std.specs.Prelude.{if◌then◌else◌, Result, Ok, Err}
-use Rattle.dn_formats.specs.Payload.{Ruling, first_ruling, ruling_of}
-use Rattle.rt_netlink.specs.Ruled.{Row, header_rows, part_rows, prefix_rows, hop_rows, Rules, RulesWhole}
-use Rattle.rt_netlink.specs.declared.ruling.Ruling.{Ruling as Answer}
+use Rattle.std.specs.Prelude.{if◌then◌else◌}
+use Rattle.dn_formats.specs.Payload.{Row, Ruling, first_ruling, ruling_of, header_rows, route_rows}
 
 -- a row that holds of the first part decides
 first-some : (xs ys : List Row) (m : List ℕ) (r : Ruling) → first_ruling xs m ≡ Some r → first_ruling (xs ++ ys) m ≡ Some r
@@ -23,23 +21,11 @@ first-none (x ∷ xs) ys m e = either (x.1 m) (first_ruling xs m) (first_ruling 
     either true old new last here e h = cc
     either false old new last here e h = h e
 
--- the whole table
-in_parts : (m : List ℕ) → ruling_of m ≡ first_ruling (header_rows ++ (part_rows ++ (prefix_rows ++ hop_rows))) m
-unfolding ruling_of
-in_parts m = refl
-
+-- of the whole table
 pub ruled_by_header : (m : List ℕ) (r : Ruling) → first_ruling header_rows m ≡ Some r → ruling_of m ≡ Some r
-ruled_by_header m r e = in_parts m ∙ first-some header_rows (part_rows ++ (prefix_rows ++ hop_rows)) m r e
+unfolding ruling_of
+ruled_by_header m r e = first-some header_rows route_rows m r e
 
-pub ruled_by_parts : (m : List ℕ) (r : Ruling) → first_ruling header_rows m ≡ None → first_ruling part_rows m ≡ Some r → ruling_of m ≡ Some r
-ruled_by_parts m r none e =
-    in_parts m ∙ first-none header_rows (part_rows ++ (prefix_rows ++ hop_rows)) m none ∙ first-some part_rows (prefix_rows ++ hop_rows) m r e
-
-pub ruled_by_rest : (m : List ℕ) → first_ruling header_rows m ≡ None → first_ruling part_rows m ≡ None → ruling_of m ≡ first_ruling (prefix_rows ++ hop_rows) m
-ruled_by_rest m none none' =
-    in_parts m ∙ first-none header_rows (part_rows ++ (prefix_rows ++ hop_rows)) m none ∙ first-none part_rows (prefix_rows ++ hop_rows) m none'
-
-pub whole : {A : Type 0} (m : List ℕ) (r : Result A Answer) (P : A → Type 0) → first_ruling header_rows m ≡ None → first_ruling part_rows m ≡ None →
-    Rules (prefix_rows ++ hop_rows) m r P → RulesWhole m r P
-whole m (Ok x) P none none' h = (ruled_by_rest m none none' ∙ h.0, h.1)
-whole m (Err ruling) P none none' h = ruled_by_rest m none none' ∙ h
+pub ruled_by_route : (m : List ℕ) (o : Option Ruling) → first_ruling header_rows m ≡ None → first_ruling route_rows m ≡ o → ruling_of m ≡ o
+unfolding ruling_of
+ruled_by_route m o none e = first-none header_rows route_rows m none ∙ e

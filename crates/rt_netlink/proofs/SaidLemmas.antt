@@ -1,29 +1,28 @@
 -- What a payload says from a place on.
 use Rattle.std.proofs.Common.{◌≡◌, ℕ, zero, suc, ◌+◌, ◌-◌, ◌<◌, ◌≤◌, Bool, true, false, List, [], ◌∷◌, ◌++◌, length, drop, refl, ap, sym, ◌∙◌, arith, Option, None, Some, inl, inr}
-use Rattle.std.specs.Prelude.{◌||◌, nat_lt, if◌then◌else◌, Ok}
+use Rattle.std.specs.Prelude.{◌||◌, nat_lt, if◌then◌else◌, Ok, Err}
 use Rattle.std.proofs.lemmas.Bool.{cases_lt}
 use Rattle.std.proofs.lemmas.Bool.Decides.{nat_tests}
 use Rattle.std.proofs.lemmas.List.{length-drop, drop_all, append-nil, append_assoc}
 use Rattle.dn_formats.specs.Attributes.{padded}
-use Rattle.dn_formats.specs.Payload.{Ruling, Refuses, Skips, ruling_of, message_length, said, said_after, before, nothing_more}
+use Rattle.dn_formats.specs.Payload.{Ruling, Refuses, ruling_of, item_of, said_by, message_said, message_length, said, said_after, before, nothing_more}
 use Rattle.dn_formats.specs.declared.payload.Item.{Item}
 use Rattle.dn_formats.specs.declared.payload.ItemKind.{ItemKind}
-use Rattle.dn_formats.specs.declared.payload.ItemKind.TheVariants.{Route, Skipped}
 use Rattle.dn_formats.specs.declared.payload.Payload.{Payload}
 use Rattle.dn_formats.specs.declared.payload.Refused.{Refused}
-use Rattle.rt_netlink.specs.Read.{Says, with_items, said_from}
+use Rattle.rt_netlink.specs.Read.{with_items, said_from}
 
 -- a message that isn't refused is all there
 abbrev is_cut : List ℕ → Bool
 is_cut m = nat_lt (length m) 16 || nat_lt (message_length m) 16 || nat_lt (length m) (message_length m)
 
-unless_cut : (m : List ℕ) (b : Bool) (r rest : Option Ruling) → (if b then Some (Refuses 1) else rest) ≡ r → ((cause : ℕ) → r ≡ Some (Refuses cause) → ⊥) → b ≡ false
-unless_cut m true r rest e h = absurd (h 1 (sym e))
-unless_cut m false r rest e h = refl
+unless_cut : (b : Bool) (rest : Option Ruling) (item what : ItemKind) → said_by (if b then Some (Refuses 1) else rest) item ≡ Ok what → b ≡ false
+unless_cut true rest item what e = cc
+unless_cut false rest item what e = refl
 
-not_cut : (m : List ℕ) (r : Option Ruling) → ruling_of m ≡ r → ((cause : ℕ) → r ≡ Some (Refuses cause) → ⊥) → is_cut m ≡ false
+not_cut : (m : List ℕ) (what : ItemKind) → message_said m ≡ Ok what → is_cut m ≡ false
 unfolding ruling_of
-not_cut m r e h = unless_cut m (is_cut m) r _ e h
+not_cut m what e = unless_cut (is_cut m) _ (item_of m) what e
 
 pub record IsThere (m : List ℕ) : Type 0 where
   pub long : 16 ≤ message_length m
@@ -32,11 +31,8 @@ pub record IsThere (m : List ℕ) : Type 0 where
 is_there : (m : List ℕ) → is_cut m ≡ false → IsThere m
 is_there m e = record { long = grind (arith, nat_tests); there = grind (arith, nat_tests) }
 
-pub said_there : (m : List ℕ) → ruling_of m ≡ None → IsThere m
-said_there m e = is_there m (not_cut m None e (λ cause f. cc))
-
-pub skipped_there : (m : List ℕ) (skip : _) → ruling_of m ≡ Some (Skips skip) → IsThere m
-skipped_there m skip e = is_there m (not_cut m (Some (Skips skip)) e (λ cause f. cc))
+pub said_there : (m : List ℕ) (what : ItemKind) → message_said m ≡ Ok what → IsThere m
+said_there m what e = is_there m (not_cut m what e)
 
 -- what is left of the message before is passed over
 said-left : (at left : ℕ) (s : List ℕ) → said_after at left s ≡ said_after (at + left) 0 (drop left s)
@@ -47,7 +43,7 @@ said-left at (suc left) (b ∷ s) = let e : at + 1 + left ≡ at + suc left = om
 
 -- the message at the front, and what is said after it
 pub said-step : (at : ℕ) (s : List ℕ) → 4 ≤ length s → 16 ≤ message_length s →
-    said_after at 0 s ≡ said at s (ruling_of s) (said_after (at + padded (message_length s)) 0 (drop (padded (message_length s)) s))
+    said_after at 0 s ≡ said at (message_said s) (said_after (at + padded (message_length s)) 0 (drop (padded (message_length s)) s))
 unfolding said_after
 said-step at [] h l = absurd (omega arith)
 said-step at (b ∷ s) h l =
@@ -57,9 +53,9 @@ said-step at (b ∷ s) h l =
     let more : said_after (at + 1) (padded (message_length (b ∷ s)) - 1) s ≡ said_after (at + padded (message_length (b ∷ s))) 0 (drop (padded (message_length (b ∷ s))) (b ∷ s)) =
     said-left (at + 1) (padded (message_length (b ∷ s)) - 1) s ∙ ap (λ n. said_after n 0 (drop (padded (message_length (b ∷ s)) - 1) s)) place
     ∙ ap (λ t. said_after (at + padded (message_length (b ∷ s))) 0 t) (sym (ap {B = List ℕ} (λ m. drop m (b ∷ s)) whole)) in
-    rw enough (ap (λ p. said at (b ∷ s) (ruling_of (b ∷ s)) p) more)
+    rw enough (ap (λ p. said at (message_said (b ∷ s)) p) more)
 
-pub said-refused : (at : ℕ) (s : List ℕ) (cause : ℕ) → 4 ≤ length s → ruling_of s ≡ Some (Refuses cause) →
+pub said-refused : (at : ℕ) (s : List ℕ) (cause : ℕ) → 4 ≤ length s → message_said s ≡ Err cause →
     said_after at 0 s ≡ record { items = []; refused = Some (record { at = at; cause = cause }) }
 unfolding said_after
 said-refused at [] cause h e = absurd (omega arith)
@@ -82,16 +78,11 @@ after_place all n s h = elim (cases_lt (length s) n) [
 ]
 
 -- one item more is told
-item_said : (at : ℕ) (s : List ℕ) (what : ItemKind) (more : Payload) → Says s (Ok what) →
-    said at s (ruling_of s) more ≡ record { items = record { at = at; what = what } ∷ more.items; refused = more.refused }
-item_said at s (Route raw) more h = rw (h.0, h.1) refl
-item_said at s (Skipped skip) more h = rw h refl
-
 pub message_told : (all : ℕ) (s rest : List ℕ) (what : ItemKind) → 4 ≤ length s → length s ≤ all → 16 ≤ message_length s → rest ≡ drop (padded (message_length s)) s →
-    Says s (Ok what) → said_from all s ≡ before (record { at = all - length s; what = what }) (said_from all rest)
+    message_said s ≡ Ok what → said_from all s ≡ before (record { at = all - length s; what = what }) (said_from all rest)
 message_told all s rest what h within l r says =
-    said-step (all - length s) s h l ∙ ap (λ p. said (all - length s) s (ruling_of s) p) (after_place all (padded (message_length s)) s within ∙ ap (said_from all) (sym r))
-    ∙ item_said (all - length s) s what (said_from all rest) says
+    said-step (all - length s) s h l ∙ ap (λ p. said (all - length s) (message_said s) p) (after_place all (padded (message_length s)) s within ∙ ap (said_from all) (sym r))
+    ∙ ap (λ x. said (all - length s) x (said_from all rest)) says
 
 -- what is left after a message is shorter
 pub rest_shorter : (s rest : List ℕ) → 4 ≤ length s → 16 ≤ message_length s → rest ≡ drop (padded (message_length s)) s → length rest < length s

@@ -8,13 +8,12 @@ use Rattle.std.proofs.lemmas.Nat.{from_le_bytes-to_le_bytes_4}
 use Rattle.dn_formats.specs.Attributes.{padded, attributes_of, has, number_of, address_of, is_bad, number_in, address_in, rta_dst, rta_oif, rta_gateway, rta_priority, rta_multipath, rta_table, rta_via, rta_newdst, rta_encap_type, rta_encap, rta_nh_id}
 use Rattle.base.specs.Cidr.{Cidr}
 use Rattle.dn_formats.specs.Message.{header_text, route_part, attributes_text, message_text, kind_number}
-use Rattle.dn_formats.specs.Payload.{message_length, is_set, is_deletion, family, prefix_length, source_length, service_type, table_byte, route_type, attributes, destination, prefix_of, interface, kind_of, route_of, message_rows, first_ruling, ruling_of, payload_of, said, said_after, nothing_more, CanBeSaid, HasParts}
+use Rattle.dn_formats.specs.Payload.{message_length, is_set, is_deletion, family, prefix_length, source_length, service_type, table_byte, route_type, attributes, destination, prefix_of, interface, kind_of, route_of, message_rows, Row, first_ruling, ruling_of, item_of, said_by, message_said, payload_of, said, said_after, nothing_more, CanBeSaid, HasParts}
 use Rattle.dn_formats.specs.declared.payload.ItemKind.TheVariants.{Route}
 use Rattle.dn_formats.specs.declared.payload.Payload.{Payload}
 use Rattle.dn_formats.specs.declared.raw_route.RouteKind.{RouteKind}
 use Rattle.dn_formats.specs.declared.raw_route.RouteKind.TheVariants.{Unicast, Local, Blackhole, Unreachable, Prohibit}
 use Rattle.dn_formats.specs.declared.raw_route.RawRoute.{RawRoute}
-use Rattle.rt_netlink.specs.Ruled.{Row}
 use Rattle.rt_netlink.proofs.SaidLemmas.{said-step, said-end}
 use Rattle.rt_netlink.proofs.WrittenAttributes.{pieces_of, destination_payload, gateway_payload, number_payload, attributes-written, destination-last, interface-last, metric-last, table-last, has-none, has-gateway, none-bad, number-read, address-read}
 
@@ -257,5 +256,5 @@ route_said raw h few =
     let whole : 16 ≤ message_length m = omega (arith, t.message_length_is) in
     let end : said_after (0 + padded (message_length m)) 0 (drop (padded (message_length m)) m) ≡ nothing_more =
     ap (said_after (0 + padded (message_length m)) 0) past ∙ said-end (0 + padded (message_length m)) [] (omega arith) in
-    sym (said-step 0 m long whole ∙ ap (said 0 m (ruling_of m)) end ∙ ap (λ r. said 0 m r nothing_more) (not_ruled m rest raw h t v)
+    sym (said-step 0 m long whole ∙ ap (said 0 (message_said m)) end ∙ ap (λ r. said 0 (said_by r (item_of m)) nothing_more) (not_ruled m rest raw h t v)
     ∙ ap (λ x. let p : Payload = record { items = record { at = 0; what = Route x } ∷ []; refused = None } in p) (is_route m rest raw h t v))

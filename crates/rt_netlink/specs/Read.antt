@@ -1,26 +1,27 @@
 -- What is known of a message while it is read.
-use Rattle.std.specs.Prelude.{◌≡◌, ℕ, ◌<◌, ◌≤◌, ◌-◌, ◌++◌, List, [], length, None, Some, Result, Ok, Err}
-use Rattle.dn_formats.specs.Payload.{message_length, is_set, Refuses, Skips, ruling_of, route_of, said_after, before, nothing_more, IsSayable}
+use Rattle.std.specs.Prelude.{◌≡◌, ℕ, ◌<◌, ◌≤◌, ◌-◌, ◌++◌, not, List, [], length, Some}
+use Rattle.dn_formats.specs.Payload.{message_length, is_set, said_after, before, nothing_more, IsSayable}
 use Rattle.dn_formats.specs.declared.payload.Item.{Item}
-use Rattle.dn_formats.specs.declared.payload.ItemKind.{ItemKind}
-use Rattle.dn_formats.specs.declared.payload.ItemKind.TheVariants.{Route, Skipped}
 use Rattle.dn_formats.specs.declared.payload.Payload.{Payload}
 use Rattle.rt_netlink.specs.declared.message.Header.{Header}
+use Rattle.rt_netlink.specs.declared.message.MessageKind.{MessageKind}
+use Rattle.rt_netlink.specs.declared.message.MessageKind.TheVariants.{Route}
 use Rattle.rt_netlink.specs.declared.read.NextMessage.{NextMessage}
 use Rattle.rt_netlink.specs.declared.read.NextMessage.TheVariants as next
 
--- the header of a message that is all there and that sets a route or deletes one
-pub record IsHeader (bytes : List ℕ) (header : Header) : Type 0 where
-  pub length_is : header.length ≡ message_length bytes
+-- a message of this length stands at the front and is all there
+pub record IsWhole (bytes : List ℕ) (len : ℕ) : Type 0 where
+  pub length_is : len ≡ message_length bytes
   pub header_there : 16 ≤ length bytes
-  pub message_there : header.length ≤ length bytes
-  pub set_is : header.is_set ≡ is_set bytes
+  pub message_there : len ≤ length bytes
 
--- the item or the cause that a message at the front comes to; where it is an item, it is all there
-abbrev pub Says : List ℕ → Result ItemKind ℕ → Type 0
-Says bytes (Ok (Route raw)) = (ruling_of bytes ≡ None) × (raw ≡ route_of bytes)
-Says bytes (Ok (Skipped skip)) = ruling_of bytes ≡ Some (Skips skip)
-Says bytes (Err cause) = ruling_of bytes ≡ Some (Refuses cause)
+-- the message is of this kind, by its type
+abbrev pub HasKind : List ℕ → MessageKind → Type 0
+HasKind bytes (Route del) = is_set bytes ≡ not del
+
+-- the header of a message that is all there
+abbrev pub IsHeader : List ℕ → Header → Type 0
+IsHeader bytes header = IsWhole bytes header.length × HasKind bytes header.kind
 
 -- what is said after these items
 abbrev pub with_items : List Item → Payload → Payload

@@ -2,13 +2,13 @@
 //!
 //! The functions are given the bytes from where the message begins to the payload's end.
 
-ghost use Rattle.std.specs.Prelude.{◌≡◌, ◌≤◌, ◌<◌, ◌^◌, ◌-◌, ◌%◌, ◌==◌, ◌++◌, length, not, true, false, None, Some, IfOk, IsSome};
+ghost use Rattle.std.specs.Prelude.{◌≡◌, ◌≤◌, ◌^◌, ◌-◌, ◌%◌, ◌==◌, ◌++◌, length, not, true, false, None, Some, IfOk, IsSome};
 ghost use Rattle.base.specs.Cidr.{IsCidr};
-ghost use Rattle.dn_formats.specs.Payload.{CanBeSaid, message_length, is_set, is_main, kind_of, attributes, prefix_of, route_set, route_deleted, route_of};
+ghost use Rattle.dn_formats.specs.Payload.{CanBeSaid, IsSayable, is_set, is_main, kind_of, attributes, prefix_of, route_set, route_of, item_of, header_rows, part_rows, prefix_rows, hop_rows, route_rows};
 ghost use Rattle.dn_formats.specs.declared.raw_route.RouteKind.TheVariants.{Unicast};
 ghost use Rattle.rt_netlink.specs.Gathered.{Keeps, KeepsAll};
-ghost use Rattle.rt_netlink.specs.Ruled.{header_rows, part_rows, prefix_rows, hop_rows, Rules, RulesWhole};
-ghost use Rattle.rt_netlink.specs.Read.{IsHeader};
+ghost use Rattle.rt_netlink.specs.Ruled.{Rules, RulesWhole};
+ghost use Rattle.rt_netlink.specs.Read.{IsWhole, IsHeader};
 
 use crate::attributes::{RouteAttributes, read_attributes};
 use crate::numbers::{number_at, short_at};
@@ -17,7 +17,7 @@ use dn_formats::frame_cause::{
     BAD_ATTR, BAD_LENGTH, BAD_PREFIX_LENGTH, ENCAP, HOST_BITS, MULTIPATH, NEXT_HOP_ID,
     NO_DESTINATION, NO_INTERFACE, ROUTE_TYPE, SHORT, SOURCE_OR_TOS,
 };
-use dn_formats::{RawRoute, RouteKind, Skip};
+use dn_formats::{ItemKind, RawRoute, RouteKind, Skip};
 use dn_model::Prefix;
 
 /// How long struct nlmsghdr is.
@@ -51,14 +51,21 @@ const RT_TABLE_UNSPEC: u32 = 0;
 /// The main table.
 const RT_TABLE_MAIN: u32 = 254;
 
-/// What the header of a message of a route says: how long the message is, and whether it sets the route or deletes it.
+/// What a message is about, by its type.
+#[derive(Clone, Copy, Debug, PartialEq, Eq)]
+enum MessageKind {
+    /// A route, which is deleted or set.
+    Route { del: bool },
+}
+
+/// What the header of a message says.
 #[derive(Clone, Copy, Debug, PartialEq, Eq)]
 struct Header {
     length: usize,
-    is_set: bool,
+    kind: MessageKind,
 }
 
-/// The header of a message of a route.
+/// The header of a message.
 fn read_header(bytes: &[u8]) -> Result<Header, Ruling>
     requires { 4 ≤ length bytes.now }
     ensures { Rules header_rows bytes.now result (IsHeader bytes.now) }
@@ -67,17 +74,12 @@ fn read_header(bytes: &[u8]) -> Result<Header, Ruling>
     if bytes.len() < HEADER_LENGTH || length < HEADER_LENGTH || bytes.len() < length {
         return Err(Ruling::Refuses(BAD_LENGTH));
     }
-    match short_at(&bytes[TYPE..]) {
-        RTM_NEWROUTE => Ok(Header {
-            length,
-            is_set: true,
-        }),
-        RTM_DELROUTE => Ok(Header {
-            length,
-            is_set: false,
-        }),
-        _ => Err(Ruling::Skips(Skip::OtherType)),
-    }
+    let kind = match short_at(&bytes[TYPE..]) {
+        RTM_NEWROUTE => MessageKind::Route { del: false },
+        RTM_DELROUTE => MessageKind::Route { del: true },
+        _ => return Err(Ruling::Skips(Skip::OtherType)),
+    };
+    Ok(Header { length, kind })
 }
 
 /// Whether a table is the main one.
@@ -88,26 +90,28 @@ fn is_main(table: u32) -> bool
 }
 
 /// What the attributes of a message of a route say, from byte 28 to the message's end; None where one is bad.
-fn read_its_attributes(bytes: &[u8], header: Header) -> Option<RouteAttributes>
-    requires header { IsHeader bytes.now header }
-    requires long { 28 ≤ header.length }
+fn read_its_attributes(bytes: &[u8], length: usize, del: bool) -> Option<RouteAttributes>
+    requires whole { IsWhole bytes.now length }
+    requires del { is_set bytes.now ≡ not del }
+    requires long { 28 ≤ length }
     ensures { KeepsAll (is_set bytes.now) (attributes bytes.now) result }
 {
-    read_attributes(header.is_set, &bytes[ROUTE_LENGTH..header.length])
+    read_attributes(!del, &bytes[ROUTE_LENGTH..length])
 }
 
 /// What the attributes of a message of an IPv4 route in the main table say.
-fn read_parts(bytes: &[u8], header: Header) -> Result<RouteAttributes, Ruling>
-    requires { IsHeader bytes.now header }
-    ensures { Rules part_rows bytes.now result (Keeps (attributes bytes.now)) }
+fn read_parts(bytes: &[u8], length: usize, del: bool) -> Result<RouteAttributes, Ruling>
+    requires whole { IsWhole bytes.now length }
+    requires del { is_set bytes.now ≡ not del }
+    ensures { Rules part_rows bytes.now result (λ kept. Keeps (attributes bytes.now) kept × (28 ≤ length)) }
 {
-    if header.length < ROUTE_LENGTH {
+    if length < ROUTE_LENGTH {
         return Err(Ruling::Refuses(SHORT));
     }
     if bytes[FAMILY] != AF_INET {
         return Err(Ruling::Skips(Skip::OtherFamily));
     }
-    let Some(kept) = read_its_attributes(bytes, header) else {
+    let Some(kept) = read_its_attributes(bytes, length, del) else {
         return Err(Ruling::Refuses(BAD_ATTR));
     };
     if is_main(kept.table.unwrap_or(bytes[TABLE] as u32)) {
@@ -231,29 +235,44 @@ fn deletion(prefix: Prefix, metric: Option<u32>) -> RawRoute
     }
 }
 
-/// The route of an IPv4 message, with its header and what its attributes say.
-fn read_route(bytes: &[u8], header: Header, kept: &RouteAttributes) -> Result<RawRoute, Ruling>
+/// The route of a message whose attributes say this.
+fn route_in(bytes: &[u8], del: bool, kept: &RouteAttributes) -> Result<RawRoute, Ruling>
     requires long { 28 ≤ length bytes.now }
-    requires header { IsHeader bytes.now header }
+    requires del { is_set bytes.now ≡ not del }
     requires kept { Keeps (attributes bytes.now) kept.now }
     ensures rules { Rules (prefix_rows ++ hop_rows) bytes.now result (λ raw. raw ≡ route_of bytes.now) }
     ensures sayable { IfOk result CanBeSaid }
 {
     let prefix = read_prefix(bytes, kept)?;
-    if header.is_set {
-        read_set(bytes, kept, prefix)
-    } else {
+    if del {
         Ok(deletion(prefix, kept.metric))
+    } else {
+        read_set(bytes, kept, prefix)
     }
 }
 
-/// The route that the message at the front says, which is whole if no ruling is answered.
-pub fn read_message(bytes: &[u8]) -> Result<RawRoute, Ruling>
-    requires { 4 ≤ length bytes.now }
-    ensures rules { RulesWhole bytes.now result (λ raw. raw ≡ route_of bytes.now) }
+/// The route that a message of this length deletes or sets.
+fn read_route(bytes: &[u8], length: usize, del: bool) -> Result<RawRoute, Ruling>
+    requires whole { IsWhole bytes.now length }
+    requires del { is_set bytes.now ≡ not del }
+    ensures rules { Rules route_rows bytes.now result (λ raw. raw ≡ route_of bytes.now) }
     ensures sayable { IfOk result CanBeSaid }
 {
+    let kept = read_parts(bytes, length, del)?;
+    route_in(bytes, del, &kept)
+}
+
+/// What the message at the front says, which is whole if no ruling is answered.
+pub fn read_message(bytes: &[u8]) -> Result<ItemKind, Ruling>
+    requires { 4 ≤ length bytes.now }
+    ensures rules { RulesWhole bytes.now result (λ what. what ≡ item_of bytes.now) }
+    ensures sayable { IfOk result IsSayable }
+{
     let header = read_header(bytes)?;
-    let kept = read_parts(bytes, header)?;
-    read_route(bytes, header, &kept)
+    match header.kind {
+        MessageKind::Route { del } => {
+            let raw = read_route(bytes, header.length, del)?;
+            Ok(ItemKind::Route(raw))
+        }
+    }
 }

@@ -1,9 +1,9 @@
 //! The payload of a frame, message by message.
 
-ghost use Rattle.std.specs.Prelude.{◌≡◌, ℕ, ◌≤◌, length, drop, IfOk, OnOk, All};
+ghost use Rattle.std.specs.Prelude.{◌≡◌, ℕ, ◌≤◌, length, drop, IfOk, All};
 ghost use Rattle.dn_formats.specs.Attributes.{padded};
-ghost use Rattle.dn_formats.specs.Payload.{IsPayload, IsSayable, message_length};
-ghost use Rattle.rt_netlink.specs.Read.{Says, TellsNext};
+ghost use Rattle.dn_formats.specs.Payload.{IsPayload, IsSayable, message_length, message_said};
+ghost use Rattle.rt_netlink.specs.Read.{TellsNext};
 
 use crate::message::read_message;
 use crate::numbers::{after_padding, number_at};
@@ -26,13 +26,11 @@ pub enum NextMessage<'a> {
 /// What the message at the front says, or the cause by which it is refused.
 fn read_item(bytes: &[u8]) -> Result<ItemKind, u8>
     requires { 4 ≤ length bytes.now }
-    ensures said { Says bytes.now result }
-    ensures long { OnOk result (16 ≤ message_length bytes.now) }
-    ensures there { OnOk result (message_length bytes.now ≤ length bytes.now) }
+    ensures said { result ≡ message_said bytes.now }
     ensures sayable { IfOk result IsSayable }
 {
     match read_message(bytes) {
-        Ok(raw) => Ok(ItemKind::Route(raw)),
+        Ok(what) => Ok(what),
         Err(Ruling::Skips(skip)) => Ok(ItemKind::Skipped(skip)),
         Err(Ruling::Refuses(cause)) => Err(cause),
     }

@@ -1,5 +1,5 @@
 -- What frames come to, one after another: the steps of one more frame, and that the steps are determined.
-use Rattle.std.proofs.Common.{◌≡◌, ℕ, ◌+◌, Bool, nat_lt, List, [], ◌∷◌, ◌++◌, length, take, None, Some, refl, ap, sym, ◌∙◌, subst, arith, length-append, add-zero, inl, inr}
+use Rattle.std.proofs.Common.{◌≡◌, ℕ, ◌+◌, Bool, List, [], ◌∷◌, ◌++◌, length, take, None, Some, refl, ap, sym, ◌∙◌, subst, arith, length-append, add-zero, inl, inr}
 use Rattle.dn_formats.specs.Feed.{AreSteps, IsStep, step_of, IsReading, IsFaultedReading, IsKept, ending}
 use Rattle.dn_formats.specs.Frames.{Frame, FrameRest, NoRest, CutFrame, BadVersion, BadFrameLength, frame_text, frames_text, lost_cause}
 use Rattle.dn_formats.specs.Steps.{FrameStep}

@@ -1,14 +1,13 @@
 -- How many bytes the updates of a payload take: a route message has a header of 16 bytes and a `struct rtmsg` of 12, and
 -- the next message begins at its end or after it.
-use Rattle.std.proofs.Common.{◌≡◌, ℕ, zero, suc, ◌+◌, ◌-◌, ◌*◌, ◌≤◌, Bool, true, false, nat_lt, Option, None, Some, List, [], ◌∷◌, length, refl, sym, subst, arith, inl, inr}
-use Rattle.std.specs.Prelude.{◌||◌, if◌then◌else◌, Ok}
-use Rattle.std.specs.List.{cons_option}
+use Rattle.std.proofs.Common.{◌≡◌, ℕ, zero, suc, ◌+◌, ◌-◌, ◌*◌, ◌≤◌, Bool, true, false, nat_lt, Option, None, Some, List, [], ◌∷◌, ◌++◌, length, length-append, refl, sym, subst, arith, inl, inr}
+use Rattle.std.specs.Prelude.{◌||◌, if◌then◌else◌, Result, Ok, Err}
 use Rattle.std.proofs.lemmas.Bool.{ltb-false}
 use Rattle.dn_formats.specs.Attributes.{padded}
-use Rattle.dn_formats.specs.Feed.{ops_among, step_by, refusals_of, skipped_among, IsStep}
+use Rattle.dn_formats.specs.Feed.{Gathered, nothing_gathered, with_update, unless_refused, gathered, step_by, IsStep}
 use Rattle.dn_formats.specs.Frames.{Frame}
 use Rattle.dn_formats.specs.Message.{op_of}
-use Rattle.dn_formats.specs.Payload.{IsPayload, Ruling, Refuses, Skips, said_by, message_said, item_of, said, said_after, ruling_of, nothing_more, message_length, route_of}
+use Rattle.dn_formats.specs.Payload.{Ruling, Refuses, Skips, said_by, message_said, item_of, said, said_after, ruling_of, nothing_more, message_length, route_of}
 use Rattle.dn_formats.specs.Steps.{Accepted}
 use Rattle.dn_model.specs.declared.entry.Op.{Op}
 use Rattle.base.specs.declared.ids.RouterId.{RouterId}
@@ -34,66 +33,85 @@ route_room bytes e =
     let third = row_false _ _ _ second.1 in
     (ltb-false _ _ third.0, ltb-false _ _ (or_last _ _ first.0))
 
--- a message has at most one update
-one_more : (o : Option Op) (ops : List Op) → length (cons_option o ops) ≤ 1 + length ops
-one_more None ops = omega arith
-one_more (Some op) ops = omega arith
+-- the updates gathered have room in so many bytes
+abbrev RoomFor : ℕ → Result Gathered Refusal → Type 0
+RoomFor n (Ok g) = 28 * length g.ops ≤ n
+RoomFor n (Err refused) = Unit {0}
+
+room_more : (m n : ℕ) (x : Result Gathered Refusal) → m ≤ n → RoomFor m x → RoomFor n x
+room_more m n (Ok g) h k = omega arith
+room_more m n (Err refused) h k = tt
+
+-- whatever was gathered before, the updates of what a payload says after it have room in so many bytes more
+HasRoom : Topology → RouterId → ℕ → Payload → Type 0
+HasRoom t r n p = (g : Gathered) → RoomFor (28 * length g.ops + n) (gathered t r g p.items p.refused)
 
 -- a message of m bytes, at the front of n bytes and one more, and the messages after its padding
-after_message : (m n ops more : ℕ) → 28 ≤ m → m ≤ 1 + n → ops ≤ 1 + more → 28 * more ≤ n - (padded m - 1) → 28 * ops ≤ 1 + n
-after_message m n ops more h k o r = omega arith
+after_message : (m n more : ℕ) (g : Gathered) (op : Op) → 28 ≤ m → m ≤ 1 + n → more ≤ n - (padded m - 1) →
+    28 * length (g.ops ++ op ∷ []) + more ≤ 28 * length g.ops + (1 + n)
+after_message m n more g op h k r = omega (arith, length-append g.ops (op ∷ []))
 
-said_room : (t : Topology) (r : RouterId) (at n : ℕ) (bytes : List ℕ) (o : Option Ruling) (more : Payload) → length bytes ≡ 1 + n →
+update_room : (t : Topology) (r : RouterId) (at m n more : ℕ) (p : Payload) (g : Gathered) (o : Option Op) → 28 ≤ m → m ≤ 1 + n →
+    more ≤ n - (padded m - 1) → HasRoom t r more p →
+    RoomFor (28 * length g.ops + (1 + n)) (unless_refused (with_update g at o) (λ next. gathered t r next p.items p.refused))
+unfolding HasRoom
+update_room t r at m n more p g None h k l room = tt
+update_room t r at m n more p g (Some op) h k l room =
+    let next : Gathered = record { ops = g.ops ++ op ∷ []; skipped = g.skipped } in
+    room_more _ _ (gathered t r next p.items p.refused) (after_message m n more g op h k l) (room next)
+
+said_room : (t : Topology) (r : RouterId) (at n : ℕ) (bytes : List ℕ) (o : Option Ruling) (p : Payload) → length bytes ≡ 1 + n →
     (o ≡ None → (28 ≤ message_length bytes) × (message_length bytes ≤ length bytes)) →
-    28 * length (ops_among t r more.items) ≤ n - (padded (message_length bytes) - 1) →
-    28 * length (ops_among t r (said at (said_by o (item_of bytes)) more).items) ≤ length bytes
-said_room t r at n bytes (Some (Refuses cause)) more e h k = omega arith
-said_room t r at n bytes (Some (Skips skip)) more e h k = omega arith
-said_room t r at n bytes None more e h k =
-    let room : (28 ≤ message_length bytes) × (message_length bytes ≤ length bytes) = h refl in
-    let all : List Op = ops_among t r (said at (Ok (item_of bytes)) more).items in
-    subst (λ (x : ℕ). 28 * length all ≤ x) (sym e)
-    (after_message (message_length bytes) n (length all) (length (ops_among t r more.items))
-    room.0 (subst (λ (x : ℕ). message_length bytes ≤ x) e room.1) (one_more (op_of t r (route_of bytes)) (ops_among t r more.items)) k)
+    HasRoom t r (n - (padded (message_length bytes) - 1)) p → HasRoom t r (1 + n) (said at (said_by o (item_of bytes)) p)
+unfolding HasRoom
+said_room t r at n bytes (Some (Refuses cause)) p e h room = λ g. tt
+said_room t r at n bytes (Some (Skips skip)) p e h room = λ g.
+    let next : Gathered = record { ops = g.ops; skipped = g.skipped + 1 } in
+    room_more _ _ (gathered t r next p.items p.refused) (omega arith) (room next)
+said_room t r at n bytes None p e h room = λ g.
+    let there : (28 ≤ message_length bytes) × (message_length bytes ≤ length bytes) = h refl in
+    update_room t r at (message_length bytes) n (n - (padded (message_length bytes) - 1)) p g (op_of t r (route_of bytes))
+    there.0 (subst (λ (x : ℕ). message_length bytes ≤ x) e there.1) (omega arith) room
 
-room_either : (t : Topology) (r : RouterId) (b : Bool) (x y : Payload) (n : ℕ) → 28 * length (ops_among t r x.items) ≤ n → 28 * length (ops_among t r y.items) ≤ n →
-    28 * length (ops_among t r (if b then x else y).items) ≤ n
+nothing_room : (t : Topology) (r : RouterId) (n : ℕ) → HasRoom t r n nothing_more
+unfolding HasRoom
+nothing_room t r n = λ g. (let here : 28 * length g.ops ≤ 28 * length g.ops + n = omega arith in here)
+
+room_either : (t : Topology) (r : RouterId) (b : Bool) (x y : Payload) (n : ℕ) → HasRoom t r n x → HasRoom t r n y → HasRoom t r n (if b then x else y)
 room_either t r true x y n h k = h
 room_either t r false x y n h k = k
 
-all_left : (x n : ℕ) → x ≤ n → x ≤ n - zero
-all_left x n h = omega arith
+as_many : (t : Topology) (r : RouterId) (p : Payload) (m n : ℕ) → m ≡ n → HasRoom t r m p → HasRoom t r n p
+as_many t r p m n e h = subst (λ (x : ℕ). HasRoom t r x p) e h
 
 -- the updates have room in these bytes past the first so many, which are still those of the message before
-said_after-room : (t : Topology) (r : RouterId) (at left : ℕ) (bytes : List ℕ) → 28 * length (ops_among t r (said_after at left bytes).items) ≤ length bytes - left
+said_after-room : (t : Topology) (r : RouterId) (at left : ℕ) (bytes : List ℕ) → HasRoom t r (length bytes - left) (said_after at left bytes)
 unfolding said_after
-said_after-room t r at left [] = omega arith
+said_after-room t r at left [] = nothing_room t r (length {A = ℕ} [] - left)
 said_after-room t r at (suc left) (byte ∷ bytes) =
-    let rest : 28 * length (ops_among t r (said_after (at + 1) left bytes).items) ≤ length bytes - left = said_after-room t r (at + 1) left bytes in omega arith
+    as_many t r (said_after (at + 1) left bytes) (length bytes - left) (length (byte ∷ bytes) - suc left) (omega arith) (said_after-room t r (at + 1) left bytes)
 said_after-room t r at zero (byte ∷ bytes) =
     let skip : ℕ = padded (message_length (byte ∷ bytes)) - 1 in
-    all_left _ _ (room_either t r (nat_lt (length (byte ∷ bytes)) 4) nothing_more (said at (message_said (byte ∷ bytes)) (said_after (at + 1) skip bytes)) (length (byte ∷ bytes))
-    (omega arith)
+    let first : Payload = said at (message_said (byte ∷ bytes)) (said_after (at + 1) skip bytes) in
+    as_many t r (if nat_lt (length (byte ∷ bytes)) 4 then nothing_more else first) (1 + length bytes) (length (byte ∷ bytes) - zero) (omega arith)
+    (room_either t r (nat_lt (length (byte ∷ bytes)) 4) nothing_more first (1 + length bytes) (nothing_room t r (1 + length bytes))
     (said_room t r at (length bytes) (byte ∷ bytes) (ruling_of (byte ∷ bytes)) (said_after (at + 1) skip bytes) (omega arith)
     (route_room (byte ∷ bytes)) (said_after-room t r (at + 1) skip bytes)))
 
-less_nothing : (x n : ℕ) → x ≤ n - 0 → x ≤ n
-less_nothing x n h = omega arith
-
--- each update of a payload takes at least 28 of its bytes
-pub ops-room : (t : Topology) (r : RouterId) (bytes : List ℕ) (p : Payload) → IsPayload bytes p → 28 * length (ops_among t r p.items) ≤ length bytes
-ops-room t r bytes p e = subst (λ (x : Payload). 28 * length (ops_among t r x.items) ≤ length bytes) (sym e) (less_nothing _ _ (said_after-room t r 0 0 bytes))
-
--- the updates of a frame that is accepted are those that its messages say
-accepted_ops : (offset : ℕ) (rs : List Refusal) (xs ops : List Op) (n skipped : ℕ) → Accepted ops skipped ≡ step_by offset rs xs n → ops ≡ xs
-accepted_ops offset [] xs ops n skipped e = cc
-accepted_ops offset (first ∷ more) xs ops n skipped e = cc
+-- the updates of a frame that is accepted are those that its messages came to
+accepted_room : (offset n skipped : ℕ) (ops : List Op) (x : Result Gathered Refusal) → RoomFor n x → Accepted ops skipped ≡ step_by offset x → 28 * length ops ≤ n
+accepted_room offset n skipped ops (Ok g) h e = let same : ops ≡ g.ops = cc in subst (λ (xs : List Op). 28 * length xs ≤ n) (sym same) h
+accepted_room offset n skipped ops (Err first) h e = let no : ⊥ = cc in absurd no
 
 -- each update of a frame that is accepted takes at least 28 bytes of its payload
 pub accepted-room : (t : Topology) (r : RouterId) (offset : ℕ) (f : Frame) (ops : List Op) (skipped : ℕ) → IsStep t r offset f (Accepted ops skipped) →
     28 * length ops ≤ length f.payload
+unfolding HasRoom
 accepted-room t r offset f ops skipped (inl a) =
-    let same : ops ≡ ops_among t r a.payload.items =
-    accepted_ops offset (refusals_of t r a.payload) (ops_among t r a.payload.items) ops (skipped_among a.payload.items) skipped a.comes_to in
-    subst (λ (xs : List Op). 28 * length xs ≤ length f.payload) (sym same) (ops-room t r f.payload a.payload a.says)
+    let whole : HasRoom t r (length f.payload) a.payload =
+    subst (λ (p : Payload). HasRoom t r (length f.payload) p) (sym a.says)
+    (as_many t r (said_after 0 0 f.payload) (length f.payload - 0) (length f.payload) (omega arith) (said_after-room t r 0 0 f.payload)) in
+    let x : Result Gathered Refusal = gathered t r nothing_gathered a.payload.items a.payload.refused in
+    accepted_room offset (length f.payload) skipped ops x
+    (room_more (28 * length nothing_gathered.ops + length f.payload) (length f.payload) x (omega arith) (whole nothing_gathered)) a.comes_to
 accepted-room t r offset f ops skipped (inr a) = let no : ⊥ = let e = a.refused in cc in absurd no

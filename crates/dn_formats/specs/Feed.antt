@@ -1,8 +1,6 @@
 -- What a router's feed says: its frames one by one, and how it ends. A feed is a stream of frames of FRR's forwarding
 -- plane manager (fpm/fpm.h), and a frame of kind 1 holds messages of rtnetlink(7).
-use Rattle.std.specs.Prelude.{◌≡◌, ◌≢◌, ◌⊎◌, ℕ, ◌+◌, Bool, true, false, nat_lt, List, [], ◌∷◌, ◌++◌, length, take, count_by, Option, None, Some, if◌then◌else◌}
-use Rattle.std.specs.List.{filter_map}
-use Rattle.std.specs.Option.{option_to_list}
+use Rattle.std.specs.Prelude.{◌≡◌, ◌≢◌, ◌⊎◌, ℕ, ◌+◌, Bool, nat_lt, List, [], ◌∷◌, ◌++◌, length, take, Option, None, Some, Result, Ok, Err, if◌then◌else◌}
 use Rattle.dn_formats.specs.Frames.{Frame, Frames, FrameRest, NoRest, CutFrame, BadVersion, BadFrameLength, frame_text, frames_text, rest_kind}
 use Rattle.dn_formats.specs.Message.{op_of}
 use Rattle.dn_formats.specs.Payload.{IsPayload}
@@ -21,53 +19,47 @@ use Rattle.dn_formats.specs.declared.told.FeedEnd.TheVariants.{End, CutShort, Lo
 
 -- ---- what the messages of a payload are to this router
 
--- the update that a message is; one that is passed over is none
-abbrev pub op_said : Topology → RouterId → ItemKind → Option Op
-op_said t r (Route raw) = op_of t r raw
-op_said t r (Skipped skip) = None
+-- What the messages of a frame that were looked at came to: their updates, in order, and how many were passed over.
+pub record Gathered : Type 0 where
+  pub ops : List Op
+  pub skipped : ℕ
 
--- A message is refused at its place where it is a route without an update: its interface isn't the router's.
-abbrev pub refusal_unless : ℕ → Option Op → Option Refusal
-refusal_unless at None = Some (record { at = at; cause = unknown_interface })
-refusal_unless at (Some op) = None
+abbrev pub nothing_gathered : Gathered
+nothing_gathered = record { ops = []; skipped = 0 }
 
-abbrev pub refusal_said : Topology → RouterId → ℕ → ItemKind → Option Refusal
-refusal_said t r at (Route raw) = refusal_unless at (op_of t r raw)
-refusal_said t r at (Skipped skip) = None
+-- A message at this place whose update this is joins them. Without an update it is refused: its interface isn't the
+-- router's.
+abbrev pub with_update : Gathered → ℕ → Option Op → Result Gathered Refusal
+with_update g at None = Err (record { at = at; cause = unknown_interface })
+with_update g at (Some op) = Ok (record { ops = g.ops ++ op ∷ []; skipped = g.skipped })
 
-abbrev pub is_skipped : ItemKind → Bool
-is_skipped (Route raw) = false
-is_skipped (Skipped skip) = true
+-- one more message, at this place
+abbrev pub with_message : Topology → RouterId → Gathered → ℕ → ItemKind → Result Gathered Refusal
+with_message t r g at (Route raw) = with_update g at (op_of t r raw)
+with_message t r g at (Skipped skip) = Ok (record { ops = g.ops; skipped = g.skipped + 1 })
 
-abbrev pub item_op : Topology → RouterId → Item → Option Op
-item_op t r item = op_said t r item.what
+-- what follows a message, unless that is refused
+abbrev pub unless_refused : Result Gathered Refusal → (Gathered → Result Gathered Refusal) → Result Gathered Refusal
+unless_refused (Ok g) next = next g
+unless_refused (Err refused) next = Err refused
 
-abbrev pub item_refusal : Topology → RouterId → Item → Option Refusal
-item_refusal t r item = refusal_said t r item.at item.what
-
-abbrev pub item_is_skipped : Item → Bool
-item_is_skipped item = is_skipped item.what
-
--- the updates of messages, in order; how many are passed over
-abbrev pub ops_among : Topology → RouterId → List Item → List Op
-ops_among t r items = filter_map (item_op t r) items
-
-abbrev pub skipped_among : List Item → ℕ
-skipped_among items = count_by item_is_skipped items
-
--- the refusals of a payload, in order: those of its messages for this router, and then the one that broke them off
-abbrev pub refusals_of : Topology → RouterId → Payload → List Refusal
-refusals_of t r p = filter_map (item_refusal t r) p.items ++ option_to_list p.refused
+-- What messages come to one after another, with what was gathered before: refused by the first of them that is, or else
+-- by the refusal that broke them off.
+abbrev pub gathered : Topology → RouterId → Gathered → List Item → Option Refusal → Result Gathered Refusal
+gathered t r g [] None = Ok g
+gathered t r g [] (Some refused) = Err refused
+gathered t r g (item ∷ items) broke_off =
+    unless_refused (with_message t r g item.at item.what) (λ more. gathered t r more items broke_off)
 
 -- ---- what a frame comes to
 
--- a frame at this offset with these refusals: it is refused whole by the first, and without one it is accepted whole
-abbrev pub step_by : ℕ → List Refusal → List Op → ℕ → FrameStep
-step_by offset [] ops skipped = Accepted ops skipped
-step_by offset (first ∷ more) ops skipped = Refused (record { offset = offset; at = first.at; cause = first.cause })
+-- a frame at this offset whose messages come to this: it is accepted whole, or refused whole
+abbrev pub step_by : ℕ → Result Gathered Refusal → FrameStep
+step_by offset (Ok g) = Accepted g.ops g.skipped
+step_by offset (Err first) = Refused (record { offset = offset; at = first.at; cause = first.cause })
 
 abbrev pub step_of : Topology → RouterId → ℕ → Payload → FrameStep
-step_of t r offset p = step_by offset (refusals_of t r p) (ops_among t r p.items) (skipped_among p.items)
+step_of t r offset p = step_by offset (gathered t r nothing_gathered p.items p.refused)
 
 -- a netlink frame comes to what its payload says
 pub record IsNetlinkStep (t : Topology) (r : RouterId) (offset : ℕ) (frame : Frame) (step : FrameStep) : Type 0 where

@@ -1,16 +1,27 @@
 -- What an answer of a feed's reader says of one frame.
 use Rattle.std.specs.Prelude.{◌≡◌, ℕ, ◌+◌, ◌*◌, ◌≤◌, ◌++◌, length, Option, None, Some, Result, Ok, Err}
-use Rattle.dn_formats.specs.Feed.{IsStep}
+use Rattle.dn_formats.specs.Feed.{IsStep, Gathered, with_message}
 use Rattle.dn_formats.specs.Frames.{Frame, IsFrame, frame_text}
 use Rattle.dn_formats.specs.Steps.{FrameStep, Accepted, Refused}
 use Rattle.base.specs.declared.ids.RouterId.{RouterId}
 use Rattle.base.specs.declared.memory.OutOfMemory.{OutOfMemory}
 use Rattle.dn_model.specs.declared.topology.Topology.{Topology}
 use Rattle.dn_formats.specs.declared.told.FeedTold.{FeedTold}
+use Rattle.dn_formats.specs.declared.payload.Item.{Item}
+use Rattle.dn_formats.specs.declared.payload.Refused.{Refused as Refusal}
 use Rattle.route_feed.specs.FeedReader.{told_after}
 use Rattle.route_feed.specs.Intake.{Inflow}
 use Rattle.route_feed.specs.declared.feed_step.FeedStep.{FeedStep}
 use Rattle.route_feed.specs.declared.feed_step.FeedStep.TheVariants as answers
+
+-- one more message was taken in, or refused
+abbrev pub IsTaken : Topology → RouterId → Gathered → Item → Gathered → Option Refusal → Type 0
+IsTaken t r old item new None = with_message t r old item.at item.what ≡ Ok new
+IsTaken t r old item new (Some refused) = with_message t r old item.at item.what ≡ Err refused
+
+-- how many messages have an update or were passed over
+abbrev pub count : Gathered → ℕ
+count g = length g.ops + g.skipped
 
 -- the answer is what this frame, at this offset, comes to
 abbrev pub ComesTo : Topology → RouterId → ℕ → Frame → FeedStep → Type 0

@@ -1,4 +1,3 @@
 pub mod FeedReader
 pub mod FrameStep
-pub mod Gathered
 pub mod Intake

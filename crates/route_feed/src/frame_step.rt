@@ -1,12 +1,11 @@
 //! What one frame of a feed comes to.
 
-ghost use Rattle.std.specs.Prelude.{◌≡◌, ◌+◌, ◌<◌, ◌≤◌, ◌^◌, ◌++◌, [], All, Some, IfOk, OnOk, OnErr, length, if◌then◌else◌};
-ghost use Rattle.std.specs.Option.{option_to_list};
-ghost use Rattle.dn_formats.specs.Feed.{item_op, item_refusal, item_is_skipped, step_of};
+ghost use Rattle.std.specs.Prelude.{◌≡◌, ◌+◌, ◌<◌, ◌≤◌, ◌^◌, [], All, Some, IfOk, OnOk, OnErr, length};
+ghost use Rattle.dn_formats.specs.Feed.{step_of};
 ghost use Rattle.dn_formats.specs.Frames.{BeginsFrame};
 ghost use Rattle.dn_formats.specs.Payload.{payload_of};
 ghost use Rattle.route_feed.specs.FeedReader.{told_after, AreOpsOf, IsFeedOp};
-ghost use Rattle.route_feed.specs.FrameStep.{ComesTo, frame_step, IsOfFrame, HandsTo};
+ghost use Rattle.route_feed.specs.FrameStep.{ComesTo, frame_step, IsTaken, count, IsOfFrame, HandsTo};
 
 use crate::feed_step::FeedStep;
 use crate::intake::Intake;
@@ -20,15 +19,24 @@ use dn_model::{List, Op, OutOfMemory, RouterId, Topology};
 use fpm_frame::Next;
 use rt_netlink::{NextMessage, next_message};
 use std::alloc::Global;
+use std::marker::Model;
 
 /// The kind of a frame whose payload is netlink messages (FPM_MSG_TYPE_NETLINK of FRR's fpm.h).
 const NETLINK: u8 = 1;
 
-/// What the messages of a frame come to that were looked at: their updates, in order, and how many were passed over.
+/// What the messages of a frame that were looked at came to: their updates, in order, and how many were passed over.
 #[derive(Drop)]
 struct Gathered {
     ops: List<Op>,
     skipped: u32,
+}
+
+impl Model for Gathered {
+    ghost use Rattle.dn_formats.specs.Feed.{Gathered as GatheredIs};
+
+    ghost Value = { GatheredIs };
+
+    ghost view = { λ g. record { ops = g.ops; skipped = g.skipped } };
 }
 
 impl Gathered {
@@ -41,10 +49,8 @@ impl Gathered {
         hints: &mut PortHints,
     ) -> Result<Option<Refused>, OutOfMemory>
         requires fits { self.old.skipped + 1 < 2 ^ 32 }
-        ensures refusal { IfOk result (λ refused. refused ≡ item_refusal topology.now router item.now) }
-        ensures ops { OnOk result (self.new.ops ≡ self.old.ops ++ option_to_list (item_op topology.now router item.now)) }
-        ensures skipped { OnOk result (self.new.skipped ≡ self.old.skipped + (if item_is_skipped item.now then 1 else 0)) }
-        ensures few { OnOk result (length self.new.ops + self.new.skipped ≤ length self.old.ops + self.old.skipped + 1) }
+        ensures taken { IfOk result (IsTaken topology.now router self.old item.now self.new) }
+        ensures few { OnOk result (count self.new ≤ count self.old + 1) }
         ensures within { All (IsFeedOp topology.now) self.old.ops → All (IsFeedOp topology.now) self.new.ops }
     {
         match item.what {
@@ -86,7 +92,8 @@ fn step_said(
 ) -> Result<FeedStep, OutOfMemory>
     requires empty { room ≡ [] }
     requires fits { length payload.now ≤ 65531 }
-    ensures step { IfOk result (λ step. frame_step step ≡ Some (step_of topology.now router offset (payload_of payload.now))) }
+    ensures step { IfOk result (λ step. frame_step step
+        ≡ Some (step_of topology.now router offset (payload_of payload.now))) }
     ensures few { IfOk result (IsOfFrame (length payload.now)) }
     ensures within { IfOk result (AreOpsOf topology.now) }
 {

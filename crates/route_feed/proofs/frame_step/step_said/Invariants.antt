@@ -1,15 +1,21 @@
-use Rattle.std.proofs.Common.{◌+◌, ◌≤◌, length}
+use Rattle.std.proofs.Common.{◌≡◌, ◌+◌, ◌≤◌, All, length}
+use Rattle.dn_formats.specs.Feed.{gathered, nothing_gathered}
 use Rattle.dn_formats.specs.Payload.{payload_of}
 use Rattle.rt_netlink.specs.Read.{said_from}
-use Rattle.route_feed.specs.Gathered.{HasGathered}
+use Rattle.route_feed.specs.FeedReader.{IsFeedOp}
+use Rattle.route_feed.specs.FrameStep.{count}
 use Rattle.route_feed.proofs.frame_step.step_said.Given as goal
 
--- each message has at least one of the bytes that were read
+-- what is gathered, with what is left, comes to what the payload comes to; each message has at least one byte
 abbrev pub invariant-loop-what : goal.invariant-loop-what
-invariant-loop-what l = record {
-  gathered : HasGathered l.topology l.router (payload_of l.payload) (said_from (length l.payload) l.left) l.gathered.ops l.gathered.skipped;
-  few : length l.gathered.ops + l.gathered.skipped + length l.left ≤ length l.payload;
-}
+invariant-loop-what l =
+    let all = payload_of l.payload in
+    let rest = said_from (length l.payload) l.left in
+    record {
+      comes_to : gathered l.topology l.router l.gathered rest.items rest.refused ≡ gathered l.topology l.router nothing_gathered all.items all.refused;
+      few : count l.gathered + length l.left ≤ length l.payload;
+      within : All (IsFeedOp l.topology) l.gathered.ops;
+    }
 
 abbrev pub decreases-loop-what : goal.decreases-loop-what
 decreases-loop-what l = length l.left

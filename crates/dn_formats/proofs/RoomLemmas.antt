@@ -25,9 +25,9 @@ or_last true b e = let no : ⊥ = cc in absurd no
 or_last false b e = e
 
 -- a message that says its route has at least 28 bytes, and they are there
-route_room : (bytes : List ℕ) → ruling_of bytes ≡ None → (28 ≤ message_length bytes) × (message_length bytes ≤ length bytes)
+route_room : (tables bytes : List ℕ) → ruling_of tables bytes ≡ None → (28 ≤ message_length bytes) × (message_length bytes ≤ length bytes)
 unfolding ruling_of
-route_room bytes e =
+route_room tables bytes e =
     let first = row_false _ _ _ e in
     let second = row_false _ _ _ first.1 in
     let third = row_false _ _ _ second.1 in
@@ -85,18 +85,19 @@ as_many : (t : Topology) (r : RouterId) (p : Payload) (m n : ℕ) → m ≡ n �
 as_many t r p m n e h = subst (λ (x : ℕ). HasRoom t r x p) e h
 
 -- the updates have room in these bytes past the first so many, which are still those of the message before
-said_after-room : (t : Topology) (r : RouterId) (at left : ℕ) (bytes : List ℕ) → HasRoom t r (length bytes - left) (said_after at left bytes)
+said_after-room : (t : Topology) (r : RouterId) (tables : List ℕ) (at left : ℕ) (bytes : List ℕ) →
+    HasRoom t r (length bytes - left) (said_after tables at left bytes)
 unfolding said_after
-said_after-room t r at left [] = nothing_room t r (length {A = ℕ} [] - left)
-said_after-room t r at (suc left) (byte ∷ bytes) =
-    as_many t r (said_after (at + 1) left bytes) (length bytes - left) (length (byte ∷ bytes) - suc left) (omega arith) (said_after-room t r (at + 1) left bytes)
-said_after-room t r at zero (byte ∷ bytes) =
+said_after-room t r tables at left [] = nothing_room t r (length {A = ℕ} [] - left)
+said_after-room t r tables at (suc left) (byte ∷ bytes) =
+    as_many t r (said_after tables (at + 1) left bytes) (length bytes - left) (length (byte ∷ bytes) - suc left) (omega arith) (said_after-room t r tables (at + 1) left bytes)
+said_after-room t r tables at zero (byte ∷ bytes) =
     let skip : ℕ = padded (message_length (byte ∷ bytes)) - 1 in
-    let first : Payload = said at (message_said (byte ∷ bytes)) (said_after (at + 1) skip bytes) in
+    let first : Payload = said at (message_said tables (byte ∷ bytes)) (said_after tables (at + 1) skip bytes) in
     as_many t r (if nat_lt (length (byte ∷ bytes)) 4 then nothing_more else first) (1 + length bytes) (length (byte ∷ bytes) - zero) (omega arith)
     (room_either t r (nat_lt (length (byte ∷ bytes)) 4) nothing_more first (1 + length bytes) (nothing_room t r (1 + length bytes))
-    (said_room t r at (length bytes) (byte ∷ bytes) (ruling_of (byte ∷ bytes)) (said_after (at + 1) skip bytes) (omega arith)
-    (route_room (byte ∷ bytes)) (said_after-room t r (at + 1) skip bytes)))
+    (said_room t r at (length bytes) (byte ∷ bytes) (ruling_of tables (byte ∷ bytes)) (said_after tables (at + 1) skip bytes) (omega arith)
+    (route_room tables (byte ∷ bytes)) (said_after-room t r tables (at + 1) skip bytes)))
 
 -- the updates of a frame that is accepted are those that its messages came to
 accepted_room : (offset n skipped : ℕ) (ops : List Op) (x : Result Gathered Refusal) → RoomFor n x → Accepted ops skipped ≡ step_by offset x → 28 * length ops ≤ n
@@ -110,7 +111,7 @@ unfolding HasRoom
 accepted-room t r offset f ops skipped (inl a) =
     let whole : HasRoom t r (length f.payload) a.payload =
     subst (λ (p : Payload). HasRoom t r (length f.payload) p) (sym a.says)
-    (as_many t r (said_after 0 0 f.payload) (length f.payload - 0) (length f.payload) (omega arith) (said_after-room t r 0 0 f.payload)) in
+    (as_many t r (said_after [] 0 0 f.payload) (length f.payload - 0) (length f.payload) (omega arith) (said_after-room t r [] 0 0 f.payload)) in
     let x : Result Gathered Refusal = gathered t r nothing_gathered a.payload.items a.payload.refused in
     accepted_room offset (length f.payload) skipped ops x
     (room_more (28 * length nothing_gathered.ops + length f.payload) (length f.payload) x (omega arith) (whole nothing_gathered)) a.comes_to

@@ -2,14 +2,14 @@
 -- plane manager (fpm/fpm.h), and a frame of kind 1 holds messages of rtnetlink(7).
 use Rattle.std.specs.Prelude.{◌≡◌, ◌≢◌, ◌⊎◌, ℕ, ◌+◌, Bool, nat_lt, List, [], ◌∷◌, ◌++◌, length, take, Option, None, Some, Result, Ok, Err, if◌then◌else◌}
 use Rattle.dn_formats.specs.Frames.{Frame, Frames, FrameRest, NoRest, CutFrame, BadVersion, BadFrameLength, frame_text, frames_text, rest_kind}
-use Rattle.dn_formats.specs.Message.{op_of}
+use Rattle.dn_formats.specs.Message.{op_of, object_of}
 use Rattle.dn_formats.specs.Payload.{IsPayload}
 use Rattle.dn_formats.specs.Steps.{FrameStep, Accepted, Refused}
 use Rattle.base.specs.declared.ids.RouterId.{RouterId}
 use Rattle.dn_model.specs.declared.entry.Op.{Op}
 use Rattle.dn_formats.specs.declared.payload.Item.{Item}
 use Rattle.dn_formats.specs.declared.payload.ItemKind.{ItemKind}
-use Rattle.dn_formats.specs.declared.payload.ItemKind.TheVariants.{Route, Skipped}
+use Rattle.dn_formats.specs.declared.payload.ItemKind.TheVariants.{Route, Object, Skipped}
 use Rattle.dn_formats.specs.declared.payload.Payload.{Payload}
 use Rattle.dn_formats.specs.declared.payload.Refused.{Refused as Refusal}
 use Rattle.dn_formats.specs.FrameCauses.{unknown_interface, frame_type, bad_version, bad_frame_length}
@@ -36,6 +36,7 @@ with_update g at (Some op) = Ok (record { ops = g.ops ++ op ∷ []; skipped = g.
 -- one more message, at this place
 abbrev pub with_message : Topology → RouterId → Gathered → ℕ → ItemKind → Result Gathered Refusal
 with_message t r g at (Route raw) = with_update g at (op_of t r raw)
+with_message t r g at (Object raw) = with_update g at (object_of t r raw)
 with_message t r g at (Skipped skip) = Ok (record { ops = g.ops; skipped = g.skipped + 1 })
 
 -- what follows a message, unless that is refused
@@ -61,11 +62,11 @@ step_by offset (Err first) = Refused (record { offset = offset; at = first.at; c
 abbrev pub step_of : Topology → RouterId → ℕ → Payload → FrameStep
 step_of t r offset p = step_by offset (gathered t r nothing_gathered p.items p.refused)
 
--- a netlink frame comes to what its payload says
+-- a netlink frame comes to what its payload says; of routes those of the main table alone are read
 pub record IsNetlinkStep (t : Topology) (r : RouterId) (offset : ℕ) (frame : Frame) (step : FrameStep) : Type 0 where
   pub netlink : frame.kind ≡ 1
   pub payload : Payload
-  pub says : IsPayload frame.payload payload
+  pub says : IsPayload [] frame.payload payload
   pub comes_to : step ≡ step_of t r offset payload
 
 -- a frame of another kind is refused, whatever it holds

@@ -50,7 +50,13 @@ bad_version = 15
 abbrev pub bad_frame_length : ℕ
 bad_frame_length = 16
 
--- causes for which a frame is refused, and, the last two, for which a feed is lost
+abbrev pub unknown_next_hop : ℕ
+unknown_next_hop = 17
+
+abbrev pub no_next_hop_id : ℕ
+no_next_hop_id = 18
+
+-- causes for which a frame is refused, and, of a bad version and frame length, for which a feed is lost
 abbrev pub frame_causes : List (ℕ × List ℕ)
 frame_causes =
     (bad_length, codes "BadLength")
@@ -69,6 +75,8 @@ frame_causes =
     ∷ (frame_type, codes "FrameType")
     ∷ (bad_version, codes "BadVersion")
     ∷ (bad_frame_length, codes "BadFrameLength")
+    ∷ (unknown_next_hop, codes "UnknownNextHop")
+    ∷ (no_next_hop_id, codes "NoNextHopId")
     ∷ []
 
 abbrev pub cause_text : ℕ → List ℕ

@@ -1,6 +1,6 @@
 -- Route messages of rtnetlink(7), in the layout in which FRR's forwarding plane manager module sends them. Numbers
 -- are little-endian, as the sender's are; an address is in network byte order.
-use Rattle.std.specs.Prelude.{ℕ, ◌+◌, ◌<◌, ◌^◌, ◌==◌, Bool, true, false, if◌then◌else◌, List, [], ◌∷◌, ◌++◌, length, Option, None, Some, IfSome, unwrap_or, ◌||◌}
+use Rattle.std.specs.Prelude.{ℕ, ◌+◌, ◌<◌, ◌^◌, ◌==◌, nat_lt, Bool, true, false, if◌then◌else◌, List, [], ◌∷◌, ◌++◌, length, Option, None, Some, IfSome, unwrap_or, option_map, option_and_then, ◌||◌}
 use Rattle.std.specs.Int.{w32, to_be_bytes, to_le_bytes}
 use Rattle.base.specs.Cidr.{Cidr}
 use Rattle.dn_model.specs.Lookup.{port_of}
@@ -13,10 +13,11 @@ use Rattle.base.specs.declared.target.Target.TheVariants as target
 use Rattle.base.specs.declared.target.Target.TheVariants.{Exit, OnLink, To}
 use Rattle.base.specs.declared.target.DropKind.TheVariants as drop
 use Rattle.dn_model.specs.declared.entry.Op.{Op}
-use Rattle.dn_model.specs.declared.entry.Op.TheVariants.{Set, Clear}
+use Rattle.dn_model.specs.declared.entry.Op.TheVariants.{Set, Clear, Object, NoObject}
 use Rattle.dn_formats.specs.declared.raw_route.RouteKind.{RouteKind}
 use Rattle.dn_formats.specs.declared.raw_route.RouteKind.TheVariants.{Unicast, Local, Blackhole, Unreachable, Prohibit}
 use Rattle.dn_formats.specs.declared.raw_route.RawRoute.{RawRoute}
+use Rattle.dn_formats.specs.declared.raw_object.RawObject.{RawObject}
 
 -- RTN_UNICAST, RTN_LOCAL, RTN_BLACKHOLE, RTN_UNREACHABLE, RTN_PROHIBIT
 abbrev pub kind_number : RouteKind → ℕ
@@ -36,10 +37,17 @@ type_and_flags false = 24 ∷ 0 ∷ 1 ∷ 5 ∷ []
 abbrev pub header_text : Bool → ℕ → List ℕ
 header_text del len = to_le_bytes w32 len ++ type_and_flags del ++ 0 ∷ 0 ∷ 0 ∷ 0 ∷ 0 ∷ 0 ∷ 0 ∷ 0 ∷ []
 
--- struct rtmsg: AF_INET (2), the prefix's length, no source, no type of service, the main table (254), the protocol
--- RTPROT_ZEBRA (11), the scope RT_SCOPE_UNIVERSE (0), the route's type, no flags
-abbrev pub route_part : ℕ → ℕ → List ℕ
-route_part len kind = 2 ∷ len ∷ 0 ∷ 0 ∷ 254 ∷ 11 ∷ 0 ∷ kind ∷ 0 ∷ 0 ∷ 0 ∷ 0 ∷ []
+-- a table's number in struct rtmsg, where it fits a byte, and in an attribute, where it doesn't
+abbrev pub narrow_table : ℕ → ℕ
+narrow_table table = if nat_lt 255 table then 0 else table
+
+abbrev pub wide_table : ℕ → Option ℕ
+wide_table table = if nat_lt 255 table then Some table else None
+
+-- struct rtmsg: AF_INET (2), the prefix's length, no source, no type of service, the table, the protocol RTPROT_ZEBRA
+-- (11), the scope RT_SCOPE_UNIVERSE (0), the route's type, no flags
+abbrev pub route_part : ℕ → ℕ → ℕ → List ℕ
+route_part len table kind = 2 ∷ len ∷ 0 ∷ 0 ∷ narrow_table table ∷ 11 ∷ 0 ∷ kind ∷ 0 ∷ 0 ∷ 0 ∷ 0 ∷ []
 
 -- struct rtattr: the length 8 with these four bytes, the attribute's type, four bytes of payload
 abbrev pub attribute : ℕ → List ℕ → List ℕ
@@ -58,16 +66,17 @@ abbrev pub number_text : ℕ → Option ℕ → List ℕ
 number_text kind None = []
 number_text kind (Some n) = attribute kind (to_le_bytes w32 n)
 
--- the attributes in order: RTA_DST, RTA_GATEWAY, RTA_OIF (4), RTA_PRIORITY (6)
+-- the attributes in order: RTA_DST, RTA_GATEWAY, RTA_OIF (4), RTA_PRIORITY (6), RTA_TABLE (15)
 abbrev pub attributes_text : RawRoute → List ℕ
 attributes_text raw =
     destination_text raw.prefix ++ gateway_text raw.via ++ number_text 4 raw.oif ++ number_text 6 raw.metric
+    ++ number_text 15 (wide_table raw.table)
 
 -- the bytes of the message of a route
 abbrev pub message_text : RawRoute → List ℕ
 message_text raw =
-    header_text raw.del (28 + length (attributes_text raw)) ++ route_part raw.prefix.len (kind_number raw.kind)
-    ++ attributes_text raw
+    header_text raw.del (28 + length (attributes_text raw))
+    ++ route_part raw.prefix.len raw.table (kind_number raw.kind) ++ attributes_text raw
 
 -- the numbers of a route fit their fields
 abbrev pub NumberFits : Option ℕ → Type 0
@@ -79,15 +88,13 @@ abbrev pub target_at : Port → Bool → ℕ → Target
 target_at (Link far link unnumbered) via index = if via || unnumbered then To far link else OnLink index
 target_at Edge via index = if via then Exit index else OnLink index
 
--- a route set at this interface, where the router has it
-abbrev pub set_op : Cidr → ℕ → Bool → ℕ → Option Port → Option Op
-set_op p metric via index None = None
-set_op p metric via index (Some port) = Some (Set p metric (target_at port via index))
+-- the same by the interface's number, where the router has it
+abbrev pub unicast_target : Topology → RouterId → Bool → ℕ → Option Target
+unicast_target t r via index = option_map (λ port. target_at port via index) (port_of t r index)
 
--- the same of what a message says; without a metric it is 0, without an interface it is nothing
+-- a unicast route set; without a metric it is 0, without an interface it is nothing
 abbrev pub set_op_of : Topology → RouterId → Cidr → Option ℕ → Bool → Option ℕ → Option Op
-set_op_of t r p metric via None = None
-set_op_of t r p metric via (Some index) = set_op p (unwrap_or metric 0) via index (port_of t r index)
+set_op_of t r p metric via oif = option_map (Set p (unwrap_or metric 0)) (option_and_then (unicast_target t r via) oif)
 
 -- A route set, by its type. Only a unicast route looks for its interface: one to the router's own addresses, and one
 -- that drops, is the same whatever interface or gateway it names.
@@ -103,3 +110,11 @@ abbrev pub op_of : Topology → RouterId → RawRoute → Option Op
 op_of t r raw =
     if raw.del then Some (Clear raw.prefix raw.metric)
     else set_op_by t r raw.kind raw.prefix raw.metric raw.via raw.oif
+
+-- The update that a next-hop object's message is to its device: an object does what a unicast route by its gateway and
+-- interface would, unless it drops. None where it needs an interface that isn't the device's.
+abbrev pub object_of : Topology → RouterId → RawObject → Option Op
+object_of t r raw =
+    if raw.del then Some (NoObject raw.id)
+    else if raw.blackhole then Some (Object raw.id (target.Dropped drop.Blackhole))
+    else option_map (Object raw.id) (option_and_then (unicast_target t r raw.via) raw.oif)

@@ -2,7 +2,7 @@
 -- set or delete a route (RTM_NEWROUTE, RTM_DELROUTE of linux/rtnetlink.h) are read. Numbers are little-endian, as the
 -- sender's are; an address is in network byte order. Which messages are refused or skipped is the project's own
 -- profile.
-use Rattle.std.specs.Prelude.{◌≡◌, ℕ, zero, suc, ◌+◌, ◌-◌, ◌%◌, ◌^◌, ◌==◌, nat_lt, Bool, true, false, ◌&&◌, ◌||◌, not, if◌then◌else◌, List, [], ◌∷◌, ◌++◌, length, take, drop, slice_index, Option, None, Some, is_none, unwrap_or, IsSome, Result, Ok, Err}
+use Rattle.std.specs.Prelude.{◌≡◌, ℕ, zero, suc, ◌+◌, ◌-◌, ◌%◌, ◌^◌, ◌<◌, ◌==◌, nat_lt, Bool, true, false, ◌&&◌, ◌||◌, not, if◌then◌else◌, List, [], ◌∷◌, ◌++◌, length, take, drop, slice_index, Option, None, Some, is_none, unwrap_or, IsSome, Result, Ok, Err}
 use Rattle.std.specs.List.{list_any}
 use Rattle.std.specs.Int.{w16, w32, from_le_bytes}
 use Rattle.base.specs.Cidr.{Cidr, IsCidr}
@@ -12,7 +12,7 @@ use Rattle.dn_formats.specs.FrameCauses as causes
 use Rattle.dn_formats.specs.declared.payload.Payload.{Payload}
 use Rattle.dn_formats.specs.declared.payload.Item.{Item}
 use Rattle.dn_formats.specs.declared.payload.ItemKind.{ItemKind}
-use Rattle.dn_formats.specs.declared.payload.ItemKind.TheVariants.{Route, Skipped}
+use Rattle.dn_formats.specs.declared.payload.ItemKind.TheVariants.{Route, Object, Skipped}
 use Rattle.dn_formats.specs.declared.payload.Skip.{Skip}
 use Rattle.dn_formats.specs.declared.payload.Skip.TheVariants.{OtherType, OtherFamily, OtherTable}
 use Rattle.dn_formats.specs.declared.raw_route.RouteKind.{RouteKind}
@@ -64,11 +64,18 @@ attributes bytes = attributes_of (drop 28 (take (message_length bytes) bytes))
 -- ---- what the fields say
 
 -- the table: RTA_TABLE stands in place of the byte, and 0 (RT_TABLE_UNSPEC) counts as the main one (RT_TABLE_MAIN, 254)
-abbrev pub table_of : List ℕ → ℕ
-table_of bytes = unwrap_or (number_of rta_table (attributes bytes)) (table_byte bytes)
+abbrev pub main_table : ℕ
+main_table = 254
 
-abbrev pub is_main : ℕ → Bool
-is_main table = table == 254 || table == 0
+abbrev pub table_by : ℕ → ℕ
+table_by number = if number == 0 then main_table else number
+
+abbrev pub table_of : List ℕ → ℕ
+table_of bytes = table_by (unwrap_or (number_of rta_table (attributes bytes)) (table_byte bytes))
+
+-- the tables whose routes are read: the main one, and these
+abbrev pub is_read : List ℕ → ℕ → Bool
+is_read tables table = table == main_table || list_any (λ other. other == table) tables
 
 -- the address of the prefix; without one it is 0.0.0.0
 abbrev pub destination : List ℕ → Option ℕ
@@ -96,10 +103,12 @@ abbrev pub route_set : List ℕ → RawRoute
 route_set bytes = record {
   del = false;
   prefix = prefix_of bytes;
+  table = table_of bytes;
   metric = Some (unwrap_or (number_of rta_priority (attributes bytes)) 0);
   kind = unwrap_or (kind_of (route_type bytes)) Unicast;
   via = has rta_gateway (attributes bytes) || has rta_via (attributes bytes);
   oif = interface bytes;
+  by = None;
 }
 
 -- the route that is deleted: its type and its next hop are not looked at; without RTA_PRIORITY it is of any metric
@@ -107,10 +116,12 @@ abbrev pub route_deleted : List ℕ → RawRoute
 route_deleted bytes = record {
   del = true;
   prefix = prefix_of bytes;
+  table = table_of bytes;
   metric = number_of rta_priority (attributes bytes);
   kind = Unicast;
   via = false;
   oif = None;
+  by = None;
 }
 
 abbrev pub route_of : List ℕ → RawRoute
@@ -136,13 +147,13 @@ header_rows = (
     ∷ (Skips OtherType, λ m. not (is_set m || is_deletion m))
     ∷ []
 
--- of a route message's fixed part, its attributes and its table
-abbrev pub part_rows : List Row
-part_rows =
+-- of a route message's fixed part, its attributes and its table, which is the main one or one of these
+abbrev pub part_rows : List ℕ → List Row
+part_rows tables =
     (Refuses causes.short, λ m. nat_lt (message_length m) 28)
     ∷ (Skips OtherFamily, λ m. not (family m == 2))
     ∷ (Refuses causes.bad_attr, λ m. list_any (is_bad (is_set m)) (attributes m))
-    ∷ (Skips OtherTable, λ m. not (is_main (table_of m)))
+    ∷ (Skips OtherTable, λ m. not (is_read tables (table_of m)))
     ∷ []
 
 -- of its prefix
@@ -168,19 +179,20 @@ hop_rows =
     ∷ (Refuses causes.no_interface, λ m. is_set m && route_type m == 1 && is_none (interface m))
     ∷ []
 
-abbrev pub route_rows : List Row
-route_rows = part_rows ++ (prefix_rows ++ hop_rows)
+abbrev pub route_rows : List ℕ → List Row
+route_rows tables = part_rows tables ++ (prefix_rows ++ hop_rows)
 
--- The first row that holds of a message decides; a message of which none holds says its item.
-abbrev pub message_rows : List Row
-message_rows = header_rows ++ route_rows
+-- The first row that holds of a message decides, where the routes of the main table and these are read. A message of
+-- which none holds says its item.
+abbrev pub message_rows : List ℕ → List Row
+message_rows tables = header_rows ++ route_rows tables
 
 abbrev pub first_ruling : List Row → List ℕ → Option Ruling
 first_ruling [] m = None
 first_ruling (row ∷ rows) m = if row.1 m then Some row.0 else first_ruling rows m
 
-unfoldable pub ruling_of : List ℕ → Option Ruling
-ruling_of bytes = first_ruling message_rows bytes
+unfoldable pub ruling_of : List ℕ → List ℕ → Option Ruling
+ruling_of tables bytes = first_ruling (message_rows tables) bytes
 
 -- ---- what a message says
 
@@ -194,8 +206,8 @@ said_by (Some (Refuses cause)) what = Err cause
 said_by (Some (Skips skip)) what = Ok (Skipped skip)
 said_by None what = Ok what
 
-abbrev pub message_said : List ℕ → Result ItemKind ℕ
-message_said bytes = said_by (ruling_of bytes) (item_of bytes)
+abbrev pub message_said : List ℕ → List ℕ → Result ItemKind ℕ
+message_said tables bytes = said_by (ruling_of tables bytes) (item_of bytes)
 
 -- ---- a whole payload
 
@@ -213,20 +225,21 @@ said at (Ok what) more = before (record { at = at; what = what }) more
 -- What these bytes say, the first of which stands at this place of the payload, where the first so many are still those
 -- of the message before. The next message begins after the message's padding. Fewer than 4 bytes at the end are
 -- padding.
-unfoldable pub said_after : ℕ → ℕ → List ℕ → Payload
-said_after at left [] = nothing_more
-said_after at (suc left) (byte ∷ bytes) = said_after (at + 1) left bytes
-said_after at zero (byte ∷ bytes) =
+unfoldable pub said_after : List ℕ → ℕ → ℕ → List ℕ → Payload
+said_after tables at left [] = nothing_more
+said_after tables at (suc left) (byte ∷ bytes) = said_after tables (at + 1) left bytes
+said_after tables at zero (byte ∷ bytes) =
     if nat_lt (length (byte ∷ bytes)) 4 then nothing_more
-    else said at (message_said (byte ∷ bytes))
-    (said_after (at + 1) (padded (message_length (byte ∷ bytes)) - 1) bytes)
+    else said at (message_said tables (byte ∷ bytes))
+    (said_after tables (at + 1) (padded (message_length (byte ∷ bytes)) - 1) bytes)
 
--- the messages of a payload up to the first that is refused, and that one
-abbrev pub payload_of : List ℕ → Payload
-payload_of bytes = said_after 0 0 bytes
+-- the messages of a payload up to the first that is refused, and that one, where the routes of these tables beside the
+-- main one are read
+abbrev pub payload_of : List ℕ → List ℕ → Payload
+payload_of tables bytes = said_after tables 0 0 bytes
 
-abbrev pub IsPayload : List ℕ → Payload → Type 0
-IsPayload bytes payload = payload ≡ payload_of bytes
+abbrev pub IsPayload : List ℕ → List ℕ → Payload → Type 0
+IsPayload tables bytes payload = payload ≡ payload_of tables bytes
 
 -- ---- the routes that a message can say
 
@@ -235,13 +248,20 @@ abbrev pub HasParts : Bool → Option ℕ → RouteKind → Bool → Option ℕ 
 HasParts true metric kind via oif = (kind ≡ Unicast) × (via ≡ false) × (oif ≡ None)
 HasParts false metric kind via oif = IsSome metric × (kind ≡ Unicast → IsSome oif)
 
+abbrev pub IsTable : ℕ → Type 0
+IsTable table = (0 < table) × (table < 2 ^ 32)
+
+-- a route by a next-hop object is refused
 pub record CanBeSaid (raw : RawRoute) : Type 0 where
   pub prefix : IsCidr raw.prefix
+  pub table : IsTable raw.table
   pub parts : HasParts raw.del raw.metric raw.kind raw.via raw.oif
   pub metric : NumberFits raw.metric
   pub oif : NumberFits raw.oif
+  pub by : raw.by ≡ None
 
--- an item says a route that can be said, or none
+-- An item says a route that can be said, or none. None says an object: messages of their types are passed over.
 abbrev pub IsSayable : ItemKind → Type 0
 IsSayable (Route raw) = CanBeSaid raw
+IsSayable (Object raw) = ⊥
 IsSayable (Skipped skip) = Unit {0}

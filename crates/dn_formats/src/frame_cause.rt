@@ -1,6 +1,6 @@
 //! The causes for which a frame of a feed is refused, or the feed is lost: their numbers and names. Why a message of a
 //! frame's payload is none that is read here, why a frame is none of route messages, and why bytes are no frame. Where
-//! several stand at one message, the report names the one with the lowest number.
+//! several stand at one message, the report names the first by the table of refusals (`message_rows` in `specs/`).
 //!
 //! Source: the project's own profile of rtnetlink(7) as FRR's forwarding plane manager module speaks it.
 
@@ -40,6 +40,11 @@ pub const FRAME_TYPE: u8 = 14;
 pub const BAD_VERSION: u8 = 15;
 /// A frame's length is below that of its header, 4. The feed is lost there.
 pub const BAD_FRAME_LENGTH: u8 = 16;
+/// A unicast route is set by a next-hop object that isn't there. No reader gives it yet: such routes are refused by
+/// `NEXT_HOP_ID`.
+pub const UNKNOWN_NEXT_HOP: u8 = 17;
+/// A next-hop object's message has no number, or the number 0. No reader gives it yet: such messages are passed over.
+pub const NO_NEXT_HOP_ID: u8 = 18;
 
 /// The name of a cause, as it is printed; `Unread` for a number that no cause has.
 pub fn name(cause: u8) -> &'static [u8]
@@ -62,6 +67,8 @@ pub fn name(cause: u8) -> &'static [u8]
         FRAME_TYPE => b"FrameType",
         BAD_VERSION => b"BadVersion",
         BAD_FRAME_LENGTH => b"BadFrameLength",
+        UNKNOWN_NEXT_HOP => b"UnknownNextHop",
+        NO_NEXT_HOP_ID => b"NoNextHopId",
         _ => b"Unread",
     }
 }

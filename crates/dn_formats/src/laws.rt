@@ -17,9 +17,9 @@ ghost use Rattle.dn_model.specs.declared.entry.Entry.{Entry};
 ghost use Rattle.base.specs.declared.ids.RouterId.{RouterId};
 ghost use Rattle.dn_model.specs.declared.topology.Topology.{Topology};
 
-/// The bytes of a payload say one thing.
+/// The bytes of a payload, of which the routes of these tables beside the main one are read, say one thing.
 pub fn payloads_are_unique()
-    ensures { (bytes : List ℕ) (x y : Payload) → IsPayload bytes x → IsPayload bytes y → x ≡ y }
+    ensures { (tables bytes : List ℕ) (x y : Payload) → IsPayload tables bytes x → IsPayload tables bytes y → x ≡ y }
 {}
 
 /// A feed has one reading: its bytes, up to a limit, come to one list of steps and one end.
@@ -40,13 +40,13 @@ pub fn feeds_are_kept_whole()
         → IsKept limit history f → (f.end ≡ Full → ⊥) → kept_by lines f ≡ updates (taken lines f) }
 {}
 
-/// Each cause has its number: those of frames 1 to 16, of topologies 1 to 10, of scripts 1 to 5.
+/// Each cause has its number: those of frames 1 to 18, of topologies 1 to 10, of scripts 1 to 5.
 pub fn causes_have_their_numbers()
     ensures frames { frame.BAD_LENGTH ∷ frame.SHORT ∷ frame.BAD_ATTR ∷ frame.BAD_PREFIX_LENGTH ∷ frame.SOURCE_OR_TOS ∷
         frame.NO_DESTINATION ∷ frame.HOST_BITS ∷ frame.ROUTE_TYPE ∷ frame.MULTIPATH ∷ frame.ENCAP ∷
         frame.NEXT_HOP_ID ∷ frame.NO_INTERFACE ∷ frame.UNKNOWN_INTERFACE ∷ frame.FRAME_TYPE ∷
-        frame.BAD_VERSION ∷ frame.BAD_FRAME_LENGTH ∷ []
-        ≡ 1 ∷ 2 ∷ 3 ∷ 4 ∷ 5 ∷ 6 ∷ 7 ∷ 8 ∷ 9 ∷ 10 ∷ 11 ∷ 12 ∷ 13 ∷ 14 ∷ 15 ∷ 16 ∷ [] }
+        frame.BAD_VERSION ∷ frame.BAD_FRAME_LENGTH ∷ frame.UNKNOWN_NEXT_HOP ∷ frame.NO_NEXT_HOP_ID ∷ []
+        ≡ 1 ∷ 2 ∷ 3 ∷ 4 ∷ 5 ∷ 6 ∷ 7 ∷ 8 ∷ 9 ∷ 10 ∷ 11 ∷ 12 ∷ 13 ∷ 14 ∷ 15 ∷ 16 ∷ 17 ∷ 18 ∷ [] }
     ensures topologies { topology.NOT_TOML ∷ topology.UNKNOWN_KEY ∷ topology.MISSING_KEY ∷ topology.BAD_NAME ∷
         topology.TWICE_NAMED ∷ topology.BAD_END ∷ topology.END_TWICE ∷ topology.SELF_LINK ∷
         topology.TOO_MANY ∷ topology.TOO_LONG ∷ []

@@ -12,6 +12,7 @@ pub mod frame_cause;
 mod laws;
 mod payload;
 mod print;
+mod raw_object;
 mod raw_route;
 mod script;
 pub mod script_cause;
@@ -32,7 +33,8 @@ pub use print::{
     print_address, print_prefix, print_run, print_target, push_address, push_bytes, push_decimal,
     push_labelled, push_link, push_prefix, push_router, push_run, push_target,
 };
-pub use raw_route::{RawRoute, RouteKind};
+pub use raw_object::RawObject;
+pub use raw_route::{MAIN_TABLE, RawRoute, RouteKind};
 pub use script::{Line, Script};
 pub use text::Text;
 pub use told::{FeedEnd, FeedTold, JobTold, Outcome, RefusedFrame, Told};

@@ -1,5 +1,6 @@
 //! What the payload of a frame says: its netlink messages, one by one.
 
+use crate::raw_object::RawObject;
 use crate::raw_route::RawRoute;
 use dn_model::List;
 
@@ -28,9 +29,11 @@ pub struct Item {
 /// What a message says.
 #[derive(Clone, Copy, Debug, PartialEq, Eq)]
 pub enum ItemKind {
-    /// A route of the main table that is set or deleted.
+    /// An IPv4 route of a table that is read, which is set or deleted.
     Route(RawRoute),
-    /// Nothing of IPv4 routes in the main table, so that it is passed over.
+    /// A next-hop object that is set or deleted. No payload says one yet.
+    Object(RawObject),
+    /// Nothing that is read, so that it is passed over.
     Skipped(Skip),
 }
 
@@ -41,6 +44,6 @@ pub enum Skip {
     OtherType,
     /// The route is of another family than IPv4.
     OtherFamily,
-    /// The route is of another table than the main one.
+    /// The route is of a table that isn't read: neither the main one nor one of those that the reader was given.
     OtherTable,
 }

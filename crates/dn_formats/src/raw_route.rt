@@ -2,6 +2,9 @@
 
 use dn_model::Prefix;
 
+/// The number of the main routing table (RT_TABLE_MAIN).
+pub const MAIN_TABLE: u32 = 254;
+
 /// The type of a route in rtnetlink(7).
 #[derive(Clone, Copy, Debug, PartialEq, Eq)]
 pub enum RouteKind {
@@ -17,14 +20,18 @@ pub enum RouteKind {
     Prohibit,
 }
 
-/// What a route message says: RTM_DELROUTE where `del`, else RTM_NEWROUTE. `metric` is its RTA_PRIORITY and `oif`
-/// the interface number of its RTA_OIF, each where the message has one; `via` says that it names a gateway.
+/// What a route message says: RTM_DELROUTE where `del`, else RTM_NEWROUTE. `table` is the routing table's number, from
+/// 1 on. `metric` is its RTA_PRIORITY and `oif` the interface number of its RTA_OIF, each where the message has one;
+/// `via` says that it names a gateway. `by` is the id of the next-hop object that stands in place of gateway and
+/// interface (RTA_NH_ID): it is None in what a payload says, as routes by an object are refused.
 #[derive(Clone, Copy, Debug, PartialEq, Eq)]
 pub struct RawRoute {
     pub del: bool,
     pub prefix: Prefix,
+    pub table: u32,
     pub metric: Option<u32>,
     pub kind: RouteKind,
     pub via: bool,
     pub oif: Option<u32>,
+    pub by: Option<u32>,
 }

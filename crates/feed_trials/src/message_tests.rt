@@ -1,11 +1,13 @@
 //! Payloads of frames, byte by byte: what they say, and what stands before a refusal; and a route as it is written.
 
-ghost use Rattle.std.specs.Prelude.{◌≤◌, length};
+ghost use Rattle.std.specs.Prelude.{◌≤◌, ◌<◌, length};
 ghost use Rattle.dn_formats.specs.Payload.{CanBeSaid};
 
 use crate::frames::{BROKEN_LAST, SET_IPV6, SET_TEN, bytes_of};
 use dn_model::Prefix;
-use rt_netlink::{Item, ItemKind, RawRoute, Refused, RouteKind, Skip, read_payload, write_route};
+use rt_netlink::{
+    Item, ItemKind, MAIN_TABLE, RawRoute, Refused, RouteKind, Skip, read_payload, write_route,
+};
 use std::alloc::Global;
 use std::process::Abort;
 
@@ -15,17 +17,27 @@ const DEFAULT: [u8; 52] = [
     8, 0, 5, 0, 0xc0, 0, 2, 1, 8, 0, 4, 0, 2, 0, 0, 0, 8, 0, 6, 0, 0x14, 0, 0, 0,
 ];
 
-/// 10.0.0.0/8 by a gateway over this interface.
+/// 10.0.0.0/8 by a gateway over this interface, in the main table.
 fn ten(interface: u32) -> RawRoute
+    ensures { CanBeSaid result }
+{
+    ten_in(MAIN_TABLE, interface)
+}
+
+/// 10.0.0.0/8 by a gateway over this interface, in this table.
+fn ten_in(table: u32, interface: u32) -> RawRoute
+    requires { 0 < table }
     ensures { CanBeSaid result }
 {
     RawRoute {
         del: false,
         prefix: Prefix::new(0x0a00_0000, 8),
+        table,
         metric: Some(20),
         kind: RouteKind::Unicast,
         via: true,
         oif: Some(interface),
+        by: None,
     }
 }
 
@@ -34,7 +46,7 @@ fn item_at(at: u32, what: ItemKind) -> Item {
     Item { at, what }
 }
 
-/// A payload says these items, and this refusal.
+/// A payload, of which the routes of the main table alone are read, says these items, and this refusal.
 fn compare_items(
     rt: &impl Abort,
     alloc: Global,
@@ -44,9 +56,18 @@ fn compare_items(
 )
     requires { length payload.now ≤ 65531 }
 {
-    let said = read_payload(alloc, payload).expect(rt, "memory");
+    let said = read_payload(alloc, payload, &[]).expect(rt, "memory");
     assert_eq!(rt; said.items.as_slice(), items, "in {payload:?}");
     assert_eq!(rt; said.refused, refused, "in {payload:?}");
+}
+
+/// A payload of one message, of which the routes of these tables are read too, says this.
+fn compare_in_tables(rt: &impl Abort, alloc: Global, payload: &[u8], tables: &[u32], what: ItemKind)
+    requires { length payload.now ≤ 65531 }
+{
+    let said = read_payload(alloc, payload, tables).expect(rt, "memory");
+    assert_eq!(rt; said.items.as_slice(), &[item_at(0, what)], "in {tables:?}");
+    assert_eq!(rt; said.refused, None);
 }
 
 /// The message of `SET_TEN`, with the byte at one place of it changed, is passed over by this cause.
@@ -96,4 +117,47 @@ fn skips_by_table_and_type(rt: HostRuntime) {
 fn writes_a_route(rt: HostRuntime) {
     let message = write_route(rt.alloc(), &ten(2)).expect(&rt, "memory");
     assert_eq!(rt; message.as_slice(), &SET_TEN[4..]);
+}
+
+#[test]
+fn reads_the_tables_that_are_told(rt: HostRuntime) {
+    let alloc = rt.alloc();
+    let mut frame = SET_TEN;
+    frame[24] = 10;
+    let route = ItemKind::Route(ten_in(10, 2));
+    compare_in_tables(&rt, alloc, &frame[4..], &[7, 10], route);
+    let other = ItemKind::Skipped(Skip::OtherTable);
+    compare_in_tables(&rt, alloc, &frame[4..], &[7, 254, 0], other);
+    frame[24] = 0;
+    let main = ItemKind::Route(ten(2));
+    compare_in_tables(&rt, alloc, &frame[4..], &[7, 10], main);
+}
+
+#[test]
+fn writes_a_route_of_a_wide_table(rt: HostRuntime) {
+    let alloc = rt.alloc();
+    let route = ten_in(1000, 2);
+    let message = write_route(alloc, &route).expect(&rt, "memory");
+    let message = message.as_slice();
+    assert_eq!(rt; message.len(), 68);
+    if message.len() == 68 {
+        assert_eq!(rt; message[0], 68);
+        assert_eq!(rt; message[20], 0);
+        assert_eq!(rt; &message[28..60], &SET_TEN[32..]);
+        assert_eq!(rt; &message[60..], &[8, 0, 15, 0, 0xe8, 3, 0, 0]);
+        compare_in_tables(&rt, alloc, message, &[1000], ItemKind::Route(route));
+        let other = ItemKind::Skipped(Skip::OtherTable);
+        compare_in_tables(&rt, alloc, message, &[10], other);
+    }
+}
+
+#[test]
+fn writes_a_route_of_a_narrow_table(rt: HostRuntime) {
+    let message = write_route(rt.alloc(), &ten_in(255, 2)).expect(&rt, "memory");
+    let message = message.as_slice();
+    assert_eq!(rt; message.len(), 60);
+    if message.len() == 60 {
+        assert_eq!(rt; message[20], 255);
+        assert_eq!(rt; &message[28..], &SET_TEN[32..]);
+    }
 }

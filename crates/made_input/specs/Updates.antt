@@ -1,8 +1,9 @@
 -- The generated updates, which are dealt out to the routers' feeds in turn.
-use Rattle.std.specs.Prelude.{ℕ, zero, suc, ◌+◌, ◌-◌, ◌*◌, ◌/◌, ◌%◌, ◌^◌, ◌==◌, ◌++◌, ◌∷◌, Bool, true, false, if◌then◌else◌, List, [], Some, None}
+use Rattle.std.specs.Prelude.{ℕ, zero, suc, ◌+◌, ◌-◌, ◌*◌, ◌/◌, ◌%◌, ◌^◌, ◌==◌, ◌++◌, ◌∷◌, Bool, false, not, if◌then◌else◌, List, [], Some, None}
 use Rattle.base.specs.Cidr.{Cidr}
 use Rattle.dn_formats.specs.Frames.{frame_text}
 use Rattle.dn_formats.specs.Message.{message_text}
+use Rattle.dn_formats.specs.Payload.{main_table}
 use Rattle.dn_formats.specs.declared.raw_route.RouteKind.TheVariants.{Unicast, Local}
 use Rattle.dn_formats.specs.declared.raw_route.RawRoute.{RawRoute}
 use Rattle.made_input.specs.Network.{made_routers}
@@ -24,8 +25,16 @@ made_prefix j = record { base = aligned (scattered j) (made_len j); len = made_l
 
 -- one update of five is of a router's own address, the others go on over port 2 by a gateway
 abbrev pub route_at : Bool → ℕ → RawRoute
-route_at true j = record { del = false; prefix = made_prefix j; metric = Some (j % 4); kind = Local; via = false; oif = None }
-route_at false j = record { del = false; prefix = made_prefix j; metric = Some (j % 4); kind = Unicast; via = true; oif = Some 2 }
+route_at own j = record {
+  del = false;
+  prefix = made_prefix j;
+  table = main_table;
+  metric = Some (j % 4);
+  kind = if own then Local else Unicast;
+  via = not own;
+  oif = if own then None else Some 2;
+  by = None;
+}
 
 abbrev pub made_route : ℕ → RawRoute
 made_route j = route_at (j % 5 == 4) j

@@ -6,7 +6,7 @@ ghost use Rattle.base.specs.Cidr.{IsCidr};
 ghost use Rattle.made_input.specs.Updates.{aligned, frame_for, made_feed, made_frame, made_len, made_prefix, made_route, scattered};
 
 use crate::network::ROUTERS;
-use dn_formats::{RawRoute, RouteKind, Text};
+use dn_formats::{MAIN_TABLE, RawRoute, RouteKind, Text};
 use dn_model::{OutOfMemory, Prefix};
 use fpm_frame::write_frame;
 use rt_netlink::write_route;
@@ -41,26 +41,20 @@ fn route(j: u32) -> RawRoute
     ensures value { result ≡ made_route j }
     ensures sayable { CanBeSaid result }
 {
-    let prefix = prefix(j);
-    let metric = Some(j % 4);
-    if j % 5 == 4 {
-        RawRoute {
-            del: false,
-            prefix,
-            metric,
-            kind: RouteKind::Local,
-            via: false,
-            oif: None,
-        }
-    } else {
-        RawRoute {
-            del: false,
-            prefix,
-            metric,
-            kind: RouteKind::Unicast,
-            via: true,
-            oif: Some(NEXT),
-        }
+    let own = j % 5 == 4;
+    RawRoute {
+        del: false,
+        prefix: prefix(j),
+        table: MAIN_TABLE,
+        metric: Some(j % 4),
+        kind: if own {
+            RouteKind::Local
+        } else {
+            RouteKind::Unicast
+        },
+        via: !own,
+        oif: if own { None } else { Some(NEXT) },
+        by: None,
     }
 }
 

@@ -1,5 +1,5 @@
 -- Handing out the frame at the front.
-use Rattle.std.proofs.Common.{◌≡◌, ◌≢◌, ℕ, ◌+◌, ◌≤◌, List, ◌++◌, length, Some, Result, Ok, Err, IfOk, refl, ap, sym, ◌∙◌, subst, arith, inl, inr}
+use Rattle.std.proofs.Common.{◌≡◌, ◌≢◌, ℕ, ◌+◌, ◌≤◌, List, [], ◌++◌, length, Some, Result, Ok, Err, IfOk, refl, ap, sym, ◌∙◌, subst, arith, inl, inr}
 use Rattle.dn_formats.proofs.RoomLemmas.{accepted-room}
 use Rattle.dn_formats.specs.Frames.{Frame, frame_text}
 use Rattle.dn_formats.specs.Feed.{IsStep, step_of}
@@ -75,7 +75,7 @@ comes t r offset f s answers.TooLong e is = cc
 comes t r offset f s answers.Faulted e is = cc
 
 -- the answer that a netlink frame's payload says
-pub says : (t : Topology) (r : RouterId) (offset kind : ℕ) (bytes : List ℕ) (p : Payload) (step : FeedStep) → kind ≡ 1 → IsPayload bytes p →
+pub says : (t : Topology) (r : RouterId) (offset kind : ℕ) (bytes : List ℕ) (p : Payload) (step : FeedStep) → kind ≡ 1 → IsPayload [] bytes p →
     frame_step step ≡ Some (step_of t r offset p) → ComesTo t r offset (record { kind = kind; payload = bytes }) step
 says t r offset kind bytes p step k h e =
     comes t r offset (record { kind = kind; payload = bytes }) (step_of t r offset p) step e
@@ -91,7 +91,7 @@ pub at_most-ok : (few many : ℕ) (r : Result FeedStep OutOfMemory) → few ≤ 
 at_most-ok few many (Ok step) h k = at_most few many step h k
 at_most-ok few many (Err e) h k = k
 
-pub says-ok : (t : Topology) (r : RouterId) (offset kind : ℕ) (bytes : List ℕ) (p : Payload) (answer : Result FeedStep OutOfMemory) → kind ≡ 1 → IsPayload bytes p →
+pub says-ok : (t : Topology) (r : RouterId) (offset kind : ℕ) (bytes : List ℕ) (p : Payload) (answer : Result FeedStep OutOfMemory) → kind ≡ 1 → IsPayload [] bytes p →
     IfOk answer (λ step. frame_step step ≡ Some (step_of t r offset p)) → IfOk answer (ComesTo t r offset (record { kind = kind; payload = bytes }))
 says-ok t r offset kind bytes p (Ok step) k h e = says t r offset kind bytes p step k h e
 says-ok t r offset kind bytes p (Err x) k h e = e

@@ -3,7 +3,7 @@
 ghost use Rattle.std.specs.Prelude.{◌≡◌, ◌+◌, ◌<◌, ◌≤◌, ◌^◌, [], All, Some, IfOk, OnOk, OnErr, length};
 ghost use Rattle.dn_formats.specs.Feed.{step_of};
 ghost use Rattle.dn_formats.specs.Frames.{BeginsFrame};
-ghost use Rattle.dn_formats.specs.Payload.{payload_of};
+ghost use Rattle.dn_formats.specs.Payload.{payload_of, IsSayable};
 ghost use Rattle.route_feed.specs.FeedReader.{told_after, AreOpsOf, IsFeedOp};
 ghost use Rattle.route_feed.specs.FrameStep.{ComesTo, frame_step, IsTaken, count, IsOfFrame, HandsTo};
 
@@ -49,6 +49,7 @@ impl Gathered {
         hints: &mut PortHints,
     ) -> Result<Option<Refused>, OutOfMemory>
         requires fits { self.old.skipped + 1 < 2 ^ 32 }
+        requires sayable { IsSayable item.now.what }
         ensures taken { IfOk result (IsTaken topology.now router self.old item.now self.new) }
         ensures few { OnOk result (count self.new ≤ count self.old + 1) }
         ensures within { All (IsFeedOp topology.now) self.old.ops → All (IsFeedOp topology.now) self.new.ops }
@@ -63,6 +64,8 @@ impl Gathered {
                     }));
                 }
             },
+            // No payload says an object.
+            ItemKind::Object(_) => unreachable!(),
             ItemKind::Skipped(_) => self.skipped += 1,
         }
         Ok(None)
@@ -81,7 +84,7 @@ fn refusal(offset: u64, refused: Refused) -> FeedStep
 }
 
 /// What a netlink frame at this offset comes to, with this payload: refused by its first message that is refused, else
-/// accepted with all its updates, which stand in a list that had none.
+/// accepted with all its updates, which stand in a list that had none. Of routes those of the main table alone are read.
 fn step_said(
     room: List<Op>,
     topology: &Topology,
@@ -93,7 +96,7 @@ fn step_said(
     requires empty { room ≡ [] }
     requires fits { length payload.now ≤ 65531 }
     ensures step { IfOk result (λ step. frame_step step
-        ≡ Some (step_of topology.now router offset (payload_of payload.now))) }
+        ≡ Some (step_of topology.now router offset (payload_of [] payload.now))) }
     ensures few { IfOk result (IsOfFrame (length payload.now)) }
     ensures within { IfOk result (AreOpsOf topology.now) }
 {
@@ -104,7 +107,7 @@ fn step_said(
     let mut left = payload;
     loop {
         let at = (payload.len() - left.len()) as u32;
-        match next_message(left) {
+        match next_message(left, &[]) {
             NextMessage::Says(what, rest) => {
                 let item = Item { at, what };
                 if let Some(refused) = gathered.take_in(topology, router, &item, hints)? {

@@ -22,10 +22,11 @@ first-none (x ∷ xs) ys m e = either (x.1 m) (first_ruling xs m) (first_ruling 
     either false old new last here e h = h e
 
 -- of the whole table
-pub ruled_by_header : (m : List ℕ) (r : Ruling) → first_ruling header_rows m ≡ Some r → ruling_of m ≡ Some r
+pub ruled_by_header : (tables m : List ℕ) (r : Ruling) → first_ruling header_rows m ≡ Some r → ruling_of tables m ≡ Some r
 unfolding ruling_of
-ruled_by_header m r e = first-some header_rows route_rows m r e
+ruled_by_header tables m r e = first-some header_rows (route_rows tables) m r e
 
-pub ruled_by_route : (m : List ℕ) (o : Option Ruling) → first_ruling header_rows m ≡ None → first_ruling route_rows m ≡ o → ruling_of m ≡ o
+pub ruled_by_route : (tables m : List ℕ) (o : Option Ruling) → first_ruling header_rows m ≡ None → first_ruling (route_rows tables) m ≡ o →
+    ruling_of tables m ≡ o
 unfolding ruling_of
-ruled_by_route m o none e = first-none header_rows route_rows m none ∙ e
+ruled_by_route tables m o none e = first-none header_rows (route_rows tables) m none ∙ e

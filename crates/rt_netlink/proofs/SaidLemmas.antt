@@ -20,9 +20,9 @@ unless_cut : (b : Bool) (rest : Option Ruling) (item what : ItemKind) → said_b
 unless_cut true rest item what e = cc
 unless_cut false rest item what e = refl
 
-not_cut : (m : List ℕ) (what : ItemKind) → message_said m ≡ Ok what → is_cut m ≡ false
+not_cut : (tables m : List ℕ) (what : ItemKind) → message_said tables m ≡ Ok what → is_cut m ≡ false
 unfolding ruling_of
-not_cut m what e = unless_cut (is_cut m) _ (item_of m) what e
+not_cut tables m what e = unless_cut (is_cut m) _ (item_of m) what e
 
 pub record IsThere (m : List ℕ) : Type 0 where
   pub long : 16 ≤ message_length m
@@ -31,58 +31,58 @@ pub record IsThere (m : List ℕ) : Type 0 where
 is_there : (m : List ℕ) → is_cut m ≡ false → IsThere m
 is_there m e = record { long = grind (arith, nat_tests); there = grind (arith, nat_tests) }
 
-pub said_there : (m : List ℕ) (what : ItemKind) → message_said m ≡ Ok what → IsThere m
-said_there m what e = is_there m (not_cut m what e)
+pub said_there : (tables m : List ℕ) (what : ItemKind) → message_said tables m ≡ Ok what → IsThere m
+said_there tables m what e = is_there m (not_cut tables m what e)
 
 -- what is left of the message before is passed over
-said-left : (at left : ℕ) (s : List ℕ) → said_after at left s ≡ said_after (at + left) 0 (drop left s)
+said-left : (tables : List ℕ) (at left : ℕ) (s : List ℕ) → said_after tables at left s ≡ said_after tables (at + left) 0 (drop left s)
 unfolding said_after
-said-left at zero s = let e : at + 0 ≡ at = omega arith in rw e refl
-said-left at (suc left) [] = refl
-said-left at (suc left) (b ∷ s) = let e : at + 1 + left ≡ at + suc left = omega arith in said-left (at + 1) left s ∙ ap (λ n. said_after n 0 (drop left s)) e
+said-left tables at zero s = let e : at + 0 ≡ at = omega arith in rw e refl
+said-left tables at (suc left) [] = refl
+said-left tables at (suc left) (b ∷ s) = let e : at + 1 + left ≡ at + suc left = omega arith in said-left tables (at + 1) left s ∙ ap (λ n. said_after tables n 0 (drop left s)) e
 
 -- the message at the front, and what is said after it
-pub said-step : (at : ℕ) (s : List ℕ) → 4 ≤ length s → 16 ≤ message_length s →
-    said_after at 0 s ≡ said at (message_said s) (said_after (at + padded (message_length s)) 0 (drop (padded (message_length s)) s))
+pub said-step : (tables : List ℕ) (at : ℕ) (s : List ℕ) → 4 ≤ length s → 16 ≤ message_length s →
+    said_after tables at 0 s ≡ said at (message_said tables s) (said_after tables (at + padded (message_length s)) 0 (drop (padded (message_length s)) s))
 unfolding said_after
-said-step at [] h l = absurd (omega arith)
-said-step at (b ∷ s) h l =
+said-step tables at [] h l = absurd (omega arith)
+said-step tables at (b ∷ s) h l =
     let enough : nat_lt (length (b ∷ s)) 4 ≡ false = grind (arith, nat_tests) in
     let whole : padded (message_length (b ∷ s)) ≡ suc (padded (message_length (b ∷ s)) - 1) = omega arith in
     let place : at + 1 + (padded (message_length (b ∷ s)) - 1) ≡ at + padded (message_length (b ∷ s)) = omega arith in
-    let more : said_after (at + 1) (padded (message_length (b ∷ s)) - 1) s ≡ said_after (at + padded (message_length (b ∷ s))) 0 (drop (padded (message_length (b ∷ s))) (b ∷ s)) =
-    said-left (at + 1) (padded (message_length (b ∷ s)) - 1) s ∙ ap (λ n. said_after n 0 (drop (padded (message_length (b ∷ s)) - 1) s)) place
-    ∙ ap (λ t. said_after (at + padded (message_length (b ∷ s))) 0 t) (sym (ap {B = List ℕ} (λ m. drop m (b ∷ s)) whole)) in
-    rw enough (ap (λ p. said at (message_said (b ∷ s)) p) more)
+    let more : said_after tables (at + 1) (padded (message_length (b ∷ s)) - 1) s ≡ said_after tables (at + padded (message_length (b ∷ s))) 0 (drop (padded (message_length (b ∷ s))) (b ∷ s)) =
+    said-left tables (at + 1) (padded (message_length (b ∷ s)) - 1) s ∙ ap (λ n. said_after tables n 0 (drop (padded (message_length (b ∷ s)) - 1) s)) place
+    ∙ ap (λ t. said_after tables (at + padded (message_length (b ∷ s))) 0 t) (sym (ap {B = List ℕ} (λ m. drop m (b ∷ s)) whole)) in
+    rw enough (ap (λ p. said at (message_said tables (b ∷ s)) p) more)
 
-pub said-refused : (at : ℕ) (s : List ℕ) (cause : ℕ) → 4 ≤ length s → message_said s ≡ Err cause →
-    said_after at 0 s ≡ record { items = []; refused = Some (record { at = at; cause = cause }) }
+pub said-refused : (tables : List ℕ) (at : ℕ) (s : List ℕ) (cause : ℕ) → 4 ≤ length s → message_said tables s ≡ Err cause →
+    said_after tables at 0 s ≡ record { items = []; refused = Some (record { at = at; cause = cause }) }
 unfolding said_after
-said-refused at [] cause h e = absurd (omega arith)
-said-refused at (b ∷ s) cause h e = let enough : nat_lt (length (b ∷ s)) 4 ≡ false = grind (arith, nat_tests) in rw (enough, e) refl
+said-refused tables at [] cause h e = absurd (omega arith)
+said-refused tables at (b ∷ s) cause h e = let enough : nat_lt (length (b ∷ s)) 4 ≡ false = grind (arith, nat_tests) in rw (enough, e) refl
 
-pub said-end : (at : ℕ) (s : List ℕ) → length s < 4 → said_after at 0 s ≡ nothing_more
+pub said-end : (tables : List ℕ) (at : ℕ) (s : List ℕ) → length s < 4 → said_after tables at 0 s ≡ nothing_more
 unfolding said_after
-said-end at [] h = refl
-said-end at (b ∷ s) h = let few : nat_lt (length (b ∷ s)) 4 ≡ true = grind (arith, nat_tests) in rw few refl
+said-end tables at [] h = refl
+said-end tables at (b ∷ s) h = let few : nat_lt (length (b ∷ s)) 4 ≡ true = grind (arith, nat_tests) in rw few refl
 
 -- the place after a message is told by how many bytes are left, where any are
-after_place : (all n : ℕ) (s : List ℕ) → length s ≤ all → said_after (all - length s + n) 0 (drop n s) ≡ said_from all (drop n s)
-after_place all n s h = elim (cases_lt (length s) n) [
+after_place : (tables : List ℕ) (all n : ℕ) (s : List ℕ) → length s ≤ all → said_after tables (all - length s + n) 0 (drop n s) ≡ said_from tables all (drop n s)
+after_place tables all n s h = elim (cases_lt (length s) n) [
   | inl past ↦
       let none : drop n s ≡ [] = drop_all n s (omega arith) in
-      rw none (said-end (all - length s + n) [] (omega arith) ∙ sym (said-end (all - 0) [] (omega arith)))
+      rw none (said-end tables (all - length s + n) [] (omega arith) ∙ sym (said-end tables (all - 0) [] (omega arith)))
   | inr within ↦
       let e : all - length s + n ≡ all - length (drop n s) = omega (arith, length-drop n s) in
-      ap (λ m. said_after m 0 (drop n s)) e
+      ap (λ m. said_after tables m 0 (drop n s)) e
 ]
 
 -- one item more is told
-pub message_told : (all : ℕ) (s rest : List ℕ) (what : ItemKind) → 4 ≤ length s → length s ≤ all → 16 ≤ message_length s → rest ≡ drop (padded (message_length s)) s →
-    message_said s ≡ Ok what → said_from all s ≡ before (record { at = all - length s; what = what }) (said_from all rest)
-message_told all s rest what h within l r says =
-    said-step (all - length s) s h l ∙ ap (λ p. said (all - length s) (message_said s) p) (after_place all (padded (message_length s)) s within ∙ ap (said_from all) (sym r))
-    ∙ ap (λ x. said (all - length s) x (said_from all rest)) says
+pub message_told : (tables : List ℕ) (all : ℕ) (s rest : List ℕ) (what : ItemKind) → 4 ≤ length s → length s ≤ all → 16 ≤ message_length s → rest ≡ drop (padded (message_length s)) s →
+    message_said tables s ≡ Ok what → said_from tables all s ≡ before (record { at = all - length s; what = what }) (said_from tables all rest)
+message_told tables all s rest what h within l r says =
+    said-step tables (all - length s) s h l ∙ ap (λ p. said (all - length s) (message_said tables s) p) (after_place tables all (padded (message_length s)) s within ∙ ap (said_from tables all) (sym r))
+    ∙ ap (λ x. said (all - length s) x (said_from tables all rest)) says
 
 -- what is left after a message is shorter
 pub rest_shorter : (s rest : List ℕ) → 4 ≤ length s → 16 ≤ message_length s → rest ≡ drop (padded (message_length s)) s → length rest < length s

@@ -8,7 +8,7 @@ use Rattle.std.proofs.lemmas.List.{append_assoc, append-nil}
 use Rattle.std.proofs.lemmas.Grind.{fold-append}
 use Rattle.std.proofs.lemmas.Nat.{from_le_bytes-to_le_bytes_4, from_be_bytes-to_be_bytes_4}
 use Rattle.dn_formats.specs.Attributes.{Attribute, Holds, attributes_of, is_bad, is_of, has, later, last_of, number_in, address_in, has_four_bytes}
-use Rattle.dn_formats.specs.Message.{attribute, destination_text, gateway_text, number_text, attributes_text, NumberFits}
+use Rattle.dn_formats.specs.Message.{attribute, destination_text, gateway_text, number_text, wide_table, attributes_text, NumberFits}
 use Rattle.dn_formats.specs.declared.raw_route.RawRoute.{RawRoute}
 use Rattle.rt_netlink.proofs.AttributesLemmas.{attributes-step, attributes-short}
 
@@ -55,12 +55,14 @@ gateway-read : (via : Bool) (more : List ℕ) → attributes_of (gateway_text vi
 gateway-read true more = attribute-read 5 192 0 2 1 more (omega arith)
 gateway-read false more = refl
 
--- the four attributes of a message, each where there is a payload for it
-abbrev pub pieces : Option (List ℕ) → Option (List ℕ) → Option (List ℕ) → Option (List ℕ) → List Attribute
-pieces d g i m = piece 1 d ++ (piece 5 g ++ (piece 4 i ++ piece 6 m))
+-- the five attributes of a message, each where there is a payload for it
+abbrev pub pieces : Option (List ℕ) → Option (List ℕ) → Option (List ℕ) → Option (List ℕ) → Option (List ℕ) → List Attribute
+pieces d g i m t = piece 1 d ++ (piece 5 g ++ (piece 4 i ++ (piece 6 m ++ piece 15 t)))
 
 abbrev pub pieces_of : RawRoute → List Attribute
-pieces_of raw = pieces (destination_payload (raw.prefix.len == 0) raw.prefix.base) (gateway_payload raw.via) (number_payload raw.oif) (number_payload raw.metric)
+pieces_of raw =
+    pieces (destination_payload (raw.prefix.len == 0) raw.prefix.base) (gateway_payload raw.via) (number_payload raw.oif) (number_payload raw.metric)
+    (number_payload (wide_table raw.table))
 
 last-read : (kind : ℕ) (o : Option ℕ) → kind < 256 → attributes_of (number_text kind o) ≡ piece kind (number_payload o)
 last-read kind o h =
@@ -69,15 +71,20 @@ last-read kind o h =
 
 pub attributes-written : (raw : RawRoute) → attributes_of (attributes_text raw) ≡ pieces_of raw
 attributes-written raw =
-    ap attributes_of
-    (append_assoc (destination_text raw.prefix ++ gateway_text raw.via) (number_text 4 raw.oif) (number_text 6 raw.metric)
-    ∙ append_assoc (destination_text raw.prefix) (gateway_text raw.via) (number_text 4 raw.oif ++ number_text 6 raw.metric))
-    ∙ destination-read (raw.prefix.len == 0) raw.prefix.base (gateway_text raw.via ++ (number_text 4 raw.oif ++ number_text 6 raw.metric))
+    let d = destination_text raw.prefix in
+    let g = gateway_text raw.via in
+    let i = number_text 4 raw.oif in
+    let m = number_text 6 raw.metric in
+    let t = number_text 15 (wide_table raw.table) in
+    ap attributes_of (append_assoc (d ++ g ++ i) m t ∙ append_assoc (d ++ g) i (m ++ t) ∙ append_assoc d g (i ++ (m ++ t)))
+    ∙ destination-read (raw.prefix.len == 0) raw.prefix.base (g ++ (i ++ (m ++ t)))
     ∙ ap (λ more. piece 1 (destination_payload (raw.prefix.len == 0) raw.prefix.base) ++ more)
-    (gateway-read raw.via (number_text 4 raw.oif ++ number_text 6 raw.metric)
+    (gateway-read raw.via (i ++ (m ++ t))
     ∙ ap (λ more. piece 5 (gateway_payload raw.via) ++ more)
-    (piece-read 4 raw.oif (number_text 6 raw.metric) (omega arith)
-    ∙ ap (λ more. piece 4 (number_payload raw.oif) ++ more) (last-read 6 raw.metric (omega arith))))
+    (piece-read 4 raw.oif (m ++ t) (omega arith)
+    ∙ ap (λ more. piece 4 (number_payload raw.oif) ++ more)
+    (piece-read 6 raw.metric t (omega arith)
+    ∙ ap (λ more. piece 6 (number_payload raw.metric) ++ more) (last-read 15 (wide_table raw.table) (omega arith)))))
 
 -- ---- what they say
 
@@ -90,16 +97,22 @@ piece-found : (kind other : ℕ) (o found : Option (List ℕ)) → fold (later k
 piece-found kind other None found = refl
 piece-found kind other (Some payload) found = refl
 
-last-found : (kind : ℕ) (d g i m : Option (List ℕ)) →
-    last_of kind (pieces d g i m) ≡ found_in kind 6 m (found_in kind 4 i (found_in kind 5 g (found_in kind 1 d None)))
-last-found kind d g i m =
-    fold-append (later kind) None (piece 1 d) (piece 5 g ++ (piece 4 i ++ piece 6 m))
-    ∙ ap (λ f. fold (later kind) f (piece 5 g ++ (piece 4 i ++ piece 6 m))) (piece-found kind 1 d None)
-    ∙ fold-append (later kind) (found_in kind 1 d None) (piece 5 g) (piece 4 i ++ piece 6 m)
-    ∙ ap (λ f. fold (later kind) f (piece 4 i ++ piece 6 m)) (piece-found kind 5 g (found_in kind 1 d None))
-    ∙ fold-append (later kind) (found_in kind 5 g (found_in kind 1 d None)) (piece 4 i) (piece 6 m)
-    ∙ ap (λ f. fold (later kind) f (piece 6 m)) (piece-found kind 4 i (found_in kind 5 g (found_in kind 1 d None)))
-    ∙ piece-found kind 6 m (found_in kind 4 i (found_in kind 5 g (found_in kind 1 d None)))
+last-found : (kind : ℕ) (d g i m t : Option (List ℕ)) →
+    last_of kind (pieces d g i m t) ≡ found_in kind 15 t (found_in kind 6 m (found_in kind 4 i (found_in kind 5 g (found_in kind 1 d None))))
+last-found kind d g i m t =
+    let after_d = found_in kind 1 d None in
+    let after_g = found_in kind 5 g after_d in
+    let after_i = found_in kind 4 i after_g in
+    let after_m = found_in kind 6 m after_i in
+    fold-append (later kind) None (piece 1 d) (piece 5 g ++ (piece 4 i ++ (piece 6 m ++ piece 15 t)))
+    ∙ ap (λ f. fold (later kind) f (piece 5 g ++ (piece 4 i ++ (piece 6 m ++ piece 15 t)))) (piece-found kind 1 d None)
+    ∙ fold-append (later kind) after_d (piece 5 g) (piece 4 i ++ (piece 6 m ++ piece 15 t))
+    ∙ ap (λ f. fold (later kind) f (piece 4 i ++ (piece 6 m ++ piece 15 t))) (piece-found kind 5 g after_d)
+    ∙ fold-append (later kind) after_g (piece 4 i) (piece 6 m ++ piece 15 t)
+    ∙ ap (λ f. fold (later kind) f (piece 6 m ++ piece 15 t)) (piece-found kind 4 i after_g)
+    ∙ fold-append (later kind) after_i (piece 6 m) (piece 15 t)
+    ∙ ap (λ f. fold (later kind) f (piece 15 t)) (piece-found kind 6 m after_i)
+    ∙ piece-found kind 15 t after_m
 
 -- an attribute of another type is passed over
 passed : (kind other : ℕ) (o found : Option (List ℕ)) → (other == kind) ≡ false → found_in kind other o found ≡ found
@@ -110,20 +123,25 @@ same : (kind : ℕ) (o : Option (List ℕ)) → (kind == kind) ≡ true → foun
 same kind None e = refl
 same kind (Some payload) e = rw e refl
 
-pub destination-last : (d g i m : Option (List ℕ)) → last_of 1 (pieces d g i m) ≡ d
-destination-last d g i m = last-found 1 d g i m ∙ passed 1 6 m _ refl ∙ passed 1 4 i _ refl ∙ passed 1 5 g _ refl ∙ same 1 d refl
+pub destination-last : (d g i m t : Option (List ℕ)) → last_of 1 (pieces d g i m t) ≡ d
+destination-last d g i m t =
+    last-found 1 d g i m t ∙ passed 1 15 t _ refl ∙ passed 1 6 m _ refl ∙ passed 1 4 i _ refl ∙ passed 1 5 g _ refl ∙ same 1 d refl
 
-pub interface-last : (d g i m : Option (List ℕ)) → last_of 4 (pieces d g i m) ≡ i
-interface-last d g i m =
-    last-found 4 d g i m ∙ passed 4 6 m _ refl
+pub interface-last : (d g i m t : Option (List ℕ)) → last_of 4 (pieces d g i m t) ≡ i
+interface-last d g i m t =
+    last-found 4 d g i m t ∙ passed 4 15 t _ refl ∙ passed 4 6 m _ refl
     ∙ ap (λ f. found_in 4 4 i f) (passed 4 5 g _ refl ∙ passed 4 1 d None refl) ∙ same 4 i refl
 
-pub metric-last : (d g i m : Option (List ℕ)) → last_of 6 (pieces d g i m) ≡ m
-metric-last d g i m =
-    last-found 6 d g i m ∙ ap (λ f. found_in 6 6 m f) (passed 6 4 i _ refl ∙ passed 6 5 g _ refl ∙ passed 6 1 d None refl) ∙ same 6 m refl
+pub metric-last : (d g i m t : Option (List ℕ)) → last_of 6 (pieces d g i m t) ≡ m
+metric-last d g i m t =
+    last-found 6 d g i m t ∙ passed 6 15 t _ refl
+    ∙ ap (λ f. found_in 6 6 m f) (passed 6 4 i _ refl ∙ passed 6 5 g _ refl ∙ passed 6 1 d None refl) ∙ same 6 m refl
 
-pub table-last : (d g i m : Option (List ℕ)) → last_of 15 (pieces d g i m) ≡ None
-table-last d g i m = last-found 15 d g i m ∙ passed 15 6 m _ refl ∙ passed 15 4 i _ refl ∙ passed 15 5 g _ refl ∙ passed 15 1 d None refl
+pub table-last : (d g i m t : Option (List ℕ)) → last_of 15 (pieces d g i m t) ≡ t
+table-last d g i m t =
+    last-found 15 d g i m t
+    ∙ ap (λ f. found_in 15 15 t f) (passed 15 6 m _ refl ∙ passed 15 4 i _ refl ∙ passed 15 5 g _ refl ∙ passed 15 1 d None refl)
+    ∙ same 15 t refl
 
 -- whether there is an attribute that passes a test
 any-append : (test : Attribute → Bool) (xs ys : List Attribute) → list_any test (xs ++ ys) ≡ (list_any test xs || list_any test ys)
@@ -134,25 +152,29 @@ any-append test (x ∷ xs) ys = ap (λ b. test x || b) (any-append test xs ys) �
     or_assoc true b c = refl
     or_assoc false b c = refl
 
-any-pieces : (test : Attribute → Bool) (d g i m : Option (List ℕ)) →
-    list_any test (pieces d g i m) ≡ (list_any test (piece 1 d) || (list_any test (piece 5 g) || (list_any test (piece 4 i) || list_any test (piece 6 m))))
-any-pieces test d g i m =
-    any-append test (piece 1 d) (piece 5 g ++ (piece 4 i ++ piece 6 m))
-    ∙ ap (λ b. list_any test (piece 1 d) || b) (any-append test (piece 5 g) (piece 4 i ++ piece 6 m)
-    ∙ ap (λ b. list_any test (piece 5 g) || b) (any-append test (piece 4 i) (piece 6 m)))
+any-pieces : (test : Attribute → Bool) (d g i m t : Option (List ℕ)) →
+    list_any test (pieces d g i m t)
+    ≡ (list_any test (piece 1 d) || (list_any test (piece 5 g) || (list_any test (piece 4 i) || (list_any test (piece 6 m) || list_any test (piece 15 t)))))
+any-pieces test d g i m t =
+    any-append test (piece 1 d) (piece 5 g ++ (piece 4 i ++ (piece 6 m ++ piece 15 t)))
+    ∙ ap (λ b. list_any test (piece 1 d) || b) (any-append test (piece 5 g) (piece 4 i ++ (piece 6 m ++ piece 15 t))
+    ∙ ap (λ b. list_any test (piece 5 g) || b) (any-append test (piece 4 i) (piece 6 m ++ piece 15 t)
+    ∙ ap (λ b. list_any test (piece 4 i) || b) (any-append test (piece 6 m) (piece 15 t))))
 
 none-of : (kind other : ℕ) (o : Option (List ℕ)) → (other == kind) ≡ false → has kind (piece other o) ≡ false
 none-of kind other None e = refl
 none-of kind other (Some payload) e = rw e refl
 
-pub has-none : (kind : ℕ) (d g i m : Option (List ℕ)) → (1 == kind) ≡ false → (5 == kind) ≡ false → (4 == kind) ≡ false → (6 == kind) ≡ false →
-    has kind (pieces d g i m) ≡ false
-has-none kind d g i m e f h k =
-    any-pieces (is_of kind) d g i m ∙ rw (none-of kind 1 d e, none-of kind 5 g f, none-of kind 4 i h, none-of kind 6 m k) refl
+pub has-none : (kind : ℕ) (d g i m t : Option (List ℕ)) →
+    (1 == kind) ≡ false → (5 == kind) ≡ false → (4 == kind) ≡ false → (6 == kind) ≡ false → (15 == kind) ≡ false → has kind (pieces d g i m t) ≡ false
+has-none kind d g i m t e f h k l =
+    any-pieces (is_of kind) d g i m t ∙ rw (none-of kind 1 d e, none-of kind 5 g f, none-of kind 4 i h, none-of kind 6 m k, none-of kind 15 t l) refl
 
-pub has-gateway : (via : Bool) (d i m : Option (List ℕ)) → has 5 (pieces d (gateway_payload via) i m) ≡ via
-has-gateway true d i m = any-pieces (is_of 5) d (gateway_payload true) i m ∙ rw (none-of 5 1 d refl) refl
-has-gateway false d i m = any-pieces (is_of 5) d (gateway_payload false) i m ∙ rw (none-of 5 1 d refl, none-of 5 4 i refl, none-of 5 6 m refl) refl
+pub has-gateway : (via : Bool) (d i m t : Option (List ℕ)) → has 5 (pieces d (gateway_payload via) i m t) ≡ via
+has-gateway true d i m t = any-pieces (is_of 5) d (gateway_payload true) i m t ∙ rw (none-of 5 1 d refl) refl
+has-gateway false d i m t =
+    any-pieces (is_of 5) d (gateway_payload false) i m t
+    ∙ rw (none-of 5 1 d refl, none-of 5 4 i refl, none-of 5 6 m refl, none-of 5 15 t refl) refl
 
 -- none is a bad one
 HasFourBytes : Option (List ℕ) → Type 0
@@ -167,9 +189,11 @@ good-piece set kind (Some payload) h = rw h (either (has_four_bytes set kind))
     either true = refl
     either false = refl
 
-good-pieces : (set : Bool) (d g i m : Option (List ℕ)) → HasFourBytes d → HasFourBytes g → HasFourBytes i → HasFourBytes m → list_any (is_bad set) (pieces d g i m) ≡ false
-good-pieces set d g i m hd hg hi hm =
-    any-pieces (is_bad set) d g i m ∙ rw (good-piece set 1 d hd, good-piece set 5 g hg, good-piece set 4 i hi, good-piece set 6 m hm) refl
+good-pieces : (set : Bool) (d g i m t : Option (List ℕ)) →
+    HasFourBytes d → HasFourBytes g → HasFourBytes i → HasFourBytes m → HasFourBytes t → list_any (is_bad set) (pieces d g i m t) ≡ false
+good-pieces set d g i m t hd hg hi hm ht =
+    any-pieces (is_bad set) d g i m t
+    ∙ rw (good-piece set 1 d hd, good-piece set 5 g hg, good-piece set 4 i hi, good-piece set 6 m hm, good-piece set 15 t ht) refl
 
 number-four : (o : Option ℕ) → HasFourBytes (number_payload o)
 unfolding HasFourBytes
@@ -189,7 +213,8 @@ gateway-four false = tt
 pub none-bad : (set : Bool) (raw : RawRoute) → list_any (is_bad set) (pieces_of raw) ≡ false
 none-bad set raw =
     good-pieces set (destination_payload (raw.prefix.len == 0) raw.prefix.base) (gateway_payload raw.via) (number_payload raw.oif) (number_payload raw.metric)
-    (destination-four (raw.prefix.len == 0) raw.prefix.base) (gateway-four raw.via) (number-four raw.oif) (number-four raw.metric)
+    (number_payload (wide_table raw.table)) (destination-four (raw.prefix.len == 0) raw.prefix.base) (gateway-four raw.via) (number-four raw.oif)
+    (number-four raw.metric) (number-four (wide_table raw.table))
 
 -- the number that was written is read
 pub number-read : (o : Option ℕ) → NumberFits o → option_and_then number_in (number_payload o) ≡ o

@@ -9,7 +9,8 @@ use Rattle.rt_netlink.specs.declared.attributes.AttributeText.{AttributeText}
 abbrev pub IsFront : List ℕ → Option AttributeText → Type 0
 IsFront bytes None = first_attribute bytes ≡ BadLength
 IsFront bytes (Some front) =
-    (first_attribute bytes ≡ Holds front.kind front.payload.now) × (front.rest.now ≡ drop (padded (attribute_length bytes)) bytes) × (length front.rest.now < length bytes)
+    (first_attribute bytes ≡ Holds front.kind front.payload.now)
+    × (front.rest.now ≡ drop (padded (attribute_length bytes)) bytes) × (length front.rest.now < length bytes)
 
 abbrev pub nothing_kept : RouteAttributes
 nothing_kept = record {

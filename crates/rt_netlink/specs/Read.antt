@@ -28,13 +28,16 @@ abbrev pub with_items : List Item → Payload → Payload
 with_items items more = record { items = items ++ more.items; refused = more.refused }
 
 -- what is said from a place on, where these bytes are left of so many
-abbrev pub said_from : ℕ → List ℕ → Payload
-said_from all rest = said_after (all - length rest) 0 rest
+abbrev pub said_from : List ℕ → ℕ → List ℕ → Payload
+said_from tables all rest = said_after tables (all - length rest) 0 rest
 
--- What is said from here on, where these bytes are left of a payload of so many: the next message, and then what is said
--- after it; or the refusal of the next message alone; or nothing.
-abbrev pub TellsNext : ℕ → List ℕ → NextMessage → Type 0
-TellsNext all left (next.Says what rest) =
-    (said_from all left ≡ before (record { at = all - length left; what = what }) (said_from all rest.now)) × (length rest.now < length left) × IsSayable what
-TellsNext all left (next.Refused cause) = said_from all left ≡ record { items = []; refused = Some (record { at = all - length left; cause = cause }) }
-TellsNext all left next.End = said_from all left ≡ nothing_more
+-- What is said from here on, where these bytes are left of a payload of so many: the next message, and then what is
+-- said after it; or the refusal of the next message alone; or nothing.
+abbrev pub TellsNext : List ℕ → ℕ → List ℕ → NextMessage → Type 0
+TellsNext tables all left (next.Says what rest) =
+    (said_from tables all left
+    ≡ before (record { at = all - length left; what = what }) (said_from tables all rest.now))
+    × (length rest.now < length left) × IsSayable what
+TellsNext tables all left (next.Refused cause) =
+    said_from tables all left ≡ record { items = []; refused = Some (record { at = all - length left; cause = cause }) }
+TellsNext tables all left next.End = said_from tables all left ≡ nothing_more

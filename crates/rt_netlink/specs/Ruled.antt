@@ -15,6 +15,6 @@ Rules rows bytes (Ok x) P = (first_ruling rows bytes ≡ None) × P x
 Rules rows bytes (Err ruling) P = first_ruling rows bytes ≡ Some (answered ruling)
 
 -- the same of the whole table
-abbrev pub RulesWhole : {A : Type 0} → List ℕ → Result A Answer → (A → Type 0) → Type 0
-RulesWhole bytes (Ok x) P = (ruling_of bytes ≡ None) × P x
-RulesWhole bytes (Err ruling) P = ruling_of bytes ≡ Some (answered ruling)
+abbrev pub RulesWhole : {A : Type 0} → List ℕ → List ℕ → Result A Answer → (A → Type 0) → Type 0
+RulesWhole tables bytes (Ok x) P = (ruling_of tables bytes ≡ None) × P x
+RulesWhole tables bytes (Err ruling) P = ruling_of tables bytes ≡ Some (answered ruling)

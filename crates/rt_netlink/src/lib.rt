@@ -8,9 +8,10 @@ mod attributes;
 mod message;
 mod numbers;
 mod read;
+mod route_message;
 mod ruling;
 mod write;
 
-pub use dn_formats::{Item, ItemKind, Payload, RawRoute, Refused, RouteKind, Skip};
+pub use dn_formats::{Item, ItemKind, MAIN_TABLE, Payload, RawRoute, Refused, RouteKind, Skip};
 pub use read::{NextMessage, next_message, read_payload};
 pub use write::write_route;

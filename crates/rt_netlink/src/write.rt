@@ -1,8 +1,8 @@
 //! The message of a route.
 
-ghost use Rattle.std.specs.Prelude.{◌≡◌, ◌+◌, ◌<◌, ◌++◌, ◌∷◌, [], None, length, IfOk, OnOk};
-ghost use Rattle.dn_formats.specs.Message.{message_text, header_text, route_part, attribute, destination_text, gateway_text, number_text, attributes_text, kind_number};
-ghost use Rattle.dn_formats.specs.Payload.{IsPayload, CanBeSaid};
+ghost use Rattle.std.specs.Prelude.{◌≡◌, ◌+◌, ◌<◌, ◌≤◌, ◌++◌, ◌∷◌, ℕ, List, [], None, true, length, IfOk, OnOk};
+ghost use Rattle.dn_formats.specs.Message.{message_text, header_text, route_part, attribute, destination_text, gateway_text, number_text, attributes_text, kind_number, narrow_table, wide_table};
+ghost use Rattle.dn_formats.specs.Payload.{IsPayload, CanBeSaid, is_read};
 ghost use Rattle.dn_formats.specs.declared.payload.ItemKind.TheVariants.{Route};
 
 use crate::numbers::{address_bytes, number_bytes};
@@ -18,6 +18,8 @@ const INTERFACE: u8 = 4;
 const GATEWAY: u8 = 5;
 /// RTA_PRIORITY: the metric.
 const PRIORITY: u8 = 6;
+/// RTA_TABLE: the table, where it doesn't fit a byte.
+const TABLE: u8 = 15;
 
 /// The address that is written as a gateway's: 192.0.2.1, which is set aside for documentation (RFC 5737).
 const GATEWAY_ADDRESS: [u8; 4] = [192, 0, 2, 1];
@@ -47,11 +49,26 @@ fn number_of(kind: RouteKind) -> u8
     }
 }
 
-/// struct rtmsg of a route to a prefix of this length.
-fn route_bytes(len: u8, kind: RouteKind) -> [u8; 12]
-    ensures { result ≡ route_part len (kind_number kind) }
+/// A table's number where it fits a byte, else 0.
+fn narrow_table(table: u32) -> u8
+    ensures { result ≡ narrow_table table }
 {
-    [2, len, 0, 0, 254, 11, 0, number_of(kind), 0, 0, 0, 0]
+    if table > 255 { 0 } else { table as u8 }
+}
+
+/// A table's number where it doesn't fit a byte.
+fn wide_table(table: u32) -> Option<u32>
+    ensures { result ≡ wide_table table }
+{
+    if table > 255 { Some(table) } else { None }
+}
+
+/// struct rtmsg of a route to a prefix of this length in this table.
+fn route_bytes(len: u8, table: u32, kind: RouteKind) -> [u8; 12]
+    ensures { result ≡ route_part len table (kind_number kind) }
+{
+    let table = narrow_table(table);
+    [2, len, 0, 0, table, 11, 0, number_of(kind), 0, 0, 0, 0]
 }
 
 /// struct rtattr of this type with four bytes of payload.
@@ -62,6 +79,14 @@ fn attribute_bytes(kind: u8, payload: [u8; 4]) -> [u8; 8]
     [8, 0, kind, 0, a, b, c, d]
 }
 
+/// How many bytes the attribute of a number takes, where there is one.
+fn number_len(number: Option<u32>) -> u32
+    ensures value { (kind : ℕ) → result ≡ length (number_text kind number) }
+    ensures few { result ≤ 8 }
+{
+    if number.is_some() { 8 } else { 0 }
+}
+
 /// How many bytes the attributes of a route's message take.
 fn attributes_len(route: &RawRoute) -> u32
     ensures value { result ≡ length (attributes_text route.now) }
@@ -69,9 +94,8 @@ fn attributes_len(route: &RawRoute) -> u32
 {
     let destination = if route.prefix.len() == 0 { 0 } else { 8 };
     let gateway = if route.via { 8 } else { 0 };
-    let interface = if route.oif.is_some() { 8 } else { 0 };
-    let priority = if route.metric.is_some() { 8 } else { 0 };
-    destination + gateway + interface + priority
+    let next_hop = destination + gateway + number_len(route.oif);
+    next_hop + number_len(route.metric) + number_len(wide_table(route.table))
 }
 
 /// Writes a route's prefix, where its length isn't 0.
@@ -111,12 +135,14 @@ fn push_attributes(out: &mut Vec<u8>, route: &RawRoute) -> Result<(), OutOfMemor
     push_destination(out, route.prefix)?;
     push_gateway(out, route.via)?;
     push_number(out, INTERFACE, route.oif)?;
-    push_number(out, PRIORITY, route.metric)
+    push_number(out, PRIORITY, route.metric)?;
+    push_number(out, TABLE, wide_table(route.table))
 }
 
 /// The message of a route, as FRR's forwarding plane manager module would send it: a payload of this one message says
-/// this one route. A route to delete is unicast, and has neither gateway nor interface; one to set has a metric, and
-/// an interface if it is unicast.
+/// this one route, where its table (1 to 2^32 - 1) is read. A route to delete is unicast, and has neither gateway nor
+/// interface; one to set has a metric, and an interface if it is unicast. A table above 255 stands in an attribute,
+/// after all others.
 ///
 /// Source: rtnetlink(7), netlink(7), linux/rtnetlink.h.
 ///
@@ -126,11 +152,15 @@ fn push_attributes(out: &mut Vec<u8>, route: &RawRoute) -> Result<(), OutOfMemor
 pub fn write_route(alloc: Global, route: &RawRoute) -> Result<Vec<u8>, OutOfMemory>
     requires sayable { CanBeSaid route.now }
     ensures text { IfOk result (λ message. message.items ≡ message_text route.now) }
-    ensures says { IfOk result (λ message. IsPayload message.items (record { items = record { at = 0; what = Route route.now } ∷ []; refused = None })) }
+    ensures says { IfOk result (λ message. (tables : List ℕ) → is_read tables route.now.table ≡ true
+        → IsPayload tables message.items (record {
+          items = record { at = 0; what = Route route.now } ∷ [];
+          refused = None;
+        })) }
 {
     let mut message = Vec::new(alloc);
     message.extend_from_slice(&header(route.del, 28 + attributes_len(route)))?;
-    message.extend_from_slice(&route_bytes(route.prefix.len(), route.kind))?;
+    message.extend_from_slice(&route_bytes(route.prefix.len(), route.table, route.kind))?;
     push_attributes(&mut message, route)?;
     Ok(message)
 }

@@ -1,4 +1,4 @@
-use Rattle.std.proofs.Common.{◌≡◌, ◌+◌, ◌≤◌, All, length}
+use Rattle.std.proofs.Common.{◌≡◌, ◌+◌, ◌≤◌, [], All, length}
 use Rattle.dn_formats.specs.Feed.{gathered, nothing_gathered}
 use Rattle.dn_formats.specs.Payload.{payload_of}
 use Rattle.rt_netlink.specs.Read.{said_from}
@@ -9,8 +9,8 @@ use Rattle.route_feed.proofs.frame_step.step_said.Given as goal
 -- what is gathered, with what is left, comes to what the payload comes to; each message has at least one byte
 abbrev pub invariant-loop-what : goal.invariant-loop-what
 invariant-loop-what l =
-    let all = payload_of l.payload in
-    let rest = said_from (length l.payload) l.left in
+    let all = payload_of [] l.payload in
+    let rest = said_from [] (length l.payload) l.left in
     record {
       comes_to : gathered l.topology l.router l.gathered rest.items rest.refused ≡ gathered l.topology l.router nothing_gathered all.items all.refused;
       few : count l.gathered + length l.left ≤ length l.payload;

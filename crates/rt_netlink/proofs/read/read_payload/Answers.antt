@@ -11,6 +11,6 @@ loop-what-preserved c =
     let tells = c.in-Says.ensures all c.loop-what.invariant.within in
     record {
       within = omega (arith, tells.1, c.loop-what.invariant.within);
-      told = rw c.in_ok-push-in-Says.ensures.ok (item_told c.loop-what.items _ (said_from all c.in-Says.rest.now) (said_from all c.loop-what.left.now) tells.0 ∙ c.loop-what.invariant.told);
+      told = rw c.in_ok-push-in-Says.ensures.ok (item_told c.loop-what.items _ (said_from c.args.tables.now all c.in-Says.rest.now) (said_from c.args.tables.now all c.loop-what.left.now) tells.0 ∙ c.loop-what.invariant.told);
       sayable = rw c.in_ok-push-in-Says.ensures.ok (All-push (λ item. IsSayable item.what) c.loop-what.items _ c.loop-what.invariant.sayable tells.2);
     }

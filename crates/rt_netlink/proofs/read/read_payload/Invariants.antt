@@ -7,7 +7,7 @@ use Rattle.rt_netlink.proofs.read.read_payload.Given as goal
 abbrev pub invariant-loop-what : goal.invariant-loop-what
 invariant-loop-what l = record {
   within : length l.left ≤ length l.fn.bytes;
-  told : with_items l.items (said_from (length l.fn.bytes) l.left) ≡ payload_of l.fn.bytes;
+  told : with_items l.items (said_from l.tables (length l.fn.bytes) l.left) ≡ payload_of l.fn.tables l.fn.bytes;
   sayable : All (λ item. IsSayable item.what) l.items;
 }
 

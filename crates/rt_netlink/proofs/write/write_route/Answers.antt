@@ -6,4 +6,4 @@ use Rattle.rt_netlink.proofs.write.write_route.Goals as goal
 pub returns-clause-says : goal.returns-clause-says
 returns-clause-says c =
     let text : c.push_attributes.new.out.items ≡ message_text c.args.route.now = search rules in
-    rw text (route_said c.args.route.now c.requires.sayable (omega arith))
+    λ tables read. rw text (route_said tables c.args.route.now c.requires.sayable read (omega arith))

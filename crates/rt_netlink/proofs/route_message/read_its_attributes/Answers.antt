@@ -1,5 +1,5 @@
 use Rattle.std.proofs.lemmas.Slice.{between_is}
-use Rattle.rt_netlink.proofs.message.read_its_attributes.Goals as goal
+use Rattle.rt_netlink.proofs.route_message.read_its_attributes.Goals as goal
 
 pub returns : goal.returns
 returns c =

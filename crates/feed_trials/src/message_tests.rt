@@ -17,6 +17,13 @@ const DEFAULT: [u8; 52] = [
     8, 0, 5, 0, 0xc0, 0, 2, 1, 8, 0, 4, 0, 2, 0, 0, 0, 8, 0, 6, 0, 0x14, 0, 0, 0,
 ];
 
+/// The route of `SET_TEN` in table 1000, whose number stands in an attribute.
+const IN_A_WIDE_TABLE: [u8; 68] = [
+    0x44, 0, 0, 0, 0x18, 0, 1, 5, 0, 0, 0, 0, 0, 0, 0, 0, 2, 8, 0, 0, 0, 0x0b, 0, 1, 0, 0, 0, 0, 8,
+    0, 1, 0, 10, 0, 0, 0, 8, 0, 5, 0, 192, 0, 2, 1, 8, 0, 4, 0, 2, 0, 0, 0, 8, 0, 6, 0, 20, 0, 0,
+    0, 8, 0, 0x0f, 0, 0xe8, 3, 0, 0,
+];
+
 /// 10.0.0.0/8 by a gateway over this interface, in the main table.
 fn ten(interface: u32) -> RawRoute
     ensures { CanBeSaid result }
@@ -66,7 +73,8 @@ fn compare_in_tables(rt: &impl Abort, alloc: Global, payload: &[u8], tables: &[u
     requires { length payload.now ≤ 65531 }
 {
     let said = read_payload(alloc, payload, tables).expect(rt, "memory");
-    assert_eq!(rt; said.items.as_slice(), &[item_at(0, what)], "in {tables:?}");
+    let items = [item_at(0, what)];
+    assert_eq!(rt; said.items.as_slice(), items.as_slice(), "in {tables:?}");
     assert_eq!(rt; said.refused, None);
 }
 
@@ -138,26 +146,22 @@ fn writes_a_route_of_a_wide_table(rt: HostRuntime) {
     let alloc = rt.alloc();
     let route = ten_in(1000, 2);
     let message = write_route(alloc, &route).expect(&rt, "memory");
-    let message = message.as_slice();
-    assert_eq!(rt; message.len(), 68);
-    if message.len() == 68 {
-        assert_eq!(rt; message[0], 68);
-        assert_eq!(rt; message[20], 0);
-        assert_eq!(rt; &message[28..60], &SET_TEN[32..]);
-        assert_eq!(rt; &message[60..], &[8, 0, 15, 0, 0xe8, 3, 0, 0]);
-        compare_in_tables(&rt, alloc, message, &[1000], ItemKind::Route(route));
-        let other = ItemKind::Skipped(Skip::OtherTable);
-        compare_in_tables(&rt, alloc, message, &[10], other);
-    }
+    assert_eq!(rt; message.as_slice(), IN_A_WIDE_TABLE.as_slice());
+    compare_in_tables(
+        &rt,
+        alloc,
+        &IN_A_WIDE_TABLE,
+        &[1000],
+        ItemKind::Route(route),
+    );
+    let other = ItemKind::Skipped(Skip::OtherTable);
+    compare_in_tables(&rt, alloc, &IN_A_WIDE_TABLE, &[10], other);
 }
 
 #[test]
 fn writes_a_route_of_a_narrow_table(rt: HostRuntime) {
+    let mut frame = SET_TEN;
+    frame[24] = 255;
     let message = write_route(rt.alloc(), &ten_in(255, 2)).expect(&rt, "memory");
-    let message = message.as_slice();
-    assert_eq!(rt; message.len(), 60);
-    if message.len() == 60 {
-        assert_eq!(rt; message[20], 255);
-        assert_eq!(rt; &message[28..], &SET_TEN[32..]);
-    }
+    assert_eq!(rt; message.as_slice(), &frame[4..]);
 }

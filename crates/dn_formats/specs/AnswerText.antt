@@ -1,6 +1,6 @@
 -- What is printed of a query: its words, and its answer or its first unknown name.
 use Rattle.std.specs.Prelude.{ℕ, List, [], ◌∷◌, ◌++◌, ◌-◌, Option, None, Some, option_and_then, map, codes, decimal, slice_get, unwrap_or}
-use Rattle.std.specs.List.{flat_map, join_with_byte}
+use Rattle.std.specs.List.{flat_map}
 use Rattle.dn_model.specs.Lookup.{link_of}
 use Rattle.dn_model.specs.Query.{Question, names_of, text_of_name}
 use Rattle.dn_model.specs.declared.answer.Answer.{Answer}
@@ -12,37 +12,19 @@ use Rattle.base.specs.declared.path_end.PathEnd.TheVariants.{At, Loop}
 use Rattle.base.specs.declared.change.Change.{Change}
 use Rattle.base.specs.declared.ids.RouterId.{RouterId}
 use Rattle.dn_model.specs.declared.query.Ask.{Ask}
-use Rattle.dn_model.specs.declared.query.Ask.TheVariants.{Path, Reach, Uses, Loops, Blackholes, Waypoint, Delta}
+use Rattle.dn_model.specs.declared.query.Ask.TheVariants.{Uses}
 use Rattle.dn_model.specs.declared.query.Unknown.{Unknown}
 use Rattle.dn_model.specs.declared.query.Unknown.TheVariants.{Router, Link}
 use Rattle.base.specs.declared.run.Run.{Run}
 use Rattle.dn_model.specs.declared.topology.TopoLink.{TopoLink}
 use Rattle.dn_model.specs.declared.topology.Topology.{Topology}
+use Rattle.dn_formats.specs.QueryWords.{query_text}
 use Rattle.dn_formats.specs.Texts.{line, address_text, run_text, name_of_router, target_text}
 use Rattle.dn_formats.specs.declared.told.Outcome.{Outcome}
 use Rattle.dn_formats.specs.declared.told.Outcome.TheVariants as outcome
 use Rattle.dn_formats.specs.declared.told.Told.{Told}
 
 -- ---- a query
-
--- the words of what is asked
-abbrev pub ask_words : Ask → List (List ℕ)
-ask_words (Path r a) = codes "path" ∷ r ∷ address_text a ∷ []
-ask_words (Reach r s) = codes "reach" ∷ r ∷ s ∷ []
-ask_words (Uses l) = codes "uses" ∷ l ∷ []
-ask_words Loops = codes "loops" ∷ []
-ask_words (Blackholes r) = codes "blackholes" ∷ r ∷ []
-ask_words (Waypoint r s w) = codes "waypoint" ∷ r ∷ s ∷ w ∷ []
-ask_words Delta = codes "delta" ∷ []
-
--- `without` and the links that are taken as down, in one word, parted by commas; nothing where there are none
-abbrev pub without_words : List (List ℕ) → List (List ℕ)
-without_words [] = []
-without_words (l ∷ ls) = codes "without" ∷ join_with_byte 44 (l ∷ ls) ∷ []
-
--- the words of a query's line, joined by one space
-abbrev pub query_text : Question → List ℕ
-query_text q = join_with_byte 32 (without_words q.without ++ ask_words q.ask)
 
 -- the texts of a query's names, from left to right
 abbrev pub name_texts : Question → List (List ℕ)
@@ -90,12 +72,7 @@ uses_lines t (Some link) first second = end_lines t link.first.router first ++ e
 -- the link that a query asks about
 abbrev pub link_asked : Topology → Ask → Option TopoLink
 link_asked t (Uses n) = option_and_then (λ l. slice_get t.links l.0) (link_of t n)
-link_asked t (Path r a) = None
-link_asked t (Reach r s) = None
-link_asked t Loops = None
-link_asked t (Blackholes r) = None
-link_asked t (Waypoint r s w) = None
-link_asked t Delta = None
+link_asked t ask = None
 
 -- a cycle: its routers, its least address, and how many addresses go round
 abbrev pub cycle_line : Topology → Cycle → List ℕ

@@ -9,6 +9,7 @@ pub mod Frames
 pub mod Lawful
 pub mod Message
 pub mod Payload
+pub mod QueryLaw
 pub mod QueryWords
 pub mod Report
 pub mod ScriptCauses

@@ -1,61 +1,92 @@
--- What the words of a line ask.
-use Rattle.std.specs.Prelude.{ℕ, Bool, List, [], ◌∷◌, ◌&&◌, ◌==◌, if◌then◌else◌, codes, Option, None, Some, option_map}
-use Rattle.std.specs.List.{list_all, slice_split}
+-- What the words of a line ask, and the words of what is asked: both by one table of the kinds of queries.
+use Rattle.std.specs.Prelude.{ℕ, Bool, List, [], ◌∷◌, ◌++◌, ◌==◌, if◌then◌else◌, codes, find, map, Option, None, Some, option_map, option_and_then}
+use Rattle.std.specs.List.{join_with_byte, list_all, slice_split}
 use Rattle.std.specs.Str.{bytes_eq}
-use Rattle.dn_formats.specs.Decimal.{address_of}
 use Rattle.base.specs.Name.{is_name_text}
-use Rattle.dn_model.specs.Query.{Question}
+use Rattle.dn_model.specs.Query.{Question, names_asked, text_of_name}
 use Rattle.dn_model.specs.declared.query.Ask.{Ask}
 use Rattle.dn_model.specs.declared.query.Ask.TheVariants.{Path, Reach, Uses, Loops, Blackholes, Waypoint, Delta}
+use Rattle.dn_formats.specs.Decimal.{address_of}
+use Rattle.dn_formats.specs.Texts.{address_text}
+use Rattle.dn_formats.specs.declared.ask_kind.AskKind.{AskKind}
+use Rattle.dn_formats.specs.declared.ask_kind.AskKind.TheVariants as kind
 
--- ---- what each verb asks, by the words after it
+-- ---- the table
 
--- `path R A`
-abbrev pub path_of : List (List ℕ) → Option Ask
-path_of (r ∷ a ∷ []) = if is_name_text r then option_map (λ address. Path r address) (address_of a) else None
-path_of _ = None
+-- the kinds, each once
+abbrev pub ask_kinds : List AskKind
+ask_kinds =
+    kind.Path ∷ kind.Reach ∷ kind.Uses ∷ kind.Loops ∷ kind.Blackholes ∷ kind.Waypoint ∷ kind.Delta ∷ []
 
--- `reach R S`
-abbrev pub reach_of : List (List ℕ) → Option Ask
-reach_of (r ∷ s ∷ []) = if is_name_text r && is_name_text s then Some (Reach r s) else None
-reach_of _ = None
+-- the verb of each
+abbrev pub verb_of : AskKind → List ℕ
+verb_of kind.Path = codes "path"
+verb_of kind.Reach = codes "reach"
+verb_of kind.Uses = codes "uses"
+verb_of kind.Loops = codes "loops"
+verb_of kind.Blackholes = codes "blackholes"
+verb_of kind.Waypoint = codes "waypoint"
+verb_of kind.Delta = codes "delta"
 
--- `uses L`
-abbrev pub uses_of : List (List ℕ) → Option Ask
-uses_of (l ∷ []) = if is_name_text l then Some (Uses l) else None
-uses_of _ = None
+-- the words after a verb, from left to right, and what is asked with them
+pub data Operands : Type 0 where
+  RouterThen : (List ℕ → Operands) → Operands
+  LinkThen : (List ℕ → Operands) → Operands
+  AddressThen : (ℕ → Operands) → Operands
+  Asks : Ask → Operands
 
--- `loops`
-abbrev pub loops_of : List (List ℕ) → Option Ask
-loops_of [] = Some Loops
-loops_of _ = None
+-- the words after each verb
+abbrev pub operands_of : AskKind → Operands
+operands_of kind.Path = RouterThen (λ r. AddressThen (λ a. Asks (Path r a)))
+operands_of kind.Reach = RouterThen (λ r. RouterThen (λ s. Asks (Reach r s)))
+operands_of kind.Uses = LinkThen (λ l. Asks (Uses l))
+operands_of kind.Loops = Asks Loops
+operands_of kind.Blackholes = RouterThen (λ r. Asks (Blackholes r))
+operands_of kind.Waypoint = RouterThen (λ r. RouterThen (λ s. RouterThen (λ w. Asks (Waypoint r s w))))
+operands_of kind.Delta = Asks Delta
 
--- `blackholes R`
-abbrev pub blackholes_of : List (List ℕ) → Option Ask
-blackholes_of (r ∷ []) = if is_name_text r then Some (Blackholes r) else None
-blackholes_of _ = None
+-- the kind of what is asked
+abbrev pub kind_of : Ask → AskKind
+kind_of (Path r a) = kind.Path
+kind_of (Reach r s) = kind.Reach
+kind_of (Uses l) = kind.Uses
+kind_of Loops = kind.Loops
+kind_of (Blackholes r) = kind.Blackholes
+kind_of (Waypoint r s w) = kind.Waypoint
+kind_of Delta = kind.Delta
 
--- `waypoint R S W`
-abbrev pub waypoint_of : List (List ℕ) → Option Ask
-waypoint_of (r ∷ s ∷ w ∷ []) =
-    if is_name_text r && is_name_text s && is_name_text w then Some (Waypoint r s w) else None
-waypoint_of _ = None
+-- the addresses in what is asked
+abbrev pub addresses_in : Ask → List ℕ
+addresses_in (Path r a) = a ∷ []
+addresses_in ask = []
 
--- `delta`
-abbrev pub delta_of : List (List ℕ) → Option Ask
-delta_of [] = Some Delta
-delta_of _ = None
+-- ---- words to what is asked
+
+-- the kind with this verb
+abbrev pub kind_named : List ℕ → Option AskKind
+kind_named verb = find (λ kind. bytes_eq verb (verb_of kind)) ask_kinds
+
+-- what words ask where these are due: every one of them is what is due there, and none is left
+abbrev pub read_as : Operands → List (List ℕ) → Option Ask
+read_as (Asks ask) [] = Some ask
+read_as (Asks ask) (word ∷ words) = None
+read_as (RouterThen next) [] = None
+read_as (RouterThen next) (word ∷ words) = if is_name_text word then read_as (next word) words else None
+read_as (LinkThen next) [] = None
+read_as (LinkThen next) (word ∷ words) = if is_name_text word then read_as (next word) words else None
+read_as (AddressThen next) [] = None
+read_as (AddressThen next) (word ∷ words) = option_and_then (λ a. read_as (next a) words) (address_of word)
 
 -- what a verb asks of the words after it
 abbrev pub ask_of : List ℕ → List (List ℕ) → Option Ask
-ask_of verb words =
-    if bytes_eq verb (codes "path") then path_of words
-    else if bytes_eq verb (codes "reach") then reach_of words
-    else if bytes_eq verb (codes "uses") then uses_of words
-    else if bytes_eq verb (codes "loops") then loops_of words
-    else if bytes_eq verb (codes "blackholes") then blackholes_of words
-    else if bytes_eq verb (codes "waypoint") then waypoint_of words
-    else if bytes_eq verb (codes "delta") then delta_of words else None
+ask_of verb words = option_and_then (λ kind. read_as (operands_of kind) words) (kind_named verb)
+
+-- ---- what is asked to words
+
+-- the words of what is asked: the verb, the names, and then the addresses
+abbrev pub ask_words : Ask → List (List ℕ)
+ask_words ask =
+    verb_of (kind_of ask) ∷ map text_of_name (names_asked ask) ++ map address_text (addresses_in ask)
 
 -- ---- queries
 
@@ -72,13 +103,8 @@ asked_alone ask = record { without = []; ask = ask }
 
 -- a query with these links down; there is none for `delta`
 abbrev pub asked_without : List (List ℕ) → Ask → Option Question
-asked_without links (Path r a) = Some (record { without = links; ask = Path r a })
-asked_without links (Reach r s) = Some (record { without = links; ask = Reach r s })
-asked_without links (Uses l) = Some (record { without = links; ask = Uses l })
-asked_without links Loops = Some (record { without = links; ask = Loops })
-asked_without links (Blackholes r) = Some (record { without = links; ask = Blackholes r })
-asked_without links (Waypoint r s w) = Some (record { without = links; ask = Waypoint r s w })
 asked_without links Delta = None
+asked_without links ask = Some (record { without = links; ask = ask })
 
 -- what words ask with these links down
 abbrev pub asked_with : Option (List (List ℕ)) → Option Ask → Option Question
@@ -95,3 +121,21 @@ without_of _ = None
 unfoldable pub query_of : List ℕ → List (List ℕ) → Option Question
 query_of verb words =
     if bytes_eq verb (codes "without") then without_of words else option_map asked_alone (ask_of verb words)
+
+-- the query that words ask
+abbrev pub query_in : List (List ℕ) → Option Question
+query_in [] = None
+query_in (verb ∷ words) = query_of verb words
+
+-- `without` and the links that are taken as down, in one word, parted by commas; nothing where there are none
+abbrev pub without_words : List (List ℕ) → List (List ℕ)
+without_words [] = []
+without_words (l ∷ ls) = codes "without" ∷ join_with_byte 44 (l ∷ ls) ∷ []
+
+-- the words of a query
+abbrev pub query_words : Question → List (List ℕ)
+query_words q = without_words q.without ++ ask_words q.ask
+
+-- the words of a query's line, joined by one space
+abbrev pub query_text : Question → List ℕ
+query_text q = join_with_byte 32 (query_words q)

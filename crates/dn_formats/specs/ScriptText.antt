@@ -4,7 +4,7 @@ use Rattle.std.specs.List.{list_any, slice_split}
 use Rattle.std.specs.Option.{option_map, option_to_list}
 use Rattle.std.specs.Str.{bytes_eq}
 use Rattle.dn_formats.specs.Decimal.{number_within}
-use Rattle.dn_formats.specs.QueryWords.{query_of}
+use Rattle.dn_formats.specs.QueryWords.{query_in, query_of}
 use Rattle.dn_formats.specs.ScriptCauses.{bad_line, take_unknown, taken_twice, too_many_lines, too_long}
 use Rattle.base.specs.Name.{is_name_text}
 use Rattle.dn_model.specs.Query.{Question}
@@ -86,6 +86,10 @@ abbrev pub take_meaning : List (List ℕ) → List RouterId → List RouterId �
     → Result (Option Line) ℕ
 take_meaning routers feeds taken n None = Err bad_line
 take_meaning routers feeds taken n (Some operands) = take_count routers feeds taken n operands.0 (count_of operands.1)
+
+-- the query that a line asks, if its words ask one and it has no more than 1,024 bytes
+abbrev pub query_of_line : List ℕ → Option Question
+query_of_line line = if nat_lt 1024 (length line) then None else query_in (words_of line)
 
 -- a line that asks a query
 abbrev pub ask_meaning : ℕ → Option Question → Result (Option Line) ℕ

@@ -5,6 +5,7 @@
 //! one.
 #![tactic(auto)]
 
+mod ask_kind;
 mod asked;
 mod decimal;
 mod error_line;
@@ -12,6 +13,7 @@ pub mod frame_cause;
 mod laws;
 mod payload;
 mod print;
+mod query_laws;
 mod raw_object;
 mod raw_route;
 mod script;
@@ -21,6 +23,7 @@ mod told;
 pub mod topology_cause;
 mod topology_fault;
 
+pub use ask_kind::AskKind;
 pub use asked::Asked;
 pub use decimal::read_number;
 pub use error_line::ErrorLine;
@@ -33,6 +36,7 @@ pub use print::{
     print_address, print_prefix, print_run, print_target, push_address, push_bytes, push_decimal,
     push_labelled, push_link, push_prefix, push_router, push_run, push_target,
 };
+pub use query_laws::{printed_queries_are_read, read_queries_are_printed};
 pub use raw_object::RawObject;
 pub use raw_route::{MAIN_TABLE, RawRoute, RouteKind};
 pub use script::{Line, Script};

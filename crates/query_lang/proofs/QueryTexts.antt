@@ -1,23 +1,42 @@
 -- The words of a query, joined by spaces.
 use Rattle.std.proofs.Common.{◌≡◌, ◌≤◌, ◌-◌, ℕ, List, [], ◌∷◌, ◌++◌, Some, codes, length, map, unwrap_or, ap, sym, ◌∙◌, append_assoc, decimal, refl}
-use Rattle.std.specs.List.{join_with_byte, slice_get}
-use Rattle.std.proofs.lemmas.List.{get_or_append_left, get_or-append_right}
+use Rattle.std.specs.List.{flat_map, join_with_byte, slice_get}
+use Rattle.std.proofs.lemmas.List.{append-nil, get_or_append_left, get_or-append_right}
 use Rattle.std.proofs.lemmas.Option.{slice_get_within, get_or_from_slice_get, unwrap_or-slice_get}
 use Rattle.dn_model.specs.Query.{Question, names_asked, link_names, text_of_name}
 use Rattle.dn_model.specs.declared.query.Ask.{Ask}
 use Rattle.dn_model.specs.declared.query.Ask.TheVariants.{Path, Reach, Uses, Loops, Blackholes, Waypoint, Delta}
 use Rattle.dn_formats.specs.Texts.{address_text}
-use Rattle.dn_formats.specs.AnswerText.{ask_words, name_at, name_texts}
+use Rattle.dn_formats.specs.AnswerText.{name_at, name_texts}
+use Rattle.dn_formats.specs.QueryWords.{addresses_in, ask_words, kind_of, verb_of}
+use Rattle.query_lang.specs.Words.{word_after}
 
 -- words before those of what is asked, each with a space after it
 pub words-before : (links : List ℕ) (ask : Ask) → join_with_byte 32 ((codes "without" ∷ links ∷ []) ++ ask_words ask) ≡ codes "without " ++ (links ++ (32 ∷ join_with_byte 32 (ask_words ask)))
-words-before links (Path r a) = refl
-words-before links (Reach r s) = refl
-words-before links (Uses l) = refl
-words-before links Loops = refl
-words-before links (Blackholes r) = refl
-words-before links (Waypoint r s w) = refl
-words-before links Delta = refl
+words-before links ask = refl
+
+one-joined : (v r : List ℕ) → (((v ++ (32 ∷ r)) ++ []) ++ []) ++ [] ≡ v ++ (32 ∷ r)
+one-joined v r = simp append-nil
+
+path-joined : (v r a : List ℕ) → (((v ++ (32 ∷ r)) ++ []) ++ []) ++ ((32 ∷ a) ++ []) ≡ v ++ (32 ∷ (r ++ (32 ∷ a)))
+path-joined v r a = simp (append-nil, append_assoc)
+
+two-joined : (v r s : List ℕ) → (((v ++ (32 ∷ r)) ++ (32 ∷ s)) ++ []) ++ [] ≡ v ++ (32 ∷ (r ++ (32 ∷ s)))
+two-joined v r s = simp (append-nil, append_assoc)
+
+three-joined : (v r s w : List ℕ) → (((v ++ (32 ∷ r)) ++ (32 ∷ s)) ++ (32 ∷ w)) ++ [] ≡ v ++ (32 ∷ (r ++ (32 ∷ (s ++ (32 ∷ w)))))
+three-joined v r s w = simp (append-nil, append_assoc)
+
+-- the words of what is asked, added one after another
+pub ask_joined : (ask : Ask) → ((((verb_of (kind_of ask) ++ word_after (slice_get (map text_of_name (names_asked ask)) 0)) ++ word_after (slice_get (map text_of_name (names_asked ask)) 1))
+    ++ word_after (slice_get (map text_of_name (names_asked ask)) 2)) ++ flat_map (λ a. codes " " ++ address_text a) (addresses_in ask)) ≡ join_with_byte 32 (ask_words ask)
+ask_joined (Path r a) = path-joined (codes "path") r (address_text a)
+ask_joined (Reach r s) = two-joined (codes "reach") r s
+ask_joined (Uses l) = one-joined (codes "uses") l
+ask_joined Loops = refl
+ask_joined (Blackholes r) = one-joined (codes "blackholes") r
+ask_joined (Waypoint r s w) = three-joined (codes "waypoint") r s w
+ask_joined Delta = refl
 
 links-texts : (links : List (List ℕ)) (rest : List (List ℕ)) (ask : Ask) → map text_of_name (names_asked ask) ≡ rest → map text_of_name (link_names links ++ names_asked ask) ≡ links ++ rest
 links-texts [] rest ask h = h

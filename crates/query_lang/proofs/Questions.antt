@@ -1,58 +1,80 @@
 -- Queries that words ask.
-use Rattle.std.proofs.Common.{◌≡◌, ◌≢◌, ◌≤◌, ◌+◌, ℕ, Bool, true, false, Option, None, Some, List, [], ◌∷◌, ◌++◌, length, if◌then◌else◌, ◌&&◌, refl, arith, ap, ◌∙◌}
+use Rattle.std.specs.Prelude.{IfErr, IsErrAnd, Result, Ok, Err, option_map, option_and_then}
+use Rattle.std.proofs.Common.{◌≡◌, ◌≢◌, ◌≤◌, ◌+◌, ℕ, Bool, true, false, Option, None, Some, List, [], ◌∷◌, ◌++◌, length, if◌then◌else◌, ◌&&◌, refl, arith, ap, subst, sym, ◌∙◌}
 use Rattle.std.specs.List.{list_all, slice_split}
 use Rattle.std.proofs.lemmas.List.{length-append, length-map}
+use Rattle.std.proofs.lemmas.Option.{same_Some}
 use Rattle.base.specs.Name.{is_name_text}
 use Rattle.dn_model.specs.Query.{IsQuestion, IsAskedWithout, names_asked, link_names, LinkName}
 use Rattle.dn_model.specs.declared.query.Ask.{Ask}
 use Rattle.dn_model.specs.declared.query.Ask.TheVariants.{Path, Reach, Uses, Loops, Blackholes, Waypoint, Delta}
-use Rattle.dn_formats.specs.QueryWords.{path_of, reach_of, uses_of, loops_of, blackholes_of, waypoint_of, delta_of, is_comma, names_in}
+use Rattle.dn_formats.specs.Decimal.{address_of}
+use Rattle.dn_formats.specs.QueryWords.{Operands, RouterThen, LinkThen, AddressThen, is_comma, names_in, read_as}
 use Rattle.dn_formats.specs.ScriptText.{two_of}
+use Rattle.query_lang.specs.Words.{address_first, name_first, IsUnread}
+use Rattle.query_lang.specs.declared.query_line.Unread.{Unread}
+use Rattle.query_lang.specs.declared.query_line.Unread.TheVariants.{NoQuery, OutOfMemory}
 
--- ---- verbs that have another number of words after them
+-- ---- words after a verb
 
-pub path_of-none : (ws : List (List ℕ)) → length ws ≢ 2 → path_of ws ≡ None
-path_of-none [] h = refl
-path_of-none (a ∷ []) h = refl
-path_of-none (a ∷ b ∷ []) h = absurd (h refl)
-path_of-none (a ∷ b ∷ c ∷ ds) h = refl
+-- a router or a link is due: the first word is its name
+pub router-read : (next : List ℕ → Operands) (words rest : List (List ℕ)) (name : List ℕ) → name_first words ≡ Some (name, rest) → read_as (RouterThen next) words ≡ read_as (next name) rest
+router-read next [] rest name is = absurd (cc)
+router-read next (w ∷ ws) rest name is = by-name (is_name_text w) refl is
+  where
+    by-name : (b : Bool) → is_name_text w ≡ b → if◌then◌else◌ {A = Option (List ℕ × List (List ℕ))} b (Some (w, ws)) None ≡ Some (name, rest) → (if b then read_as (next w) ws else None) ≡ read_as (next name) rest
+    by-name true e is = ap (λ (q : List ℕ × List (List ℕ)). read_as (next q.0) q.1) (same_Some {A = List ℕ × List (List ℕ)} (w, ws) (name, rest) is)
+    by-name false e is = absurd (cc)
 
-pub reach_of-none : (ws : List (List ℕ)) → length ws ≢ 2 → reach_of ws ≡ None
-reach_of-none [] h = refl
-reach_of-none (a ∷ []) h = refl
-reach_of-none (a ∷ b ∷ []) h = absurd (h refl)
-reach_of-none (a ∷ b ∷ c ∷ ds) h = refl
+pub link-read : (next : List ℕ → Operands) (words rest : List (List ℕ)) (name : List ℕ) → name_first words ≡ Some (name, rest) → read_as (LinkThen next) words ≡ read_as (next name) rest
+link-read next [] rest name is = absurd (cc)
+link-read next (w ∷ ws) rest name is = router-read next (w ∷ ws) rest name is
 
+pub router-unread : (next : List ℕ → Operands) (words : List (List ℕ)) (e : Unread) → IsUnread e (name_first words) → IsUnread e (read_as (RouterThen next) words)
+router-unread next words OutOfMemory is = tt
+router-unread next [] NoQuery is = refl
+router-unread next (w ∷ ws) NoQuery is = by-name (is_name_text w) is
+  where
+    by-name : (b : Bool) → if◌then◌else◌ {A = Option (List ℕ × List (List ℕ))} b (Some (w, ws)) None ≡ None → (if b then read_as (next w) ws else None) ≡ None
+    by-name true is = absurd (cc)
+    by-name false is = refl
+
+pub link-unread : (next : List ℕ → Operands) (words : List (List ℕ)) (e : Unread) → IsUnread e (name_first words) → IsUnread e (read_as (LinkThen next) words)
+link-unread next words OutOfMemory is = tt
+link-unread next [] NoQuery is = refl
+link-unread next (w ∷ ws) NoQuery is = router-unread next (w ∷ ws) NoQuery is
+
+-- an address is due
+pub address-read : (next : ℕ → Operands) (words rest : List (List ℕ)) (a : ℕ) → address_first words ≡ Some (a, rest) → read_as (AddressThen next) words ≡ read_as (next a) rest
+address-read next [] rest a is = absurd (cc)
+address-read next (w ∷ ws) rest a is = by-address (address_of w) is
+  where
+    by-address : (o : Option ℕ) → option_map {U = ℕ × List (List ℕ)} (λ x. (x, ws)) o ≡ Some (a, rest) → option_and_then (λ x. read_as (next x) ws) o ≡ read_as (next a) rest
+    by-address None is = absurd (cc)
+    by-address (Some x) is = ap (λ (q : ℕ × List (List ℕ)). read_as (next q.0) q.1) (same_Some {A = ℕ × List (List ℕ)} (x, ws) (a, rest) is)
+
+pub address-unread : (next : ℕ → Operands) (words : List (List ℕ)) (e : Unread) → IsUnread e (address_first words) → IsUnread e (read_as (AddressThen next) words)
+address-unread next words OutOfMemory is = tt
+address-unread next [] NoQuery is = refl
+address-unread next (w ∷ ws) NoQuery is = by-address (address_of w) is
+  where
+    by-address : (o : Option ℕ) → option_map {U = ℕ × List (List ℕ)} (λ x. (x, ws)) o ≡ None → option_and_then (λ x. read_as (next x) ws) o ≡ None
+    by-address None is = refl
+    by-address (Some x) is = absurd (cc)
+
+-- an error that is handed on says the same of what comes to the same
+pub unread-again : (result : Result Ask Unread) (e : Unread) (found last : Option Ask) → found ≡ last → IsErrAnd result (λ d. d ≡ e) → IsUnread e last → IfErr result (λ d. IsUnread d found)
+unread-again (Ok ask) e found last same is unread = absurd is
+unread-again (Err d) e found last same is unread = subst (λ (x : Unread). IsUnread x found) (sym is) (subst (IsUnread e) (sym same) unread)
+
+pub ruleset words_due = (router-read, link-read, address-read, router-unread, link-unread, address-unread)
+
+-- `take` has two words after it
 pub two_of-none : (ws : List (List ℕ)) → length ws ≢ 2 → two_of ws ≡ None
 two_of-none [] h = refl
 two_of-none (a ∷ []) h = refl
 two_of-none (a ∷ b ∷ []) h = absurd (h refl)
 two_of-none (a ∷ b ∷ c ∷ ds) h = refl
-
-pub uses_of-none : (ws : List (List ℕ)) → length ws ≢ 1 → uses_of ws ≡ None
-uses_of-none [] h = refl
-uses_of-none (a ∷ []) h = absurd (h refl)
-uses_of-none (a ∷ b ∷ cs) h = refl
-
-pub blackholes_of-none : (ws : List (List ℕ)) → length ws ≢ 1 → blackholes_of ws ≡ None
-blackholes_of-none [] h = refl
-blackholes_of-none (a ∷ []) h = absurd (h refl)
-blackholes_of-none (a ∷ b ∷ cs) h = refl
-
-pub waypoint_of-none : (ws : List (List ℕ)) → length ws ≢ 3 → waypoint_of ws ≡ None
-waypoint_of-none [] h = refl
-waypoint_of-none (a ∷ []) h = refl
-waypoint_of-none (a ∷ b ∷ []) h = refl
-waypoint_of-none (a ∷ b ∷ c ∷ []) h = absurd (h refl)
-waypoint_of-none (a ∷ b ∷ c ∷ d ∷ es) h = refl
-
-pub loops_of-none : (ws : List (List ℕ)) → ws ≢ [] → loops_of ws ≡ None
-loops_of-none [] h = absurd (h refl)
-loops_of-none (a ∷ more) h = refl
-
-pub delta_of-none : (ws : List (List ℕ)) → ws ≢ [] → delta_of ws ≡ None
-delta_of-none [] h = absurd (h refl)
-delta_of-none (a ∷ more) h = refl
 
 -- ---- names parted by commas
 
@@ -101,4 +123,4 @@ is-question links ask h asked =
     let same : length (link_names links) ≡ length links = length-map links (λ n. LinkName n) in
     record { few = omega arith; without = asked }
 
-pub ruleset operands_missing = (path_of-none, reach_of-none, two_of-none, uses_of-none, blackholes_of-none, waypoint_of-none, loops_of-none, delta_of-none)
+pub ruleset operands_missing = two_of-none

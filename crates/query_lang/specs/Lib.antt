@@ -1,2 +1,3 @@
 pub mod NameIndex
 pub mod ScriptRefused
+pub mod Words

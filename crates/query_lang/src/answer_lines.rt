@@ -3,32 +3,116 @@
 //! A writer `push_..` adds its text at the end of `out`. After `OutOfMemory`, for which alone it fails, a part of the
 //! text may have been added. A router or link that the topology hasn't has an empty name.
 
-ghost use Rattle.std.specs.Prelude.{◌≡◌, ◌++◌, ◌∷◌, [], Option, OnOk, IfNone, codes, decimal, option_copied};
+ghost use Rattle.std.specs.Prelude.{◌≡◌, ◌++◌, ℕ, List, OnOk, codes, decimal, option_copied};
 ghost use Rattle.std.specs.List.{flat_map};
-ghost use Rattle.dn_formats.specs.AnswerText.{answer_lines, change_line, cycle_line, end_lines, hole_lines, hop_text, lines_or_none, link_asked, path_end_text, path_lines, run_line, uses_lines};
-ghost use Rattle.dn_formats.specs.Texts.{line, address_text};
+ghost use Rattle.dn_formats.specs.AnswerText.{answer_lines, end_lines, lines_or_none, link_asked, path_end_text, path_lines, uses_lines};
+ghost use Rattle.dn_formats.specs.Texts.{address_text};
+ghost use Rattle.dn_model.specs.declared.topology.Topology.{Topology as TopologyIs};
 
 use dn_formats::{push_address, push_bytes, push_labelled, push_router, push_run, push_target};
 use dn_model::{
     Answer, Ask, Change, Cycle, Hole, OutOfMemory, PathEnd, RouterId, Run, TopoLink, Topology, link,
 };
 
-/// Adds a space and a router's name.
-fn push_hop(out: &mut Vec<u8>, t: &Topology, router: RouterId) -> Result<(), OutOfMemory>
-    ensures { OnOk result (out.new.items ≡ out.old.items ++ hop_text t.now router) }
-{
-    push_bytes(out, b" ")?;
-    push_router(out, t, router)
+/// What has a text in an answer, with the names of a topology.
+trait Printed {
+    ghost text: { TopologyIs → Self → List ℕ };
+
+    /// Adds the text.
+    fn push(&self, out: &mut Vec<u8>, t: &Topology) -> Result<(), OutOfMemory>
+        ensures { OnOk result (out.new.items ≡ out.old.items ++ text t.now self.now) };
 }
 
-/// Adds routers, each after a space.
-fn push_hops(out: &mut Vec<u8>, t: &Topology, hops: &[RouterId]) -> Result<(), OutOfMemory>
-    ensures { OnOk result (out.new.items ≡ out.old.items ++ flat_map (hop_text t.now) hops.now) }
+/// Adds the text of each.
+fn push_each<T: Printed>(out: &mut Vec<u8>, t: &Topology, items: &[T]) -> Result<(), OutOfMemory>
+    ensures { OnOk result (out.new.items ≡ out.old.items ++ flat_map (T.text t.now) items.now) }
 {
-    for router in hops {
-        push_hop(out, t, *router)?;
+    for item in items {
+        item.push(out, t)?;
     }
     Ok(())
+}
+
+/// Adds the text of each, or the line `none` where there is none.
+fn push_lines<T: Printed>(out: &mut Vec<u8>, t: &Topology, items: &[T]) -> Result<(), OutOfMemory>
+    ensures { OnOk result (out.new.items ≡ out.old.items ++ lines_or_none (T.text t.now) items.now) }
+{
+    match items {
+        [] => push_bytes(out, b"none\n"),
+        [_, ..] => push_each(out, t, items),
+    }
+}
+
+/// A router on a walk or a cycle: a space and its name.
+impl Printed for RouterId {
+    ghost use Rattle.dn_formats.specs.AnswerText.{hop_text};
+
+    ghost text = { hop_text };
+
+    fn push(&self, out: &mut Vec<u8>, t: &Topology) -> Result<(), OutOfMemory> {
+        push_bytes(out, b" ")?;
+        push_router(out, t, *self)
+    }
+}
+
+/// A run: its line.
+impl Printed for Run {
+    ghost use Rattle.dn_formats.specs.AnswerText.{run_line};
+
+    ghost text = { λ _ run. run_line run };
+
+    fn push(&self, out: &mut Vec<u8>, _t: &Topology) -> Result<(), OutOfMemory> {
+        push_run(out, *self)?;
+        push_bytes(out, b"\n")
+    }
+}
+
+/// A cycle: the line of its routers, its least address, and how many addresses go round.
+impl Printed for Cycle {
+    ghost use Rattle.dn_formats.specs.AnswerText.{cycle_line};
+
+    ghost text = { cycle_line };
+
+    fn push(&self, out: &mut Vec<u8>, t: &Topology) -> Result<(), OutOfMemory> {
+        push_bytes(out, b"cycle")?;
+        push_each(out, t, self.routers.as_slice())?;
+        push_round(out, self)?;
+        push_bytes(out, b"\n")
+    }
+}
+
+/// A black hole: its router, the cause, and the runs that end there.
+impl Printed for Hole {
+    ghost use Rattle.dn_formats.specs.AnswerText.{hole_lines};
+
+    ghost text = { hole_lines };
+
+    fn push(&self, out: &mut Vec<u8>, t: &Topology) -> Result<(), OutOfMemory> {
+        push_bytes(out, b"at ")?;
+        push_router(out, t, self.router)?;
+        push_bytes(out, b" ")?;
+        push_target(out, t, self.cause)?;
+        push_bytes(out, b"\n")?;
+        push_each(out, t, self.runs.as_slice())
+    }
+}
+
+/// A change: the line of its router, its run of addresses, and what the router does with them before and after.
+impl Printed for Change {
+    ghost use Rattle.dn_formats.specs.AnswerText.{change_line};
+
+    ghost text = { change_line };
+
+    fn push(&self, out: &mut Vec<u8>, t: &Topology) -> Result<(), OutOfMemory> {
+        push_router(out, t, self.router)?;
+        push_bytes(out, b" ")?;
+        push_run(out, self.run)?;
+        push_bytes(out, b" ")?;
+        push_target(out, t, self.before)?;
+        push_bytes(out, b" -> ")?;
+        push_target(out, t, self.after)?;
+        push_bytes(out, b"\n")
+    }
 }
 
 /// Adds how a walk ends.
@@ -51,38 +135,10 @@ fn push_path(
     ensures { OnOk result (out.new.items ≡ out.old.items ++ path_lines t.now hops.now end) }
 {
     push_bytes(out, b"hops")?;
-    push_hops(out, t, hops)?;
+    push_each(out, t, hops)?;
     push_bytes(out, b"\nend ")?;
     push_path_end(out, t, end)?;
     push_bytes(out, b"\n")
-}
-
-/// Adds the line of a run.
-fn push_run_line(out: &mut Vec<u8>, run: Run) -> Result<(), OutOfMemory>
-    ensures { OnOk result (out.new.items ≡ out.old.items ++ run_line run) }
-{
-    push_run(out, run)?;
-    push_bytes(out, b"\n")
-}
-
-/// Adds the line of each run.
-fn push_each_run(out: &mut Vec<u8>, runs: &[Run]) -> Result<(), OutOfMemory>
-    ensures { OnOk result (out.new.items ≡ out.old.items ++ flat_map run_line runs.now) }
-{
-    for run in runs {
-        push_run_line(out, *run)?;
-    }
-    Ok(())
-}
-
-/// Adds the line of each run, or `none` where there is none.
-fn push_runs(out: &mut Vec<u8>, runs: &[Run]) -> Result<(), OutOfMemory>
-    ensures { OnOk result (out.new.items ≡ out.old.items ++ lines_or_none run_line runs.now) }
-{
-    match runs {
-        [] => push_bytes(out, b"none\n"),
-        [_, ..] => push_each_run(out, runs),
-    }
 }
 
 /// Adds the lines of a router at an end of a link, with the runs that it sends over it.
@@ -97,7 +153,7 @@ fn push_link_end(
     push_bytes(out, b"from ")?;
     push_router(out, t, router)?;
     push_bytes(out, b"\n")?;
-    push_runs(out, runs)
+    push_lines(out, t, runs)
 }
 
 /// The link that a query asks about.
@@ -142,102 +198,6 @@ fn push_round(out: &mut Vec<u8>, cycle: &Cycle) -> Result<(), OutOfMemory>
     Ok(())
 }
 
-/// Adds the line of a cycle: its routers, its least address, and how many addresses go round.
-fn push_cycle(out: &mut Vec<u8>, t: &Topology, cycle: &Cycle) -> Result<(), OutOfMemory>
-    ensures { OnOk result (out.new.items ≡ out.old.items ++ cycle_line t.now cycle.now) }
-{
-    push_bytes(out, b"cycle")?;
-    push_hops(out, t, cycle.routers.as_slice())?;
-    push_round(out, cycle)?;
-    push_bytes(out, b"\n")
-}
-
-/// Adds the line of each cycle.
-fn push_each_cycle(out: &mut Vec<u8>, t: &Topology, cycles: &[Cycle]) -> Result<(), OutOfMemory>
-    ensures { OnOk result (out.new.items ≡ out.old.items ++ flat_map (cycle_line t.now) cycles.now) }
-{
-    for cycle in cycles {
-        push_cycle(out, t, cycle)?;
-    }
-    Ok(())
-}
-
-/// Adds the line of each cycle, or `none` where there is none.
-fn push_cycles(out: &mut Vec<u8>, t: &Topology, cycles: &[Cycle]) -> Result<(), OutOfMemory>
-    ensures { OnOk result (out.new.items ≡ out.old.items ++ lines_or_none (cycle_line t.now) cycles.now) }
-{
-    match cycles {
-        [] => push_bytes(out, b"none\n"),
-        [_, ..] => push_each_cycle(out, t, cycles),
-    }
-}
-
-/// Adds the lines of a black hole: its router, the cause, and the runs that end there.
-fn push_hole(out: &mut Vec<u8>, t: &Topology, hole: &Hole) -> Result<(), OutOfMemory>
-    ensures { OnOk result (out.new.items ≡ out.old.items ++ hole_lines t.now hole.now) }
-{
-    push_bytes(out, b"at ")?;
-    push_router(out, t, hole.router)?;
-    push_bytes(out, b" ")?;
-    push_target(out, t, hole.cause)?;
-    push_bytes(out, b"\n")?;
-    push_each_run(out, hole.runs.as_slice())
-}
-
-/// Adds the lines of each black hole.
-fn push_each_hole(out: &mut Vec<u8>, t: &Topology, holes: &[Hole]) -> Result<(), OutOfMemory>
-    ensures { OnOk result (out.new.items ≡ out.old.items ++ flat_map (hole_lines t.now) holes.now) }
-{
-    for hole in holes {
-        push_hole(out, t, hole)?;
-    }
-    Ok(())
-}
-
-/// Adds the lines of each black hole, or `none` where there is none.
-fn push_holes(out: &mut Vec<u8>, t: &Topology, holes: &[Hole]) -> Result<(), OutOfMemory>
-    ensures { OnOk result (out.new.items ≡ out.old.items ++ lines_or_none (hole_lines t.now) holes.now) }
-{
-    match holes {
-        [] => push_bytes(out, b"none\n"),
-        [_, ..] => push_each_hole(out, t, holes),
-    }
-}
-
-/// Adds the line of a change: the router, its run of addresses, and what it does with them before and after.
-fn push_change(out: &mut Vec<u8>, t: &Topology, change: &Change) -> Result<(), OutOfMemory>
-    ensures { OnOk result (out.new.items ≡ out.old.items ++ change_line t.now change.now) }
-{
-    push_router(out, t, change.router)?;
-    push_bytes(out, b" ")?;
-    push_run(out, change.run)?;
-    push_bytes(out, b" ")?;
-    push_target(out, t, change.before)?;
-    push_bytes(out, b" -> ")?;
-    push_target(out, t, change.after)?;
-    push_bytes(out, b"\n")
-}
-
-/// Adds the line of each change.
-fn push_each_change(out: &mut Vec<u8>, t: &Topology, changes: &[Change]) -> Result<(), OutOfMemory>
-    ensures { OnOk result (out.new.items ≡ out.old.items ++ flat_map (change_line t.now) changes.now) }
-{
-    for change in changes {
-        push_change(out, t, change)?;
-    }
-    Ok(())
-}
-
-/// Adds the line of each change, or `none` where there is none.
-fn push_changes(out: &mut Vec<u8>, t: &Topology, changes: &[Change]) -> Result<(), OutOfMemory>
-    ensures { OnOk result (out.new.items ≡ out.old.items ++ lines_or_none (change_line t.now) changes.now) }
-{
-    match changes {
-        [] => push_bytes(out, b"none\n"),
-        [_, ..] => push_each_change(out, t, changes),
-    }
-}
-
 /// Adds the lines of the answer to what was asked.
 pub fn push_answer(
     out: &mut Vec<u8>,
@@ -249,10 +209,10 @@ pub fn push_answer(
 {
     match answer {
         Answer::Path { hops, end } => push_path(out, t, hops.as_slice(), *end),
-        Answer::Runs(runs) => push_runs(out, runs.as_slice()),
+        Answer::Runs(runs) => push_lines(out, t, runs.as_slice()),
         Answer::Uses(first, second) => push_uses(out, t, ask, first.as_slice(), second.as_slice()),
-        Answer::Loops(cycles) => push_cycles(out, t, cycles.as_slice()),
-        Answer::Holes(holes) => push_holes(out, t, holes.as_slice()),
-        Answer::Delta(changes) => push_changes(out, t, changes.as_slice()),
+        Answer::Loops(cycles) => push_lines(out, t, cycles.as_slice()),
+        Answer::Holes(holes) => push_lines(out, t, holes.as_slice()),
+        Answer::Delta(changes) => push_lines(out, t, changes.as_slice()),
     }
 }

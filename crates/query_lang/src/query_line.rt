@@ -1,16 +1,19 @@
 //! Queries, read from the words of a line.
 
-ghost use Rattle.std.specs.Prelude.{◌≡◌, ◌≤◌, ◌+◌, length, if◌then◌else◌, IfOk, IfSome, Option, None, Some};
-ghost use Rattle.dn_formats.specs.QueryWords.{ask_of, asked_without, blackholes_of, delta_of, loops_of, names_in, path_of, query_of, reach_of, uses_of, waypoint_of, without_of};
-ghost use Rattle.dn_formats.specs.ScriptText.{words_of};
+ghost use Rattle.std.specs.Prelude.{◌≡◌, ◌≤◌, ◌+◌, length, if◌then◌else◌, IfOk, IfErr, IfSome, Option, None, Some};
+ghost use Rattle.dn_formats.specs.QueryWords.{Asks, ask_of, asked_without, names_in, operands_of, query_of, read_as, without_of};
+ghost use Rattle.dn_formats.specs.ScriptText.{query_of_line, words_of};
 ghost use Rattle.base.specs.Name.{is_name_text};
+ghost use Rattle.query_lang.specs.Words.{address_first, name_first, IsUnread};
 
 use crate::address::read_address;
-use crate::text_cut::{
-    is_blank, is_same, next_word, one_word, split_at_comma, three_words, two_words,
-};
+use crate::text_cut::{is_blank, is_same, next_word, split_at_comma};
+use dn_formats::AskKind;
 use dn_model::{Ask, List, Name, OutOfMemory, Query, is_name};
 use std::alloc::Global;
+
+/// The most bytes of a line that does something.
+pub const LINE_BYTES: usize = 1024;
 
 /// The name that a word is, or nothing where it is none.
 fn read_name(alloc: Global, word: &[u8]) -> Result<Option<Name>, OutOfMemory>
@@ -22,109 +25,98 @@ fn read_name(alloc: Global, word: &[u8]) -> Result<Option<Name>, OutOfMemory>
     Ok(Some(Name::from_text(alloc, word)?))
 }
 
-#[tactic(auto, using(crate::proofs::Questions::operands_missing))]
-/// What `path` asks of the words after it: a router and an address.
-fn read_path(alloc: Global, words: &[u8]) -> Result<Option<Ask>, OutOfMemory>
-    ensures { IfOk result (λ ask. ask ≡ path_of (words_of words.now)) }
-{
-    let Some((router, address)) = two_words(words) else {
-        return Ok(None);
-    };
-    let Some(address) = read_address(address) else {
-        return Ok(None);
-    };
-    let Some(router) = read_name(alloc, router)? else {
-        return Ok(None);
-    };
-    Ok(Some(Ask::Path(router, address)))
+/// Why words are not those of a query.
+#[derive(Clone, Copy)]
+enum Unread {
+    /// One of them isn't what is due there, or there are too few or too many.
+    NoQuery,
+    /// Memory ran out.
+    OutOfMemory,
 }
 
-#[tactic(auto, using(crate::proofs::Questions::operands_missing))]
-/// What `reach` asks of the words after it: two routers.
-fn read_reach(alloc: Global, words: &[u8]) -> Result<Option<Ask>, OutOfMemory>
-    ensures { IfOk result (λ ask. ask ≡ reach_of (words_of words.now)) }
-{
-    let Some((first, to)) = two_words(words) else {
-        return Ok(None);
-    };
-    let Some(first) = read_name(alloc, first)? else {
-        return Ok(None);
-    };
-    let Some(to) = read_name(alloc, to)? else {
-        return Ok(None);
-    };
-    Ok(Some(Ask::Reach(first, to)))
-}
+impl From<OutOfMemory> for Unread {
+    ghost use Rattle.std.specs.Prelude.{◌≡◌};
+    ghost use Rattle.query_lang.specs.declared.query_line.Unread.TheVariants as variant;
 
-#[tactic(auto, using(crate::proofs::Questions::operands_missing))]
-/// What `uses` asks of the words after it: a link.
-fn read_uses(alloc: Global, words: &[u8]) -> Result<Option<Ask>, OutOfMemory>
-    ensures { IfOk result (λ ask. ask ≡ uses_of (words_of words.now)) }
-{
-    let Some(link) = one_word(words) else {
-        return Ok(None);
-    };
-    let Some(link) = read_name(alloc, link)? else {
-        return Ok(None);
-    };
-    Ok(Some(Ask::Uses(link)))
-}
+    ghost from_gives = { λ _ e. e ≡ variant.OutOfMemory };
 
-#[tactic(auto, using(crate::proofs::Questions::operands_missing))]
-/// What `blackholes` asks of the words after it: a router.
-fn read_blackholes(alloc: Global, words: &[u8]) -> Result<Option<Ask>, OutOfMemory>
-    ensures { IfOk result (λ ask. ask ≡ blackholes_of (words_of words.now)) }
-{
-    let Some(first) = one_word(words) else {
-        return Ok(None);
-    };
-    let Some(first) = read_name(alloc, first)? else {
-        return Ok(None);
-    };
-    Ok(Some(Ask::Blackholes(first)))
-}
-
-#[tactic(auto, using(crate::proofs::Questions::operands_missing))]
-/// What `waypoint` asks of the words after it: three routers.
-fn read_waypoint(alloc: Global, words: &[u8]) -> Result<Option<Ask>, OutOfMemory>
-    ensures { IfOk result (λ ask. ask ≡ waypoint_of (words_of words.now)) }
-{
-    let Some((first, to, through)) = three_words(words) else {
-        return Ok(None);
-    };
-    let Some(first) = read_name(alloc, first)? else {
-        return Ok(None);
-    };
-    let Some(to) = read_name(alloc, to)? else {
-        return Ok(None);
-    };
-    let Some(through) = read_name(alloc, through)? else {
-        return Ok(None);
-    };
-    Ok(Some(Ask::Waypoint(first, to, through)))
-}
-
-#[tactic(auto, using(crate::proofs::Questions::operands_missing))]
-/// What `loops` asks, after which no word may stand.
-fn read_loops(words: &[u8]) -> Option<Ask>
-    ensures { result ≡ loops_of (words_of words.now) }
-{
-    if is_blank(words) {
-        Some(Ask::Loops)
-    } else {
-        None
+    fn from(_error: OutOfMemory) -> Self {
+        Unread::OutOfMemory
     }
 }
 
-#[tactic(auto, using(crate::proofs::Questions::operands_missing))]
-/// What `delta` asks, after which no word may stand.
-fn read_delta(words: &[u8]) -> Option<Ask>
-    ensures { result ≡ delta_of (words_of words.now) }
+/// The words of a line from a place on.
+#[derive(Drop)]
+struct Words<'a> {
+    alloc: Global,
+    rest: &'a [u8],
+}
+
+impl Words<'_> {
+    /// Reads the next word, a name.
+    fn name(&mut self) -> Result<Name, Unread>
+        ensures ok { IfOk result (λ name. name_first (words_of self.old.rest.now) ≡
+            Some (name, words_of self.new.rest.now)) }
+        ensures err { IfErr result (λ e. IsUnread e (name_first (words_of self.old.rest.now))) }
+    {
+        let Some((word, rest)) = next_word(self.rest) else {
+            return Err(Unread::NoQuery);
+        };
+        let Some(name) = read_name(self.alloc, word)? else {
+            return Err(Unread::NoQuery);
+        };
+        self.rest = rest;
+        Ok(name)
+    }
+
+    /// Reads the next word, an address.
+    fn address(&mut self) -> Result<u32, Unread>
+        ensures ok { IfOk result (λ a. address_first (words_of self.old.rest.now) ≡
+            Some (a, words_of self.new.rest.now)) }
+        ensures err { IfErr result (λ e. IsUnread e (address_first (words_of self.old.rest.now))) }
+    {
+        let Some((word, rest)) = next_word(self.rest) else {
+            return Err(Unread::NoQuery);
+        };
+        let Some(address) = read_address(word) else {
+            return Err(Unread::NoQuery);
+        };
+        self.rest = rest;
+        Ok(address)
+    }
+
+    /// Reads the words after a verb of this kind, as far as they are due.
+    #[tactic(auto, using(crate::proofs::Questions::words_due))]
+    fn operands(&mut self, kind: AskKind) -> Result<Ask, Unread>
+        ensures ok { IfOk result (λ ask. read_as (operands_of kind) (words_of self.old.rest.now) ≡
+            read_as (Asks ask) (words_of self.new.rest.now)) }
+        ensures err { IfErr result (λ e. IsUnread e (read_as (operands_of kind) (words_of self.old.rest.now))) }
+    {
+        match kind {
+            AskKind::Path => Ok(Ask::Path(self.name()?, self.address()?)),
+            AskKind::Reach => Ok(Ask::Reach(self.name()?, self.name()?)),
+            AskKind::Uses => Ok(Ask::Uses(self.name()?)),
+            AskKind::Loops => Ok(Ask::Loops),
+            AskKind::Blackholes => Ok(Ask::Blackholes(self.name()?)),
+            AskKind::Waypoint => Ok(Ask::Waypoint(self.name()?, self.name()?, self.name()?)),
+            AskKind::Delta => Ok(Ask::Delta),
+        }
+    }
+}
+
+/// What a verb of this kind asks of the words after it.
+fn read_operands(alloc: Global, kind: AskKind, words: &[u8]) -> Result<Option<Ask>, OutOfMemory>
+    ensures { IfOk result (λ ask. ask ≡ read_as (operands_of kind) (words_of words.now)) }
 {
-    if is_blank(words) {
-        Some(Ask::Delta)
-    } else {
-        None
+    let mut words = Words { alloc, rest: words };
+    match words.operands(kind) {
+        Ok(ask) => Ok(if is_blank(words.rest) {
+            Some(ask)
+        } else {
+            None
+        }),
+        Err(Unread::NoQuery) => Ok(None),
+        Err(Unread::OutOfMemory) => Err(OutOfMemory),
     }
 }
 
@@ -132,28 +124,10 @@ fn read_delta(words: &[u8]) -> Option<Ask>
 fn read_ask(alloc: Global, verb: &[u8], words: &[u8]) -> Result<Option<Ask>, OutOfMemory>
     ensures { IfOk result (λ ask. ask ≡ ask_of verb.now (words_of words.now)) }
 {
-    if is_same(verb, b"path") {
-        return read_path(alloc, words);
+    match AskKind::named(verb) {
+        Some(kind) => read_operands(alloc, kind, words),
+        None => Ok(None),
     }
-    if is_same(verb, b"reach") {
-        return read_reach(alloc, words);
-    }
-    if is_same(verb, b"uses") {
-        return read_uses(alloc, words);
-    }
-    if is_same(verb, b"loops") {
-        return Ok(read_loops(words));
-    }
-    if is_same(verb, b"blackholes") {
-        return read_blackholes(alloc, words);
-    }
-    if is_same(verb, b"waypoint") {
-        return read_waypoint(alloc, words);
-    }
-    if is_same(verb, b"delta") {
-        return Ok(read_delta(words));
-    }
-    Ok(None)
 }
 
 /// The names that stand in one word, parted by commas, or nothing where one of them is none.
@@ -210,7 +184,7 @@ fn read_without(alloc: Global, words: &[u8]) -> Result<Option<Query>, OutOfMemor
 
 #[tactic(auto, unfolding(dn_formats::specs::QueryWords::query_of))]
 /// The query that a line asks, by its verb and the words after it; none where they are none of a query's.
-pub fn read_query(alloc: Global, verb: &[u8], words: &[u8]) -> Result<Option<Query>, OutOfMemory>
+pub fn read_asked(alloc: Global, verb: &[u8], words: &[u8]) -> Result<Option<Query>, OutOfMemory>
     requires { length words.now ≤ 1024 }
     ensures { IfOk result (λ query. query ≡ query_of verb.now (words_of words.now)) }
 {
@@ -219,6 +193,24 @@ pub fn read_query(alloc: Global, verb: &[u8], words: &[u8]) -> Result<Option<Que
     }
     match read_ask(alloc, verb, words)? {
         Some(ask) => Ok(Some(Query::of(alloc, ask))),
+        None => Ok(None),
+    }
+}
+
+/// The query that a line asks, parted into words by spaces, tabs and carriage returns; None where its words ask none,
+/// and where it has more than 1,024 bytes. A script's line is read so, and so may be the query in a line of a report.
+///
+/// # Errors
+///
+/// `OutOfMemory` alone.
+pub fn read_query(alloc: Global, line: &[u8]) -> Result<Option<Query>, OutOfMemory>
+    ensures { IfOk result (λ query. query ≡ query_of_line line.now) }
+{
+    if line.len() > LINE_BYTES {
+        return Ok(None);
+    }
+    match next_word(line) {
+        Some((verb, words)) => read_asked(alloc, verb, words),
         None => Ok(None),
     }
 }

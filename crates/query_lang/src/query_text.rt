@@ -3,13 +3,15 @@
 //! A writer `push_..` adds its text at the end of `out`. After `OutOfMemory`, for which alone it fails, a part of the
 //! text may have been added.
 
-ghost use Rattle.std.specs.Prelude.{◌≡◌, ◌++◌, ◌∷◌, [], ◌-◌, OnOk, codes, map, slice_get, unwrap_or};
+ghost use Rattle.std.specs.Prelude.{◌≡◌, ◌++◌, ◌∷◌, [], OnOk, codes, map, option_copied, slice_get, unwrap_or};
 ghost use Rattle.std.specs.List.{flat_map, join_with_byte};
-ghost use Rattle.dn_formats.specs.AnswerText.{ask_words, query_text, name_texts, name_at, unknown_line};
-ghost use Rattle.dn_formats.specs.Texts.{line};
+ghost use Rattle.dn_formats.specs.AnswerText.{name_at, unknown_line};
+ghost use Rattle.dn_formats.specs.QueryWords.{addresses_in, ask_words, query_text};
+ghost use Rattle.dn_formats.specs.Texts.{address_text, line};
 ghost use Rattle.dn_model.specs.Query.{names_asked, text_of_name};
+ghost use Rattle.query_lang.specs.Words.{word_after};
 
-use dn_formats::{push_address, push_bytes};
+use dn_formats::{AskKind, push_address, push_bytes};
 use dn_model::{Ask, Name, OutOfMemory, Query, Unknown};
 
 /// Adds a comma and a name.
@@ -39,69 +41,65 @@ fn push_names(out: &mut Vec<u8>, first: &Name, rest: &[Name]) -> Result<(), OutO
     Ok(())
 }
 
-/// Adds a space and a name.
-fn push_name(out: &mut Vec<u8>, name: &Name) -> Result<(), OutOfMemory>
-    ensures { OnOk result (out.new.items ≡ out.old.items ++ (codes " " ++ name.now)) }
+/// The name at a place, from 0, among the names of what is asked.
+fn name_in(ask: &Ask, place: usize) -> Option<&Name>
+    ensures { option_copied result ≡ slice_get (map text_of_name (names_asked ask.now)) place }
 {
+    match (ask, place) {
+        (Ask::Path(name, _) | Ask::Blackholes(name) | Ask::Uses(name), 0) => Some(name),
+        (Ask::Reach(name, _) | Ask::Waypoint(name, _, _), 0) => Some(name),
+        (Ask::Reach(_, name) | Ask::Waypoint(_, name, _), 1) => Some(name),
+        (Ask::Waypoint(_, _, name), 2) => Some(name),
+        _ => None,
+    }
+}
+
+/// The bytes of the name at a place, from 0, among the names of what is asked; none where there is no name.
+fn text_in(ask: &Ask, place: usize) -> &[u8]
+    ensures { result.now ≡ unwrap_or (slice_get (map text_of_name (names_asked ask.now)) place) [] }
+{
+    match name_in(ask, place) {
+        Some(name) => name.as_bytes(),
+        None => &[],
+    }
+}
+
+/// Adds a space and the name at a place, from 0, among the names of what is asked; nothing where there is none.
+fn push_name(out: &mut Vec<u8>, ask: &Ask, place: usize) -> Result<(), OutOfMemory>
+    ensures { OnOk result (out.new.items ≡ out.old.items ++
+        word_after (slice_get (map text_of_name (names_asked ask.now)) place)) }
+{
+    let Some(name) = name_in(ask, place) else {
+        return Ok(());
+    };
     push_bytes(out, b" ")?;
     push_bytes(out, name.as_bytes())
 }
 
-/// Adds the words that ask for a path.
-fn push_path(out: &mut Vec<u8>, router: &Name, address: u32) -> Result<(), OutOfMemory>
-    ensures { OnOk result (out.new.items ≡ out.old.items ++ join_with_byte 32 (ask_words (Ask.Path router.now address))) }
+/// Adds a space and the address in what is asked; nothing where there is none.
+fn push_address_in(out: &mut Vec<u8>, ask: &Ask) -> Result<(), OutOfMemory>
+    ensures { OnOk result (out.new.items ≡ out.old.items ++
+        flat_map (λ a. codes " " ++ address_text a) (addresses_in ask.now)) }
 {
-    push_bytes(out, b"path")?;
-    push_name(out, router)?;
-    push_bytes(out, b" ")?;
-    push_address(out, address)
-}
-
-/// Adds the words that ask for a waypoint.
-fn push_waypoint(
-    out: &mut Vec<u8>,
-    first: &Name,
-    to: &Name,
-    through: &Name,
-) -> Result<(), OutOfMemory>
-    ensures { OnOk result (out.new.items ≡ out.old.items ++ join_with_byte 32 (ask_words (Ask.Waypoint first.now to.now through.now))) }
-{
-    push_bytes(out, b"waypoint")?;
-    push_name(out, first)?;
-    push_name(out, to)?;
-    push_name(out, through)
-}
-
-/// Adds the words that ask what reaches a router.
-fn push_reach(out: &mut Vec<u8>, first: &Name, to: &Name) -> Result<(), OutOfMemory>
-    ensures { OnOk result (out.new.items ≡ out.old.items ++ join_with_byte 32 (ask_words (Ask.Reach first.now to.now))) }
-{
-    push_bytes(out, b"reach")?;
-    push_name(out, first)?;
-    push_name(out, to)
-}
-
-/// Adds a verb and the one name after it.
-fn push_verb(out: &mut Vec<u8>, verb: &[u8], name: &Name) -> Result<(), OutOfMemory>
-    ensures { OnOk result (out.new.items ≡ out.old.items ++ join_with_byte 32 (verb.now ∷ name.now ∷ [])) }
-{
-    push_bytes(out, verb)?;
-    push_name(out, name)
+    match ask {
+        Ask::Path(_, address) => {
+            push_bytes(out, b" ")?;
+            push_address(out, *address)
+        }
+        _ => Ok(()),
+    }
 }
 
 /// Adds the words of what is asked, joined by one space.
+#[tactic(auto, using(crate::proofs::QueryTexts::ask_joined))]
 fn push_ask(out: &mut Vec<u8>, ask: &Ask) -> Result<(), OutOfMemory>
     ensures { OnOk result (out.new.items ≡ out.old.items ++ join_with_byte 32 (ask_words ask.now)) }
 {
-    match ask {
-        Ask::Path(router, address) => push_path(out, router, *address),
-        Ask::Reach(first, to) => push_reach(out, first, to),
-        Ask::Uses(link) => push_verb(out, b"uses", link),
-        Ask::Loops => push_bytes(out, b"loops"),
-        Ask::Blackholes(first) => push_verb(out, b"blackholes", first),
-        Ask::Waypoint(first, to, through) => push_waypoint(out, first, to, through),
-        Ask::Delta => push_bytes(out, b"delta"),
-    }
+    push_bytes(out, AskKind::of(ask).verb())?;
+    push_name(out, ask, 0)?;
+    push_name(out, ask, 1)?;
+    push_name(out, ask, 2)?;
+    push_address_in(out, ask)
 }
 
 /// Adds the words of a query's line, joined by one space.
@@ -120,20 +118,6 @@ pub fn push_query(out: &mut Vec<u8>, query: &Query) -> Result<(), OutOfMemory>
     }
 }
 
-/// Adds the name at a place, from 0, among the names of what is asked; nothing where there is none.
-fn push_name_of_ask(out: &mut Vec<u8>, ask: &Ask, at: usize) -> Result<(), OutOfMemory>
-    ensures { OnOk result (out.new.items ≡ out.old.items ++ unwrap_or (slice_get (map text_of_name (names_asked ask.now)) at) []) }
-{
-    let name = match (ask, at) {
-        (Ask::Path(name, _) | Ask::Blackholes(name) | Ask::Uses(name), 0) => name,
-        (Ask::Reach(name, _) | Ask::Waypoint(name, _, _), 0) => name,
-        (Ask::Reach(_, name) | Ask::Waypoint(_, name, _), 1) => name,
-        (Ask::Waypoint(_, _, name), 2) => name,
-        _ => return Ok(()),
-    };
-    push_bytes(out, name.as_bytes())
-}
-
 /// Adds the name at a place, from 1, among the names of a query, the links of `without` first; nothing where there is
 /// none.
 fn push_name_at(out: &mut Vec<u8>, query: &Query, place: u32) -> Result<(), OutOfMemory>
@@ -145,7 +129,7 @@ fn push_name_at(out: &mut Vec<u8>, query: &Query, place: u32) -> Result<(), OutO
         push_bytes(out, without[at].as_bytes())?;
         return Ok(());
     }
-    push_name_of_ask(out, query.ask(), at - without.len())?;
+    push_bytes(out, text_in(query.ask(), at - without.len()))?;
     Ok(())
 }
 

@@ -11,16 +11,13 @@ ghost use Rattle.query_lang.specs.ScriptRefused.{IsRefusedLine, added};
 
 use crate::name_guess::{Guesses, Named};
 use crate::name_index::router_at;
-use crate::query_line::read_query;
+use crate::query_line::{LINE_BYTES, read_asked};
 use crate::text_cut::{has_first, is_same, next_word, two_words};
 use dn_formats::script_cause::{BAD_LINE, TAKE_UNKNOWN, TAKEN_TWICE};
 use dn_formats::{Asked, Line, read_number};
 use dn_model::{List, OutOfMemory, RouterId, Topology, is_name};
 use std::alloc::Global;
 use std::collections::HashMap;
-
-/// The most bytes of a line that does something.
-const LINE_BYTES: usize = 1024;
 
 /// Why a line isn't read.
 #[derive(Clone, Copy, Debug, PartialEq, Eq)]
@@ -202,7 +199,7 @@ fn read_ask_line(
     ensures ok { OnOk result (added lines.old (ask_meaning line (query_of verb.now (words_of operands.now))) ≡ Ok lines.new) }
     ensures refused { IfErr result (λ e. IsRefusedLine e (ask_meaning line (query_of verb.now (words_of operands.now)))) }
 {
-    let Some(query) = read_query(alloc, verb, operands)? else {
+    let Some(query) = read_asked(alloc, verb, operands)? else {
         return Err(LineRefused::Cause(BAD_LINE));
     };
     let query = Asked::new(alloc, query)?;

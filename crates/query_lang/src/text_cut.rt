@@ -175,15 +175,6 @@ pub fn two_words(text: &[u8]) -> Option<(&[u8], &[u8])>
     Some((first, second))
 }
 
-/// The three words of a text that has just three.
-pub fn three_words(text: &[u8]) -> Option<(&[u8], &[u8], &[u8])>
-    ensures { MatchOption result (length (words_of text.now) ≢ 3) (λ p. words_of text.now ≡ p.0.now ∷ p.1.now ∷ p.2.now ∷ []) }
-{
-    let (first, rest) = next_word(text)?;
-    let (second, third) = two_words(rest)?;
-    Some((first, second, third))
-}
-
 /// What stands before the first dot and what stands after it, or nothing where there is no dot.
 pub fn split_at_dot(text: &[u8]) -> Option<(&[u8], &[u8])>
     ensures { MatchOption result (slice_split is_dot text.now ≡ text.now ∷ []) (λ p. slice_split is_dot text.now ≡ p.0.now ∷ slice_split is_dot p.1.now) }

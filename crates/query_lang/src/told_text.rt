@@ -4,7 +4,8 @@
 //! text may have been added.
 
 ghost use Rattle.std.specs.Prelude.{◌≡◌, ◌++◌, ◌∷◌, [], OnOk, IfOk, codes, decimal};
-ghost use Rattle.dn_formats.specs.AnswerText.{query_text, unknown_line, answer_lines, outcome_lines, told_lines};
+ghost use Rattle.dn_formats.specs.AnswerText.{unknown_line, answer_lines, outcome_lines, told_lines};
+ghost use Rattle.dn_formats.specs.QueryWords.{query_text};
 ghost use Rattle.dn_formats.specs.Texts.{line};
 ghost use Rattle.dn_formats.specs.declared.told.Outcome.TheVariants.{Answered, Unknown as unanswered};
 

@@ -9,26 +9,17 @@ use Rattle.base.specs.declared.change.Change.{Change}
 use Rattle.dn_model.specs.declared.entry.Entry.{Entry}
 use Rattle.base.specs.declared.ids.RouterId.{RouterId}
 use Rattle.dn_model.specs.declared.query.Ask.{Ask}
-use Rattle.dn_model.specs.declared.query.Ask.TheVariants.{Path, Reach, Uses, Loops, Blackholes, Waypoint, Delta}
+use Rattle.dn_model.specs.declared.query.Ask.TheVariants.{Path, Delta}
 use Rattle.base.specs.declared.target.Target.{Target}
 use Rattle.dn_model.specs.declared.topology.Topology.{Topology}
 
 abbrev pub IsShown : Topology → (RouterId → ℕ → Target) → List Change → Ask → Answer → Type 0
 IsShown t does changes Delta answer = answer ≡ answers.Delta changes
 IsShown t does changes (Path n a) answer = (a < 2 ^ 32) × IsAnswerOf t does (Path n a) answer
-IsShown t does changes (Reach n m) answer = IsAnswerOf t does (Reach n m) answer
-IsShown t does changes (Uses n) answer = IsAnswerOf t does (Uses n) answer
-IsShown t does changes Loops answer = IsAnswerOf t does Loops answer
-IsShown t does changes (Blackholes n) answer = IsAnswerOf t does (Blackholes n) answer
-IsShown t does changes (Waypoint n m w) answer = IsAnswerOf t does (Waypoint n m w) answer
+IsShown t does changes ask answer = IsAnswerOf t does ask answer
 
 -- the changes are those that the last entry of a history made, where they are asked for; of other queries nothing hangs on
 -- them
 abbrev pub AreToldIf : Topology → List Entry → List Change → Ask → Type 0
 AreToldIf t history changes Delta = IsDeltaOf t history changes
-AreToldIf t history changes (Path n a) = Unit {0}
-AreToldIf t history changes (Reach n m) = Unit {0}
-AreToldIf t history changes (Uses n) = Unit {0}
-AreToldIf t history changes Loops = Unit {0}
-AreToldIf t history changes (Blackholes n) = Unit {0}
-AreToldIf t history changes (Waypoint n m w) = Unit {0}
+AreToldIf t history changes ask = Unit {0}

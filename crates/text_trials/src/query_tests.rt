@@ -9,7 +9,7 @@ use dn_model::{
     Answer, Ask, Change, Cycle, DropKind, Hole, LinkId, List, Name, PathEnd, Query, RouterId, Run,
     Target, Topology, Unknown,
 };
-use query_lang::{answer_text, read_script};
+use query_lang::{answer_text, read_query, read_script};
 use std::alloc::Global;
 use std::process::Abort;
 
@@ -267,4 +267,54 @@ fn prints_each_unknown_name(rt: HostRuntime) {
     compare_unknown(&rt, alloc, &net, Unknown::Router(3), "unknown router p\n");
     compare_unknown(&rt, alloc, &net, Unknown::Router(4), "unknown router q\n");
     compare_unknown(&rt, alloc, &net, Unknown::Router(5), "unknown router r\n");
+}
+
+/// A line is read as the query of these words, parted by one space.
+fn compare_read(rt: &impl Abort, alloc: Global, network: &Topology, line: &str, want: &str) {
+    let query = read_query(alloc, line.as_bytes()).expect(rt, "memory");
+    let told = Told {
+        line: 1,
+        query: query.expect(rt, "a query"),
+        outcome: Outcome::Unknown(Unknown::Router(1)),
+    };
+    let text = answer_text(alloc, network, &told).expect(rt, "memory");
+    let words = text.as_bytes().strip_prefix(b"line 1 ");
+    let words = words.expect(rt, "a line with words");
+    assert!(rt; words.starts_with(want.as_bytes()), "{line}");
+}
+
+/// Each kind of query is read and printed again.
+#[test]
+fn reads_each_query(rt: HostRuntime) {
+    let alloc = rt.alloc();
+    let net = network(&rt, alloc);
+    compare_read(&rt, alloc, &net, "path r1 10.1.2.3", "path r1 10.1.2.3\n");
+    compare_read(&rt, alloc, &net, " reach\tr1  r2\r", "reach r1 r2\n");
+    compare_read(&rt, alloc, &net, "uses a", "uses a\n");
+    compare_read(&rt, alloc, &net, "loops ", "loops\n");
+    compare_read(&rt, alloc, &net, "blackholes r2", "blackholes r2\n");
+    compare_read(&rt, alloc, &net, "waypoint p q r", "waypoint p q r\n");
+    compare_read(&rt, alloc, &net, "delta", "delta\n");
+    compare_read(&rt, alloc, &net, "without x,y loops", "without x,y loops\n");
+}
+
+/// A line asks no query.
+fn compare_unread(rt: &impl Abort, alloc: Global, line: &str) {
+    let query = read_query(alloc, line.as_bytes()).expect(rt, "memory");
+    assert!(rt; query.is_none(), "{line}");
+}
+
+/// Lines that ask no query: no word, another verb, a word too few or too many, no name, no address.
+#[test]
+fn reads_no_query(rt: HostRuntime) {
+    let alloc = rt.alloc();
+    compare_unread(&rt, alloc, "");
+    compare_unread(&rt, alloc, "# loops");
+    compare_unread(&rt, alloc, "take r1 all");
+    compare_unread(&rt, alloc, "reach r1");
+    compare_unread(&rt, alloc, "loops r1");
+    compare_unread(&rt, alloc, "uses A");
+    compare_unread(&rt, alloc, "path r1 10.1.2.03");
+    compare_unread(&rt, alloc, "without a delta");
+    compare_unread(&rt, alloc, "without a without b loops");
 }

@@ -1,4 +1,4 @@
-use Rattle.std.proofs.Common.{◌≡◌, ◌-◌, ℕ, List, length, Some, ap, refl, arith}
+use Rattle.std.proofs.Common.{◌≡◌, ◌-◌, ℕ, List, length, Some, ap, refl, sym, ◌∙◌, arith}
 use Rattle.std.specs.List.{slice_get}
 use Rattle.std.proofs.lemmas.Option.{slice_get_read}
 use Rattle.query_lang.proofs.QueryTexts.{name_at-link, name_at-asked, same-added}
@@ -12,4 +12,6 @@ returns-then-at-without c =
 pub returns : goal.returns
 returns c =
     let links : length c.without-without.result.now ≡ length c.args.query.now.without = ap (λ (xs : List (List ℕ)). length xs) c.without-without.ensures.value in
-    same-added _ _ _ _ c.in_ok-push_name_of_ask.ensures (name_at-asked c.args.query.now c.ask.result.now c.args.place (c.saturating_sub-at.result - length c.without-without.result.now) (omega arith) (omega arith) c.ask.ensures.value)
+    same-added _ _ _ _ c.in_ok-push_bytes-2.ensures
+    (name_at-asked c.args.query.now c.ask.result.now c.args.place (c.saturating_sub-at.result - length c.without-without.result.now) (omega arith) (omega arith) c.ask.ensures.value
+    ∙ sym c.text_in.ensures)

@@ -5,12 +5,14 @@ ghost use Rattle.std.specs.Prelude.{◌<◌};
 use dn_model::Prefix;
 
 /// Which prefixes are drawn: so many of those that nest, from one of them on (the last is followed by the first), and
-/// `hosts` times in 16 one of a single address, which is one of a thousand.
+/// `hosts` times in 16 one of a single address, which is one of a thousand. Of so many entries as `links` says one takes a
+/// link down or up; none where that is 0.
 #[derive(Clone, Copy, Debug)]
 pub struct Spot {
     pub first: u32,
     pub count: u32,
     pub hosts: u32,
+    pub links: u32,
 }
 
 /// Numbers that look drawn: a linear congruential generator on 64 bits, with the constants of Knuth's MMIX. The same

@@ -39,6 +39,10 @@ pub struct Found {
     pub equal_lengths: u64,
     /// Settings beside which the router had a route of the same prefix set before, with another metric.
     pub metrics: u64,
+    /// Entries of a link that changed what some router does.
+    pub turned: u64,
+    /// Entries of a link that changed nothing.
+    pub unturned: u64,
     /// Updates of a version that was held meanwhile, made beside it, which changed something.
     pub beside_held: u64,
     /// Paths that were asked of an address which the version has in an atom of its own.
@@ -256,6 +260,8 @@ impl Found {
             replaced: 0,
             equal_lengths: 0,
             metrics: 0,
+            turned: 0,
+            unturned: 0,
             beside_held: 0,
             alone: 0,
             both_ends: 0,
@@ -320,6 +326,14 @@ impl Found {
         }
     }
 
+    /// Notes an entry, and whether it changed something: nothing of one that is no link's.
+    pub fn note_turn(&mut self, entry: &Entry, is_change: bool) {
+        if let Entry::Link { .. } = entry {
+            self.turned = more_if(self.turned, is_change);
+            self.unturned = more_if(self.unturned, !is_change);
+        }
+    }
+
     /// Notes an update that was made beside a version that is held, and whether it changed something.
     pub fn note_beside(&mut self, is_change: bool) {
         self.beside_held = more_if(self.beside_held, is_change);
@@ -349,6 +363,8 @@ impl Found {
         self.replaced = self.replaced.saturating_add(other.replaced);
         self.equal_lengths = self.equal_lengths.saturating_add(other.equal_lengths);
         self.metrics = self.metrics.saturating_add(other.metrics);
+        self.turned = self.turned.saturating_add(other.turned);
+        self.unturned = self.unturned.saturating_add(other.unturned);
         self.beside_held = self.beside_held.saturating_add(other.beside_held);
         self.alone = self.alone.saturating_add(other.alone);
         self.both_ends = self.both_ends.saturating_add(other.both_ends);

@@ -11,6 +11,8 @@ mod draw;
 #[cfg(test)]
 mod found;
 #[cfg(test)]
+mod link_tests;
+#[cfg(test)]
 mod question;
 #[cfg(test)]
 mod ring;

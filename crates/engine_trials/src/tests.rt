@@ -12,6 +12,7 @@ const ALL: Spot = Spot {
     first: 0,
     count: 20,
     hosts: 0,
+    links: 0,
 };
 
 /// The low end of the addresses.
@@ -19,6 +20,7 @@ const LOW: Spot = Spot {
     first: 0,
     count: 6,
     hosts: 0,
+    links: 0,
 };
 
 /// The prefixes in the middle, with equal lengths beside each other.
@@ -26,6 +28,7 @@ const MIDDLE: Spot = Spot {
     first: 6,
     count: 8,
     hosts: 0,
+    links: 0,
 };
 
 /// The high end of the addresses, and then the low end.
@@ -33,6 +36,7 @@ const ENDS: Spot = Spot {
     first: 14,
     count: 12,
     hosts: 0,
+    links: 0,
 };
 
 /// Mostly single addresses, below a few prefixes.
@@ -40,6 +44,7 @@ const HOSTS: Spot = Spot {
     first: 0,
     count: 3,
     hosts: 15,
+    links: 0,
 };
 
 /// A trial of four stages, whose updates are all told, and at whose ends each kind of query is asked.
@@ -63,6 +68,17 @@ fn wider(trial: Trial) -> Trial {
     Trial {
         stages: 2,
         told: 10,
+        ..trial
+    }
+}
+
+/// The same trial, in which one entry of three takes a link down or up.
+fn with_links(trial: Trial) -> Trial {
+    Trial {
+        spot: Spot {
+            links: 3,
+            ..trial.spot
+        },
         ..trial
     }
 }
@@ -211,5 +227,22 @@ fn a_network_of_sixty_four_routers(rt: HostRuntime) -> Result<(), Fail> {
     let found = met(&rt, rt.alloc(), &[all_kinds, paths])?;
     assert_met(&rt, &found);
     assert!(rt; found.atoms > 20, "{found:?}");
+    Ok(())
+}
+
+/// Links go down and come up among the updates, and some are taken as down in the questions beside.
+#[test]
+fn links_that_go_down_and_come_up(rt: HostRuntime) -> Result<(), Fail> {
+    let trials = [
+        with_links(trial(2, 20, ALL, 31)),
+        with_links(trial(3, 24, MIDDLE, 32)),
+        with_links(trial(5, 24, ALL, 33)),
+        with_links(trial(6, 24, ENDS, 34)),
+        with_links(wider(trial(17, 60, LOW, 35))),
+    ];
+    let found = met(&rt, rt.alloc(), &trials)?;
+    assert_met(&rt, &found);
+    assert!(rt; found.turned > 0, "{found:?}");
+    assert!(rt; found.unturned > 0, "{found:?}");
     Ok(())
 }

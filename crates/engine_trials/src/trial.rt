@@ -213,6 +213,7 @@ fn step(
     let entry = next_entry(&course, spot, draw);
     found.note_update(course.entries(), &entry);
     let (next, delta) = advance_or_apply(alloc, course, &entry, draw)?;
+    found.note_turn(&entry, !delta.changes().is_empty());
     found.note_rows(next.version());
     if is_told {
         compare_changes(alloc, &next, delta.changes(), found)?;

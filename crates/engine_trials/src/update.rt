@@ -1,11 +1,11 @@
-//! Updates that are drawn.
+//! Entries that are drawn.
 
-ghost use Rattle.std.specs.Prelude.{◌<◌, length};
+ghost use Rattle.std.specs.Prelude.{◌<◌, IfSome, length};
 ghost use Rattle.dn_model.specs.Entry.{IsEntryOf, IsOpOf, IsTargetOf};
 ghost use Rattle.net_engine.specs.Followed.{IsFollowed, IsFollowedOp};
 
 use crate::draw::{Draw, Spot, drawn_prefix};
-use dn_model::{DropKind, Entry, Op, Port, Prefix, RouterId, Target, Topology, port};
+use dn_model::{DropKind, Entry, LinkId, Op, Port, Prefix, RouterId, Target, Topology, port};
 
 /// What a route through a router's interface does: over a link to the far router, out of the network at an edge, or, at
 /// an interface that the topology doesn't have, to its segment.
@@ -58,8 +58,24 @@ fn drawn_op(topology: &Topology, router: RouterId, prefix: Prefix, draw: &mut Dr
     }
 }
 
+/// One of the topology's links goes down or comes up, each equally often; None where it has none.
+fn drawn_link(topology: &Topology, draw: &mut Draw) -> Option<Entry>
+    ensures own { IfSome result (IsEntryOf topology.now) }
+    ensures followed { IfSome result IsFollowed }
+{
+    let count = topology.links.len().min(4_096) as u32;
+    if count == 0 {
+        return None;
+    }
+    Some(Entry::Link {
+        job: 1,
+        link: LinkId(draw.below(count) as u16),
+        down: draw.below(2) == 0,
+    })
+}
+
 /// An update of one of the topology's routers.
-pub fn drawn_entry(topology: &Topology, spot: &Spot, draw: &mut Draw) -> Entry
+fn drawn_update(topology: &Topology, spot: &Spot, draw: &mut Draw) -> Entry
     requires { 0 < length topology.now.routers }
     ensures own { IsEntryOf topology.now result }
     ensures followed { IsFollowed result }
@@ -71,4 +87,23 @@ pub fn drawn_entry(topology: &Topology, spot: &Spot, draw: &mut Draw) -> Entry
         feed_no: 1,
         op: drawn_op(topology, router, prefix, draw),
     }
+}
+
+/// Whether the next entry is one of a link.
+fn is_of_link(spot: &Spot, draw: &mut Draw) -> bool {
+    spot.links > 0 && draw.below(spot.links) == 0
+}
+
+/// An update of one of the topology's routers, or a link of it that goes down or comes up.
+pub fn drawn_entry(topology: &Topology, spot: &Spot, draw: &mut Draw) -> Entry
+    requires { 0 < length topology.now.routers }
+    ensures own { IsEntryOf topology.now result }
+    ensures followed { IsFollowed result }
+{
+    if is_of_link(spot, draw) {
+        if let Some(entry) = drawn_link(topology, draw) {
+            return entry;
+        }
+    }
+    drawn_update(topology, spot, draw)
 }

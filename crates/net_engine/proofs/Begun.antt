@@ -66,7 +66,6 @@ first-whole t few = record {
   wide = first-wide (length t.routers);
   tables = length-replicate (length t.routers) [];
   objects = refl;
-  down = refl;
   agree = λ r l.
       let P : List Route → Type 0 = λ xs. Agrees t (first_atom (length t.routers) ∷ []) r xs in
       subst P (sym (all-same (length t.routers) r.0 [])) (none-agree t r);

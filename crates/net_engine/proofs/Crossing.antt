@@ -7,6 +7,8 @@ use Rattle.atom_map.proofs.Crossing.{Bounds-send, Bounds-sync}
 use Rattle.target_rows.proofs.Crossing.{TargetRows-send, TargetRows-sync}
 use Rattle.route_table.proofs.Crossing.{RouteTables-send, RouteTables-sync}
 use Rattle.delta_graph.specs.contracts.delta.Delta as Delta
+use Rattle.net_engine.specs.contracts.kept_rows.KeptRows as KeptRows
+use Rattle.net_engine.specs.contracts.link_set.LinkSet as LinkSet
 use Rattle.net_engine.specs.contracts.router_group.RouterGroup as RouterGroup
 use Rattle.net_engine.specs.contracts.router_tables.RouterTables as RouterTables
 use Rattle.net_engine.specs.contracts.shown.Shown as Shown
@@ -30,14 +32,26 @@ Delta-send = search (sendable, crosses) depth 40
 Delta-sync : IsSync Delta.the_row
 Delta-sync = search (sendable, crosses) depth 40
 
+KeptRows-send : IsSend KeptRows.the_row
+KeptRows-send = search (Bounds-send, TargetRows-send, sendable, crosses, maps.crosses) depth 40
+
+KeptRows-sync : IsSync KeptRows.the_row
+KeptRows-sync = search (Bounds-sync, TargetRows-sync, sendable, crosses, maps.crosses) depth 40
+
+LinkSet-send : IsSend LinkSet.the_row
+LinkSet-send = search (sendable, crosses) depth 40
+
+LinkSet-sync : IsSync LinkSet.the_row
+LinkSet-sync = search (sendable, crosses) depth 40
+
 pub Version-send : IsSend Version.the_row
-Version-send = search (Bounds-send, Delta-send, RouterTables-send, TargetRows-send, sendable, crosses, maps.crosses) depth 40 fits 100000
+Version-send = search (Bounds-send, Delta-send, LinkSet-send, RouterTables-send, TargetRows-send, sendable, crosses, maps.crosses) depth 40 fits 100000
 
 pub Version-sync : IsSync Version.the_row
-Version-sync = search (Bounds-sync, Delta-sync, RouterTables-sync, TargetRows-sync, sendable, crosses, maps.crosses) depth 40 fits 100000
+Version-sync = search (Bounds-sync, Delta-sync, LinkSet-sync, RouterTables-sync, TargetRows-sync, sendable, crosses, maps.crosses) depth 40 fits 100000
 
 pub Shown-send : IsSend Shown.the_row
-Shown-send = search (Bounds-send, TargetRows-send, sendable, crosses, maps.crosses) depth 40
+Shown-send = search (KeptRows-send, LinkSet-send, sendable, crosses, maps.crosses) depth 40
 
 pub Shown-sync : IsSync Shown.the_row
-Shown-sync = search (Bounds-sync, TargetRows-sync, sendable, crosses, maps.crosses) depth 40
+Shown-sync = search (KeptRows-sync, LinkSet-sync, sendable, crosses, maps.crosses) depth 40

@@ -1,4 +1,4 @@
--- An entry that is followed updates one router's routes, and neither objects nor links.
+-- An update that is followed is one of one router's routes, and neither of objects nor of links.
 use Rattle.std.proofs.Common.{◌≡◌, ◌≢◌, ◌∙◌, ◌==◌, ℕ, Bool, true, false, cond, None, Some, List, [], ◌∷◌, ◌++◌, fold, refl, ap, sym, subst, ⊎_elim}
 use Rattle.std.proofs.lemmas.Bool.{cases_eq, ne_eqb}
 use Rattle.std.proofs.lemmas.List.Sums.{fold-append}
@@ -38,8 +38,8 @@ pub record Follows (t : Topology) (e : Entry) (u : Update) : Type 0 where
   pub adds : (atoms : List Atom) → atoms_added atoms (entries.Route u.router feed op) ≡ atoms_put atoms u.table.op
   pub prefix : prefix_touched op ≡ Some (prefix_of_op u.table.op)
 
-pub follows : (t : Topology) (e : Entry) (u : Update) → IsUpdateOf t e u → Follows t e u
-follows t (entries.Route r n (ops.Set p m target)) u is = subst (λ v. Follows t (entries.Route r n (ops.Set p m target)) v) (sym is) (record {
+pub follows : (t : Topology) (r : RouterId) (n : ℕ) (op : Op) (u : Update) → IsUpdateOf t r op u → Follows t (entries.Route r n op) u
+follows t r n (ops.Set p m target) u is = subst (λ v. Follows t (entries.Route r n (ops.Set p m target)) v) (sym is) (record {
   op = ops.Set p m target;
   feed = n;
   entry = refl;
@@ -50,8 +50,8 @@ follows t (entries.Route r n (ops.Set p m target)) u is = subst (λ v. Follows t
   adds = λ atoms. refl;
   prefix = refl;
 })
-follows t (entries.Route r n (ops.SetBy p m id)) u is = absurd is
-follows t (entries.Route r n (ops.Clear p m)) u is = subst (λ v. Follows t (entries.Route r n (ops.Clear p m)) v) (sym is) (record {
+follows t r n (ops.SetBy p m id) u is = absurd is
+follows t r n (ops.Clear p m) u is = subst (λ v. Follows t (entries.Route r n (ops.Clear p m)) v) (sym is) (record {
   op = ops.Clear p m;
   feed = n;
   entry = refl;
@@ -62,9 +62,8 @@ follows t (entries.Route r n (ops.Clear p m)) u is = subst (λ v. Follows t (ent
   adds = λ atoms. refl;
   prefix = refl;
 })
-follows t (entries.Route r n (ops.Object id target)) u is = absurd is
-follows t (entries.Route r n (ops.NoObject id)) u is = absurd is
-follows t (entries.Link j l down) u is = absurd is
+follows t r n (ops.Object id target) u is = absurd is
+follows t r n (ops.NoObject id) u is = absurd is
 
 module _ (t : Topology) (e : Entry) (u : Update) (f : Follows t e u) where
   -- to its own router it is that update, and to all others it is none

@@ -4,9 +4,11 @@ pub mod Begun
 pub mod Crossing
 pub mod Cutting
 pub mod Does
+pub mod Flags
 pub mod Following
 pub mod Grouped
 pub mod Held
+pub mod Linked
 pub mod Looking
 pub mod Making
 pub mod Moving
@@ -17,8 +19,11 @@ pub mod Ready
 pub mod Relabelling
 pub mod Rerouting
 pub mod RowsOfAtoms
+pub mod RowsKept
 pub mod RowsRead
-pub mod Showing
+pub mod ShownRows
 pub mod Standing
 pub mod StandingFor
+pub mod Telling
+pub mod Turning
 pub mod Updated

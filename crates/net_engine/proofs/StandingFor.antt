@@ -16,7 +16,7 @@ use Rattle.base.specs.Forwarding.{AreEachForwarding, AreForwarding, IsForwarding
 use Rattle.dn_model.specs.Routes.{IsTable}
 use Rattle.base.specs.Rows.{is_within, CoverFrom}
 use Rattle.dn_model.specs.Table.{HasKeysOnce, Object, best, does_after, followed, objects, table, target_after, way_in}
-use Rattle.net_engine.specs.Version.{Atom, Kept, KeptStandsFor, atom_at, begins_at, first_of, is_boundary_after, forwarding_of, objects_of, past_of, row_without, rules_at, target_at, target_in_atom}
+use Rattle.net_engine.specs.Version.{Atom, Kept, KeptStandsFor, atom_at, begins_at, first_of, is_boundary_after, forwarding_of, objects_of, past_of, rules_at, shown_at, target_at, target_in_atom}
 use Rattle.dn_model.specs.declared.entry.Entry.{Entry}
 use Rattle.dn_model.specs.declared.entry.Route.{Route}
 use Rattle.base.specs.declared.ids.LinkId.{LinkId}
@@ -26,6 +26,7 @@ use Rattle.base.specs.declared.target.Target.{Target}
 use Rattle.base.specs.declared.target.Target.TheVariants.{NoRoute, To}
 use Rattle.dn_model.specs.Tables.{device_of}
 use Rattle.dn_model.specs.declared.topology.Topology.{Topology}
+use Rattle.what_if.specs.Restricted.{row_without}
 use Rattle.dn_model.proofs.Best.{best-is}
 use Rattle.base.proofs.Elements.{contains-none}
 use Rattle.base.proofs.Covers.{holder-first, holder-rest, starts-below, within-above, within-yes}
@@ -72,13 +73,13 @@ module _ (kept : Kept) where
       holder-rest row_low row_past (row_at x) (rows_of xs) a f ∙ row-of_atom xs a ∙ sym (ap (option_map row_at) (holder-rest first_of past_of x xs a f)))
       (cases_Bool (is_within x.row.low x.row.past a))
 
-  target-down : (ts : List Target) (i : ℕ) → get_or (map (without kept.down) ts) i NoRoute ≡ without kept.down (get_or ts i NoRoute)
+  pub target-down : (ts : List Target) (i : ℕ) → get_or (map (without kept.down) ts) i NoRoute ≡ without kept.down (get_or ts i NoRoute)
   target-down [] i = refl
   target-down (x ∷ ts) zero = refl
   target-down (x ∷ ts) (suc i) = target-down ts i
 
   -- what the rows show is what the atoms do where no link is down, with those that are
-  pub does-row : (r : RouterId) (a : ℕ) → does (forwarding_of kept) r a ≡ without kept.down (target_at kept.atoms r a)
+  pub does-row : (r : RouterId) (a : ℕ) → does (forwarding_of kept) r a ≡ shown_at kept r a
   does-row r a = ap (λ o. target_in_row o r) (row-of_atom kept.atoms a) ∙ by (atom_at kept.atoms a)
     where
       by : (o : Option Atom) → target_in_row (option_map row_at o) r ≡ without kept.down (target_in_atom o r)
@@ -175,7 +176,7 @@ module _ (kept : Kept) (whole : IsWhole kept) where
         (cases_lt r.0 (length kept.topology.routers))
 
     -- and what the history comes to
-    pub does-after : (r : RouterId) (a : ℕ) → a < 2 ^ 32 → without kept.down (target_at kept.atoms r a) ≡ does_after kept.topology history r a
+    pub does-after : (r : RouterId) (a : ℕ) → a < 2 ^ 32 → shown_at kept r a ≡ does_after kept.topology history r a
     does-after r a below = ap (without kept.down) (target-now r a below) ∙ without-same kept.down (downs history) (target_after kept.topology history r a) links
 
     kept-keys : (r : RouterId) → HasKeysOnce (get_or kept.routes r.0 [])

@@ -12,7 +12,7 @@ IsFollowedOp (Clear p m) = Unit {0}
 IsFollowedOp (Object id target) = ⊥
 IsFollowedOp (NoObject id) = ⊥
 
--- such an update of a router: neither a next-hop object nor a link
+-- such an update of a router, or a link that goes down or comes up
 abbrev pub IsFollowed : Entry → Type 0
 IsFollowed (Route r n op) = IsFollowedOp op
-IsFollowed (Link j l down) = ⊥
+IsFollowed (Link j l down) = Unit {0}

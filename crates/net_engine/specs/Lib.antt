@@ -1,6 +1,9 @@
 pub mod Cuts
 pub mod Followed
 pub mod Grouped
+pub mod KeptRows
+pub mod LinkSet
+pub mod LinkTurn
 pub mod Looks
 pub mod Net
 pub mod Paired
@@ -8,6 +11,7 @@ pub mod Rerouted
 pub mod Routed
 pub mod Seen
 pub mod Shown
+pub mod Told
 pub mod Updates
 pub mod Version
 pub mod Walked

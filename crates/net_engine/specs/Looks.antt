@@ -1,5 +1,5 @@
 -- How many atoms an update meets, and how many it adds.
-use Rattle.std.specs.Prelude.{ℕ, List, Bool, Option, None, Some, ◌+◌, ◌^◌, ◌&&◌, ◌||◌, nat_le, nat_lt, count_by, if◌then◌else◌}
+use Rattle.std.specs.Prelude.{ℕ, List, Bool, Option, None, Some, IfSome, ◌+◌, ◌≤◌, ◌^◌, ◌&&◌, ◌||◌, nat_le, nat_lt, count_by, length, if◌then◌else◌}
 use Rattle.base.specs.Cidr.{Cidr, size}
 use Rattle.base.specs.Rows.{is_within}
 use Rattle.net_engine.specs.Version.{Atom, begins_at, first_of, past_of}
@@ -58,6 +58,12 @@ prefix_touched (NoObject id) = None
 abbrev pub prefix_of_entry : Entry → Option Cidr
 prefix_of_entry (Route r n op) = prefix_touched op
 prefix_of_entry (Link j l down) = None
+
+-- How many steps an entry takes at most. An update that sets or clears routes takes two, and one for each atom that has an
+-- address of its prefix; a link one for each atom.
+abbrev pub IsWithinSteps : List Atom → Entry → ℕ → ℕ → Type 0
+IsWithinSteps atoms (Route r n op) old new = IfSome (prefix_touched op) (λ p. new ≤ old + 2 + atoms_met atoms p)
+IsWithinSteps atoms (Link j l down) old new = new ≤ old + length atoms
 
 -- how many atoms begin at one of the addresses from `lo` up to, and without, `past`
 abbrev pub atoms_begun : List Span → ℕ → ℕ → ℕ

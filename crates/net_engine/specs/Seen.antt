@@ -16,14 +16,14 @@ net_in n = net_of n.routers n.atoms n.labels n.tables
 abbrev pub IsPaired : NetFields → Type 0
 IsPaired n = ArePaired n.routers n.atoms n.labels n.tables
 
--- the topology, the atoms in order, and the routes; neither objects nor links that are down are kept yet
+-- the topology, the atoms in order, the routes, and the links that are down; objects are not kept yet
 abbrev pub kept_in : State → Kept
 kept_in s = record {
   topology = arc_value s.topology;
   atoms = (net_in s.net).atoms;
   routes = s.net.tables;
   objects = [];
-  down = [];
+  down = s.down;
 }
 
 -- its atoms and its routes say the same, and the atoms stand beside what routers do

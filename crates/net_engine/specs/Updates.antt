@@ -1,11 +1,10 @@
--- Updates of one router's routes, and what an entry is to them.
+-- Updates of one router's routes, and what an entry's are.
 use Rattle.std.specs.Prelude.{ℕ, Bool, false, List, [], ◌≡◌, ◌<◌, length, slice_index_or}
 use Rattle.base.specs.declared.ids.RouterId.{RouterId}
 use Rattle.dn_model.specs.Entry.{IsTargetOf, is_bound_of}
 use Rattle.dn_model.specs.Table.{after_table_op}
 use Rattle.dn_model.specs.Tables.{replaces_prefix}
-use Rattle.dn_model.specs.declared.entry.Entry.{Entry}
-use Rattle.dn_model.specs.declared.entry.Entry.TheVariants as entries
+use Rattle.dn_model.specs.declared.entry.Op.{Op}
 use Rattle.dn_model.specs.declared.entry.Op.TheVariants as ops
 use Rattle.dn_model.specs.declared.entry.Route.{Route}
 use Rattle.dn_model.specs.declared.table_op.TableOp.{TableOp}
@@ -27,14 +26,13 @@ after_update u routes = after_table_op u.table.alone routes u.table.op
 abbrev pub update_at : Topology → RouterId → TableOp → Update
 update_at t r op = record { router = r; table = record { op = op; alone = replaces_prefix t r } }
 
--- what an entry does to one router's routes: nothing that is followed does more
-abbrev pub IsUpdateOf : Topology → Entry → Update → Type 0
-IsUpdateOf t (entries.Route r n (ops.Set p m target)) u = u ≡ update_at t r (Put p m (Straight target))
-IsUpdateOf t (entries.Route r n (ops.SetBy p m id)) u = ⊥
-IsUpdateOf t (entries.Route r n (ops.Clear p m)) u = u ≡ update_at t r (Clear p m)
-IsUpdateOf t (entries.Route r n (ops.Object id target)) u = ⊥
-IsUpdateOf t (entries.Route r n (ops.NoObject id)) u = ⊥
-IsUpdateOf t (entries.Link j l down) u = ⊥
+-- what an update of a router does to its routes: nothing that is followed does more
+abbrev pub IsUpdateOf : Topology → RouterId → Op → Update → Type 0
+IsUpdateOf t r (ops.Set p m target) u = u ≡ update_at t r (Put p m (Straight target))
+IsUpdateOf t r (ops.SetBy p m id) u = ⊥
+IsUpdateOf t r (ops.Clear p m) u = u ≡ update_at t r (Clear p m)
+IsUpdateOf t r (ops.Object id target) u = ⊥
+IsUpdateOf t r (ops.NoObject id) u = ⊥
 
 -- what a way says is the network's
 abbrev pub IsWayOf : Topology → Way → Type 0

@@ -22,6 +22,7 @@ use Rattle.dn_model.specs.declared.rule.Rule.{Rule}
 use Rattle.base.specs.declared.target.Target.{Target}
 use Rattle.base.specs.declared.target.Target.TheVariants.{NoRoute}
 use Rattle.dn_model.specs.declared.topology.Topology.{Topology}
+use Rattle.what_if.specs.Restricted.{row_without}
 
 -- an atom: its addresses with what each router does with them, and each router's rules there
 pub record Atom : Type 0 where
@@ -71,11 +72,11 @@ pub record Kept : Type 0 where
   pub objects : List (List Object)
   pub down : List LinkId
 
--- a row, where these links are down
-abbrev pub row_without : List LinkId → ForwardingRow → ForwardingRow
-row_without down row = record { low = row.low; past = row.past; targets = map (without down) row.targets }
+-- what a router does with an address, with the links that are down
+abbrev pub shown_at : Kept → RouterId → ℕ → Target
+shown_at kept r a = without kept.down (target_at kept.atoms r a)
 
--- what each router does with the addresses of each atom
+-- what each router does with the addresses of each atom, with the links that are down
 abbrev pub forwarding_of : Kept → List ForwardingRow
 forwarding_of kept = map (λ x. row_without kept.down x.row) kept.atoms
 

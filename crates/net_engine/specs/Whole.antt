@@ -1,5 +1,5 @@
--- What always holds of what a version keeps: its atoms and its routes say the same, it has no objects yet, and no link is
--- down.
+-- What always holds of what a version keeps: its atoms and its routes say the same, and it has no objects yet. Which links
+-- are down doesn't matter to it.
 use Rattle.std.specs.Prelude.{ℕ, List, [], true, length, slice_index_or, Contains, ◌≡◌, ◌+◌, ◌<◌, ◌≤◌, ◌^◌}
 use Rattle.base.specs.Cidr.{size}
 use Rattle.dn_model.specs.Routes.{IsTable}
@@ -34,5 +34,4 @@ pub record IsWhole (kept : Kept) : Type 0 where
   pub wide : AreWide (length kept.topology.routers) kept.atoms
   pub tables : length kept.routes ≡ length kept.topology.routers
   pub objects : kept.objects ≡ []
-  pub down : kept.down ≡ []
   pub agree : (r : RouterId) → r.0 < length kept.topology.routers → Agrees kept.topology kept.atoms r (slice_index_or kept.routes r.0 [])

@@ -10,15 +10,16 @@ ghost use Rattle.net_engine.specs.Net.{first_atom};
 ghost use Rattle.net_engine.specs.Paired.{rows_with};
 ghost use Rattle.net_engine.specs.Seen.{IsPaired, net_in};
 ghost use Rattle.net_engine.specs.Walked.{AreUpdated, UpdatesAt};
+ghost use Rattle.target_rows.specs.Over.{MarksOver};
 
 use crate::ends::cut_if_new;
+use crate::kept_rows::KeptRows;
 use crate::relabel::{Aim, reroute};
 use crate::router_tables::RouterTables;
-use crate::shown::Shown;
 use crate::update::Update;
 use atom_map::Bounds;
 use delta_graph::Delta;
-use dn_model::{OutOfMemory, RouterId, Run, Target, Way};
+use dn_model::{LinkId, OutOfMemory, RouterId, Run, Target, Way};
 use std::alloc::Global;
 use std::mem;
 use std::sync::ledger::Ledger;
@@ -138,16 +139,24 @@ impl Net {
         })
     }
 
-    /// What is looked at of it: the atoms, with what each router does there.
-    pub fn shown(&self) -> Result<Shown, OutOfMemory>
+    /// The rows of its atoms, with what each router does there, which share all with it.
+    pub fn kept_rows(&self) -> Result<KeptRows, OutOfMemory>
         requires paired { IsPaired self.now }
         requires form { AreForwarding self.now.routers (rows_with self.now.atoms self.now.labels.rows) }
-        ensures routers { IfOk result (λ shown. shown.routers ≡ self.now.routers) }
-        ensures rows { IfOk result (λ shown. shown.rows ≡ rows_with self.now.atoms self.now.labels.rows) }
+        ensures routers { IfOk result (λ kept. kept.routers ≡ self.now.routers) }
+        ensures rows { IfOk result (λ kept. kept.rows ≡ rows_with self.now.atoms self.now.labels.rows) }
     {
         let atoms = self.atoms.copy()?;
         let labels = self.labels.copy()?;
-        Ok(Shown::of(self.routers, atoms, labels))
+        Ok(KeptRows::of(self.routers, atoms, labels))
+    }
+
+    /// A mark for each router that may go on over a link at an atom.
+    pub fn routers_over(&self, alloc: Global, link: LinkId) -> Result<Vec<bool>, OutOfMemory>
+        ensures { IfOk result (λ marks. MarksOver self.now.labels link marks.items) }
+    {
+        let marks = self.labels.routers_over(alloc, link)?;
+        Ok(marks)
     }
 
     /// How many routers there are.

@@ -1,14 +1,13 @@
 //! What a router does with the atoms of some runs of addresses.
 
-ghost use Rattle.std.specs.Prelude.{◌≡◌, ℕ, ◌+◌, ◌<◌, ◌≤◌, ◌^◌, true, None, IfOk, OnOk};
+ghost use Rattle.std.specs.Prelude.{◌≡◌, ℕ, ◌+◌, ◌<◌, ◌≤◌, ◌^◌, true, IfOk, OnOk};
 ghost use Rattle.std.specs.List.{list_any};
 ghost use Rattle.atom_map.specs.Spans.{AreSpans, Span, is_boundary};
-ghost use Rattle.base.specs.Delta.{AreChanges, change_at};
 ghost use Rattle.base.specs.Runs.{AreApart, holds};
 ghost use Rattle.net_engine.specs.Paired.{AreLabelled, does_at};
 ghost use Rattle.net_engine.specs.Rerouted.{AtomBegins, AtomsEnd, IsMoved, IsRelabelled, RunsOfAtoms};
-ghost use Rattle.net_engine.specs.Walked.{IsTold};
 
+use crate::told::tell;
 use atom_map::Bounds;
 use delta_graph::Delta;
 use dn_model::{Change, OutOfMemory, RouterId, Run, Target};
@@ -91,18 +90,6 @@ fn turn_run(
         first,
         past,
     })
-}
-
-/// It is told that a router does something else than before with each address of a run. It fails for want of memory alone.
-fn tell(delta: &mut Delta, change: Change) -> Result<(), OutOfMemory>
-    requires order { change.run.lo ≤ change.run.hi }
-    requires differ { change.before ≡ change.after → ⊥ }
-    requires form { AreChanges delta.old }
-    requires free { (a : ℕ) → holds a change.run ≡ true → change_at delta.old change.router a ≡ None }
-    ensures { OnOk result (IsTold delta.old delta.new change.router change.run.lo (change.run.hi + 1)
-        change.before change.after) }
-{
-    delta.push(change)
 }
 
 /// A router does something with each atom of some runs, where it did one and the same, and it is told of them if it is

@@ -3,61 +3,49 @@
 ghost use Rattle.std.specs.Prelude.{◌≡◌, ◌<◌, ◌≤◌, IfOk, length, slice_index_or};
 ghost use Rattle.base.specs.Forwarding.{AreForwarding, target_of};
 ghost use Rattle.base.specs.declared.forwarding_row.ForwardingRow.{ForwardingRow};
-ghost use Rattle.net_engine.specs.Paired.{AreLabelled, rows_with};
+ghost use Rattle.what_if.specs.Restricted.{rows_without};
 
-use atom_map::Bounds;
+use crate::kept_rows::KeptRows;
+use crate::link_set::LinkSet;
 use dn_model::{OutOfMemory, RouterId, Target};
 use label_view::LabelView;
 use std::marker::Model;
-use target_rows::TargetRows;
 
 /// What all routers do with all addresses, as a version has it, without the routes that say why: what queries read. A
-/// contract sees the number of routers and the rows. It shares with the version what the next updates don't change.
+/// contract sees the number of routers and the rows. It shares with the version what the next entries don't change. What
+/// routers do while all links are up is kept, and the links that are down are put over what is read of it: where none is
+/// down nothing is added to a read, and else a look at a link's flag for each target that goes on over one.
 #[derive(Drop)]
 pub struct Shown {
-    routers: u32,
-    atoms: Bounds,
-    labels: TargetRows,
+    kept: KeptRows,
+    down: LinkSet,
 }
 
 impl Model for Shown {
-    ghost use Rattle.net_engine.specs.Paired.{rows_with};
-    ghost use Rattle.net_engine.specs.Shown.{AreShown, View};
+    ghost use Rattle.net_engine.specs.Shown.{View};
+    ghost use Rattle.what_if.specs.Restricted.{rows_without};
 
     ghost Value = { View };
 
-    ghost view = { λ s. record { routers = s.routers; rows = rows_with s.atoms s.labels.rows } };
-
-    ghost invariant = { λ s. AreShown s.routers s.atoms s.labels };
+    ghost view = { λ s. record { routers = s.kept.routers; rows = rows_without s.down s.kept.rows } };
 }
 
 impl Shown {
-    /// What these routers do with these atoms.
-    pub(crate) fn of(routers: u32, atoms: Bounds, labels: TargetRows) -> Shown
-        requires labelled { AreLabelled atoms labels }
-        requires same { labels.routers ≡ routers }
-        requires form { AreForwarding routers (rows_with atoms labels.rows) }
-        ensures routers { result.routers ≡ routers }
-        ensures rows { result.rows ≡ rows_with atoms labels.rows }
+    /// These rows, where these links are down.
+    pub(crate) fn of(kept: KeptRows, down: LinkSet) -> Shown
+        ensures routers { result.routers ≡ kept.routers }
+        ensures rows { result.rows ≡ rows_without down kept.rows }
     {
-        Shown {
-            routers,
-            atoms,
-            labels,
-        }
+        Shown { kept, down }
     }
 
     /// The same again. It fails for want of memory alone.
     pub fn copy(&self) -> Result<Shown, OutOfMemory>
         ensures { IfOk result (λ shown. shown ≡ self.now) }
     {
-        let atoms = self.atoms.copy()?;
-        let labels = self.labels.copy()?;
-        Ok(Shown {
-            routers: self.routers,
-            atoms,
-            labels,
-        })
+        let kept = self.kept.copy()?;
+        let down = self.down.copy()?;
+        Ok(Shown { kept, down })
     }
 }
 
@@ -67,30 +55,33 @@ impl LabelView for Shown {
     ghost rows = { λ s. s.rows };
 
     fn routers(&self) -> u32 {
-        self.routers
+        self.kept.routers()
     }
 
     fn atoms(&self) -> u64 {
-        self.atoms.count()
+        self.kept.atoms()
     }
 
     fn bounds(&self, i: u64) -> (u64, u64) {
-        self.atoms.bounds(i)
+        self.kept.bounds(i)
     }
 
     fn atom_of(&self, a: u32) -> u64 {
-        self.atoms.place_of(a)
+        self.kept.atom_of(a)
     }
 
     fn target(&self, r: RouterId, i: u64) -> Target {
-        self.labels.target(r, i)
+        self.down.shown(self.kept.target(r, i))
     }
 
     fn column(&self, r: RouterId, i: u64, out: &mut [Target]) -> usize {
-        self.labels.column(r, i, out)
+        let count = self.kept.column(r, i, out);
+        self.down.put_over(&mut out[..count]);
+        count
     }
 
     fn row(&self, i: u64, out: &mut [Target]) {
-        self.labels.row(i, out);
+        self.kept.row(i, out);
+        self.down.put_over(out);
     }
 }

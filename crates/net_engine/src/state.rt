@@ -1,37 +1,41 @@
 //! What a version keeps.
 
-ghost use Rattle.std.specs.Prelude.{◌≡◌, ◌+◌, ◌<◌, ◌≤◌, ◌++◌, ◌∷◌, [], List, IfOk, IfSome, OnOk, length};
+ghost use Rattle.std.specs.Prelude.{◌≡◌, ◌+◌, ◌≤◌, [], IfOk, OnOk, length};
 ghost use Rattle.std.specs.Arc.{arc_value};
-ghost use Rattle.dn_model.specs.LastDelta.{IsDeltaOf};
 ghost use Rattle.dn_model.specs.Entry.{IsEntryOf};
 ghost use Rattle.dn_model.specs.Table.{prefix_of_op};
 ghost use Rattle.net_engine.specs.Followed.{IsFollowed};
+ghost use Rattle.net_engine.specs.LinkSet.{AreAlikeBut};
 ghost use Rattle.net_engine.specs.Updates.{IsOwnUpdate};
 ghost use Rattle.net_engine.specs.Version.{KeptStandsFor};
-ghost use Rattle.dn_model.specs.declared.entry.Entry.{Entry as EntryIs};
-ghost use Rattle.net_engine.specs.Looks.{atoms_added, atoms_met, prefix_of_entry};
+ghost use Rattle.net_engine.specs.Looks.{IsWithinSteps, atoms_met};
 ghost use Rattle.net_engine.specs.Seen.{IsSound, kept_in};
-ghost use Rattle.net_engine.specs.Walked.{IsUpdated};
+ghost use Rattle.net_engine.specs.Walked.{AreTold, IsAdvanced, IsLinkTurned, IsUpdated, with_links};
 
+use crate::link_set::LinkSet;
+use crate::link_turn::{Turn, turn_changes};
 use crate::net::Net;
+use crate::told::shown_changes;
 use crate::update::{Update, update_of};
 use delta_graph::Delta;
-use dn_model::{Entry, OutOfMemory, Topology};
+use dn_model::{Entry, LinkId, OutOfMemory, Topology};
 use std::alloc::Global;
 use std::sync::Arc;
 use std::sync::ledger::Ledger;
 use step_count::Steps;
 
-/// What a version keeps: the topology, the atoms, with what each router does there, and each router's routes. A contract sees
-/// the fields, so that an update that finds no memory half way may leave them as they are then.
+/// What a version keeps: the topology, the atoms, with what each router does there while all links are up, each router's
+/// routes, and the links that are down. A contract sees the fields, so that an entry that finds no memory half way may
+/// leave them as they are then.
 #[derive(Drop)]
 pub struct State {
     topology: Arc<Topology, Global>,
     pub net: Net,
+    pub down: LinkSet,
 }
 
 impl State {
-    /// What is kept of a network before any update: no router has a route.
+    /// What is kept of a network before any entry: no router has a route, and no link is down.
     pub fn empty(alloc: Global, t: Arc<Topology, Global>) -> Result<State, OutOfMemory>
         ensures topology { IfOk result (λ state. (kept_in state).topology ≡ arc_value t) }
         ensures stands { IfOk result (λ state. KeptStandsFor (kept_in state) []) }
@@ -39,7 +43,12 @@ impl State {
     {
         let routers = t.router_count();
         let net = Net::new(alloc, routers)?;
-        Ok(State { topology: t, net })
+        let down = LinkSet::new(alloc)?;
+        Ok(State {
+            topology: t,
+            net,
+            down,
+        })
     }
 
     /// Makes an update of one of the routers. Where it puts a route, atoms begin at the ends of its prefix then.
@@ -56,12 +65,57 @@ impl State {
         ensures cost { steps.new ≤
             steps.old + 2 + atoms_met (kept_in self.old).atoms (prefix_of_op update.now.table.op) }
     {
-        let delta = self.net.update(alloc, update, steps)?;
+        let told = self.net.update(alloc, update, steps)?;
+        let delta = shown_changes(alloc, told, &self.down)?;
         Ok(delta)
     }
 
-    /// Makes an update of one of the routers, and tells where that changes what the router does. It fails for want of
-    /// memory alone, and then nothing is said of it.
+    /// What is shown otherwise once these links are down, which are those that are but for this one.
+    fn changes_to<L: Ledger>(
+        &self,
+        alloc: Global,
+        link: LinkId,
+        after: &LinkSet,
+        steps: &mut Steps<L>,
+    ) -> Result<Delta, OutOfMemory>
+        requires sound { IsSound self.now }
+        requires alike { AreAlikeBut self.now.down after.now link }
+        ensures changes { IfOk result (AreTold (kept_in self.now) (with_links (kept_in self.now) after.now)) }
+        ensures cost { steps.new ≤ steps.old + length (kept_in self.now).atoms }
+    {
+        let rows = self.net.kept_rows()?;
+        let marks = self.net.routers_over(alloc, link)?;
+        let turn = Turn {
+            before: &self.down,
+            after,
+        };
+        turn_changes(alloc, &rows, &marks, &turn, steps)
+    }
+
+    /// A link goes down or comes up. Where it is so already nothing changes.
+    fn turn_link<L: Ledger>(
+        &mut self,
+        alloc: Global,
+        link: LinkId,
+        down: bool,
+        steps: &mut Steps<L>,
+    ) -> Result<Delta, OutOfMemory>
+        requires sound { IsSound self.old }
+        ensures made { IfOk result (λ delta. IsLinkTurned (kept_in self.old) (kept_in self.new) link down delta) }
+        ensures sound { OnOk result (IsSound self.new) }
+        ensures cost { steps.new ≤ steps.old + length (kept_in self.old).atoms }
+    {
+        if self.down.has(link) == down {
+            return Ok(Delta::new(alloc));
+        }
+        let after = self.down.with(alloc, link, down)?;
+        let delta = self.changes_to(alloc, link, &after, steps)?;
+        self.down = after;
+        Ok(delta)
+    }
+
+    /// Makes the next entry of the history, and tells where that changes what routers do. It fails for want of memory
+    /// alone, and then nothing is said of it.
     pub fn advance<L: Ledger>(
         &mut self,
         alloc: Global,
@@ -71,23 +125,17 @@ impl State {
         requires sound { IsSound self.old }
         requires entry { IsEntryOf (kept_in self.old).topology entry.now }
         requires followed { IsFollowed entry.now }
-        ensures topology { OnOk result ((kept_in self.new).topology ≡ (kept_in self.old).topology) }
-        ensures stands { OnOk result ((history : List EntryIs) → KeptStandsFor (kept_in self.old) history →
-            KeptStandsFor (kept_in self.new) (history ++ entry.now ∷ [])) }
-        ensures delta { IfOk result (λ delta. (history : List EntryIs) → KeptStandsFor (kept_in self.old) history →
-            IsDeltaOf (kept_in self.old).topology (history ++ entry.now ∷ []) delta) }
-        ensures added { OnOk result (
-            length (kept_in self.new).atoms ≡
-            length (kept_in self.old).atoms + atoms_added (kept_in self.old).atoms entry.now) }
-        ensures met { OnOk result (IfSome (prefix_of_entry entry.now) (λ p.
-            atoms_met (kept_in self.new).atoms p ≡ atoms_met (kept_in self.old).atoms p)) }
+        ensures made { IfOk result (IsAdvanced (kept_in self.old) (kept_in self.new) entry.now) }
         ensures sound { OnOk result (IsSound self.new) }
-        ensures cost { IfSome (prefix_of_entry entry.now) (λ p.
-            steps.new ≤ steps.old + 2 + atoms_met (kept_in self.old).atoms p) }
+        ensures cost { IsWithinSteps (kept_in self.old).atoms entry.now steps.old steps.new }
     {
-        let update = update_of(&self.topology, entry);
-        let delta = self.update(alloc, &update, steps)?;
-        Ok(delta)
+        match *entry {
+            Entry::Route { router, op, .. } => {
+                let update = update_of(&self.topology, router, op);
+                self.update(alloc, &update, steps)
+            }
+            Entry::Link { link, down, .. } => self.turn_link(alloc, link, down, steps),
+        }
     }
 
     /// The same again.
@@ -98,6 +146,11 @@ impl State {
     {
         let topology = Arc::try_clone(&self.topology)?;
         let net = self.net.copy(alloc)?;
-        Ok(State { topology, net })
+        let down = self.down.copy()?;
+        Ok(State {
+            topology,
+            net,
+            down,
+        })
     }
 }

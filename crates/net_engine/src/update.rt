@@ -1,10 +1,10 @@
 //! Updates of one router's routes.
 
 ghost use Rattle.std.specs.Prelude.{◌≡◌};
-ghost use Rattle.net_engine.specs.Followed.{IsFollowed};
+ghost use Rattle.net_engine.specs.Followed.{IsFollowedOp};
 ghost use Rattle.net_engine.specs.Updates.{IsUpdateOf};
 
-use dn_model::{Entry, Op, RouterId, TableOp, Topology, Way, replaces_prefix};
+use dn_model::{Op, RouterId, TableOp, Topology, Way, replaces_prefix};
 use route_table::TableUpdate;
 
 /// An update of one router's routes, at one prefix.
@@ -14,14 +14,11 @@ pub struct Update {
     pub table: TableUpdate,
 }
 
-/// What an entry does to one router's routes.
-pub fn update_of(topology: &Topology, entry: &Entry) -> Update
-    requires { IsFollowed entry.now }
-    ensures { IsUpdateOf topology.now entry.now result }
+/// What an update of a router does to its routes.
+pub fn update_of(topology: &Topology, router: RouterId, op: Op) -> Update
+    requires { IsFollowedOp op }
+    ensures { IsUpdateOf topology.now router op result }
 {
-    let Entry::Route { router, op, .. } = *entry else {
-        unreachable!()
-    };
     let alone = replaces_prefix(topology, router);
     let op = match op {
         Op::Set {

@@ -155,6 +155,39 @@ fn back() -> Entry
     set(1, ten(), 10, TO_FIRST)
 }
 
+/// The link from r1 to r2 goes down or comes up.
+fn turn(down: bool) -> Entry
+    ensures own { (t : TopologyIs) → length t.routers ≡ 3 → length t.links ≡ 2 → IsEntryOf t result }
+    ensures followed { IsFollowed result }
+{
+    Entry::Link {
+        job: 1,
+        link: LinkId(0),
+        down,
+    }
+}
+
+/// A cycle over the link that goes down then.
+fn round_and_fail() -> [Entry; 3]
+    ensures { (t : TopologyIs) → length t.routers ≡ 3 → length t.links ≡ 2 → All (IsEntryOf t) result }
+{
+    [to_second(), back(), turn(true)]
+}
+
+/// The same cycle, once the link is up again.
+fn round_again() -> [Entry; 4]
+    ensures { (t : TopologyIs) → length t.routers ≡ 3 → length t.links ≡ 2 → All (IsEntryOf t) result }
+{
+    [to_second(), back(), turn(true), turn(false)]
+}
+
+/// The same routes, set while the link is down, which then comes up.
+fn failed_before() -> [Entry; 4]
+    ensures { (t : TopologyIs) → length t.routers ≡ 3 → length t.links ≡ 2 → All (IsEntryOf t) result }
+{
+    [turn(true), to_second(), back(), turn(false)]
+}
+
 /// Updates of which the second makes a cycle, and the third breaks it.
 fn round_and_out() -> [Entry; 3]
     ensures { (t : TopologyIs) → length t.routers ≡ 3 → length t.links ≡ 2 → All (IsEntryOf t) result }
@@ -488,6 +521,49 @@ fn a_held_snapshot_keeps_its_loops(rt: HostRuntime) {
     compare(&rt, rt.alloc(), &held, &[to_second(), back()]);
     let now = store.snap().expect(&rt, "memory");
     compare(&rt, rt.alloc(), &now, &round_and_out());
+}
+
+/// A cycle of two routers goes with its link, in one entry that changes both.
+#[test]
+fn a_cycle_goes_with_its_link(rt: HostRuntime) {
+    let mut store = store_of(&rt, rt.alloc(), 10);
+    let _ = post(&mut store, to_second());
+    let _ = post(&mut store, back());
+    let held = store.snap().expect(&rt, "memory");
+    let _ = post(&mut store, turn(true));
+    let now = store.snap().expect(&rt, "memory");
+    compare(&rt, rt.alloc(), &held, &[to_second(), back()]);
+    compare(&rt, rt.alloc(), &now, &round_and_fail());
+}
+
+/// And comes again with it.
+#[test]
+fn a_cycle_comes_again_with_its_link(rt: HostRuntime) {
+    let mut store = store_of(&rt, rt.alloc(), 10);
+    let _ = post(&mut store, to_second());
+    let _ = post(&mut store, back());
+    let _ = post(&mut store, turn(true));
+    let failed = store.snap().expect(&rt, "memory");
+    let _ = post(&mut store, turn(false));
+    let now = store.snap().expect(&rt, "memory");
+    assert_eq!(rt; count_loops(&rt, rt.alloc(), &failed), 0);
+    assert_eq!(rt; count_loops(&rt, rt.alloc(), &now), 1);
+    compare(&rt, rt.alloc(), &now, &round_again());
+}
+
+/// Routes that make a cycle are set while its link is down: the cycle comes with the link.
+#[test]
+fn a_cycle_comes_with_its_link_alone(rt: HostRuntime) {
+    let mut store = store_of(&rt, rt.alloc(), 10);
+    let _ = post(&mut store, turn(true));
+    let _ = post(&mut store, to_second());
+    let _ = post(&mut store, back());
+    let held = store.snap().expect(&rt, "memory");
+    let _ = post(&mut store, turn(false));
+    let now = store.snap().expect(&rt, "memory");
+    assert_eq!(rt; count_loops(&rt, rt.alloc(), &held), 0);
+    compare_wide(&rt, rt.alloc(), &now, &failed_before());
+    compare(&rt, rt.alloc(), &now, &failed_before());
 }
 
 /// A cycle and a black hole. The loops are asked for as kept, and as threads find them with the link b down. Threads

@@ -2,6 +2,7 @@ pub mod ChunkLemmas
 pub mod Crossing
 pub mod EdgeOrder
 pub mod MovedRun
+pub mod Overs
 pub mod Patched
 pub mod ReadLemmas
 pub mod RowLemmas

@@ -8,6 +8,7 @@ mod code_chunk;
 mod code_rows;
 mod codes;
 mod guesses;
+mod over;
 mod reading;
 mod rows;
 mod split_codes;

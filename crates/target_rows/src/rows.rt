@@ -3,14 +3,16 @@
 ghost use Rattle.std.specs.Prelude.{◌≡◌, ℕ, ◌+◌, ◌<◌, ◌≤◌, ◌^◌, length, slice_index_or, IfOk, OnOk};
 ghost use Rattle.base.specs.declared.target.Target.{Target};
 ghost use Rattle.target_rows.specs.Labels.{first_labels, moved_run, parted, target_at};
+ghost use Rattle.target_rows.specs.Over.{MarksOver};
 
 use crate::chunk_rows::{Column, place_in, start_of, stride};
 use crate::code_book::CodeBook;
 use crate::code_rows::{FirstRow, first_row};
 use crate::codes::Edge;
+use crate::over;
 use crate::reading::{read_column, read_row};
 use crate::split_codes::SplitCodes;
-use base::{OutOfMemory, RouterId, Target};
+use base::{LinkId, OutOfMemory, RouterId, Target};
 use std::alloc::Global;
 use std::marker::Model;
 
@@ -97,6 +99,15 @@ impl TargetRows {
     {
         let first = start_of(self.routers, place);
         read_row(&self.chunks, first, self.book.edges(), out);
+    }
+
+    /// A mark for each router, by its number: it is set where the router goes on over a link at an atom, and may be set
+    /// where it once did. It looks at each code once and at no atom. It fails for want of memory alone.
+    pub fn routers_over(&self, alloc: Global, link: LinkId) -> Result<Vec<bool>, OutOfMemory>
+        ensures { IfOk result (λ marks. MarksOver self.now link marks.items) }
+    {
+        let marks = over::routers_over(alloc, self.book.edges(), self.routers, link)?;
+        Ok(marks)
     }
 
     /// A router does something else with the atoms at the places from `first` up to, and without, `past`: it goes down

@@ -1,12 +1,12 @@
 -- How many rows a version has: each begins at 0 or at an end of a prefix that was set, and no two begin alike.
-use Rattle.std.proofs.Common.{◌≡◌, ℕ, ◌+◌, ◌*◌, ◌<◌, ◌≤◌, ◌^◌, ◌∙◌, ◌==◌, ◌||◌, ⊎_elim, Bool, true, false, cond, Option, None, Some, List, [], ◌∷◌, length, map, refl, ap, sym, subst, arith}
+use Rattle.std.proofs.Common.{◌≡◌, ℕ, ◌+◌, ◌*◌, ◌<◌, ◌≤◌, ◌^◌, ◌∙◌, ◌==◌, ◌||◌, ⊎_elim, Bool, true, false, cond, Option, None, Some, List, [], ◌∷◌, length, refl, ap, sym, subst, arith}
 use Rattle.std.specs.List.{cons_option, filter_map, list_any}
 use Rattle.std.proofs.lemmas.Bool.{and_parts, both_ways, cases_Bool, cond-false, cond-true, eq-eqb, eqb-true, or_left, or_right}
 use Rattle.base.specs.Cidr.{Cidr, size}
 use Rattle.dn_model.specs.Entry.{ends_of_set, is_bound_of, is_end_of_some, prefix_set}
 use Rattle.base.specs.Forwarding.{row_low, row_past}
 use Rattle.base.specs.Rows.{CoverFrom}
-use Rattle.net_engine.specs.Version.{Atom, Kept, KeptStandsFor, begins_at, forwarding_of, row_without}
+use Rattle.net_engine.specs.Version.{Atom, Kept, KeptStandsFor, begins_at, forwarding_of}
 use Rattle.dn_model.specs.declared.entry.Entry.{Entry}
 use Rattle.dn_model.specs.declared.entry.Entry.TheVariants.{Route, Link}
 use Rattle.dn_model.specs.declared.query.Ask.{Ask}
@@ -180,7 +180,10 @@ all-pass test start (row ∷ rows) cover h =
 begin-atoms : (kept : Kept) (a : ℕ) → list_any (λ (row : ForwardingRow). row.low == a) (forwarding_of kept) ≡ begins_at kept.atoms a
 begin-atoms kept a = by kept.atoms
   where
-    by : (atoms : List Atom) → list_any (λ (row : ForwardingRow). row.low == a) (map (λ (x : Atom). row_without kept.down x.row) atoms) ≡ begins_at atoms a
+    with_atoms : List Atom → Kept
+    with_atoms atoms = record { topology = kept.topology; atoms = atoms; routes = kept.routes; objects = kept.objects; down = kept.down }
+
+    by : (atoms : List Atom) → list_any (λ (row : ForwardingRow). row.low == a) (forwarding_of (with_atoms atoms)) ≡ begins_at atoms a
     by [] = refl
     by (x ∷ atoms) = ap (λ b. (x.row.low == a) || b) (by atoms)
 

@@ -24,8 +24,8 @@ use std::sync::Arc;
 use std::sync::ledger::{Blank, Ledger};
 use step_count::Steps;
 
-/// The version after an update, and where that changes what the router does. Nobody reads the count of steps, which takes
-/// no bytes.
+/// The version after one more entry, and where that changes what routers do. Nobody reads the count of steps, which takes no
+/// bytes.
 fn update<L: Ledger>(
     alloc: Global,
     version: Version,
@@ -46,7 +46,7 @@ fn update<L: Ledger>(
     version.advance(alloc, entry, &mut steps)
 }
 
-/// Keeps loops through an update to a version, by its delta. Nobody reads the count of steps, which takes no bytes.
+/// Keeps loops through an entry to a version, by its delta, which may be of several routers. Nobody reads the count of steps, which takes no bytes.
 fn keep<L: Ledger>(
     alloc: Global,
     loops: &mut KeptLoops,

@@ -1,14 +1,12 @@
-use Rattle.std.proofs.Common.{◌<◌, ◌≤◌}
-use Rattle.base.specs.declared.forwarding_row.ForwardingRow.{ForwardingRow}
-use Rattle.net_engine.proofs.Showing.{place-within, row-shown}
-use Rattle.net_engine.proofs.Standing.{some-row}
+use Rattle.std.proofs.Common.{◌<◌, ◌≤◌, subst}
+use Rattle.net_engine.proofs.ShownRows.{count-shown, low-shown, past-shown}
 use Rattle.net_engine.proofs.shown.ShownLabelView.atom_of.Goals as goal
 
 pub returns-clause-inside : goal.returns-clause-inside
-returns-clause-inside c = place-within c.self.inside.routers c.self.inside.atoms c.self.inside.labels c.args.self.now c.place_of.result c.self.view_is c.place_of.ensures.inside
+returns-clause-inside c = subst (λ n. c.atom_of.result < n) (count-shown c.self.inside.kept c.args.self.now c.self.inside.down c.self.view_is) c.atom_of.ensures.inside
 
 pub returns-clause-from : goal.returns-clause-from
-returns-clause-from c d = row-shown (λ (row : ForwardingRow). row.low ≤ c.args.a) c.self.inside.routers c.self.inside.atoms c.self.inside.labels c.args.self.now c.place_of.result d c.self.view_is c.place_of.ensures.inside (c.place_of.ensures.from some-row)
+returns-clause-from c d = subst (λ n. n ≤ c.args.a) (low-shown c.self.inside.kept c.args.self.now c.self.inside.down c.self.view_is c.atom_of.result d c.atom_of.ensures.inside) (c.atom_of.ensures.from d)
 
 pub returns-clause-to : goal.returns-clause-to
-returns-clause-to c d = row-shown (λ (row : ForwardingRow). c.args.a < row.past) c.self.inside.routers c.self.inside.atoms c.self.inside.labels c.args.self.now c.place_of.result d c.self.view_is c.place_of.ensures.inside (c.place_of.ensures.to some-row)
+returns-clause-to c d = subst (λ n. c.args.a < n) (past-shown c.self.inside.kept c.args.self.now c.self.inside.down c.self.view_is c.atom_of.result d c.atom_of.ensures.inside) (c.atom_of.ensures.to d)

@@ -1,11 +1,9 @@
-use Rattle.std.proofs.Common.{◌∙◌, subst}
-use Rattle.base.specs.Forwarding.{AreForwarding}
-use Rattle.net_engine.specs.Shown.{View}
-use Rattle.net_engine.proofs.Showing.{count-shown}
+use Rattle.std.proofs.Common.{◌∙◌}
+use Rattle.net_engine.proofs.ShownRows.{count-shown, form-shown}
 use Rattle.net_engine.proofs.shown.ShownLabelView.atoms.Goals as goal
 
 pub returns-clause-form : goal.returns-clause-form
-returns-clause-form c = subst (λ (v : View). AreForwarding v.routers v.rows) c.self.view_is c.self.invariant.form
+returns-clause-form c = form-shown c.self.inside.kept c.args.self.now c.self.inside.down c.self.view_is c.atoms.ensures.form
 
 pub returns-clause-value : goal.returns-clause-value
-returns-clause-value c = c.count.ensures.value ∙ count-shown c.self.inside.routers c.self.inside.atoms c.self.inside.labels c.args.self.now c.self.view_is
+returns-clause-value c = c.atoms.ensures.value ∙ count-shown c.self.inside.kept c.args.self.now c.self.inside.down c.self.view_is

@@ -1,14 +1,12 @@
-use Rattle.std.proofs.Common.{◌≡◌}
-use Rattle.base.specs.declared.forwarding_row.ForwardingRow.{ForwardingRow}
-use Rattle.net_engine.proofs.Showing.{place-shown, row-shown}
-use Rattle.net_engine.proofs.Standing.{some-row}
+use Rattle.std.proofs.Common.{◌∙◌}
+use Rattle.net_engine.proofs.ShownRows.{low-shown, past-shown, place-shown}
 use Rattle.net_engine.proofs.shown.ShownLabelView.bounds.Goals as goal
 
 pub bounds-requires : goal.bounds-requires
-bounds-requires c = place-shown c.self.inside.routers c.self.inside.atoms c.self.inside.labels c.args.self.now c.args.i c.self.view_is c.requires
+bounds-requires c = place-shown c.self.inside.kept c.args.self.now c.self.inside.down c.self.view_is c.args.i c.requires
 
 pub returns-clause-low : goal.returns-clause-low
-returns-clause-low c d = row-shown (λ (row : ForwardingRow). c.bounds.result.0 ≡ row.low) c.self.inside.routers c.self.inside.atoms c.self.inside.labels c.args.self.now c.args.i d c.self.view_is (place-shown c.self.inside.routers c.self.inside.atoms c.self.inside.labels c.args.self.now c.args.i c.self.view_is c.requires) (c.bounds.ensures.low some-row)
+returns-clause-low c d = c.bounds.ensures.low d ∙ low-shown c.self.inside.kept c.args.self.now c.self.inside.down c.self.view_is c.args.i d (place-shown c.self.inside.kept c.args.self.now c.self.inside.down c.self.view_is c.args.i c.requires)
 
 pub returns-clause-past : goal.returns-clause-past
-returns-clause-past c d = row-shown (λ (row : ForwardingRow). c.bounds.result.1 ≡ row.past) c.self.inside.routers c.self.inside.atoms c.self.inside.labels c.args.self.now c.args.i d c.self.view_is (place-shown c.self.inside.routers c.self.inside.atoms c.self.inside.labels c.args.self.now c.args.i c.self.view_is c.requires) (c.bounds.ensures.past some-row)
+returns-clause-past c d = c.bounds.ensures.past d ∙ past-shown c.self.inside.kept c.args.self.now c.self.inside.down c.self.view_is c.args.i d (place-shown c.self.inside.kept c.args.self.now c.self.inside.down c.self.view_is c.args.i c.requires)

@@ -1,18 +1,15 @@
-use Rattle.std.proofs.Common.{◌≡◌, ◌+◌, ◌<◌, ◌≤◌, length, slice_index_or, subst, sym, ◌∙◌}
-use Rattle.base.specs.Forwarding.{target_of}
-use Rattle.base.specs.declared.forwarding_row.ForwardingRow.{ForwardingRow}
-use Rattle.net_engine.proofs.RowsRead.{place-among}
-use Rattle.net_engine.proofs.Showing.{count-shown, place-shown, row-shown}
+use Rattle.std.proofs.Common.{◌+◌, ◌<◌, ◌≤◌, subst, sym}
+use Rattle.net_engine.proofs.ShownRows.{column-shown, count-shown, place-shown, routers-shown}
 use Rattle.net_engine.proofs.shown.ShownLabelView.column.Goals as goal
 
-pub column-requires-clause-place : goal.column-requires-clause-place
-column-requires-clause-place c = subst (λ n. c.args.i < n) (sym c.self.invariant.labelled.there) (place-shown c.self.inside.routers c.self.inside.atoms c.self.inside.labels c.args.self.now c.args.i c.self.view_is c.requires.place)
+pub column-count-requires-clause-router : goal.column-count-requires-clause-router
+column-count-requires-clause-router c = subst (λ n. c.args.r.0 < n) (sym (routers-shown c.self.inside.kept c.args.self.now c.self.inside.down c.self.view_is)) c.requires.router
+
+pub column-count-requires-clause-place : goal.column-count-requires-clause-place
+column-count-requires-clause-place c = place-shown c.self.inside.kept c.args.self.now c.self.inside.down c.self.view_is c.args.i c.requires.place
 
 pub returns-clause-inside : goal.returns-clause-inside
-returns-clause-inside c = subst (λ n. c.args.i + c.column.result ≤ n) (c.self.invariant.labelled.there ∙ count-shown c.self.inside.routers c.self.inside.atoms c.self.inside.labels c.args.self.now c.self.view_is) c.column.ensures.inside
+returns-clause-inside c = subst (λ n. c.args.i + c.column-count.result ≤ n) (count-shown c.self.inside.kept c.args.self.now c.self.inside.down c.self.view_is) c.column-count.ensures.inside
 
 pub returns-clause-targets : goal.returns-clause-targets
-returns-clause-targets c = λ k d e l.
-    row-shown (λ (row : ForwardingRow). slice_index_or c.column.new.out k e ≡ target_of row c.args.r) c.self.inside.routers c.self.inside.atoms c.self.inside.labels c.args.self.now (c.args.i + k) d c.self.view_is
-    (place-among c.args.i k c.column.result (length c.self.inside.atoms) (subst (λ n. c.args.i + c.column.result ≤ n) c.self.invariant.labelled.there c.column.ensures.inside) l)
-    (c.column.ensures.targets k e l)
+returns-clause-targets c = column-shown c.self.inside.kept c.args.self.now c.self.inside.down c.self.view_is c.args.i c.column-count.result c.args.r c.column-count.new.out c.put_over.new.targets _ c.column-count.ensures.inside c.column-count.ensures.within c.column-count.ensures.targets c.put_over.ensures

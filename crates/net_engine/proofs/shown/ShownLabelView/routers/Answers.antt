@@ -1,7 +1,5 @@
-use Rattle.std.proofs.Common.{subst}
-use Rattle.base.specs.Forwarding.{AreForwarding}
-use Rattle.net_engine.specs.Shown.{View}
+use Rattle.net_engine.proofs.ShownRows.{form-shown}
 use Rattle.net_engine.proofs.shown.ShownLabelView.routers.Goals as goal
 
 pub returns-clause-form : goal.returns-clause-form
-returns-clause-form c = subst (λ (v : View). AreForwarding v.routers v.rows) c.self.view_is c.self.invariant.form
+returns-clause-form c = form-shown c.self.inside.kept c.args.self.now c.self.inside.down c.self.view_is c.routers.ensures.form

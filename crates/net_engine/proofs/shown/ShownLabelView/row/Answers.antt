@@ -1,16 +1,12 @@
-use Rattle.std.proofs.Common.{◌≡◌, ◌<◌, ap, length, subst, sym, ◌∙◌}
-use Rattle.base.specs.declared.forwarding_row.ForwardingRow.{ForwardingRow}
-use Rattle.net_engine.specs.Shown.{View}
-use Rattle.net_engine.proofs.RowsRead.{targets-read}
-use Rattle.net_engine.proofs.Showing.{place-shown, row-shown}
+use Rattle.std.proofs.Common.{◌∙◌, sym}
+use Rattle.net_engine.proofs.ShownRows.{place-shown, routers-shown, targets-shown}
 use Rattle.net_engine.proofs.shown.ShownLabelView.row.Goals as goal
 
 pub row-requires-clause-place : goal.row-requires-clause-place
-row-requires-clause-place c = subst (λ n. c.args.i < n) (sym c.self.invariant.labelled.there) (place-shown c.self.inside.routers c.self.inside.atoms c.self.inside.labels c.args.self.now c.args.i c.self.view_is c.requires.place)
+row-requires-clause-place c = place-shown c.self.inside.kept c.args.self.now c.self.inside.down c.self.view_is c.args.i c.requires.place
+
+pub row-requires-clause-wide : goal.row-requires-clause-wide
+row-requires-clause-wide c = c.requires.wide ∙ sym (routers-shown c.self.inside.kept c.args.self.now c.self.inside.down c.self.view_is)
 
 pub returns : goal.returns
-returns c d =
-    let place = place-shown c.self.inside.routers c.self.inside.atoms c.self.inside.labels c.args.self.now c.args.i c.self.view_is c.requires.place in
-    row-shown (λ (row : ForwardingRow). c.row.new.out ≡ row.targets) c.self.inside.routers c.self.inside.atoms c.self.inside.labels c.args.self.now c.args.i d c.self.view_is place
-    (targets-read c.self.inside.atoms c.self.inside.labels c.args.i c.row.new.out c.self.invariant.labelled place
-    (c.row.ensures.room ∙ c.requires.wide ∙ sym (ap (λ (v : View). v.routers) c.self.view_is) ∙ sym c.self.invariant.same) c.row.ensures.targets)
+returns c = targets-shown c.self.inside.kept c.args.self.now c.self.inside.down c.self.view_is c.args.i c.row.new.out c.put_over.new.targets (place-shown c.self.inside.kept c.args.self.now c.self.inside.down c.self.view_is c.args.i c.requires.place) c.row.ensures c.put_over.ensures

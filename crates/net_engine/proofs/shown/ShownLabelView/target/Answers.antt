@@ -1,15 +1,12 @@
-use Rattle.std.proofs.Common.{◌≡◌, ◌<◌, length, subst, sym, ◌∙◌, ap}
-use Rattle.base.specs.Forwarding.{target_of}
-use Rattle.base.specs.declared.forwarding_row.ForwardingRow.{ForwardingRow}
-use Rattle.net_engine.specs.Shown.{View}
-use Rattle.net_engine.proofs.Showing.{place-shown, row-shown}
+use Rattle.std.proofs.Common.{◌<◌, subst, sym}
+use Rattle.net_engine.proofs.ShownRows.{place-shown, routers-shown, target-shown}
 use Rattle.net_engine.proofs.shown.ShownLabelView.target.Goals as goal
 
-pub target-requires-clause-place : goal.target-requires-clause-place
-target-requires-clause-place c = subst (λ n. c.args.i < n) (sym c.self.invariant.labelled.there) (place-shown c.self.inside.routers c.self.inside.atoms c.self.inside.labels c.args.self.now c.args.i c.self.view_is c.requires.place)
-
 pub target-requires-clause-router : goal.target-requires-clause-router
-target-requires-clause-router c = subst (λ n. c.args.r.0 < n) (sym (ap (λ (v : View). v.routers) c.self.view_is) ∙ sym c.self.invariant.same) c.requires.router
+target-requires-clause-router c = subst (λ n. c.args.r.0 < n) (sym (routers-shown c.self.inside.kept c.args.self.now c.self.inside.down c.self.view_is)) c.requires.router
+
+pub target-requires-clause-place : goal.target-requires-clause-place
+target-requires-clause-place c = place-shown c.self.inside.kept c.args.self.now c.self.inside.down c.self.view_is c.args.i c.requires.place
 
 pub returns : goal.returns
-returns c d = row-shown (λ (row : ForwardingRow). c.target.result ≡ target_of row c.args.r) c.self.inside.routers c.self.inside.atoms c.self.inside.labels c.args.self.now c.args.i d c.self.view_is (place-shown c.self.inside.routers c.self.inside.atoms c.self.inside.labels c.args.self.now c.args.i c.self.view_is c.requires.place) c.target.ensures
+returns c = target-shown c.self.inside.kept c.args.self.now c.self.inside.down c.self.view_is c.args.i c.args.r c.target.result c.shown.result (place-shown c.self.inside.kept c.args.self.now c.self.inside.down c.self.view_is c.args.i c.requires.place) c.target.ensures c.shown.ensures

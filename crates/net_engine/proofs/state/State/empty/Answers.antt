@@ -7,7 +7,7 @@ pub returns-clause-sound : goal.returns-clause-sound
 returns-clause-sound c =
     let count = c.router_count-routers.ensures.value ∙ ap (λ (t : Topology). length t.routers) c.deref.ensures in
     record {
-      whole = empty-whole _ c.router_count-routers.result _ _ c.router_count-routers.ensures.few count c.in_ok-net.ensures.atoms c.in_ok-net.ensures.tables;
+      whole = empty-whole _ c.router_count-routers.result _ _ _ c.router_count-routers.ensures.few count c.in_ok-net.ensures.atoms c.in_ok-net.ensures.tables c.in_ok-down.ensures;
       paired = c.in_ok-net.ensures.paired;
       routers = c.in_ok-net.ensures.routers ∙ count;
     }
@@ -15,4 +15,4 @@ returns-clause-sound c =
 pub returns-clause-stands : goal.returns-clause-stands
 returns-clause-stands c =
     let count = c.router_count-routers.ensures.value ∙ ap (λ (t : Topology). length t.routers) c.deref.ensures in
-    empty-stands _ c.router_count-routers.result _ _ c.router_count-routers.ensures.few count c.in_ok-net.ensures.atoms c.in_ok-net.ensures.tables
+    empty-stands _ c.router_count-routers.result _ _ _ c.router_count-routers.ensures.few count c.in_ok-net.ensures.atoms c.in_ok-net.ensures.tables c.in_ok-down.ensures

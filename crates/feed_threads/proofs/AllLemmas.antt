@@ -1,5 +1,6 @@
 -- What jobs with a seat came to holds of what is seen later too, and of one job more.
 use Rattle.std.proofs.Common.{◌≡◌, ℕ, zero, suc, ◌+◌, ◌-◌, ◌<◌, ◌≤◌, ◌⊎◌, inl, inr, ⊎_elim, Bool, true, false, ◌==◌, List, [], ◌∷◌, ◌++◌, length, get_or, take, All, Option, None, Some, refl, ap, sym, ◌∙◌, arith, subst}
+use Rattle.std.specs.Global.{Vec}
 use Rattle.std.specs.List.{list_any, Contains}
 use Rattle.std.specs.Prelude.{nat_lt}
 use Rattle.std.proofs.lemmas.Bool.Decides.{nat_tests}
@@ -29,10 +30,14 @@ use Rattle.version_lock.proofs.Histories.{prefix_self, prefix_trans}
 use Rattle.version_lock.specs.Callers.{Caller, HasNumber, IsSeatOf, KeepsOwn, Lock, numbers, upper_seat}
 use Rattle.version_lock.specs.History.{posted_by, HasSameOf}
 use Rattle.version_lock.specs.Rule.{longer}
+use Rattle.std.specs.Prelude.{vec_capacity}
+use Rattle.feed_threads.specs.declared.all_jobs.Batch.{Batch}
 use Rattle.feed_threads.specs.declared.job.JobDone.{JobDone}
 use Rattle.feed_threads.specs.AllJobs.{AllEnd, CameTo, Run, numbers_of_runs, same_no}
 use Rattle.feed_threads.specs.Feeds.{Feed, IsBroken, StandsFront, TookFront}
-use Rattle.feed_threads.specs.Jobs.{AreReadBy, Ends, HasRunUnless, IsKeptSo, IsReadBy, Task}
+use Rattle.feed_threads.specs.Jobs.{AreApart, AreReadBy, Ends, HasRunUnless, IsFresh, IsKeptSo, IsReadBy, Task}
+use Rattle.feed_threads.specs.Room.{HasRoom}
+use Rattle.feed_threads.specs.Runs.{AllRun, AreReady, IsReady, IsReadyBatch, MayRun, RanJob}
 use Rattle.feed_threads.specs.Seats.{own_of, SawMore}
 use Rattle.feed_threads.specs.Tells.{IsOwnOutcome, TellsOwn}
 use Rattle.feed_threads.proofs.SeatLemmas.{saw-seat}
@@ -228,16 +233,6 @@ one-end {S = S} t left faults place limit lock old new task done is uses some sa
 abbrev pub lower_seat : Caller → Caller
 lower_seat seat = record seat { span = seat.span - 1 }
 
--- both parts of a seat that was split are the lock's
-pub lower-is : (lock : Lock) (old new : Caller) → new ≡ lower_seat old → IsSeatOf lock old → IsSeatOf lock new
-lower-is lock old new low is = subst (λ (s : Caller). IsSeatOf lock s) (sym low) is
-
-pub lower-span : (old new : Caller) → new ≡ lower_seat old → new.span ≡ old.span - 1
-lower-span old new low = ap (λ (s : Caller). s.span) low
-
-pub upper-is : (lock : Lock) (old new : Caller) → new ≡ upper_seat 1 old → IsSeatOf lock old → IsSeatOf lock new
-upper-is lock old new upper is = subst (λ (s : Caller). IsSeatOf lock s) (sym upper) is
-
 has-last : (seat : Caller) (n : ℕ) → (0 < seat.span) → (seat.number ≤ n) × (n < seat.number + seat.span) → ((seat.number ≤ n) × (n < seat.number + (seat.span - 1))) ⊎ (n ≡ seat.number + (seat.span - 1))
 has-last seat n some h = last-by (nat_lt n (seat.number + (seat.span - 1))) refl
   where
@@ -333,42 +328,38 @@ push-end {S = S} t left faults place limit lock old mid other new tasks task don
 
 -- ---- the same of lists that are equal
 
-pub none-ends : {S : Type 0} (t : Topology) (left : S → Option (List ℕ)) (faults place : S → ℕ) (limit : ℕ) (lock : Lock) (seat : Caller) (tasks : List (Task S)) (dones : List (JobDone S)) →
-    tasks ≡ [] → dones ≡ [] → IsSeatOf lock seat → AllEnd t left faults place limit lock seat tasks seat dones
-none-ends {S = S} t left faults place limit lock seat tasks dones no-tasks no-dones is =
-    subst (λ (ts : List (Task S)). AllEnd t left faults place limit lock seat ts seat dones) (sym no-tasks)
-    (subst (λ (ds : List (JobDone S)). AllEnd t left faults place limit lock seat [] seat ds) (sym no-dones) (none-end t left faults place limit lock seat is))
+pub none-ends : {S : Type 0} (lock : Lock) (left : S → Option (List ℕ)) (faults place : S → ℕ) (seat : Caller) (tasks : List (Task S)) (dones : List (JobDone S)) →
+    tasks ≡ [] → dones ≡ [] → IsSeatOf lock seat → AllRun lock left faults place seat tasks seat dones
+none-ends {S = S} lock left faults place seat tasks dones no-tasks no-dones is =
+    subst (λ (ts : List (Task S)). AllRun lock left faults place seat ts seat dones) (sym no-tasks)
+    (subst (λ (ds : List (JobDone S)). AllRun lock left faults place seat [] seat ds) (sym no-dones) (none-end lock.setup.basis.topology left faults place lock.setup.basis.limit lock seat is))
 
-same-lists : {S : Type 0} (t : Topology) (left : S → Option (List ℕ)) (faults place : S → ℕ) (limit : ℕ) (lock : Lock) (old new : Caller) (tasks tasks' : List (Task S)) (dones dones' : List (JobDone S)) →
-    tasks' ≡ tasks → dones' ≡ dones → AllEnd t left faults place limit lock old tasks new dones → AllEnd t left faults place limit lock old tasks' new dones'
-same-lists {S = S} t left faults place limit lock old new tasks tasks' dones dones' ts ds all =
-    subst (λ (ts : List (Task S)). AllEnd t left faults place limit lock old ts new dones') (sym ts)
-    (subst (λ (ds : List (JobDone S)). AllEnd t left faults place limit lock old tasks new ds) (sym ds) all)
+same-lists : {S : Type 0} (lock : Lock) (left : S → Option (List ℕ)) (faults place : S → ℕ) (old new : Caller) (tasks tasks' : List (Task S)) (dones dones' : List (JobDone S)) →
+    tasks' ≡ tasks → dones' ≡ dones → AllRun lock left faults place old tasks new dones → AllRun lock left faults place old tasks' new dones'
+same-lists {S = S} lock left faults place old new tasks tasks' dones dones' ts ds all =
+    subst (λ (ts : List (Task S)). AllRun lock left faults place old ts new dones') (sym ts)
+    (subst (λ (ds : List (JobDone S)). AllRun lock left faults place old tasks new ds) (sym ds) all)
 
-pub one-ends : {S : Type 0} (t : Topology) (left : S → Option (List ℕ)) (faults place : S → ℕ) (limit : ℕ) (lock : Lock) (old new : Caller) (tasks rest : List (Task S)) (task : Task S) (dones room : List (JobDone S)) (done : JobDone S) →
-    tasks ≡ rest ++ task ∷ [] → rest ≡ [] → dones ≡ room ++ done ∷ [] → room ≡ [] → length tasks ≤ old.span →
-    IsSeatOf lock old → Contains old.used old.number → SawMore old new → done.number ≡ task.number →
-    Ends t left faults place limit old.number (own_of old.number old.seen) new.seen task done.wanted_memory done.told done.feeds.items →
-    AllEnd t left faults place limit lock old tasks new dones
-one-ends t left faults place limit lock old new tasks rest task dones room done parts no-rest adds empty few is uses saw number ends =
+pub one-ends : {S : Type 0} (lock : Lock) (left : S → Option (List ℕ)) (faults place : S → ℕ) (old new : Caller) (tasks rest : List (Task S)) (task : Task S) (dones room : List (JobDone S)) (done : JobDone S) →
+    tasks ≡ rest ++ task ∷ [] → rest ≡ [] → dones ≡ room ++ done ∷ [] → room ≡ [] → AreReady lock faults old tasks → Contains old.used old.number → RanJob lock left faults place old new task done →
+    AllRun lock left faults place old tasks new dones
+one-ends lock left faults place old new tasks rest task dones room done parts no-rest adds empty ready uses ran =
     let len : length tasks ≡ 1 = ap length (parts ∙ ap (λ ts. ts ++ task ∷ []) no-rest) in
-    same-lists t left faults place limit lock old new (task ∷ []) tasks (done ∷ []) dones
+    let few = ready.span in
+    same-lists lock left faults place old new (task ∷ []) tasks (done ∷ []) dones
     (parts ∙ ap (λ ts. ts ++ task ∷ []) no-rest) (adds ∙ ap (λ ds. ds ++ done ∷ []) empty)
-    (one-end t left faults place limit lock old new task done is uses (omega (arith, len, few)) saw number ends)
+    (one-end lock.setup.basis.topology left faults place lock.setup.basis.limit lock old new task done ready.is_seat uses (omega (arith, len, few)) ran.saw ran.number ran.ends)
 
-pub push-ends : {S : Type 0} (t : Topology) (left : S → Option (List ℕ)) (faults place : S → ℕ) (limit : ℕ) (lock : Lock) (old low upper mid other new : Caller) (tasks front : List (Task S)) (task : Task S) (dones before : List (JobDone S)) (done : JobDone S) →
+pub push-ends : {S : Type 0} (lock : Lock) (left : S → Option (List ℕ)) (faults place : S → ℕ) (old low upper mid other new : Caller) (tasks front : List (Task S)) (task : Task S) (dones before : List (JobDone S)) (done : JobDone S) →
     tasks ≡ front ++ task ∷ [] → dones ≡ before ++ done ∷ [] → length tasks ≤ old.span → low ≡ lower_seat old → upper ≡ upper_seat 1 old →
-    AllEnd t left faults place limit lock low front mid before → SawMore upper other → done.number ≡ task.number →
-    Ends t left faults place limit upper.number (own_of upper.number upper.seen) other.seen task done.wanted_memory done.told done.feeds.items →
-    TookIn mid other new → AllEnd t left faults place limit lock old tasks new dones
-push-ends {S = S} t left faults place limit lock old low upper mid other new tasks front task dones before done parts adds few is-low is-upper all saw number ends took =
+    AllRun lock left faults place low front mid before → RanJob lock left faults place upper other task done → TookIn mid other new →
+    AllRun lock left faults place old tasks new dones
+push-ends {S = S} lock left faults place old low upper mid other new tasks front task dones before done parts adds few is-low is-upper all ran took =
     let len : length tasks ≡ length front + 1 = ap length parts ∙ length-append front (task ∷ []) in
-    same-lists t left faults place limit lock old new (front ++ task ∷ []) tasks (before ++ done ∷ []) dones parts adds
-    (push-end t left faults place limit lock old mid other new front task before done (omega (arith, len, few))
-    (subst (λ (s : Caller). AllEnd t left faults place limit lock s front mid before) is-low all)
-    (subst (λ (s : Caller). SawMore s other) is-upper saw) number
-    (subst (λ (s : Caller). Ends t left faults place limit s.number (own_of s.number s.seen) other.seen task done.wanted_memory done.told done.feeds.items) is-upper ends)
-    took)
+    let ran' : RanJob lock left faults place (upper_seat 1 old) other task done = subst (λ (s : Caller). RanJob lock left faults place s other task done) is-upper ran in
+    same-lists lock left faults place old new (front ++ task ∷ []) tasks (before ++ done ∷ []) dones parts adds
+    (push-end lock.setup.basis.topology left faults place lock.setup.basis.limit lock old mid other new front task before done (omega (arith, len, few))
+    (subst (λ (s : Caller). AllRun lock left faults place s front mid before) is-low all) ran'.saw ran'.number ran'.ends took)
 
 -- ---- the last of a list
 
@@ -395,3 +386,37 @@ popped {X = X} P xs front last parts a =
     at-last : (ys : List X) → All P (ys ++ last ∷ []) → P last
     at-last [] b = All-head P last [] b
     at-last (y ∷ ys) b = at-last ys (All-tail P y (ys ++ last ∷ []) b)
+
+-- ---- jobs that may run over a lock
+
+pub jobs-ready : {S : Type 0} (site lock : Lock) (t : Topology) (faults : S → ℕ) (seat : Caller) (tasks : List (Task S)) → site ≡ lock → t ≡ lock.setup.basis.topology → IsSeatOf lock seat → length tasks ≤ seat.span →
+    All (λ (task : Task S). All (IsFresh t faults) task.feeds) tasks → All (λ (task : Task S). AreApart task.feeds) tasks → AreReady site faults seat tasks
+jobs-ready {S = S} site lock t faults seat tasks same is at span fresh apart =
+    let ready : All (IsReady lock faults) tasks = λ k d i. record { fresh = subst (λ (u : Topology). All (IsFresh u faults) (get_or tasks k d).feeds) is (fresh k d i); apart = apart k d i } in
+    subst (λ (l : Lock). AreReady l faults seat tasks) (sym same) (record { is_seat = at; span = span; ready = ready })
+
+pub batch-ready : {S : Type 0} (lock : Lock) (faults : S → ℕ) (seat : Caller) (batch : Batch S) (tasks : List (Task S)) → batch.jobs.items ≡ tasks → AreReady lock faults seat tasks → HasRoom (length batch.jobs.items) batch.room →
+    IsReadyBatch lock faults seat batch
+batch-ready {S = S} lock faults seat batch tasks are ready room = record { jobs = subst (λ (ts : List (Task S)). AreReady lock faults seat ts) (sym are) ready; room = room }
+
+-- the jobs before the last may run by the seat that is left, and the last by the one that was given
+pub record RestReady {S : Type 0} (lock : Lock) (faults : S → ℕ) (low upper : Caller) (others : Batch S) (last : Task S) : Type 0 where
+  pub rest : IsReadyBatch lock faults low others
+  pub last_may : MayRun lock faults upper last
+
+pub rest-ready : {S : Type 0} (site lock : Lock) (faults : S → ℕ) (old low upper : Caller) (batch others : Batch S) (last : Task S) → lock ≡ site → IsReadyBatch site faults old batch → batch.jobs.items ≡ others.jobs.items ++ last ∷ [] → others.room ≡ batch.room →
+    low ≡ lower_seat old → upper ≡ upper_seat 1 old → RestReady lock faults low upper others last
+rest-ready {S = S} site lock faults old low upper batch others last same ready parts room is-low is-upper =
+    let f = popped (IsReady site faults) batch.jobs.items others.jobs.items last parts ready.jobs.ready in
+    let less : length others.jobs.items < length batch.jobs.items = f.shorter in
+    let is : low.span ≡ old.span - 1 = ap (λ (s : Caller). s.span) is-low in
+    let enough : length batch.jobs.items ≤ old.span = ready.jobs.span in
+    let fits : length batch.jobs.items ≤ vec_capacity batch.room = ready.room.1 in
+    let kept : vec_capacity others.room ≡ vec_capacity batch.room = ap (λ (v : Vec (JobDone S)). vec_capacity v) room in
+    subst (λ (l : Lock). RestReady l faults low upper others last) (sym same) (record {
+      rest = record {
+        jobs = record { is_seat = subst (λ (s : Caller). IsSeatOf site s) (sym is-low) ready.jobs.is_seat; span = omega (arith, is, enough, less); ready = f.rest };
+        room = (ap (λ (v : Vec (JobDone S)). v.items) room ∙ ready.room.0, omega (arith, less, fits, kept));
+      };
+      last_may = (subst (λ (s : Caller). IsSeatOf site s) (sym is-upper) ready.jobs.is_seat, f.last_is);
+    })

@@ -1,5 +1,6 @@
 -- One job that applies, and jobs of queries alone beside it, came to what all of them came to.
 use Rattle.std.proofs.Common.{◌≡◌, ◌≢◌, ℕ, zero, suc, ◌+◌, ◌-◌, ◌<◌, ◌≤◌, ◌⊎◌, inl, inr, ⊎_elim, Bool, true, false, not, ◌&&◌, ◌||◌, ◌==◌, List, [], ◌∷◌, ◌++◌, length, map, get_or, All, refl, ap, ap₂, sym, ◌∙◌, arith, subst}
+use Rattle.std.specs.Global.{Vec}
 use Rattle.std.specs.List.{AllZip, Contains, list_any, flat_map, insert, remove}
 use Rattle.std.specs.Prelude.{nat_lt, Option, None}
 use Rattle.std.proofs.lemmas.Bool.Decides.{nat_tests}
@@ -23,20 +24,21 @@ use Rattle.version_lock.specs.History.{posted_by}
 use Rattle.version_lock.specs.Rule.{numbers_from}
 use Rattle.feed_threads.specs.declared.job.JobDone.{JobDone}
 use Rattle.feed_threads.specs.AllJobs.{AllEnd, CameTo, Run, numbers_of_runs, same_no}
-use Rattle.feed_threads.specs.Beside.{CameByReading, IsNotRun, UsesAll, others_of}
+use Rattle.feed_threads.specs.Beside.{CameByReading, IsNotRun, RanBeside, UsesAll, others_of}
 use Rattle.fast_pins.specs.Known.{Known, published}
-use Rattle.feed_threads.specs.declared.readers.Read.{Read}
+use Rattle.feed_threads.specs.declared.reader_job.Read.{Read}
 use Rattle.feed_threads.specs.Jobs.{AreReadBy, Ends, HasBegun, HasRunUnless, IsBack, IsFresh, Task}
 use Rattle.feed_threads.specs.Readers.{AllRead, HasRead, Reading}
 use Rattle.feed_threads.specs.Reads.{ReadsAlone, TellsRead, TellsReadFront}
-use Rattle.feed_threads.specs.Seats.{own_of, SawMore}
+use Rattle.feed_threads.specs.Runs.{IsReady, RanJob}
+use Rattle.feed_threads.specs.Seats.{own_of, LooksOn, SawMore}
 use Rattle.feed_threads.specs.Tells.{TellsOwn}
 use Rattle.feed_threads.specs.Feeds.{StandsFront}
 use Rattle.feed_threads.specs.Tracks.{Strand}
 use Rattle.feed_threads.proofs.EndLemmas.{fresh-begun, hands-none}
 use Rattle.feed_threads.proofs.LawLemmas.{all-unmap, map-map}
 use Rattle.feed_threads.proofs.ReadLemmas.{read-none, taken-none}
-use Rattle.feed_threads.proofs.SeatLemmas.{saw-seat}
+use Rattle.feed_threads.proofs.SeatLemmas.{saw-more, saw-number, saw-seat}
 use Rattle.feed_threads.proofs.TellLemmas.{tells-lines}
 
 -- ---- one more at a place
@@ -224,9 +226,6 @@ pub record NotRunSoFar {S : Type 0} (tasks rest : List (Task S)) (dones : List (
   pub parts : front ++ rest ≡ tasks
   pub done : AllZip IsNotRun front dones
 
-pub not-run-none : {S : Type 0} (tasks : List (Task S)) (dones : List (JobDone S)) → dones ≡ [] → NotRunSoFar tasks tasks dones
-not-run-none {S = S} tasks dones is = record { front = []; parts = refl; done = subst (λ (ds : List (JobDone S)). AllZip IsNotRun [] ds) (sym is) tt }
-
 zip-push : {A B : Type 0} (R : A → B → Type 0) (xs : List A) (ys : List B) (x : A) (y : B) → AllZip R xs ys → R x y → AllZip R (xs ++ x ∷ []) (ys ++ y ∷ [])
 zip-push R [] [] x y rs r = (r, tt)
 zip-push R [] (z ∷ zs) x y rs r = absurd rs
@@ -240,10 +239,6 @@ not-run-more {S = S} tasks rest rest' task dones dones' done is adds one so = re
   parts = append_assoc so.front (task ∷ []) rest' ∙ ap (λ ts. so.front ++ ts) (sym is) ∙ so.parts;
   done = subst (λ (ds : List (JobDone S)). AllZip IsNotRun (so.front ++ task ∷ []) ds) (sym adds) (zip-push IsNotRun so.front dones task done so.done one);
 }
-
-pub not-run-all : {S : Type 0} (tasks rest : List (Task S)) (dones : List (JobDone S)) → rest ≡ [] → NotRunSoFar tasks rest dones → AllZip IsNotRun tasks dones
-not-run-all {S = S} tasks rest dones is so =
-    subst (λ (ts : List (Task S)). AllZip IsNotRun ts dones) (sym (append-nil so.front) ∙ ap (λ ts. so.front ++ ts) (sym is) ∙ so.parts) so.done
 
 -- ---- what jobs that aren't run came to
 
@@ -318,6 +313,32 @@ reads-earlier t old before seen (k ∷ ks) (d ∷ ds) p came =
       record { first = r.first; list = r.list; begins = prefix_trans old before r.first p r.begins; within = r.within; number = r.number; ends = r.ends },
       reads-earlier t old before seen ks ds p came.1,
     )
+
+-- a job that wasn't run, by a seat that saw more
+pub not-run : {S : Type 0} (lock : Lock) (left : S → Option (List ℕ)) (faults place : S → ℕ) (old new : Caller) (task : Task S) (done : JobDone S) → LooksOn old new → IsReady lock faults task → IsNotRun task done → RanJob lock left faults place old new task done
+not-run lock left faults place old new task done looks ready is = record {
+  saw = looks.saw;
+  number = is.number;
+  ends = not-run-ends lock.setup.basis.topology left faults place lock.setup.basis.limit old.number (own_of old.number old.seen) new.seen task done ready.fresh looks.own is;
+}
+
+-- jobs that ran after the seat had seen more
+pub beside-later : {S : Type 0} (lock : Lock) (left : S → Option (List ℕ)) (faults place : S → ℕ) (old mid : Caller) (task : Task S) (reading : List (Task S)) (came : Caller × JobDone S × Vec (JobDone S)) → LooksOn old mid →
+    RanBeside lock left faults place mid task reading came → RanBeside lock left faults place old task reading came
+beside-later {S = S} lock left faults place old mid task reading came looks beside =
+    let t : Topology = lock.setup.basis.topology in
+    let limit : ℕ = lock.setup.basis.limit in
+    let n : mid.number ≡ old.number = saw-number old mid looks.saw in
+    let moved : Ends t left faults place limit old.number (own_of old.number mid.seen) came.0.seen task came.1.wanted_memory came.1.told came.1.feeds.items =
+    subst (λ (k : ℕ). Ends t left faults place limit k (own_of k mid.seen) came.0.seen task came.1.wanted_memory came.1.told came.1.feeds.items) n beside.ran.ends in
+    record {
+      ran = record {
+        saw = saw-more old mid came.0 looks.saw beside.ran.saw;
+        number = beside.ran.number;
+        ends = subst (λ (es : List Entry). Ends t left faults place limit old.number es came.0.seen task came.1.wanted_memory came.1.told came.1.feeds.items) looks.own moved;
+      };
+      reads = reads-earlier t old.seen mid.seen came.0.seen reading came.2.items looks.saw.seen beside.reads;
+    }
 
 -- ---- what jobs came to with readers
 

@@ -19,8 +19,8 @@ use Rattle.version_store.specs.contracts.shot.SnapshotShot.TheImpl as shot
 use Rattle.version_store.specs.contracts.snapshot.Snapshot as Snapshot
 use Rattle.feed_threads.specs.contracts.job.Job as Job
 use Rattle.feed_threads.specs.contracts.job.JobDone as JobDone
-use Rattle.feed_threads.specs.contracts.readers.Read as Read
-use Rattle.feed_threads.specs.contracts.readers.Readers as Readers
+use Rattle.feed_threads.specs.contracts.reader_job.Read as Read
+use Rattle.feed_threads.specs.contracts.reader_jobs.Readers as Readers
 use Rattle.feed_threads.proofs.job.Job.TheSendSync as job
 
 reader-sends : IsSend (FastReader.the_row Snapshot.the_row shot.ghosts)

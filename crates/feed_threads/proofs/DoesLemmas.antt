@@ -1,13 +1,15 @@
 -- What one call does of a job's lines, and then another.
-use Rattle.std.proofs.Common.{◌≡◌, ℕ, zero, suc, ◌+◌, get_or, take, arith, ◌<◌, Bool, Result, Ok, Err, OnOk, OnErr, is_err, All, List, [], ◌∷◌, ◌++◌, length, map, Option, None, refl, ap, sym, ◌∙◌, subst, append_assoc}
+use Rattle.std.proofs.Common.{◌≡◌, ℕ, zero, suc, ◌+◌, get_or, set, take, arith, ◌<◌, Bool, Result, Ok, Err, OnOk, IsErr, is_err, All, List, [], ◌∷◌, ◌++◌, length, map, Option, None, Some, refl, ap, sym, ◌∙◌, subst, append_assoc}
+use Rattle.std.specs.Global.{Vec}
 use Rattle.std.specs.List.{position}
 use Rattle.std.proofs.lemmas.Grind.{flat_map-append}
 use Rattle.std.proofs.lemmas.List.{append-nil}
-use Rattle.std.proofs.lemmas.List.Elements.{All-map}
+use Rattle.std.proofs.lemmas.List.Elements.{All-cons, All-head, All-map, All-tail}
 use Rattle.dn_formats.specs.Lawful.{TellsFront}
 use Rattle.dn_formats.specs.declared.script.Line.{Line}
 use Rattle.dn_formats.specs.declared.script.Line.TheVariants as line
 use Rattle.dn_formats.specs.declared.told.FeedTold.{FeedTold}
+use Rattle.dn_formats.specs.declared.told.Outcome.{Outcome}
 use Rattle.dn_formats.specs.declared.told.Told.{Told}
 use Rattle.dn_model.specs.Entry.{entries}
 use Rattle.dn_model.specs.Query.{Question}
@@ -16,16 +18,24 @@ use Rattle.dn_model.specs.declared.entry.Posted.{Posted}
 use Rattle.base.specs.declared.ids.RouterId.{RouterId}
 use Rattle.dn_model.specs.declared.topology.Topology.{Topology}
 use Rattle.route_feed.specs.FeedReader.{Reader}
-use Rattle.version_lock.specs.Callers.{Caller, Lock}
+use Rattle.fast_pins.specs.Known.{Known}
+use Rattle.version_lock.proofs.Histories.{prefix_self}
+use Rattle.version_lock.specs.Callers.{Caller, IsSeatOf, Lock}
 use Rattle.feed_threads.specs.Feeds.{Feed}
-use Rattle.feed_threads.specs.Jobs.{Task, AreApart, IsFresh, unread, back_of, HasBegun, HasRun, HasRunUnless, Ends}
-use Rattle.feed_threads.specs.Places.{is_feed_of, FailsOf, HaveRouters, ReadOn, TakesOf}
-use Rattle.feed_threads.specs.Seats.{own_of, SawMore}
+use Rattle.feed_threads.specs.Jobs.{Task, IsFresh, unread, back_of, HasRunUnless, Ends}
+use Rattle.feed_threads.specs.Places.{is_feed_of, HaveRouters, ReadOn}
+use Rattle.feed_threads.specs.Runs.{IsReady, RanJob}
+use Rattle.feed_threads.specs.Seats.{own_of, LooksOn, SawMore}
+use Rattle.feed_threads.specs.Shown.{IsShown, ShowsOn}
+use Rattle.feed_threads.specs.Takes.{Takes}
 use Rattle.feed_threads.specs.Tells.{Adds, IsOutcomeNow}
-use Rattle.feed_threads.specs.Tracks.{Tracks, Begun, Breaks, Does, TellsFrontOf, HasDone, rest_of, rests_of, rest_by, rests_by}
+use Rattle.feed_threads.specs.Tracks.{rest_of, rests_of, rest_by, rests_by}
+use Rattle.feed_threads.specs.Works.{Work, IsAtWork, WorksOn, HasDone, HasBegun, Does, Breaks, TellsFrontOf, Works, TookAt}
 use Rattle.feed_threads.proofs.BegunLemmas.{begun-at, begun-still, begun-more, has-begun}
 use Rattle.feed_threads.proofs.EndLemmas.{map-then, front-of, tracks-start, has-run, backs-are}
-use Rattle.feed_threads.proofs.SeatLemmas.{saw-number, saw-more}
+use Rattle.feed_threads.proofs.PlaceLemmas.{failed-at, read-at, read-none, took-at}
+use Rattle.feed_threads.proofs.SeatLemmas.{saw-none, saw-number, saw-more, saw-seat}
+use Rattle.feed_threads.proofs.ShownLemmas.{shows-more, shows-none, shows-still}
 use Rattle.feed_threads.proofs.StepLemmas.{reads-more}
 use Rattle.feed_threads.proofs.TracksLemmas.{tracks-at, tracks-ask}
 
@@ -85,246 +95,276 @@ read-length t left faults place [] (n ∷ news) on = absurd on
 read-length t left faults place (o ∷ olds) [] on = absurd on
 read-length t left faults place (o ∷ olds) (n ∷ news) on = ap suc (read-length t left faults place olds news on.1)
 
+-- what is told was added at the end
+pub told-adds : {A E : Type 0} (result : Result A E) (tolds tolds' : List Told) (told : Told) (l : ℕ) (q : Question) (P : Outcome → Type 0) → OnOk result (tolds' ≡ tolds ++ told ∷ []) → told.line ≡ l → told.query ≡ q → P told.outcome →
+    OnOk result (Adds tolds tolds' l q P)
+told-adds (Ok o) tolds tolds' told l q P added line query good = record { told = told; added = added; line_is = line; query_is = query; good = good }
+told-adds (Err e) tolds tolds' told l q P added line query good = tt
+
 module _ {S : Type 0} (lock : Lock) (left : S → Option (List ℕ)) (faults place : S → ℕ) where
+  -- ---- going on
+
+  routers-on : (olds news : List (Feed S)) → ReadOn lock.setup.basis.topology left faults place olds news → HaveRouters lock.setup.basis.topology olds → HaveRouters lock.setup.basis.topology news
+  routers-on [] [] on have = have
+  routers-on [] (n ∷ news) on have = absurd on
+  routers-on (o ∷ olds) [] on have = absurd on
+  routers-on (o ∷ olds) (n ∷ news) on have =
+      let P : Feed S → Type 0 = λ f. f.reader.told.router.0 < length lock.setup.basis.topology.routers in
+      All-cons P n news (subst (λ (r : RouterId). r.0 < length lock.setup.basis.topology.routers) (sym on.0.router) (All-head P o olds have)) (routers-on olds news on.1 (All-tail P o olds have))
+
+  -- a job that went on is still at work
+  pub at-work : (old new : Work S) → WorksOn lock left faults place old new → IsAtWork lock old → IsAtWork lock new
+  at-work old new on at = record { seat = saw-seat lock old.seat new.seat on.saw at.seat; routers = routers-on old.feeds new.feeds on.reads at.routers; shown = on.shows.shown }
+
+  pub on-none : (work : Work S) → IsAtWork lock work → WorksOn lock left faults place work work
+  on-none work at = record {
+    saw = saw-none work.seat;
+    shows = shows-none lock.setup.basis.topology work.seat.seen work.shown at.shown;
+    reads = read-none lock.setup.basis.topology left faults place lock.setup.basis.limit work.feeds;
+  }
+
+  pub on-more : (old mid new : Work S) → WorksOn lock left faults place old mid → WorksOn lock left faults place mid new → WorksOn lock left faults place old new
+  on-more old mid new a b = record {
+    saw = saw-more old.seat mid.seat new.seat a.saw b.saw;
+    shows = shows-more lock.setup.basis.topology mid.seat.seen new.seat.seen old.shown mid.shown new.shown a.shows b.shows;
+    reads = read-more lock.setup.basis.topology left faults place old.feeds mid.feeds new.feeds a.reads b.reads;
+  }
+
+  -- ---- lines that are done
+
   -- nothing is done
-  pub does-none : (seat : Caller) (feeds : List (Feed S)) (tolds : List Told) → Does lock left faults place seat seat feeds feeds tolds tolds []
-  does-none seat feeds tolds = record {
-    on = λ start readers before h. subst (λ (ls : List Line). HasDone lock left faults place seat.number start readers feeds seat.seen ls tolds) (sym (append-nil before)) h;
+  pub does-none : (work : Work S) → Does lock left faults place work work []
+  does-none work = record {
+    on = λ start readers before h. subst (λ (ls : List Line). HasDone lock left faults place work.seat.number start readers ls work) (sym (append-nil before)) h;
   }
 
   -- and then some more lines
-  pub does-more : (old mid new : Caller) (a b c : List (Feed S)) (x y z : List Told) (xs ys all : List Line) → SawMore old mid → Does lock left faults place old mid a b x y xs →
-      Does lock left faults place mid new b c y z ys → all ≡ xs ++ ys → Does lock left faults place old new a c x z all
-  does-more old mid new a b c x y z xs ys all saw first second is = record {
+  pub does-more : (old mid new : Work S) (xs ys all : List Line) → WorksOn lock left faults place old mid → Does lock left faults place old mid xs → Does lock left faults place mid new ys → all ≡ xs ++ ys →
+      Does lock left faults place old new all
+  does-more old mid new xs ys all on first second is = record {
     on = λ start readers before h.
-        let n : mid.number ≡ old.number = saw-number old mid saw in
-        let between : HasDone lock left faults place mid.number start readers b mid.seen (before ++ xs) y =
-        subst (λ (k : ℕ). HasDone lock left faults place k start readers b mid.seen (before ++ xs) y) (sym n) (first.on start readers before h) in
-        let after : HasDone lock left faults place old.number start readers c new.seen ((before ++ xs) ++ ys) z =
-        subst (λ (k : ℕ). HasDone lock left faults place k start readers c new.seen ((before ++ xs) ++ ys) z) n (second.on start readers (before ++ xs) between) in
-        subst (λ (ls : List Line). HasDone lock left faults place old.number start readers c new.seen ls z) (append_assoc before xs ys ∙ ap (λ ls. before ++ ls) (sym is)) after;
+        let n : mid.seat.number ≡ old.seat.number = saw-number old.seat mid.seat on.saw in
+        let between : HasDone lock left faults place mid.seat.number start readers (before ++ xs) mid =
+        subst (λ (k : ℕ). HasDone lock left faults place k start readers (before ++ xs) mid) (sym n) (first.on start readers before h) in
+        let after : HasDone lock left faults place old.seat.number start readers ((before ++ xs) ++ ys) new =
+        subst (λ (k : ℕ). HasDone lock left faults place k start readers ((before ++ xs) ++ ys) new) n (second.on start readers (before ++ xs) between) in
+        subst (λ (ls : List Line). HasDone lock left faults place old.seat.number start readers ls new) (append_assoc before xs ys ∙ ap (λ ls. before ++ ls) (sym is)) after;
   }
-
-  -- ---- the calls of one line
-
-  pub does-took : {A E : Type 0} (result : Result A E) (old new : Caller) (olds news : List (Feed S)) (tolds : List Told) (y : Line) (l : ℕ) (r : RouterId) (count : Option ℕ) → y ≡ line.Take l r count → SawMore old new →
-      OnOk result (TakesOf lock.setup.basis.topology left faults place lock.setup.basis.limit old.number r count olds news old.seen new.seen) →
-      OnOk result (Does lock left faults place old new olds news tolds tolds (y ∷ []))
-  does-took (Err e) old new olds news tolds y l r count is saw took = tt
-  does-took (Ok o) old new olds news tolds y l r count is saw took = record {
-    on = λ start readers before h.
-        subst (λ (z : Line). HasDone lock left faults place old.number start readers news new.seen (before ++ z ∷ []) tolds) (sym is)
-        (tracks-at lock.setup.basis.topology left faults place lock.setup.basis.limit old.number start readers olds news old.seen new.seen before tolds l r count (position (is_feed_of r) olds) saw.seen refl took h);
-  }
-
-  pub does-asked : {A E : Type 0} (result : Result A E) (old new : Caller) (feeds : List (Feed S)) (tolds tolds' : List Told) (y : Line) (l : ℕ) (q : Question) → y ≡ line.Ask l q → SawMore old new →
-      own_of old.number new.seen ≡ own_of old.number old.seen → OnOk result (Adds tolds tolds' l q (IsOutcomeNow lock.setup.basis.topology new.seen q)) →
-      OnOk result (Does lock left faults place old new feeds feeds tolds tolds' (y ∷ []))
-  does-asked (Err e) old new feeds tolds tolds' y l q is saw same adds = tt
-  does-asked (Ok o) old new feeds tolds tolds' y l q is saw same adds = record {
-    on = λ start readers before h.
-        subst (λ (z : Line). HasDone lock left faults place old.number start readers feeds new.seen (before ++ z ∷ []) tolds') (sym is)
-        (tracks-ask lock.setup.basis.topology left faults place lock.setup.basis.limit old.number start readers feeds old.seen new.seen before tolds tolds' l q saw.seen same adds h);
-  }
-
-  -- the rest of a feed that a line names
-  pub does-rest : {A E : Type 0} (result : Result A E) (old new : Caller) (olds news : List (Feed S)) (y : Line) (l : ℕ) (r : RouterId) (count : Option ℕ) → y ≡ line.Take l r count → SawMore old new →
-      OnOk result (TakesOf lock.setup.basis.topology left faults place lock.setup.basis.limit old.number r None olds news old.seen new.seen) →
-      OnOk result ((told : List Told) → Does lock left faults place old new olds news told told (rest_of y))
-  does-rest (Err e) old new olds news y l r count is saw took = tt
-  does-rest {A = A} {E = E} (Ok o) old new olds news y l r count is saw took = λ told.
-      subst (λ (z : Line). Does lock left faults place old new olds news told told (rest_of z)) (sym is)
-      (does-took {E = E} (Ok o) old new olds news told (line.Take l r None) l r None refl saw took)
-
-  -- a line that asks names none
-  pub does-ask : (seat : Caller) (feeds : List (Feed S)) (told : List Told) (y : Line) (l : ℕ) (q : Question) → y ≡ line.Ask l q → Does lock left faults place seat seat feeds feeds told told (rest_of y)
-  does-ask seat feeds told y l q is =
-      subst (λ (z : Line). Does lock left faults place seat seat feeds feeds told told (rest_of z)) (sym is) (does-none seat feeds told)
-
-  -- the rest of a feed at a place
-  pub does-at : (old new : Caller) (olds news : List (Feed S)) (r : RouterId) → SawMore old new →
-      TakesOf lock.setup.basis.topology left faults place lock.setup.basis.limit old.number r None olds news old.seen new.seen →
-      (told : List Told) → Does lock left faults place old new olds news told told (line.Take 0 r None ∷ [])
-  does-at old new olds news r saw took = does-rest {A = ℕ} {E = ℕ} (Ok 0) old new olds news (line.Take 0 r None) 0 r None refl saw took
-
-  -- ---- where memory was wanting
-
-  pub breaks-took : {A E : Type 0} (result : Result A E) (old new : Caller) (olds news : List (Feed S)) (tolds : List Told) (y : Line) (l : ℕ) (r : RouterId) (count : Option ℕ) → y ≡ line.Take l r count → SawMore old new →
-      OnErr result (FailsOf lock.setup.basis.topology left faults place lock.setup.basis.limit old.number r count olds news old.seen new.seen) →
-      OnErr result (Breaks lock left faults place old new olds news tolds (y ∷ []))
-  breaks-took (Ok o) old new olds news tolds y l r count is saw fails = tt
-  breaks-took (Err e) old new olds news tolds y l r count is saw fails = record {
-    on = λ start readers before h.
-        subst (λ (z : Line). Begun lock.setup.basis.topology left faults place lock.setup.basis.limit old.number start readers news new.seen (before ++ z ∷ [])) (sym is)
-        (begun-at lock.setup.basis.topology left faults place lock.setup.basis.limit old.number start readers olds news old.seen new.seen before tolds l r count saw.seen fails h);
-  }
-
-  pub breaks-asked : {A E : Type 0} (result : Result A E) (old new : Caller) (feeds : List (Feed S)) (tolds : List Told) (y : Line) → SawMore old new → own_of old.number new.seen ≡ own_of old.number old.seen →
-      OnErr result (Breaks lock left faults place old new feeds feeds tolds (y ∷ []))
-  breaks-asked (Ok o) old new feeds tolds y saw same = tt
-  breaks-asked (Err e) old new feeds tolds y saw same = record {
-    on = λ start readers before h.
-        begun-more lock.setup.basis.topology left faults place lock.setup.basis.limit old.number start readers feeds new.seen before (y ∷ [])
-        (begun-still lock.setup.basis.topology left faults place lock.setup.basis.limit old.number start readers feeds old.seen new.seen before tolds saw.seen same h);
-  }
-
-  -- at the rest of a feed that a line names
-  pub breaks-rest : {A E : Type 0} (result : Result A E) (old new : Caller) (olds news : List (Feed S)) (y : Line) (l : ℕ) (r : RouterId) (count : Option ℕ) → y ≡ line.Take l r count → SawMore old new →
-      OnErr result (FailsOf lock.setup.basis.topology left faults place lock.setup.basis.limit old.number r None olds news old.seen new.seen) →
-      OnErr result ((told : List Told) → Breaks lock left faults place old new olds news told (rest_of y))
-  breaks-rest (Ok o) old new olds news y l r count is saw fails = tt
-  breaks-rest {A = A} {E = E} (Err e) old new olds news y l r count is saw fails = λ told.
-      subst (λ (z : Line). Breaks lock left faults place old new olds news told (rest_of z)) (sym is)
-      (breaks-took {A = A} (Err e) old new olds news told (line.Take l r None) l r None refl saw fails)
-
-  -- at the rest of a feed at a place
-  pub breaks-at : (old new : Caller) (olds news : List (Feed S)) (r : RouterId) → SawMore old new → FailsOf lock.setup.basis.topology left faults place lock.setup.basis.limit old.number r None olds news old.seen new.seen →
-      (told : List Told) → Breaks lock left faults place old new olds news told (line.Take 0 r None ∷ [])
-  breaks-at old new olds news r saw fails = breaks-rest {A = ℕ} {E = ℕ} (Err 0) old new olds news (line.Take 0 r None) 0 r None refl saw fails
 
   -- lines were done, and then memory was wanting within others
-  pub breaks-after : (old mid new : Caller) (a b c : List (Feed S)) (x y : List Told) (xs ys more all : List Line) → SawMore old mid → Does lock left faults place old mid a b x y xs →
-      Breaks lock left faults place mid new b c y ys → all ≡ (xs ++ ys) ++ more → Breaks lock left faults place old new a c x all
-  breaks-after old mid new a b c x y xs ys more all saw first second is = record {
+  pub breaks-after : (old mid new : Work S) (xs ys more all : List Line) → WorksOn lock left faults place old mid → Does lock left faults place old mid xs →
+      Breaks lock left faults place mid new ys → all ≡ (xs ++ ys) ++ more → Breaks lock left faults place old new all
+  breaks-after old mid new xs ys more all on first second is = record {
     on = λ start readers before h.
-        let n : mid.number ≡ old.number = saw-number old mid saw in
-        let between : HasDone lock left faults place mid.number start readers b mid.seen (before ++ xs) y =
-        subst (λ (k : ℕ). HasDone lock left faults place k start readers b mid.seen (before ++ xs) y) (sym n) (first.on start readers before h) in
-        let broken : Begun lock.setup.basis.topology left faults place lock.setup.basis.limit old.number start readers c new.seen ((before ++ xs) ++ ys) =
-        subst (λ (k : ℕ). Begun lock.setup.basis.topology left faults place lock.setup.basis.limit k start readers c new.seen ((before ++ xs) ++ ys)) n (second.on start readers (before ++ xs) between) in
-        subst (λ (ls : List Line). Begun lock.setup.basis.topology left faults place lock.setup.basis.limit old.number start readers c new.seen ls)
+        let n : mid.seat.number ≡ old.seat.number = saw-number old.seat mid.seat on.saw in
+        let between : HasDone lock left faults place mid.seat.number start readers (before ++ xs) mid =
+        subst (λ (k : ℕ). HasDone lock left faults place k start readers (before ++ xs) mid) (sym n) (first.on start readers before h) in
+        let broken : HasBegun lock left faults place old.seat.number start readers ((before ++ xs) ++ ys) new =
+        subst (λ (k : ℕ). HasBegun lock left faults place k start readers ((before ++ xs) ++ ys) new) n (second.on start readers (before ++ xs) between) in
+        subst (λ (ls : List Line). HasBegun lock left faults place old.seat.number start readers ls new)
         (ap (λ ls. ls ++ more) (append_assoc before xs ys) ∙ append_assoc before (xs ++ ys) more ∙ ap (λ ls. before ++ ls) (sym is))
-        (begun-more lock.setup.basis.topology left faults place lock.setup.basis.limit old.number start readers c new.seen ((before ++ xs) ++ ys) more broken);
+        (begun-more lock.setup.basis.topology left faults place lock.setup.basis.limit old.seat.number start readers new.feeds new.seat.seen ((before ++ xs) ++ ys) more broken);
   }
 
   -- memory was wanting within the first of these lines
-  pub breaks-more : (old new : Caller) (a c : List (Feed S)) (x : List Told) (xs more all : List Line) → Breaks lock left faults place old new a c x xs → all ≡ xs ++ more → Breaks lock left faults place old new a c x all
-  breaks-more old new a c x xs more all first is = record {
+  pub breaks-more : (old new : Work S) (xs more all : List Line) → Breaks lock left faults place old new xs → all ≡ xs ++ more → Breaks lock left faults place old new all
+  breaks-more old new xs more all first is = record {
     on = λ start readers before h.
-        subst (λ (ls : List Line). Begun lock.setup.basis.topology left faults place lock.setup.basis.limit old.number start readers c new.seen ls)
+        subst (λ (ls : List Line). HasBegun lock left faults place old.seat.number start readers ls new)
         (append_assoc before xs more ∙ ap (λ ls. before ++ ls) (sym is))
-        (begun-more lock.setup.basis.topology left faults place lock.setup.basis.limit old.number start readers c new.seen (before ++ xs) more (first.on start readers before h));
+        (begun-more lock.setup.basis.topology left faults place lock.setup.basis.limit old.seat.number start readers new.feeds new.seat.seen (before ++ xs) more (first.on start readers before h));
   }
+
+  -- ---- calls
+
+  -- a call that was refused
+  pub works-broke : {A E : Type 0} (result : Result A E) (old new : Work S) (lines : List Line) → IsErr result → WorksOn lock left faults place old new → Breaks lock left faults place old new lines → Works lock left faults place result old new lines
+  works-broke (Ok o) old new lines is on breaks = absurd (cc (is))
+  works-broke (Err e) old new lines is on breaks = record { on = on; does = tt; breaks = breaks }
+
+  -- a call by other lines that are the same
+  pub works-same : {A E : Type 0} (result : Result A E) (old new : Work S) (xs ys : List Line) → xs ≡ ys → Works lock left faults place result old new ys → Works lock left faults place result old new xs
+  works-same result old new xs ys is works = subst (λ (ls : List Line). Works lock left faults place result old new ls) (sym is) works
+
+  -- a last call, after others that did their lines
+  pub works-last : {A E : Type 0} (result : Result A E) (old mid new : Work S) (xs ys : List Line) → WorksOn lock left faults place old mid → Does lock left faults place old mid xs → Works lock left faults place result mid new ys →
+      Works lock left faults place result old new (xs ++ ys)
+  works-last (Ok o) old mid new xs ys on does last = record { on = on-more old mid new on last.on; does = does-more old mid new xs ys (xs ++ ys) on does last.does refl; breaks = tt }
+  works-last (Err e) old mid new xs ys on does last = record {
+    on = on-more old mid new on last.on;
+    does = tt;
+    breaks = breaks-after old mid new xs ys [] (xs ++ ys) on does last.breaks (sym (append-nil (xs ++ ys)));
+  }
+
+  -- frames of the feed of a router, where the job has it
+  pub works-took : {A E : Type 0} (result : Result A E) (old new : Work S) (r : RouterId) (at : ℕ) (count : Option ℕ) → position (is_feed_of r) old.feeds ≡ Some at → TookAt lock left faults place result at count old new →
+      (l : ℕ) → Works lock left faults place result old new (line.Take l r count ∷ [])
+  works-took (Ok o) old new r at count found took l = record {
+    on = took.on;
+    does = record {
+      on = λ start readers before h.
+          subst (λ (x : List Told). HasDone lock left faults place old.seat.number start readers (before ++ line.Take l r count ∷ []) (record new { told = x })) (sym took.told)
+          (tracks-at lock.setup.basis.topology left faults place lock.setup.basis.limit old.seat.number start readers old.feeds new.feeds old.seat.seen new.seat.seen before old.told l r count (Some at) took.on.saw.seen found took.took h);
+    };
+    breaks = tt;
+  }
+  works-took (Err e) old new r at count found took l = record {
+    on = took.on;
+    does = tt;
+    breaks = record {
+      on = λ start readers before h.
+          begun-at lock.setup.basis.topology left faults place lock.setup.basis.limit old.seat.number start readers old.feeds new.feeds old.seat.seen new.seat.seen before old.told l r count took.on.saw.seen
+          (record { at = at; found = found; fails = took.fails }) h;
+    };
+  }
+
+  -- the job hasn't it
+  pub works-not : (work : Work S) (r : RouterId) (count : Option ℕ) → IsAtWork lock work → position (is_feed_of r) work.feeds ≡ None → (l : ℕ) → Does lock left faults place work work (line.Take l r count ∷ [])
+  works-not work r count at none l = record {
+    on = λ start readers before h.
+        tracks-at lock.setup.basis.topology left faults place lock.setup.basis.limit work.seat.number start readers work.feeds work.feeds work.seat.seen work.seat.seen before work.told l r count None (prefix_self work.seat.seen) none (refl, refl) h;
+  }
+
+  -- a query was asked, or memory was wanting
+  asked-on : {A E : Type 0} (result : Result A E) (old : Work S) (s : Caller) (told : List Told) (l : ℕ) (q : Question) → IsAtWork lock old → LooksOn old.seat s →
+      OnOk result (Adds old.told told l q (IsOutcomeNow lock.setup.basis.topology s.seen q)) → Works lock left faults place result old (record old { seat = s; told = told }) (line.Ask l q ∷ [])
+  asked-on (Ok o) old s told l q at looks adds = record {
+    on = record { saw = looks.saw; shows = shows-still lock.setup.basis.topology old.seat.seen s.seen old.shown looks.saw.seen at.shown; reads = read-none lock.setup.basis.topology left faults place lock.setup.basis.limit old.feeds };
+    does = record {
+      on = λ start readers before h.
+          tracks-ask lock.setup.basis.topology left faults place lock.setup.basis.limit old.seat.number start readers old.feeds old.seat.seen s.seen before old.told told l q looks.saw.seen looks.own adds h;
+    };
+    breaks = tt;
+  }
+  asked-on (Err e) old s told l q at looks adds = record {
+    on = record { saw = looks.saw; shows = shows-still lock.setup.basis.topology old.seat.seen s.seen old.shown looks.saw.seen at.shown; reads = read-none lock.setup.basis.topology left faults place lock.setup.basis.limit old.feeds };
+    does = tt;
+    breaks = record {
+      on = λ start readers before h.
+          begun-more lock.setup.basis.topology left faults place lock.setup.basis.limit old.seat.number start readers old.feeds s.seen before (line.Ask l q ∷ [])
+          (begun-still lock.setup.basis.topology left faults place lock.setup.basis.limit old.seat.number start readers old.feeds old.seat.seen s.seen before old.told looks.saw.seen looks.own h);
+    };
+  }
+
+  pub works-asked : {A E : Type 0} (result : Result A E) (old : Work S) (s s' : Caller) (shown : Option Known) (feeds : List (Feed S)) (told told' : List Told) (l : ℕ) (q : Question) →
+      record { seat = s; shown = shown; feeds = feeds; told = told } ≡ old → IsAtWork lock old → LooksOn s s' → OnOk result (Adds told told' l q (IsOutcomeNow lock.setup.basis.topology s'.seen q)) →
+      Works lock left faults place result old (record { seat = s'; shown = shown; feeds = feeds; told = told' }) (line.Ask l q ∷ [])
+  works-asked result old s s' shown feeds told told' l q is at looks adds =
+      let w : Work S = record { seat = s; shown = shown; feeds = feeds; told = told } in
+      subst (λ (x : Work S). Works lock left faults place result x (record { seat = s'; shown = shown; feeds = feeds; told = told' }) (line.Ask l q ∷ [])) is
+      (asked-on result w s' told' l q (subst (λ (x : Work S). IsAtWork lock x) (sym is) at) looks adds)
+
+  -- frames of the feed at a place
+  pub work-took : {A E : Type 0} (result : Result A E) (old : Work S) (s s' : Caller) (shown shown' : Option Known) (feeds : List (Feed S)) (told : List Told) (at : ℕ) (count : Option ℕ) (v new : Feed S) →
+      record { seat = s; shown = shown; feeds = feeds; told = told } ≡ old → at < length old.feeds → v ≡ get_or feeds at v → ShowsOn lock.setup.basis.topology s'.seen shown shown' → Takes lock left faults place result count s s' v new →
+      TookAt lock left faults place result at count old (record { seat = s'; shown = shown'; feeds = set feeds at new; told = told })
+  work-took result old s s' shown shown' feeds told at count v new is less value shows takes =
+      let w : Work S = record { seat = s; shown = shown; feeds = feeds; told = told } in
+      let below : at < length feeds = subst (λ (x : Work S). at < length x.feeds) (sym is) less in
+      let took : TookAt lock left faults place result at count w (record { seat = s'; shown = shown'; feeds = set feeds at new; told = told }) =
+      record {
+        on = record { saw = takes.saw; shows = shows; reads = read-at lock.setup.basis.topology left faults place lock.setup.basis.limit feeds at v new below value takes.reads };
+        took = took-at lock.setup.basis.topology left faults place lock.setup.basis.limit s.number result at count feeds v new s.seen s'.seen below value takes.taken;
+        fails = failed-at lock.setup.basis.topology left faults place lock.setup.basis.limit s.number result at count feeds v new s.seen s'.seen below value takes.first;
+        told = refl;
+      } in
+      subst (λ (x : Work S). TookAt lock left faults place result at count x (record { seat = s'; shown = shown'; feeds = set feeds at new; told = told })) is took
 
   -- ---- what is told
 
   -- what lines told is that of a front of them and others
-  pub front-told : (old mid new : Caller) (olds mids : List (Feed S)) (tolds tolds' : List Told) (xs ys all : List Line) → SawMore mid new → Does lock left faults place old mid olds mids tolds tolds' xs → all ≡ xs ++ ys →
-      TellsFrontOf lock left faults place old new olds tolds tolds' all
-  front-told old mid new olds mids tolds tolds' xs ys all saw does is = record {
+  pub front-told : (old mid new : Work S) (xs ys all : List Line) → SawMore mid.seat new.seat → new.told ≡ mid.told → Does lock left faults place old mid xs → all ≡ xs ++ ys →
+      TellsFrontOf lock left faults place old new all
+  front-told old mid new xs ys all saw same does is = record {
     on = λ start readers more h.
         let later : List Posted = saw.seen.0 in
-        let told : TellsFront lock.setup.basis.topology (entries (mid.seen ++ (later ++ more))) all tolds' =
-        front-of lock.setup.basis.topology left faults place lock.setup.basis.limit old.number start readers mids mid.seen xs ys all tolds' (later ++ more) is (does.on start readers [] h) in
-        subst (λ (seen : List Posted). TellsFront lock.setup.basis.topology (entries seen) all tolds') (sym (append_assoc mid.seen later more) ∙ ap (λ s. s ++ more) saw.seen.1) told;
+        let told : TellsFront lock.setup.basis.topology (entries (mid.seat.seen ++ (later ++ more))) all mid.told =
+        front-of lock.setup.basis.topology left faults place lock.setup.basis.limit old.seat.number start readers mid.feeds mid.seat.seen xs ys all mid.told (later ++ more) is (does.on start readers [] h) in
+        subst (λ (tolds : List Told). TellsFront lock.setup.basis.topology (entries (new.seat.seen ++ more)) all tolds) (sym same)
+        (subst (λ (seen : List Posted). TellsFront lock.setup.basis.topology (entries seen) all mid.told) (sym (append_assoc mid.seat.seen later more) ∙ ap (λ s. s ++ more) saw.seen.1) told);
   }
 
-  pub front-later : (old mid new : Caller) (olds : List (Feed S)) (tolds tolds' : List Told) (all : List Line) → SawMore mid new → TellsFrontOf lock left faults place old mid olds tolds tolds' all →
-      TellsFrontOf lock left faults place old new olds tolds tolds' all
-  front-later old mid new olds tolds tolds' all saw told = record {
+  pub front-later : (old mid new : Work S) (all : List Line) → SawMore mid.seat new.seat → new.told ≡ mid.told → TellsFrontOf lock left faults place old mid all →
+      TellsFrontOf lock left faults place old new all
+  front-later old mid new all saw same told = record {
     on = λ start readers more h.
-        subst (λ (seen : List Posted). TellsFront lock.setup.basis.topology (entries seen) all tolds') (sym (append_assoc mid.seen saw.seen.0 more) ∙ ap (λ s. s ++ more) saw.seen.1)
-        (told.on start readers (saw.seen.0 ++ more) h);
+        subst (λ (tolds : List Told). TellsFront lock.setup.basis.topology (entries (new.seat.seen ++ more)) all tolds) (sym same)
+        (subst (λ (seen : List Posted). TellsFront lock.setup.basis.topology (entries seen) all mid.told) (sym (append_assoc mid.seat.seen saw.seen.0 more) ∙ ap (λ s. s ++ more) saw.seen.1)
+        (told.on start readers (saw.seen.0 ++ more) h));
   }
 
   -- ---- the job
 
-  -- all lines and rests, where their calls returned
-  pub does-all : {A E : Type 0} (result : Result A E) (old a b new : Caller) (olds fa fb news : List (Feed S)) (tolds tolds' : List Told) (lines : List Line) → SawMore old a → SawMore a b → ReadOn lock.setup.basis.topology left faults place olds fb →
-      Does lock left faults place old a olds fa tolds tolds' lines → Does lock left faults place a b fa fb tolds' tolds' (rests_of lines) → OnOk result ((told : List Told) → Does lock left faults place b new fb news told told (rests_by fb)) →
-      OnOk result (Does lock left faults place old new olds news tolds tolds' ((lines ++ rests_of lines) ++ rests_by olds))
-  does-all (Err e) old a b new olds fa fb news tolds tolds' lines saw saw' on x y z = tt
-  does-all (Ok o) old a b new olds fa fb news tolds tolds' lines saw saw' on x y z =
-      does-more old b new olds fb news tolds tolds' tolds' (lines ++ rests_of lines) (rests_by fb) ((lines ++ rests_of lines) ++ rests_by olds) (saw-more old a b saw saw')
-      (does-more old a b olds fa fb tolds tolds' tolds' lines (rests_of lines) (lines ++ rests_of lines) saw x y refl) (z tolds')
-      (ap (λ ls. (lines ++ rests_of lines) ++ ls) (rests-alike lock.setup.basis.topology left faults place olds fb on))
-
-  -- the same where memory was wanting within the rests of all
-  pub breaks-all : {A E : Type 0} (result : Result A E) (old a b new : Caller) (olds fa fb news : List (Feed S)) (tolds tolds' : List Told) (lines : List Line) → SawMore old a → SawMore a b → ReadOn lock.setup.basis.topology left faults place olds fb →
-      Does lock left faults place old a olds fa tolds tolds' lines → Does lock left faults place a b fa fb tolds' tolds' (rests_of lines) → OnErr result ((told : List Told) → Breaks lock left faults place b new fb news told (rests_by fb)) →
-      OnErr result (Breaks lock left faults place old new olds news tolds ((lines ++ rests_of lines) ++ rests_by olds))
-  breaks-all (Ok o) old a b new olds fa fb news tolds tolds' lines saw saw' on x y z = tt
-  breaks-all (Err e) old a b new olds fa fb news tolds tolds' lines saw saw' on x y z =
-      breaks-after old b new olds fb news tolds tolds' (lines ++ rests_of lines) (rests_by fb) [] ((lines ++ rests_of lines) ++ rests_by olds) (saw-more old a b saw saw')
-      (does-more old a b olds fa fb tolds tolds' tolds' lines (rests_of lines) (lines ++ rests_of lines) saw x y refl) (z tolds')
-      (ap (λ ls. (lines ++ rests_of lines) ++ ls) (rests-alike lock.setup.basis.topology left faults place olds fb on) ∙ sym (append-nil ((lines ++ rests_of lines) ++ rests_by fb)))
-
-  run-unless : {A E : Type 0} (result : Result A E) (number : ℕ) (start : List Entry) (seen : List Posted) (task : Task S) (tolds : List Told) (backs : List (S × FeedTold)) →
-      OnOk result (HasRun lock.setup.basis.topology left faults place lock.setup.basis.limit number start seen task tolds backs) →
-      OnErr result (HasBegun lock.setup.basis.topology left faults place lock.setup.basis.limit number start seen task backs) →
-      HasRunUnless lock.setup.basis.topology left faults place lock.setup.basis.limit (is_err result) number start seen task tolds backs
-  run-unless (Ok o) number start seen task tolds backs ran begun = ran
-  run-unless (Err e) number start seen task tolds backs ran begun = begun
-
-  on-ok : {A E : Type 0} (result : Result A E) (P Q : Type 0) → (P → Q) → OnOk result P → OnOk result Q
-  on-ok (Ok o) P Q f p = f p
-  on-ok (Err e) P Q f p = tt
-
-  on-fail : {A E : Type 0} (result : Result A E) (P Q : Type 0) → (P → Q) → OnErr result P → OnErr result Q
-  on-fail (Ok o) P Q f p = tt
-  on-fail (Err e) P Q f p = f p
+  run-unless : {A E : Type 0} (result : Result A E) (old new : Work S) (task : Task S) → old.feeds ≡ map unread task.feeds →
+      All (IsFresh lock.setup.basis.topology faults) task.feeds → ReadOn lock.setup.basis.topology left faults place old.feeds new.feeds →
+      HasDone lock left faults place old.seat.number (own_of old.seat.number old.seat.seen) task.feeds [] old →
+      Works lock left faults place result old new ((task.lines ++ rests_of task.lines) ++ rests_by old.feeds) →
+      HasRunUnless lock.setup.basis.topology left faults place lock.setup.basis.limit (is_err result) old.seat.number (own_of old.seat.number old.seat.seen) new.seat.seen task new.told (map back_of new.feeds)
+  run-unless (Ok o) old new task are fresh on begins works =
+      has-run lock.setup.basis.topology left faults place lock.setup.basis.limit old.seat.number (own_of old.seat.number old.seat.seen) new.seat.seen task old.feeds new.feeds new.told fresh on
+      (works.does.on (own_of old.seat.number old.seat.seen) task.feeds [] begins)
+  run-unless (Err e) old new task are fresh on begins works =
+      has-begun lock.setup.basis.topology left faults place lock.setup.basis.limit old.seat.number (own_of old.seat.number old.seat.seen) new.seat.seen task old.feeds new.feeds on
+      (works.breaks.on (own_of old.seat.number old.seat.seen) task.feeds [] begins)
 
   -- what a job came to whose lines and rests were done, or not all of them
-  pub ends-of : {A E : Type 0} (result : Result A E) (wanted : Bool) (old new : Caller) (task : Task S) (olds news : List (Feed S)) (tolds : List Told) → wanted ≡ is_err result → olds ≡ map unread task.feeds →
-      All (IsFresh lock.setup.basis.topology faults) task.feeds → AreApart task.feeds → ReadOn lock.setup.basis.topology left faults place olds news →
-      OnOk result (Does lock left faults place old new olds news [] tolds ((task.lines ++ rests_of task.lines) ++ rests_by olds)) →
-      OnErr result (Breaks lock left faults place old new olds news [] ((task.lines ++ rests_of task.lines) ++ rests_by olds)) → TellsFrontOf lock left faults place old new olds [] tolds task.lines →
-      Ends lock.setup.basis.topology left faults place lock.setup.basis.limit old.number (own_of old.number old.seen) new.seen task wanted tolds (map back_of news)
-  ends-of result wanted old new task olds news tolds is are fresh apart on does breaks front =
+  ends-of : {A E : Type 0} (result : Result A E) (wanted : Bool) (old new : Work S) (task : Task S) → wanted ≡ is_err result → old.feeds ≡ map unread task.feeds → old.told ≡ [] → IsReady lock faults task →
+      Works lock left faults place result old new ((task.lines ++ rests_of task.lines) ++ rests_by old.feeds) → TellsFrontOf lock left faults place old new task.lines →
+      Ends lock.setup.basis.topology left faults place lock.setup.basis.limit old.seat.number (own_of old.seat.number old.seat.seen) new.seat.seen task wanted new.told (map back_of new.feeds)
+  ends-of result wanted old new task is are none ready works front =
       let t : Topology = lock.setup.basis.topology in
       let limit : ℕ = lock.setup.basis.limit in
-      let number : ℕ = old.number in
-      let start : List Entry = own_of old.number old.seen in
-      let begins : Tracks t left faults place limit number start task.feeds olds old.seen [] [] = tracks-start t left faults place limit number task.feeds olds old.seen are fresh apart in
+      let number : ℕ = old.seat.number in
+      let start : List Entry = own_of old.seat.number old.seat.seen in
+      let begins : HasDone lock left faults place number start task.feeds [] old =
+      subst (λ (x : List Told). HasDone lock left faults place number start task.feeds [] (record old { told = x })) (sym none)
+      (tracks-start t left faults place limit number task.feeds old.feeds old.seat.seen are ready.fresh ready.apart) in
       record {
-        done = subst (λ (b : Bool). HasRunUnless t left faults place limit b number start new.seen task tolds (map back_of news)) (sym is)
-            (run-unless result number start new.seen task tolds (map back_of news)
-            (on-ok result (Does lock left faults place old new olds news [] tolds ((task.lines ++ rests_of task.lines) ++ rests_by olds)) (HasRun t left faults place limit number start new.seen task tolds (map back_of news))
-            (λ d. has-run t left faults place limit number start new.seen task olds news tolds fresh on (d.on start task.feeds [] begins)) does)
-            (on-fail result (Breaks lock left faults place old new olds news [] ((task.lines ++ rests_of task.lines) ++ rests_by olds)) (HasBegun t left faults place limit number start new.seen task (map back_of news))
-            (λ d. has-begun t left faults place limit number start new.seen task olds news on (d.on start task.feeds [] begins)) breaks));
-        front = subst (λ (h : List Posted). TellsFront t (entries h) task.lines tolds) (append-nil new.seen) (front.on start task.feeds [] begins);
-        back = backs-are t left faults place limit task.feeds olds news are fresh on;
+        done = subst (λ (b : Bool). HasRunUnless t left faults place limit b number start new.seat.seen task new.told (map back_of new.feeds)) (sym is)
+            (run-unless result old new task are ready.fresh works.on.reads begins works);
+        front = subst (λ (h : List Posted). TellsFront t (entries h) task.lines new.told) (append-nil new.seat.seen) (front.on start task.feeds [] begins);
+        back = backs-are t left faults place limit task.feeds old.feeds new.feeds are ready.fresh works.on.reads;
       }
 
 -- ---- the job as its call has it
 
-module _ {S : Type 0} (desk lock : Lock) (left : S → Option (List ℕ)) (faults place : S → ℕ) where
-  fresh-here : (topology : Topology) (job : Task S) (number : ℕ) (lines : List Line) (olds : List (Feed S)) → desk ≡ lock → topology ≡ lock.setup.basis.topology →
-      record { number = number; lines = lines; feeds = map (λ (f : Feed S). f.reader) olds } ≡ job → All (IsFresh topology faults) job.feeds →
-      All (IsFresh desk.setup.basis.topology faults) (map (λ (f : Feed S). f.reader) olds)
-  fresh-here topology job number lines olds same over is fresh =
-      subst (λ (t : Topology). All (IsFresh t faults) (map (λ (f : Feed S). f.reader) olds)) (over ∙ sym (ap (λ (l : Lock). l.setup.basis.topology) same))
-      (subst (λ (j : Task S). All (IsFresh topology faults) j.feeds) (sym is) fresh)
+module _ {S : Type 0} (desk lock : Lock) (left : S → Option (List ℕ)) (faults place : S → ℕ) (job : Task S) (number : ℕ) (lines : List Line) (olds : List (Feed S)) (same : desk ≡ lock)
+    (is : record { number = number; lines = lines; feeds = map (λ (f : Feed S). f.reader) olds } ≡ job) (are : olds ≡ map (λ (f : Feed S). unread f.reader) olds) (ready : IsReady lock faults job) where
+  ready-here : IsReady desk faults (record { number = number; lines = lines; feeds = map (λ (f : Feed S). f.reader) olds })
+  ready-here = subst (λ (l : Lock). IsReady l faults (record { number = number; lines = lines; feeds = map (λ (f : Feed S). f.reader) olds })) (sym same) (subst (λ (j : Task S). IsReady lock faults j) (sym is) ready)
 
-  pub job-routers : (topology : Topology) (job : Task S) (number : ℕ) (lines : List Line) (olds : List (Feed S)) → desk ≡ lock → topology ≡ lock.setup.basis.topology →
-      record { number = number; lines = lines; feeds = map (λ (f : Feed S). f.reader) olds } ≡ job → olds ≡ map (λ (f : Feed S). unread f.reader) olds → All (IsFresh topology faults) job.feeds →
-      HaveRouters desk.setup.basis.topology olds
-  job-routers topology job number lines olds same over is are fresh =
-      routers-fresh desk.setup.basis.topology faults (map (λ (f : Feed S). f.reader) olds) olds (feeds-unread olds are) (fresh-here topology job number lines olds same over is fresh)
+  pub job-at-work : (seat : Caller) (shown : Option Known) (begins : List Told) → IsSeatOf lock seat → IsShown lock.setup.basis.topology seat.seen shown →
+      IsAtWork desk (record { seat = seat; shown = shown; feeds = olds; told = begins })
+  job-at-work seat shown begins at shows = record {
+    seat = subst (λ (l : Lock). IsSeatOf l seat) (sym same) at;
+    routers = routers-fresh desk.setup.basis.topology faults (map (λ (f : Feed S). f.reader) olds) olds (feeds-unread olds are) (ready-here.fresh);
+    shown = subst (λ (l : Lock). IsShown l.setup.basis.topology seat.seen shown) (sym same) shows;
+  }
 
-  pub job-ends : {A E : Type 0} (result : Result A E) (wanted : Bool) (topology : Topology) (old new : Caller) (job : Task S) (number : ℕ) (lines done : List Line) (olds news : List (Feed S)) (begins tolds : List Told) (backs : List (S × FeedTold)) →
-      desk ≡ lock → topology ≡ lock.setup.basis.topology → record { number = number; lines = lines; feeds = map (λ (f : Feed S). f.reader) olds } ≡ job → olds ≡ map (λ (f : Feed S). unread f.reader) olds →
-      done ≡ lines → begins ≡ [] → wanted ≡ is_err result → backs ≡ map back_of news → All (IsFresh topology faults) job.feeds → AreApart job.feeds → ReadOn desk.setup.basis.topology left faults place olds news →
-      OnOk result (Does desk left faults place old new olds news begins tolds ((done ++ rests_of done) ++ rests_by olds)) →
-      OnErr result (Breaks desk left faults place old new olds news begins ((done ++ rests_of done) ++ rests_by olds)) → TellsFrontOf desk left faults place old new olds begins tolds done →
-      Ends topology left faults place lock.setup.basis.limit old.number (own_of old.number old.seen) new.seen job wanted tolds backs
-  job-ends result wanted topology old new job number lines done olds news begins tolds backs same over is are lines-are none wants backs-are fresh apart on does breaks front =
+  pub job-ran : {A E : Type 0} (result : Result A E) (wanted : Bool) (old new : Work S) (s : Caller) (shown : Option Known) (feeds : List (Feed S)) (told : List Told) (done : List Line) (backs : Vec (S × FeedTold)) →
+      record { seat = s; shown = shown; feeds = feeds; told = told } ≡ new → old.feeds ≡ olds → old.told ≡ [] → done ≡ lines → wanted ≡ is_err result → backs.items ≡ map back_of feeds →
+      Works desk left faults place result old new ((done ++ rests_of done) ++ rests_by old.feeds) → TellsFrontOf desk left faults place old new done →
+      RanJob lock left faults place old.seat s job (record { number = number; told = told; feeds = backs; wanted_memory = wanted })
+  job-ran result wanted old new s shown feeds told done backs new-is olds-are none lines-are wants backs-are works front =
+      let w : Work S = record { seat = s; shown = shown; feeds = feeds; told = told } in
       let task : Task S = record { number = number; lines = lines; feeds = map (λ (f : Feed S). f.reader) olds } in
-      let start : List Entry = own_of old.number old.seen in
-      let does' : OnOk result (Does desk left faults place old new olds news [] tolds ((lines ++ rests_of lines) ++ rests_by olds)) =
-      subst (λ (ls : List Line). OnOk result (Does desk left faults place old new olds news [] tolds ((ls ++ rests_of ls) ++ rests_by olds))) lines-are
-      (subst (λ (xs : List Told). OnOk result (Does desk left faults place old new olds news xs tolds ((done ++ rests_of done) ++ rests_by olds))) none does) in
-      let breaks' : OnErr result (Breaks desk left faults place old new olds news [] ((lines ++ rests_of lines) ++ rests_by olds)) =
-      subst (λ (ls : List Line). OnErr result (Breaks desk left faults place old new olds news [] ((ls ++ rests_of ls) ++ rests_by olds))) lines-are
-      (subst (λ (xs : List Told). OnErr result (Breaks desk left faults place old new olds news xs ((done ++ rests_of done) ++ rests_by olds))) none breaks) in
-      let front' : TellsFrontOf desk left faults place old new olds [] tolds lines =
-      subst (λ (ls : List Line). TellsFrontOf desk left faults place old new olds [] tolds ls) lines-are
-      (subst (λ (xs : List Told). TellsFrontOf desk left faults place old new olds xs tolds done) none front) in
-      let ends : Ends desk.setup.basis.topology left faults place desk.setup.basis.limit old.number start new.seen task wanted tolds (map back_of news) =
-      ends-of desk left faults place result wanted old new task olds news tolds wants (feeds-unread olds are) (fresh-here topology job number lines olds same over is fresh)
-      (subst (λ (j : Task S). AreApart j.feeds) (sym is) apart) on does' breaks' front' in
-      subst (λ (bs : List (S × FeedTold)). Ends topology left faults place lock.setup.basis.limit old.number start new.seen job wanted tolds bs) (sym backs-are)
-      (subst (λ (j : Task S). Ends topology left faults place lock.setup.basis.limit old.number start new.seen j wanted tolds (map back_of news)) is
-      (subst (λ (t : Topology). Ends t left faults place lock.setup.basis.limit old.number start new.seen task wanted tolds (map back_of news)) (sym over)
-      (subst (λ (l : Lock). Ends l.setup.basis.topology left faults place l.setup.basis.limit old.number start new.seen task wanted tolds (map back_of news)) same ends)))
+      let start : List Entry = own_of old.seat.number old.seat.seen in
+      let works' : Works desk left faults place result old w ((lines ++ rests_of lines) ++ rests_by old.feeds) =
+      subst (λ (x : Work S). Works desk left faults place result old x ((lines ++ rests_of lines) ++ rests_by old.feeds)) (sym new-is)
+      (subst (λ (ls : List Line). Works desk left faults place result old new ((ls ++ rests_of ls) ++ rests_by old.feeds)) lines-are works) in
+      let front' : TellsFrontOf desk left faults place old w lines =
+      subst (λ (x : Work S). TellsFrontOf desk left faults place old x lines) (sym new-is) (subst (λ (ls : List Line). TellsFrontOf desk left faults place old new ls) lines-are front) in
+      let ends : Ends desk.setup.basis.topology left faults place desk.setup.basis.limit old.seat.number start s.seen task wanted told (map back_of feeds) =
+      ends-of desk left faults place result wanted old w task wants (olds-are ∙ feeds-unread olds are) none ready-here works' front' in
+      record {
+        saw = works'.on.saw;
+        number = ap (λ (j : Task S). j.number) is;
+        ends = subst (λ (bs : List (S × FeedTold)). Ends lock.setup.basis.topology left faults place lock.setup.basis.limit old.seat.number start s.seen job wanted told bs) (sym backs-are)
+            (subst (λ (j : Task S). Ends lock.setup.basis.topology left faults place lock.setup.basis.limit old.seat.number start s.seen j wanted told (map back_of feeds)) is
+            (subst (λ (l : Lock). Ends l.setup.basis.topology left faults place l.setup.basis.limit old.seat.number start s.seen task wanted told (map back_of feeds)) same ends));
+      }
+
+  pub job-shows : {A E : Type 0} (result : Result A E) (old new : Work S) (s : Caller) (shown : Option Known) (feeds : List (Feed S)) (told : List Told) (done : List Line) →
+      record { seat = s; shown = shown; feeds = feeds; told = told } ≡ new → Works desk left faults place result old new done → ShowsOn lock.setup.basis.topology s.seen old.shown shown
+  job-shows result old new s shown feeds told done new-is works =
+      subst (λ (l : Lock). ShowsOn l.setup.basis.topology s.seen old.shown shown) same (subst (λ (x : Work S). Works desk left faults place result old x done) (sym new-is) works).on.shows

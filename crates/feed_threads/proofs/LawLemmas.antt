@@ -23,6 +23,7 @@ use Rattle.feed_threads.specs.declared.job.JobDone.{JobDone}
 use Rattle.feed_threads.specs.AllJobs.{AllEnd, AllRan, AreDoneAs, AreLawful, AreNumberedApart, CameTo, IsBackFrom, Run, feeds_of_jobs, numbers_of_runs, same_feed, told_by}
 use Rattle.feed_threads.specs.Feeds.{CountsBy, IsBroken, end_with}
 use Rattle.feed_threads.specs.Jobs.{AreReadBy, HasRun, HasRunUnless, IsKeptSo, IsReadBy, Task}
+use Rattle.feed_threads.specs.Runs.{AllRun}
 use Rattle.feed_threads.specs.Seats.{own_of}
 use Rattle.feed_threads.proofs.EntriesLemmas.{same_number}
 use Rattle.feed_threads.proofs.HistoryLemmas.{Shared, TellsOwnJob, feeds_of_all, lawful, zip-map}
@@ -254,10 +255,13 @@ pub has-all : (lock : Lock) (old new : Caller) → old ≡ first_seat lock → (
 has-all lock old new first keeps n less = keeps n (subst (λ (s : Caller). HasNumber s n) (sym first) (inr (omega arith, omega (arith, less))))
 
 -- the same by the limit and the numbers that the lock was made with
-pub ran-with : {S : Type 0} (t : Topology) (left : S → Option (List ℕ)) (faults place : S → ℕ) (limit seats : ℕ) (basis kept-basis : Basis) (lock : Lock) (old new : Caller) (tasks : List (Task S)) (dones : List (JobDone S)) (history : List Posted) →
-    lock.setup ≡ record { basis = basis; seats = seats } → limit ≡ basis.limit → old ≡ first_seat lock → AllEnd t left faults place lock.setup.basis.limit lock old tasks new dones → history ≡ new.seen →
+pub ran-with : {S : Type 0} (t : Topology) (left : S → Option (List ℕ)) (faults place : S → ℕ) (limit seats : ℕ) (basis kept-basis : Basis) (site lock : Lock) (old new : Caller) (tasks : List (Task S)) (dones : List (JobDone S)) (history : List Posted) →
+    lock.setup ≡ record { basis = basis; seats = seats } → site ≡ lock → t ≡ basis.topology → limit ≡ basis.limit → old ≡ first_seat lock → AllRun site left faults place old tasks new dones → history ≡ new.seen →
     All (λ posted. Contains new.used posted.seat) history → kept-basis ≡ lock.setup.basis → length history ≤ kept-basis.limit → AreNumberedApart tasks → AllRan t left faults place limit tasks history dones
-ran-with {S = S} t left faults place limit seats basis kept-basis lock old new tasks dones history setup is-limit first all is own kept within apart =
+ran-with {S = S} t left faults place limit seats basis kept-basis site lock old new tasks dones history setup here is-topology is-limit first run is own kept within apart =
     let same : lock.setup.basis.limit ≡ limit = ap (λ (s : Setup). s.basis.limit) setup ∙ sym is-limit in
+    let all : AllEnd t left faults place lock.setup.basis.limit lock old tasks new dones =
+    subst (λ (u : Topology). AllEnd u left faults place lock.setup.basis.limit lock old tasks new dones) (ap (λ (s : Setup). s.basis.topology) setup ∙ sym is-topology)
+    (subst (λ (l : Lock). AllRun l left faults place old tasks new dones) here run) in
     subst (λ (n : ℕ). AllRan t left faults place n tasks history dones) same
     (all-ran t left faults place lock.setup.basis.limit lock old new tasks dones history first all is own (subst (λ (b : Basis). length history ≤ b.limit) kept within) apart)

@@ -1,14 +1,12 @@
 -- One of a job's feeds gave frames.
-use Rattle.std.proofs.Common.{◌≡◌, ℕ, suc, ◌<◌, Result, Ok, Err, OnOk, OnErr, List, [], ◌∷◌, ◌++◌, length, get_or, set, take, drop, Option, Some, ap, sym, ◌∙◌, subst, arith}
-use Rattle.std.specs.List.{AllZip, position}
+use Rattle.std.proofs.Common.{◌≡◌, ℕ, suc, ◌<◌, Result, Ok, Err, OnOk, OnErr, List, [], ◌∷◌, ◌++◌, length, get_or, set, take, drop, Option, ap, sym, ◌∙◌, subst, arith}
+use Rattle.std.specs.List.{AllZip}
 use Rattle.std.proofs.lemmas.List.{set-get_or, set_split, length-take-le}
-use Rattle.std.proofs.lemmas.List.Elements.{All-set}
 use Rattle.dn_model.specs.declared.entry.Posted.{Posted}
-use Rattle.base.specs.declared.ids.RouterId.{RouterId}
 use Rattle.dn_model.specs.declared.topology.Topology.{Topology}
 use Rattle.feed_threads.specs.Feeds.{Feed, ReadsOn}
 use Rattle.feed_threads.specs.Takes.{GivesFirst, TakesSome}
-use Rattle.feed_threads.specs.Places.{is_feed_of, HaveRouters, ReadOn, ChangesAt, TakesFrom, FailsFrom, FailsOf}
+use Rattle.feed_threads.specs.Places.{ReadOn, ChangesAt, TakesFrom, FailsFrom}
 use Rattle.feed_threads.proofs.StepLemmas.{reads-none}
 
 -- a relation of each thing to itself goes along a list
@@ -38,16 +36,6 @@ changed-at Step feeds at v new less value step = record {
   step = step;
 }
 
--- the feeds' routers stay the network's
-pub routers-set : {S : Type 0} (t : Topology) (feeds : List (Feed S)) (at : ℕ) (v new : Feed S) → at < length feeds → v ≡ get_or feeds at v →
-    new.reader.told.router ≡ v.reader.told.router → HaveRouters t feeds → HaveRouters t (set feeds at new)
-routers-set {S = S} t feeds at v new less value same have =
-    let here : v.reader.told.router.0 < length t.routers = subst (λ (f : Feed S). f.reader.told.router.0 < length t.routers) (sym value) (have at v less) in
-    All-set (λ f. f.reader.told.router.0 < length t.routers) feeds at new (subst (λ (r : RouterId). r.0 < length t.routers) (sym same) here) have
-
-pub router-at : {S : Type 0} (t : Topology) (feeds : List (Feed S)) (at : ℕ) (v : Feed S) → at < length feeds → v ≡ get_or feeds at v → HaveRouters t feeds → v.reader.told.router.0 < length t.routers
-router-at {S = S} t feeds at v less value have = subst (λ (f : Feed S). f.reader.told.router.0 < length t.routers) (sym value) (have at v less)
-
 module _ {S : Type 0} (t : Topology) (left : S → Option (List ℕ)) (faults place : S → ℕ) (limit : ℕ) where
   pub took-at : {A E : Type 0} (number : ℕ) (result : Result A E) (at : ℕ) (count : Option ℕ) (feeds : List (Feed S)) (v new : Feed S) (a b : List Posted) → at < length feeds → v ≡ get_or feeds at v →
       OnOk result (TakesSome t left faults place limit number count v new a b) → OnOk result (TakesFrom t left faults place limit number at count feeds (set feeds at new) a b)
@@ -60,12 +48,6 @@ module _ {S : Type 0} (t : Topology) (left : S → Option (List ℕ)) (faults pl
   failed-at number (Ok o) at count feeds v new a b less value first = tt
   failed-at number (Err e) at count feeds v new a b less value first =
       changed-at (λ x y. GivesFirst t left faults place limit number count x y a b) feeds at v new less value first
-
-  -- memory was wanting at the feed that was found
-  pub failed-of : {A E : Type 0} (number : ℕ) (result : Result A E) (router : RouterId) (at : ℕ) (count : Option ℕ) (olds news : List (Feed S)) (a b : List Posted) → position (is_feed_of router) olds ≡ Some at →
-      OnErr result (FailsFrom t left faults place limit number at count olds news a b) → OnErr result (FailsOf t left faults place limit number router count olds news a b)
-  failed-of number (Ok o) router at count olds news a b found first = tt
-  failed-of number (Err e) router at count olds news a b found first = record { at = at; found = found; fails = first }
 
   pub read-none : (feeds : List (Feed S)) → ReadOn t left faults place feeds feeds
   read-none feeds = zip-self (λ x y. ReadsOn t left faults place x.reader y.reader) (λ f. reads-none t left faults place f.reader) feeds

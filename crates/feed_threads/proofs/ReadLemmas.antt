@@ -16,7 +16,7 @@ use Rattle.dn_model.specs.declared.topology.Topology.{Topology}
 use Rattle.fast_pins.specs.Known.{Known, published}
 use Rattle.version_lock.proofs.Histories.{prefix_self, prefix_trans, same_between}
 use Rattle.version_lock.specs.History.{posted_by}
-use Rattle.feed_threads.specs.declared.readers.Read.{Read}
+use Rattle.feed_threads.specs.declared.reader_job.Read.{Read}
 use Rattle.feed_threads.specs.Feeds.{Feed}
 use Rattle.feed_threads.specs.Jobs.{Task, back_of}
 use Rattle.feed_threads.specs.Readers.{AllRead, HasRead, Reading}
@@ -28,8 +28,9 @@ use Rattle.feed_threads.proofs.TellLemmas.{outcome-own, pin-now, tells-ask}
 
 -- ---- a reader goes on
 
-pub pins-none : (known : Known) → PinsOn known known
-pins-none known = record { origin = refl; topology = refl; mine = prefix_self (published known) }
+-- readers that know one publication are of its network
+pub readers-of : (t : Topology) (known : Known) (readers : List Known) → known.topology ≡ t → All (λ r. r ≡ known) readers → All (λ r. r.topology ≡ t) readers
+readers-of t known readers is same = λ k d less. ap (λ (r : Known). r.topology) (same k d less) ∙ is
 
 pub pins-more : (a b c : Known) → PinsOn a b → PinsOn b c → PinsOn a c
 pins-more a b c x y = record {

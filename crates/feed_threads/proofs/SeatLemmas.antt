@@ -1,19 +1,17 @@
 -- What a seat saw more of the history, and what of it is its own.
-use Rattle.std.proofs.Common.{◌≡◌, ℕ, ◌<◌, length, take, arith, Bool, true, if◌then◌else◌, append_assoc, List, [], ◌∷◌, ◌++◌, refl, ap, sym, ◌∙◌, subst, Result, Ok, Err, OnErr}
+use Rattle.std.proofs.Common.{◌≡◌, ℕ, ◌<◌, length, take, arith, Bool, true, if◌then◌else◌, append_assoc, List, [], ◌∷◌, ◌++◌, refl, ap, sym, ◌∙◌, subst, Result, Ok, Err, OnOk, OnErr, IsErr}
 use Rattle.std.specs.Prelude.{Contains}
 use Rattle.std.proofs.lemmas.List.{map-append}
 use mathlib.Core.List.{IsPrefix}
 use Rattle.version_lock.proofs.Histories.{prefix_self, prefix_trans}
-use Rattle.version_lock.specs.Callers.{Caller, IsSameSeat, KeepsOwn, Applied, posted_of, IsSeatOf, Lock}
-use Rattle.version_lock.specs.History.{posted_by}
+use Rattle.version_lock.specs.Callers.{Caller, IsSameSeat, KeepsOwn, IsSeatOf, Lock}
 use Rattle.dn_model.specs.Entry.{entries}
 use Rattle.dn_model.specs.declared.entry.Entry.{Entry}
 use Rattle.dn_model.specs.declared.entry.Entry.TheVariants.{Route}
-use Rattle.dn_model.specs.declared.entry.Posted.{Posted}
 use Rattle.dn_formats.specs.Steps.{entries_by}
 use Rattle.dn_model.specs.declared.entry.Op.{Op}
 use Rattle.base.specs.declared.ids.RouterId.{RouterId}
-use Rattle.feed_threads.specs.Seats.{own_of, SawMore}
+use Rattle.feed_threads.specs.Seats.{own_of, LooksOn, SawMore}
 use Rattle.feed_threads.specs.Takes.{TookFirst}
 
 -- a seat that saw nothing more
@@ -39,19 +37,11 @@ pub saw-seat : (lock : Lock) (old new : Caller) → SawMore old new → IsSeatOf
 saw-seat lock old new saw is = subst (λ (s : Caller). IsSeatOf lock s) (sym saw.same) is
 
 -- a seat each of whose used numbers has the entries that it had
-pub saw-kept : (old new : Caller) → IsSameSeat old new → IsPrefix old.seen new.seen → KeepsOwn old new → SawMore old new
-saw-kept old new same seen keeps = record { same = same; seen = seen; others = λ n is other. keeps n is }
+pub looks_kept : (old new : Caller) → IsSameSeat old new → IsPrefix old.seen new.seen → Contains old.used old.number → KeepsOwn old new → LooksOn old new
+looks_kept old new same seen is keeps = record { saw = record { same = same; seen = seen; others = λ n is other. keeps n is }; own = ap entries (keeps old.number is) }
 
-pub own-kept : (old new : Caller) → Contains old.used old.number → KeepsOwn old new → own_of old.number new.seen ≡ own_of old.number old.seen
-own-kept old new is keeps = ap entries (keeps old.number is)
-
--- a seat that applied an entry
-pub saw-applied : (entry : Entry) (limit : ℕ) (old new : Caller) (position : ℕ) → IsSameSeat old new → IsPrefix old.seen new.seen → Applied entry limit old new position → SawMore old new
-saw-applied entry limit old new position same seen applied = record { same = same; seen = seen; others = applied.others }
-
-pub own-applied : (entry : Entry) (limit : ℕ) (old new : Caller) (position : ℕ) → Applied entry limit old new position →
-    own_of old.number new.seen ≡ own_of old.number old.seen ++ entry ∷ []
-own-applied entry limit old new position applied = ap entries applied.own ∙ map-append (λ (p : Posted). p.entry) (posted_by old.number old.seen) (posted_of old entry ∷ [])
+pub looks_none : (seat : Caller) → LooksOn seat seat
+looks_none seat = record { saw = saw-none seat; own = refl }
 
 -- the own entries once one more update of a feed was applied
 pub own-more : (old mid new : Caller) (n : ℕ) (r : RouterId) (ops more : List Op) (op : Op) (took : Bool) → SawMore old mid → took ≡ true → more ≡ ops ++ op ∷ [] →
@@ -80,3 +70,8 @@ first-refused old mid new feed_no r ops n saw below before same = record {
 pub on-err : {A E : Type 0} (result : Result A E) (P : Type 0) → P → OnErr result P
 on-err (Ok o) P p = tt
 on-err (Err e) P p = p
+
+-- an answer that is refused promises nothing of what it would have given
+pub none-ok : {A E : Type 0} (result : Result A E) (P : Type 0) → IsErr result → OnOk result P
+none-ok (Ok o) P is = absurd (cc (is))
+none-ok (Err e) P is = tt

@@ -52,10 +52,10 @@ shows-published (Err e) t seen list old new before after was is-now list-is show
   same = ap origin_of is-now ∙ ap (λ (k : Known). Some k.origin) err ∙ sym (ap origin_of was);
 }
 
--- what holds of all that is Ok, by what holds of it
-pub if-ok : {A E : Type 0} (result : Result A E) (P Q : A → Type 0) → ((a : A) → P a → Q a) → IfOk result P → IfOk result Q
-if-ok (Ok a) P Q f p = f a p
-if-ok (Err e) P Q f p = tt
+-- what holds of all that is Ok, by what else holds of it
+pub if-ok-all : {A E : Type 0} (result : Result A E) (P Q R W : A → Type 0) → ((a : A) → P a → Q a → R a → W a) → IfOk result P → IfOk result Q → IfOk result R → IfOk result W
+if-ok-all (Ok a) P Q R W f p q r = f a p q r
+if-ok-all (Err e) P Q R W f p q r = tt
 
 -- ---- the publisher that is left
 

@@ -1,5 +1,5 @@
 -- What taking frames of a feed adds to what it gave, and to the job's own entries.
-use Rattle.std.proofs.Common.{◌≡◌, ℕ, ◌+◌, ◌-◌, ◌<◌, ◌≤◌, Bool, true, false, is_none, is_some, List, [], ◌∷◌, ◌++◌, length, take, Option, None, Some, Result, Ok, Err, IfOk, OnOk, OnErr, refl, ap, sym, ◌∙◌, subst, arith, length-append, append_assoc}
+use Rattle.std.proofs.Common.{◌≡◌, ℕ, ◌+◌, ◌-◌, ◌<◌, ◌≤◌, Bool, true, false, is_none, is_some, List, [], ◌∷◌, ◌++◌, length, take, Option, None, Some, Result, Ok, Err, IfOk, OnOk, OnErr, IsErr, refl, ap, sym, ◌∙◌, subst, arith, length-append, append_assoc}
 use Rattle.std.proofs.lemmas.Grind.{flat_map-append}
 use Rattle.std.proofs.lemmas.List.{append-nil, map-append}
 use Rattle.std.proofs.Math.Seq.{take-append-add}
@@ -20,9 +20,11 @@ use Rattle.route_feed.specs.FeedReader.{Reader, end_of, Advances}
 use Rattle.route_feed.specs.declared.feed_step.FeedStep.{FeedStep}
 use Rattle.route_feed.specs.declared.feed_step.FeedStep.TheVariants as answers
 use Rattle.feed_threads.specs.Feeds.{Feed, end_with, end_of_feed, handed_out, HandsOut, TookOf, Stands, ReadsOn}
-use Rattle.feed_threads.specs.Seats.{own_of}
-use Rattle.feed_threads.specs.Takes.{IsLater, IsCount, IsWithin, HasTaken, TookFirst, Passes, Gives, GivesFirst, TakesSome, TakesAny}
-use Rattle.feed_threads.proofs.StepLemmas.{none-handed}
+use Rattle.version_lock.specs.Callers.{Caller, Lock}
+use Rattle.feed_threads.specs.Seats.{own_of, LooksOn, SawMore}
+use Rattle.feed_threads.specs.Takes.{IsLater, IsCount, IsWithin, HasTaken, TookFirst, Passes, Gives, GivesFirst, TakesSome, TakesAny, Takes}
+use Rattle.feed_threads.proofs.SeatLemmas.{none-ok, saw-none, saw-more, saw-number}
+use Rattle.feed_threads.proofs.StepLemmas.{none-handed, reads-none}
 
 -- ---- lists
 
@@ -442,6 +444,17 @@ module _ {S : Type 0} (t : Topology) (left : S → Option (List ℕ)) (faults pl
       subst (λ (x : Feed S). ReadsOn t left faults place x.reader new) is
       (subst (λ (x : Reader S). ReadsOn t left faults place r x) (sym same) (record { more = handed_out step; on = handed; router = router }))
 
+  -- the reader's answer was wanting
+  pub reads-wait : (old : Feed S) (r : Reader S) (k : Option ℕ) (r' : Reader S) → record { reader = r; kept = k } ≡ old →
+      ((start : Reader S) (steps : List FrameStep) → HandsOut t left faults place start r steps → HandsOut t left faults place start r' steps) →
+      r'.told.router ≡ r.told.router → ReadsOn t left faults place old.reader r'
+  reads-wait old r k r' is waits router =
+      subst (λ (x : Feed S). ReadsOn t left faults place x.reader r') is (record {
+        more = [];
+        on = λ start steps h. subst (λ (xs : List FrameStep). HandsOut t left faults place start r' xs) (sym (append-nil steps)) (waits start steps h);
+        router = router;
+      })
+
   -- ---- where memory was wanting
 
   -- the reader's answer was wanting
@@ -550,3 +563,47 @@ module _ {S : Type 0} (t : Topology) (left : S → Option (List ℕ)) (faults pl
       let here : GivesFirst t left faults place limit number (Some 1) old new b c = subst (λ (n : ℕ). GivesFirst t left faults place limit n (Some 1) old new b c) is first in
       let one : length here.more ≤ 1 = here.within in
       first-more number (Some 1) (Some 1) old old new a b c [] (gives-still number old a b p same) here (omega (arith, one))
+
+-- ---- one call, as its function says it
+
+abbrev pub answered : Bool → Result Bool OutOfMemory
+answered more = Ok more
+
+module _ {S : Type 0} (lock : Lock) (left : S → Option (List ℕ)) (faults place : S → ℕ) where
+  -- a call that was refused
+  pub takes-broke : {A E : Type 0} (result : Result A E) (count : Option ℕ) (old new : Caller) (feed feed' : Feed S) → IsErr result → SawMore old new → ReadsOn lock.setup.basis.topology left faults place feed.reader feed'.reader →
+      GivesFirst lock.setup.basis.topology left faults place lock.setup.basis.limit old.number count feed feed' old.seen new.seen → Takes lock left faults place result count old new feed feed'
+  takes-broke (Ok o) count old new feed feed' is saw reads first = absurd (cc (is))
+  takes-broke (Err e) count old new feed feed' is saw reads first = record { saw = saw; reads = reads; taken = tt; first = first }
+
+  -- an answer without an update
+  pub takes-arm : (more : Bool) (seat : Caller) (old : Feed S) (r : Reader S) (k : Option ℕ) (r' : Reader S) (step : FeedStep) → record { reader = r; kept = k } ≡ old → is_some k ≡ false → updates (handed_out step) ≡ [] →
+      ((start : Reader S) (steps : List FrameStep) → HandsOut lock.setup.basis.topology left faults place start r steps → HandsOut lock.setup.basis.topology left faults place start r' (steps ++ handed_out step)) →
+      ((end : FeedEnd) → r.told.end ≡ Some end → (r' ≡ r) × (end_of step ≡ Some end)) → r'.told.end ≡ end_of step →
+      r'.told.feed_no ≡ r.told.feed_no → r'.told.router ≡ r.told.router → Advances step r r' → r'.limit ≡ r.limit →
+      Takes lock left faults place (answered more) (Some 1) seat seat old (record { reader = r'; kept = k })
+  takes-arm more seat old r k r' step is none no-update handed again end feed_no router advances limit = record {
+    saw = saw-none seat;
+    reads = reads-arm lock.setup.basis.topology left faults place lock.setup.basis.limit old r k r' r' step is refl handed router;
+    taken = took-arm lock.setup.basis.topology left faults place lock.setup.basis.limit seat.number old r k r' seat.seen step is
+        (none-of lock.setup.basis.topology left faults place lock.setup.basis.limit k none) no-update handed again end feed_no router (passes-step step r r' advances limit);
+    first = tt;
+  }
+
+  -- a call after which more was seen
+  pub takes-after : {A E : Type 0} (result : Result A E) (old mid new : Caller) (feed feed' : Feed S) → LooksOn old mid → Takes lock left faults place result (Some 1) mid new feed feed' → Takes lock left faults place result (Some 1) old new feed feed'
+  takes-after result old mid new feed feed' looks takes = record {
+    saw = saw-more old mid new looks.saw takes.saw;
+    reads = takes.reads;
+    taken = took-after lock.setup.basis.topology left faults place lock.setup.basis.limit result old.number mid.number feed feed' old.seen mid.seen new.seen (saw-number old mid looks.saw) looks.saw.seen looks.own takes.taken;
+    first = first-after lock.setup.basis.topology left faults place lock.setup.basis.limit result old.number mid.number feed feed' old.seen mid.seen new.seen (saw-number old mid looks.saw) looks.saw.seen looks.own takes.first;
+  }
+
+  -- memory was wanting before a frame was asked for
+  pub takes-still : {A E : Type 0} (result : Result A E) (old new : Caller) (feed : Feed S) → IsErr result → feed.kept ≡ None → LooksOn old new → Takes lock left faults place result (Some 1) old new feed feed
+  takes-still result old new feed is none looks = record {
+    saw = looks.saw;
+    reads = reads-none lock.setup.basis.topology left faults place feed.reader;
+    taken = none-ok result _ is;
+    first = first-still lock.setup.basis.topology left faults place lock.setup.basis.limit result old.number feed old.seen new.seen none looks.own;
+  }

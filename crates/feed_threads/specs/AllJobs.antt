@@ -1,5 +1,6 @@
 -- What jobs that ran side by side came to.
-use Rattle.std.specs.Prelude.{ℕ, ◌≡◌, ◌+◌, ◌<◌, ◌≤◌, ◌==◌, ◌⊎◌, IsTrue, Bool, false, List, [], ◌∷◌, All, Contains, map, Option}
+use Rattle.std.specs.Prelude.{ℕ, ◌≡◌, ◌+◌, ◌<◌, ◌≤◌, ◌==◌, ◌⊎◌, IsTrue, Bool, false, List, [], ◌∷◌, All, Contains, map}
+use Rattle.std.specs.Prelude.{Option}
 use Rattle.std.specs.List.{AllZip, flat_map}
 use mathlib.Core.List.{IsPrefix}
 use Rattle.dn_formats.specs.Lawful.{IsLawful, Job, TellsFront}
@@ -36,11 +37,13 @@ module _ {S : Type 0} (t : Topology) (left : S → Option (List ℕ)) (faults pl
   -- A job came to what was given back for it: its seat had seen the first of these before, and the second is seen now.
   pub record CameTo (before seen : List Posted) (run : Run S) : Type 0 where
     pub number : run.done.number ≡ run.task.number
-    pub ends : Ends t left faults place limit run.number (own_of run.number before) seen run.task run.done.wanted_memory run.done.told run.done.feeds.items
+    pub ends : Ends t left faults place limit run.number (own_of run.number before) seen run.task
+        run.done.wanted_memory run.done.told run.done.feeds.items
 
-  -- Jobs ran with a seat, each under a number of the seat's span that no other had, and the seat has then seen what they made.
-  -- Of each other number that it uses the entries are those that it had seen.
-  pub record AllEnd (lock : Lock) (old : Caller) (tasks : List (Task S)) (new : Caller) (dones : List (JobDone S)) : Type 0 where
+  -- Jobs ran with a seat, each under a number of the seat's span that no other had, and the seat has then seen what
+  -- they made. Of each other number that it uses the entries are those that it had seen.
+  pub record AllEnd (lock : Lock) (old : Caller) (tasks : List (Task S)) (new : Caller)
+      (dones : List (JobDone S)) : Type 0 where
     pub is_seat : IsSeatOf lock new
     pub keeps : (n : ℕ) → HasNumber old n → HasNumber new n
     pub seen : IsPrefix old.seen new.seen
@@ -51,7 +54,8 @@ module _ {S : Type 0} (t : Topology) (left : S → Option (List ℕ)) (faults pl
     pub within : All (λ run. (old.number ≤ run.number) × (run.number < old.number + old.span)) runs
     pub differ : IsTrue (all_differ same_no (numbers_of_runs runs))
     pub uses : All (λ run. Contains new.used run.number) runs
-    pub others : (n : ℕ) → Contains new.used n → Contains (numbers_of_runs runs) n ⊎ (posted_by n new.seen ≡ posted_by n old.seen)
+    pub others : (n : ℕ) → Contains new.used n →
+        Contains (numbers_of_runs runs) n ⊎ (posted_by n new.seen ≡ posted_by n old.seen)
 
 -- ---- jobs over a history of their own
 
@@ -85,14 +89,16 @@ module _ {S : Type 0} (t : Topology) (left : S → Option (List ℕ)) (faults pl
   -- the same of all jobs, in order
   abbrev pub AreDoneAs : List Posted → List (Task S) → List (JobDone S) → List Job → Type 0
   AreDoneAs seen [] [] [] = Unit {0}
-  AreDoneAs seen (task ∷ tasks) (done ∷ dones) (job ∷ jobs) = IsDoneAs seen task done job × AreDoneAs seen tasks dones jobs
+  AreDoneAs seen (task ∷ tasks) (done ∷ dones) (job ∷ jobs) =
+      IsDoneAs seen task done job × AreDoneAs seen tasks dones jobs
   AreDoneAs seen tasks dones jobs = ⊥
 
   -- All jobs were done, and what they made and told is lawful, in whatever order all their feeds are written.
   pub record AreLawful (tasks : List (Task S)) (seen : List Posted) (dones : List (JobDone S)) : Type 0 where
     pub jobs : List Job
     pub read : AreDoneAs seen tasks dones jobs
-    pub lawful : (feeds : List FeedRead) → HaveSame feeds (feeds_of_jobs jobs) → IsLawful t limit feeds jobs (entries seen) (map told_by dones)
+    pub lawful : (feeds : List FeedRead) → HaveSame feeds (feeds_of_jobs jobs) →
+        IsLawful t limit feeds jobs (entries seen) (map told_by dones)
 
   -- A job has its number, its sources were given back, and what is told is that of a front of its lines.
   pub record IsBackFrom (seen : List Posted) (task : Task S) (done : JobDone S) : Type 0 where
@@ -100,8 +106,8 @@ module _ {S : Type 0} (t : Topology) (left : S → Option (List ℕ)) (faults pl
     pub front : TellsFront t (entries seen) task.lines done.told
     pub back : AllZip (IsBack t left faults place limit) task.feeds done.feeds.items
 
-  -- Each job came to what was given back for it, under a number that no other had, and each entry of the history bears one of
-  -- these numbers.
+  -- Each job came to what was given back for it, under a number that no other had, and each entry of the history bears
+  -- one of these numbers.
   pub record AllCame (tasks : List (Task S)) (seen : List Posted) (dones : List (JobDone S)) : Type 0 where
     pub runs : List (Run S)
     pub tasks_are : tasks ≡ map (λ run. run.task) runs
@@ -110,8 +116,8 @@ module _ {S : Type 0} (t : Topology) (left : S → Option (List ℕ)) (faults pl
     pub differ : IsTrue (all_differ same_no (numbers_of_runs runs))
     pub only : All (λ posted. Contains (numbers_of_runs runs) posted.seat) seen
 
-  -- Jobs ran over a history of their own, which is this at the end. Where none of them wanted memory all were done, and what
-  -- they made and told is lawful.
+  -- Jobs ran over a history of their own, which is this at the end. Where none of them wanted memory all were done, and
+  -- what they made and told is lawful.
   pub record AllRan (tasks : List (Task S)) (seen : List Posted) (dones : List (JobDone S)) : Type 0 where
     pub each : AllZip (IsBackFrom seen) tasks dones
     pub came : AllCame tasks seen dones

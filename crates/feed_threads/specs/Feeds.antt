@@ -43,10 +43,12 @@ told_upto feed_no router steps end = record (told_so_far feed_no router steps) {
 
 -- A reader that has handed out these frames of a feed of these bytes: in the midst of it, or past this end. At the ends
 -- `End` and `CutShort` nothing is left in the source.
-abbrev pub StandsBy : {S : Type 0} → Option FeedEnd → Topology → Reader S → Option (List ℕ) → List ℕ → List FrameStep → Type 0
+abbrev pub StandsBy : {S : Type 0} → Option FeedEnd → Topology → Reader S → Option (List ℕ) → List ℕ →
+    List FrameStep → Type 0
 StandsBy None t reader left bytes steps = IsAt t reader left bytes steps
 StandsBy (Some ends.End) t reader left bytes steps = HasEnded t reader left bytes steps ends.End × NothingLeft left
-StandsBy (Some (ends.CutShort o)) t reader left bytes steps = HasEnded t reader left bytes steps (ends.CutShort o) × NothingLeft left
+StandsBy (Some (ends.CutShort o)) t reader left bytes steps =
+    HasEnded t reader left bytes steps (ends.CutShort o) × NothingLeft left
 StandsBy (Some (ends.Lost o cause)) t reader left bytes steps = HasEnded t reader left bytes steps (ends.Lost o cause)
 StandsBy (Some ends.TooLong) t reader left bytes steps = HasEnded t reader left bytes steps ends.TooLong
 StandsBy (Some ends.Full) t reader left bytes steps = ⊥
@@ -83,8 +85,8 @@ TookFront limit seen None steps ops = IsPrefix ops (updates steps)
 TookFront limit seen (Some n) steps ops = TookOf limit seen (Some n) steps ops
 
 module _ {S : Type 0} (t : Topology) (left : S → Option (List ℕ)) (faults place : S → ℕ) where
-  -- A reader that began as `start` has handed out these frames and tells of them. Its source has its place, its count of
-  -- faults goes with the reader's end, and where it tells its bytes the frames are what they come to.
+  -- A reader that began as `start` has handed out these frames and tells of them. Its source has its place, its count
+  -- of faults goes with the reader's end, and where it tells its bytes the frames are what they come to.
   pub record HandsOut (start now : Reader S) (steps : List FrameStep) : Type 0 where
     pub feed_no : now.told.feed_no ≡ start.told.feed_no
     pub router : now.told.router ≡ start.told.router
@@ -92,17 +94,20 @@ module _ {S : Type 0} (t : Topology) (left : S → Option (List ℕ)) (faults pl
     pub keeps_place : place now.source ≡ place start.source
     pub told : now.told ≡ told_upto now.told.feed_no now.told.router steps now.told.end
     pub counts : CountsBy now.told.end (faults now.source)
-    pub stands : (bytes : List ℕ) → left start.source ≡ Some bytes → StandsBy now.told.end t now (left now.source) bytes steps
+    pub stands : (bytes : List ℕ) → left start.source ≡ Some bytes →
+        StandsBy now.told.end t now (left now.source) bytes steps
 
-  -- A feed whose reader has handed out these frames, of which the history took these updates. The reader of a feed that a
-  -- full history broke off reads no further: it has met no end of its own.
-  pub record Stands (limit : ℕ) (seen : List Posted) (start : Reader S) (feed : Feed S) (steps : List FrameStep) (ops : List Op) : Type 0 where
+  -- A feed whose reader has handed out these frames, of which the history took these updates. The reader of a feed that
+  -- a full history broke off reads no further: it has met no end of its own.
+  pub record Stands (limit : ℕ) (seen : List Posted) (start : Reader S) (feed : Feed S) (steps : List FrameStep)
+      (ops : List Op) : Type 0 where
     pub reads : HandsOut start feed.reader steps
     pub took : TookOf limit seen feed.kept steps ops
     pub unended : (n : ℕ) → feed.kept ≡ Some n → feed.reader.told.end ≡ None
 
   -- the same where memory was wanting for one of the updates
-  pub record StandsFront (limit : ℕ) (seen : List Posted) (start : Reader S) (feed : Feed S) (steps : List FrameStep) (ops : List Op) : Type 0 where
+  pub record StandsFront (limit : ℕ) (seen : List Posted) (start : Reader S) (feed : Feed S) (steps : List FrameStep)
+      (ops : List Op) : Type 0 where
     pub reads : HandsOut start feed.reader steps
     pub took : TookFront limit seen feed.kept steps ops
     pub unended : (n : ℕ) → feed.kept ≡ Some n → feed.reader.told.end ≡ None

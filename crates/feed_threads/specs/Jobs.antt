@@ -1,5 +1,6 @@
 -- Jobs: what each is to do, and what it came to.
-use Rattle.std.specs.Prelude.{ℕ, ◌≡◌, ◌+◌, ◌<◌, ◌≤◌, ◌*◌, ◌==◌, Bool, IsTrue, true, false, List, [], ◌∷◌, ◌++◌, length, map, All, Option, None, Some}
+use Rattle.std.specs.Prelude.{ℕ, ◌≡◌, ◌+◌, ◌<◌, ◌≤◌, ◌*◌, ◌==◌, Bool, IsTrue, true, false, List, [], ◌∷◌, ◌++◌, length}
+use Rattle.std.specs.Prelude.{map, All, Option, None, Some}
 use Rattle.std.specs.List.{AllZip}
 use mathlib.Core.List.{IsPrefix}
 use Rattle.dn_formats.specs.Lawful.{entries_of_job, TellsFront}
@@ -60,10 +61,11 @@ IsKeptSo limit seen None f = f.kept ≡ length (updates f.steps)
 IsKeptSo limit seen (Some n) f = (f.kept ≡ n) × IsBroken limit seen f.steps n
 
 module _ {S : Type 0} (t : Topology) (left : S → Option (List ℕ)) (faults place : S → ℕ) (limit : ℕ) where
-  -- A feed was read to its end by a reader that began as `start`, and this was told of it when its source was given back:
-  -- the frames are those that the reader handed out, with at least 28 bytes for each update, within the reader's limit. Where
-  -- a full history broke the feed off its reader met no end of its own.
-  pub record IsReadBy (seen : List Posted) (start : Reader S) (source : S) (told : FeedTold) (f : FeedRead) : Type 0 where
+  -- A feed was read to its end by a reader that began as `start`, and this was told of it when its source was given
+  -- back: the frames are those that the reader handed out, with at least 28 bytes for each update, within the reader's
+  -- limit. Where a full history broke the feed off its reader met no end of its own.
+  pub record IsReadBy (seen : List Posted) (start : Reader S) (source : S) (told : FeedTold)
+      (f : FeedRead) : Type 0 where
     pub reader : Reader S
     pub kept : Option ℕ
     pub source_is : reader.source ≡ source
@@ -79,7 +81,8 @@ module _ {S : Type 0} (t : Topology) (left : S → Option (List ℕ)) (faults pl
   -- the same of all feeds, in order
   abbrev pub AreReadBy : List Posted → List (Reader S) → List (S × FeedTold) → List FeedRead → Type 0
   AreReadBy seen [] [] [] = Unit {0}
-  AreReadBy seen (start ∷ starts) (back ∷ backs) (f ∷ fs) = IsReadBy seen start back.0 back.1 f × AreReadBy seen starts backs fs
+  AreReadBy seen (start ∷ starts) (back ∷ backs) (f ∷ fs) =
+      IsReadBy seen start back.0 back.1 f × AreReadBy seen starts backs fs
   AreReadBy seen starts backs fs = ⊥
 
   -- A source was given back: what is left in it is what its reader didn't take.
@@ -91,36 +94,41 @@ module _ {S : Type 0} (t : Topology) (left : S → Option (List ℕ)) (faults pl
     pub reads : HandsOut t left faults place start reader steps
     pub told_is : back.1 ≡ told_with kept reader.told
 
-  -- A job of these lines and feeds was done, by a seat of this number whose own entries were `start` before it: the feeds
-  -- were read to their ends, the seat's own entries are then those of the job, in order, and each query of its lines is
-  -- told.
-  pub record HasRun (number : ℕ) (start : List Entry) (seen : List Posted) (task : Task S) (told : List Told) (backs : List (S × FeedTold)) : Type 0 where
+  -- A job of these lines and feeds was done, by a seat of this number whose own entries were `start` before it: the
+  -- feeds were read to their ends, the seat's own entries are then those of the job, in order, and each query of its
+  -- lines is told.
+  pub record HasRun (number : ℕ) (start : List Entry) (seen : List Posted) (task : Task S) (told : List Told)
+      (backs : List (S × FeedTold)) : Type 0 where
     pub feeds : List FeedRead
     pub read : AreReadBy seen task.feeds backs feeds
-    pub order : own_of number seen ≡ start ++ entries_of_job (record { number = task.number; lines = task.lines; feeds = feeds })
+    pub order : own_of number seen ≡
+        start ++ entries_of_job (record { number = task.number; lines = task.lines; feeds = feeds })
     pub tells : TellsOwn t seen number start feeds [] 0 task.lines told
 
-  -- Memory was wanting before a job of these lines and feeds was done, by a seat of this number whose own entries were `start`
-  -- before it. From where the feeds stood when they were given back: whatever they may come to, `start` and then the entries
-  -- of the job begin with the seat's own entries; these are as many as the history took of the feeds; and a feed is told as
-  -- full only where a full history refused one of its updates, after as many as are told.
-  pub record HasBegun (number : ℕ) (start : List Entry) (seen : List Posted) (task : Task S) (backs : List (S × FeedTold)) : Type 0 where
+  -- Memory was wanting before a job of these lines and feeds was done, by a seat of this number whose own entries were
+  -- `start` before it. From where the feeds stood when they were given back: whatever they may come to, `start` and
+  -- then the entries of the job begin with the seat's own entries; these are as many as the history took of the feeds;
+  -- and a feed is told as full only where a full history refused one of its updates, after as many as are told.
+  pub record HasBegun (number : ℕ) (start : List Entry) (seen : List Posted) (task : Task S)
+      (backs : List (S × FeedTold)) : Type 0 where
     pub strands : List (Strand S)
     pub starts : map (λ s. s.start) strands ≡ task.feeds
     pub backs_are : map (λ s. back_of s.now) strands ≡ backs
     pub each : All (λ s. StandsFront t left faults place limit seen s.start s.now s.steps s.ops) strands
     pub count : length (own_of number seen) ≡ length start + taken_of_all strands
     pub order : (feeds : List FeedRead) → AllZip MayBecome strands feeds →
-        IsPrefix (own_of number seen) (start ++ entries_of_job (record { number = task.number; lines = task.lines; feeds = feeds }))
+        IsPrefix (own_of number seen)
+        (start ++ entries_of_job (record { number = task.number; lines = task.lines; feeds = feeds }))
 
   -- what a job came to: it was done, or memory was wanting before
   abbrev pub HasRunUnless : Bool → ℕ → List Entry → List Posted → Task S → List Told → List (S × FeedTold) → Type 0
   HasRunUnless true number start seen task told backs = HasBegun number start seen task backs
   HasRunUnless false number start seen task told backs = HasRun number start seen task told backs
 
-  -- What a job came to, in any case: every source was given back, and what is told is right and is that of a front of its
-  -- lines. Where it wanted no memory it was done.
-  pub record Ends (number : ℕ) (start : List Entry) (seen : List Posted) (task : Task S) (wanted : Bool) (told : List Told) (backs : List (S × FeedTold)) : Type 0 where
+  -- What a job came to, in any case: every source was given back, and what is told is right and is that of a front of
+  -- its lines. Where it wanted no memory it was done.
+  pub record Ends (number : ℕ) (start : List Entry) (seen : List Posted) (task : Task S) (wanted : Bool)
+      (told : List Told) (backs : List (S × FeedTold)) : Type 0 where
     pub done : HasRunUnless wanted number start seen task told backs
     pub front : TellsFront t (entries seen) task.lines told
     pub back : AllZip IsBack task.feeds backs

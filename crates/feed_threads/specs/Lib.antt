@@ -5,8 +5,11 @@ pub mod Jobs
 pub mod Places
 pub mod Readers
 pub mod Reads
+pub mod Room
+pub mod Runs
 pub mod Seats
 pub mod Shown
 pub mod Takes
 pub mod Tells
 pub mod Tracks
+pub mod Works

@@ -16,7 +16,8 @@ abbrev pub HaveRouters : {S : Type 0} → Topology → List (Feed S) → Type 0
 HaveRouters t feeds = All (λ f. f.reader.told.router.0 < length t.routers) feeds
 
 -- each feed has read on
-abbrev pub ReadOn : {S : Type 0} → Topology → (S → Option (List ℕ)) → (S → ℕ) → (S → ℕ) → List (Feed S) → List (Feed S) → Type 0
+abbrev pub ReadOn : {S : Type 0} → Topology → (S → Option (List ℕ)) → (S → ℕ) → (S → ℕ) → List (Feed S) →
+    List (Feed S) → Type 0
 ReadOn t left faults place olds news = AllZip (λ old new. ReadsOn t left faults place old.reader new.reader) olds news
 
 -- the feed at this place went this step, and each other stayed as it was
@@ -41,17 +42,14 @@ module _ {S : Type 0} (t : Topology) (left : S → Option (List ℕ)) (faults pl
   TakesAt number None count olds news seen-before seen = (news ≡ olds) × (seen ≡ seen-before)
   TakesAt number (Some at) count olds news seen-before seen = TakesFrom number at count olds news seen-before seen
 
-  -- the feed of this router gave frames, where there is one
-  abbrev pub TakesOf : ℕ → RouterId → Option ℕ → List (Feed S) → List (Feed S) → List Posted → List Posted → Type 0
-  TakesOf number router count olds news seen-before seen = TakesAt number (position (is_feed_of router) olds) count olds news seen-before seen
-
   -- one of the feeds, at this place, gave frames, and memory was wanting for one of their updates or for a frame
   abbrev pub FailsFrom : ℕ → ℕ → Option ℕ → List (Feed S) → List (Feed S) → List Posted → List Posted → Type 0
   FailsFrom number at count olds news seen-before seen =
       ChangesAt (λ old new. GivesFirst t left faults place limit number count old new seen-before seen) at olds news
 
   -- memory was wanting at the feed of this router, which the job has then
-  pub record FailsOf (number : ℕ) (router : RouterId) (count : Option ℕ) (olds news : List (Feed S)) (seen-before seen : List Posted) : Type 0 where
+  pub record FailsOf (number : ℕ) (router : RouterId) (count : Option ℕ) (olds news : List (Feed S))
+      (seen-before seen : List Posted) : Type 0 where
     pub at : ℕ
     pub found : position (is_feed_of router) olds ≡ Some at
     pub fails : FailsFrom number at count olds news seen-before seen

@@ -24,14 +24,15 @@ pub record ReadsAlone {S : Type 0} (task : Task S) : Type 0 where
   pub asks : All IsAsk task.lines
   pub none : task.feeds ≡ []
 
--- A reader goes on: it is of the same publisher and network, and the list that it knows begins with what it knew before.
+-- A reader goes on: it is of the same publisher and network, and the list that it knows begins with what it knew
+-- before.
 pub record PinsOn (old new : Known) : Type 0 where
   pub origin : new.origin ≡ old.origin
   pub topology : new.topology ≡ old.topology
   pub mine : IsPrefix (published old) (published new)
 
--- What is told of lines that ask, from a first list to the list that was pinned last: over whatever begins with that, for a
--- number none of whose entries stands behind the first list.
+-- What is told of lines that ask, from a first list to the list that was pinned last: over whatever begins with that,
+-- for a number none of whose entries stands behind the first list.
 pub record TellsRead (t : Topology) (first list : List Posted) (lines : List Line) (tolds : List Told) : Type 0 where
   pub begins : IsPrefix first list
   pub pinned : last_pin tolds ≤ length list
@@ -39,14 +40,16 @@ pub record TellsRead (t : Topology) (first list : List Posted) (lines : List Lin
       TellsOwn t (list ++ more) k (own_of k first) [] [] 0 lines tolds
 
 -- the same of a front of the lines
-pub record TellsReadFront (t : Topology) (first list : List Posted) (lines : List Line) (tolds : List Told) : Type 0 where
+pub record TellsReadFront (t : Topology) (first list : List Posted) (lines : List Line)
+    (tolds : List Told) : Type 0 where
   pub front : List Line
   pub back : List Line
   pub lines_are : lines ≡ front ++ back
   pub told : TellsRead t first list front tolds
 
 -- What a job of queries alone came to: each of its queries is told, or, where it wanted memory, the first of them.
-pub record ReadEnds {S : Type 0} (t : Topology) (first list : List Posted) (task : Task S) (wanted : Bool) (tolds : List Told) (backs : List (S × FeedTold)) : Type 0 where
+pub record ReadEnds {S : Type 0} (t : Topology) (first list : List Posted) (task : Task S) (wanted : Bool)
+    (tolds : List Told) (backs : List (S × FeedTold)) : Type 0 where
   pub feeds : task.feeds ≡ []
   pub done : wanted ≡ false → TellsRead t first list task.lines tolds
   pub front : TellsReadFront t first list task.lines tolds

@@ -1,15 +1,21 @@
 -- What taking frames of one feed does.
-use Rattle.std.specs.Prelude.{ℕ, ◌≡◌, ◌≤◌, ◌<◌, ◌+◌, ◌*◌, ◌-◌, Bool, true, false, List, [], ◌++◌, length, take, Option, None, Some}
+use Rattle.std.specs.Prelude.{ℕ, ◌≡◌, ◌≤◌, ◌<◌, ◌+◌, ◌*◌, ◌-◌, Bool, true, false, All, List, [], ◌++◌, length, take}
+use Rattle.std.specs.Prelude.{Option, None, Some, Result, IfOk, OnOk, OnErr, is_none}
 use Rattle.dn_formats.specs.Steps.{FrameStep, entries_by, updates}
+use Rattle.dn_model.specs.declared.entry.Entry.{Entry}
 use Rattle.dn_model.specs.declared.entry.Op.{Op}
 use Rattle.dn_model.specs.declared.entry.Posted.{Posted}
 use Rattle.base.specs.declared.ids.RouterId.{RouterId}
 use Rattle.dn_model.specs.declared.topology.Topology.{Topology}
 use Rattle.dn_formats.specs.declared.told.FeedEnd.{FeedEnd}
 use Rattle.dn_formats.specs.declared.told.FeedTold.{FeedTold}
-use Rattle.route_feed.specs.FeedReader.{Reader}
-use Rattle.feed_threads.specs.Feeds.{Feed, end_of_feed, HandsOut, Stands}
-use Rattle.feed_threads.specs.Seats.{own_of}
+use Rattle.route_feed.specs.FeedReader.{IsFeedOp, Reader}
+use Rattle.version_lock.specs.Callers.{Caller, IsSeatOf, Lock}
+use Rattle.version_store.specs.Kept.{IsTaken}
+use Rattle.feed_threads.specs.Feeds.{Feed, end_of_feed, HandsOut, ReadsOn, Stands}
+use Rattle.fast_pins.specs.Known.{Known}
+use Rattle.feed_threads.specs.Seats.{own_of, SawMore}
+use Rattle.feed_threads.specs.Shown.{IsShown, ShowsOn}
 
 -- no frame comes after a feed's end
 abbrev pub IsLater : Option FeedEnd → List FrameStep → Type 0
@@ -38,7 +44,8 @@ HasTaken limit number false kept told seen-before seen ops =
     × (own_of number seen ≡ own_of number seen-before ++ entries_by told.feed_no told.router (take n ops))
 
 -- The history took the first so many of a router's updates, none between them left out.
-pub record TookFirst (number feed_no : ℕ) (router : RouterId) (seen-before seen : List Posted) (ops : List Op) : Type 0 where
+pub record TookFirst (number feed_no : ℕ) (router : RouterId) (seen-before seen : List Posted)
+    (ops : List Op) : Type 0 where
   pub n : ℕ
   pub few : n ≤ length ops
   pub grows : own_of number seen ≡ own_of number seen-before ++ entries_by feed_no router (take n ops)
@@ -48,15 +55,47 @@ pub record Passes {S : Type 0} (old new : Reader S) (more : List FrameStep) : Ty
   pub fits : old.passed + 28 * length (updates more) ≤ new.passed
   pub within : old.passed ≤ old.limit → new.passed ≤ new.limit
 
+-- an entry may be applied by this seat: it is the lock's, and its store takes the entry
+abbrev pub MayAdd : Lock → Caller → Entry → Type 0
+MayAdd lock seat entry = IsSeatOf lock seat × IsTaken lock.setup.basis.topology entry
+
+-- updates of a router may be applied by this seat: it is the lock's, and they are of a feed of the network's router
+abbrev pub MayPost : Lock → Caller → RouterId → List Op → Type 0
+MayPost lock seat router ops =
+    IsSeatOf lock seat × (router.0 < length lock.setup.basis.topology.routers)
+    × All (IsFeedOp lock.setup.basis.topology) ops
+
+-- the same of updates that a feed's reader has just handed out, where the feed goes on
+abbrev pub MayPostOf : {S : Type 0} → Lock → Caller → Feed S → List Op → Type 0
+MayPostOf lock seat feed ops =
+    MayPost lock seat feed.reader.told.router ops × (length ops ≤ feed.reader.told.updates) × (feed.kept ≡ None)
+
+-- frames of a feed may be taken by this seat: it is the lock's, and the feed is of one of the network's routers
+abbrev pub MayTake : {S : Type 0} → Lock → Caller → Feed S → Type 0
+MayTake lock seat feed = IsSeatOf lock seat × (feed.reader.told.router.0 < length lock.setup.basis.topology.routers)
+
+-- the same by a seat which shows what it applies
+abbrev pub MayShow : {S : Type 0} → Lock → Caller → Option Known → Feed S → Type 0
+MayShow lock seat shown feed = MayTake lock seat feed × IsShown lock.setup.basis.topology seat.seen shown
+
+-- one frame was taken, and the answer is whether the feed goes on: then its reader has passed more of its limit
+abbrev pub IsStep : {S E : Type 0} → Result Bool E → Feed S → Feed S → Type 0
+IsStep result old new =
+    IfOk result (λ more. more ≡ is_none (end_of_feed new))
+    × IfOk result (λ more. more ≡ true →
+    (old.reader.passed < new.reader.passed) × (new.reader.passed ≤ new.reader.limit))
+    × (new.reader.limit ≡ old.reader.limit)
+
 module _ {S : Type 0} (t : Topology) (left : S → Option (List ℕ)) (faults place : S → ℕ) (limit number : ℕ) where
-  -- A feed gave these frames more, while the history was seen from `seen-before` to `seen`; the entries of this number, the
-  -- job's own, grew there by the updates that the history took of them. Past its end a feed gives nothing.
+  -- A feed gave these frames more, while the history was seen from `seen-before` to `seen`; the entries of this number,
+  -- the job's own, grew there by the updates that the history took of them. Past its end a feed gives nothing.
   pub record Gives (old new : Feed S) (seen-before seen : List Posted) (more : List FrameStep) : Type 0 where
     pub ops : List Op
     pub stands : (start : Reader S) (steps : List FrameStep) (ops-before : List Op) →
         Stands t left faults place limit seen-before start old steps ops-before →
         Stands t left faults place limit seen start new (steps ++ more) (ops-before ++ ops)
-    pub grows : own_of number seen ≡ own_of number seen-before ++ entries_by old.reader.told.feed_no old.reader.told.router ops
+    pub grows : own_of number seen ≡
+        own_of number seen-before ++ entries_by old.reader.told.feed_no old.reader.told.router ops
     pub whole : new.kept ≡ None → ops ≡ updates more
     pub passes : Passes old.reader new.reader more
     pub later : IsLater (end_of_feed old) more
@@ -64,9 +103,9 @@ module _ {S : Type 0} (t : Topology) (left : S → Option (List ℕ)) (faults pl
     pub feed_no : new.reader.told.feed_no ≡ old.reader.told.feed_no
     pub router : new.reader.told.router ≡ old.reader.told.router
 
-  -- A feed that no full history broke off gave these frames more, as many as the count says or fewer, and then memory was
-  -- wanting: the job's own entries grew by the first of their updates, so that no later update stands where an earlier one
-  -- is missing. Past its end a feed gives nothing.
+  -- A feed that no full history broke off gave these frames more, as many as the count says or fewer, and then memory
+  -- was wanting: the job's own entries grew by the first of their updates, so that no later update stands where an
+  -- earlier one is missing. Past its end a feed gives nothing.
   pub record GivesFirst (count : Option ℕ) (old new : Feed S) (seen-before seen : List Posted) : Type 0 where
     pub kept : old.kept ≡ None
     pub unbroken : new.kept ≡ None
@@ -75,7 +114,8 @@ module _ {S : Type 0} (t : Topology) (left : S → Option (List ℕ)) (faults pl
     pub later : IsLater (end_of_feed old) more
     pub ended : (end : FeedEnd) → end_of_feed old ≡ Some end → new ≡ old
     pub reads : (start : Reader S) (steps : List FrameStep) →
-        HandsOut t left faults place start old.reader steps → HandsOut t left faults place start new.reader (steps ++ more)
+        HandsOut t left faults place start old.reader steps →
+        HandsOut t left faults place start new.reader (steps ++ more)
     pub took : TookFirst number old.reader.told.feed_no old.reader.told.router seen-before seen (updates more)
 
   -- some frames more, as the count says
@@ -88,3 +128,20 @@ module _ {S : Type 0} (t : Topology) (left : S → Option (List ℕ)) (faults pl
   pub record TakesAny (old new : Feed S) (seen-before seen : List Posted) : Type 0 where
     pub more : List FrameStep
     pub adds : Gives old new seen-before seen more
+
+module _ {S : Type 0} (lock : Lock) (left : S → Option (List ℕ)) (faults place : S → ℕ) where
+  -- A call took frames of a feed by this seat, as the count says, or memory was wanting at one of them.
+  pub record Takes {A E : Type 0} (result : Result A E) (count : Option ℕ) (old new : Caller)
+      (feed feed' : Feed S) : Type 0 where
+    pub saw : SawMore old new
+    pub reads : ReadsOn lock.setup.basis.topology left faults place feed.reader feed'.reader
+    pub taken : OnOk result (TakesSome lock.setup.basis.topology left faults place lock.setup.basis.limit
+        old.number count feed feed' old.seen new.seen)
+    pub first : OnErr result (GivesFirst lock.setup.basis.topology left faults place lock.setup.basis.limit
+        old.number count feed feed' old.seen new.seen)
+
+  -- the same, and a beginning of what the seat has seen then is shown
+  pub record TakesShown {A E : Type 0} (result : Result A E) (count : Option ℕ) (old new : Caller)
+      (shown shown' : Option Known) (feed feed' : Feed S) : Type 0 where
+    pub takes : Takes result count old new feed feed'
+    pub shows : ShowsOn lock.setup.basis.topology new.seen shown shown'

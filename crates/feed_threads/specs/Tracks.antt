@@ -1,10 +1,10 @@
 -- What a job over several feeds has taken and told so far.
-use Rattle.std.specs.Prelude.{ℕ, ◌≡◌, ◌+◌, ◌≤◌, ◌==◌, false, List, [], ◌∷◌, ◌++◌, length, map, fold, All, Option, None, Some}
+use Rattle.std.specs.Prelude.{ℕ, ◌≡◌, ◌+◌, ◌≤◌, ◌==◌, false, List, [], ◌∷◌, ◌++◌, length, map, fold, All, Option, None}
+use Rattle.std.specs.Prelude.{Some}
 use Rattle.std.specs.List.{AllZip, flat_map}
 use mathlib.Core.List.{IsPrefix}
-use Rattle.dn_formats.specs.Lawful.{asked, pin_after, taken_along, TellsFront}
+use Rattle.dn_formats.specs.Lawful.{asked, pin_after, taken_along}
 use Rattle.dn_formats.specs.Steps.{FrameStep, FeedRead, kept_of}
-use Rattle.dn_model.specs.Entry.{entries}
 use Rattle.dn_model.specs.declared.entry.Entry.{Entry}
 use Rattle.dn_model.specs.declared.entry.Op.{Op}
 use Rattle.dn_model.specs.declared.entry.Posted.{Posted}
@@ -17,7 +17,6 @@ use Rattle.feed_threads.specs.Feeds.{Feed, end_of_feed, Stands, StandsFront}
 use Rattle.feed_threads.specs.Seats.{own_of}
 use Rattle.feed_threads.specs.Takes.{IsLater, IsCount, Passes}
 use Rattle.feed_threads.specs.Tells.{TellsOwn}
-use Rattle.version_lock.specs.Callers.{Caller, Lock}
 
 -- the rest of each feed is taken that a line names
 abbrev pub rest_of : Line → List Line
@@ -56,8 +55,8 @@ abbrev pub taken_of_all : {S : Type 0} → List (Strand S) → ℕ
 taken_of_all [] = 0
 taken_of_all (s ∷ ss) = length s.ops + taken_of_all ss
 
--- how many updates a history that took so many of a feed may take of it in the end: these or more, and where it broke the
--- feed off just these
+-- how many updates a history that took so many of a feed may take of it in the end: these or more, and where it broke
+-- the feed off just these
 abbrev pub MayKeep : Option ℕ → ℕ → ℕ → Type 0
 MayKeep None so-far kept = so-far ≤ kept
 MayKeep (Some n) so-far kept = kept ≡ so-far
@@ -84,15 +83,17 @@ AllApart (s ∷ ss) = All (IsApartFrom s) ss × AllApart ss
 abbrev pub last_pin : List Told → ℕ
 last_pin tolds = fold (λ last told. pin_after last told.outcome) 0 tolds
 
--- What these lines have taken and told holds of whatever the feeds come to: the job's own entries so far are those that it
--- had before and then what the lines took, line by line; and what is told is right, however the history goes on.
-pub record Whatever (t : Topology) (number : ℕ) (start : List Entry) (seen : List Posted) (before : List Line) (tolds : List Told) (feeds : List FeedRead) : Type 0 where
+-- What these lines have taken and told holds of whatever the feeds come to: the job's own entries so far are those that
+-- it had before and then what the lines took, line by line; and what is told is right, however the history goes on.
+pub record Whatever (t : Topology) (number : ℕ) (start : List Entry) (seen : List Posted) (before : List Line)
+    (tolds : List Told) (feeds : List FeedRead) : Type 0 where
   pub order : own_of number seen ≡ start ++ taken_along feeds [] before
   pub tells : (more : List Posted) → TellsOwn t (seen ++ more) number start feeds [] 0 before tolds
 
 module _ {S : Type 0} (t : Topology) (left : S → Option (List ℕ)) (faults place : S → ℕ) (limit : ℕ) where
   -- these strands lead from the readers before the job to the feeds as they are now
-  pub record Woven (olds : List (Reader S)) (news : List (Feed S)) (seen : List Posted) (strands : List (Strand S)) : Type 0 where
+  pub record Woven (olds : List (Reader S)) (news : List (Feed S)) (seen : List Posted)
+      (strands : List (Strand S)) : Type 0 where
     pub starts : map (λ s. s.start) strands ≡ olds
     pub nows : map (λ s. s.now) strands ≡ news
     pub each : All (λ s. Stands t left faults place limit seen s.start s.now s.steps s.ops) strands
@@ -100,46 +101,26 @@ module _ {S : Type 0} (t : Topology) (left : S → Option (List ℕ)) (faults pl
     pub apart : AllApart strands
 
   -- after these lines: each feed has given as many frames as they ask for, and no pin is past what was seen
-  pub record Tracks (number : ℕ) (start : List Entry) (olds : List (Reader S)) (news : List (Feed S)) (seen : List Posted) (before : List Line) (tolds : List Told) : Type 0 where
+  pub record Tracks (number : ℕ) (start : List Entry) (olds : List (Reader S)) (news : List (Feed S))
+      (seen : List Posted) (before : List Line) (tolds : List Told) : Type 0 where
     pub strands : List (Strand S)
     pub woven : Woven olds news seen strands
-    pub counted : All (λ s. IsCount (asked s.now.reader.told.router before) (length s.steps) (end_of_feed s.now)) strands
+    pub counted : All (λ s. IsCount (asked s.now.reader.told.router before) (length s.steps) (end_of_feed s.now))
+        strands
     pub pinned : last_pin tolds ≤ length seen
     pub count : length (own_of number seen) ≡ length start + taken_of_all strands
-    pub whatever : (feeds : List FeedRead) → AllZip GoesOn strands feeds → Whatever t number start seen before tolds feeds
+    pub whatever : (feeds : List FeedRead) → AllZip GoesOn strands feeds →
+        Whatever t number start seen before tolds feeds
 
-  -- Memory was wanting within these lines: what was there before the job and then what the lines give begins with the job's
-  -- own entries, whatever its feeds come to. They are as many as the history took of the feeds.
-  pub record Begun (number : ℕ) (start : List Entry) (olds : List (Reader S)) (news : List (Feed S)) (seen : List Posted) (lines : List Line) : Type 0 where
+  -- Memory was wanting within these lines: what was there before the job and then what the lines give begins with the
+  -- job's own entries, whatever its feeds come to. They are as many as the history took of the feeds.
+  pub record Begun (number : ℕ) (start : List Entry) (olds : List (Reader S)) (news : List (Feed S))
+      (seen : List Posted) (lines : List Line) : Type 0 where
     pub strands : List (Strand S)
     pub starts : map (λ s. s.start) strands ≡ olds
     pub nows : map (λ s. s.now) strands ≡ news
     pub each : All (λ s. StandsFront t left faults place limit seen s.start s.now s.steps s.ops) strands
     pub apart : AllApart strands
     pub count : length (own_of number seen) ≡ length start + taken_of_all strands
-    pub order : (feeds : List FeedRead) → AllZip MayBecome strands feeds → IsPrefix (own_of number seen) (start ++ taken_along feeds [] lines)
-
-module _ {S : Type 0} (lock : Lock) (left : S → Option (List ℕ)) (faults place : S → ℕ) where
-  -- the same of a job whose seat is this and works over this lock
-  abbrev pub HasDone : ℕ → List Entry → List (Reader S) → List (Feed S) → List Posted → List Line → List Told → Type 0
-  HasDone number start olds news seen before tolds =
-      Tracks lock.setup.basis.topology left faults place lock.setup.basis.limit number start olds news seen before tolds
-
-  -- A call does these lines, between what the seat had seen, the feeds and what was told before it and after it: a job that
-  -- had done others before has then done these too.
-  pub record Does (old new : Caller) (olds news : List (Feed S)) (tolds tolds' : List Told) (lines : List Line) : Type 0 where
-    pub on : (start : List Entry) (readers : List (Reader S)) (before : List Line) →
-        HasDone old.number start readers olds old.seen before tolds →
-        HasDone old.number start readers news new.seen (before ++ lines) tolds'
-
-  -- Memory was wanting in a call at these lines: a job that had done others before has then begun these.
-  pub record Breaks (old new : Caller) (olds news : List (Feed S)) (tolds : List Told) (lines : List Line) : Type 0 where
-    pub on : (start : List Entry) (readers : List (Reader S)) (before : List Line) →
-        HasDone old.number start readers olds old.seen before tolds →
-        Begun lock.setup.basis.topology left faults place lock.setup.basis.limit old.number start readers news new.seen (before ++ lines)
-
-  -- What a call tells is that of a front of these lines, where none was done before, however the history goes on.
-  pub record TellsFrontOf (old new : Caller) (olds : List (Feed S)) (tolds tolds' : List Told) (lines : List Line) : Type 0 where
-    pub on : (start : List Entry) (readers : List (Reader S)) (more : List Posted) →
-        HasDone old.number start readers olds old.seen [] tolds →
-        TellsFront lock.setup.basis.topology (entries (new.seen ++ more)) lines tolds'
+    pub order : (feeds : List FeedRead) → AllZip MayBecome strands feeds → IsPrefix (own_of number seen)
+        (start ++ taken_along feeds [] lines)

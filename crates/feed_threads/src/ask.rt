@@ -1,19 +1,21 @@
 //! A query of a script is asked over a snapshot.
 
-ghost use Rattle.std.specs.Prelude.{◌≡◌, ◌<◌, IfOk, IfErr, OnOk, OnErr, None, Some};
+ghost use Rattle.std.specs.Prelude.{◌≡◌, ◌<◌, ◌∷◌, [], IfOk, IfErr, OnErr, OnOk, None, Some};
+ghost use Rattle.dn_formats.specs.declared.script.Line.TheVariants.{Ask};
 ghost use Rattle.dn_model.specs.Answer.{IsAnswer};
 ghost use Rattle.dn_model.specs.Entry.{entries};
 ghost use Rattle.dn_model.specs.Query.{unknown_of};
 ghost use Rattle.dn_model.specs.declared.query.Unknown.{Unknown as UnknownIs};
 ghost use Rattle.version_lock.specs.Callers.{IsSeatOf};
-ghost use Rattle.feed_threads.specs.Seats.{own_of, SawMore};
+ghost use Rattle.feed_threads.specs.Seats.{LooksOn};
 ghost use Rattle.feed_threads.specs.Tells.{Adds, IsOutcomeNow};
 ghost use Rattle.version_store.specs.Asked.{IsAskRefusal};
 
 use crate::desk::Desk;
+use crate::work::Work;
 use dn_formats::{Outcome, Told};
-use dn_io::Gate;
-use dn_model::{Answer, List, OutOfMemory, Query};
+use dn_io::{Gate, Source};
+use dn_model::{Answer, OutOfMemory, Query};
 use std::alloc::Global;
 use std::marker::Brand;
 use std::sync::Wait;
@@ -43,31 +45,8 @@ fn answer_alone<L: Ledger>(
     snapshot.answer(alloc, query, &mut steps)
 }
 
-/// The answer of a snapshot to a query whose names the network has, by all processors if it may be and has many rows.
-fn answer_of<R: Threads + Sync>(
-    rt: &R,
-    alloc: Global,
-    snapshot: &Snapshot,
-    query: &Query,
-    by_all: bool,
-) -> Result<Answer, OutOfMemory>
-    requires known { unknown_of snapshot.now.topology query.now ≡ None }
-    ensures { IfOk result (IsAnswer snapshot.now.topology (entries snapshot.now.history) query.now) }
-{
-    let answer = if by_all && snapshot.atoms() >= WIDE {
-        snapshot.answer_wide(rt, alloc, query)
-    } else {
-        answer_alone::<Brand>(alloc, snapshot, query, Blank::new(1))
-    };
-    match answer {
-        Ok(answer) => Ok(answer),
-        Err(AskRefused::OutOfMemory) => Err(OutOfMemory),
-        Err(AskRefused::UnknownRouter(_)) => unreachable!(),
-        Err(AskRefused::UnknownLink(_)) => unreachable!(),
-    }
-}
-
-/// The outcome of a query whose names the network has, over a snapshot, by all processors if it may be.
+/// The outcome of a query whose names the network has, over a snapshot: by all processors if it may be and the snapshot
+/// has many rows.
 pub(crate) fn outcome_over<R: Threads + Sync>(
     rt: &R,
     alloc: Global,
@@ -78,15 +57,24 @@ pub(crate) fn outcome_over<R: Threads + Sync>(
     requires known { unknown_of snapshot.now.topology query.now ≡ None }
     ensures { IfOk result (IsOutcomeNow snapshot.now.topology snapshot.now.history query.now) }
 {
-    let answer = answer_of(rt, alloc, snapshot, query, by_all)?;
-    Ok(Outcome::Answered {
-        number: snapshot.number(),
-        answer,
-    })
+    let answer = if by_all && snapshot.atoms() >= WIDE {
+        snapshot.answer_wide(rt, alloc, query)
+    } else {
+        answer_alone::<Brand>(alloc, snapshot, query, Blank::new(1))
+    };
+    match answer {
+        Ok(answer) => Ok(Outcome::Answered {
+            number: snapshot.number(),
+            answer,
+        }),
+        Err(AskRefused::OutOfMemory) => Err(OutOfMemory),
+        Err(AskRefused::UnknownRouter(_)) => unreachable!(),
+        Err(AskRefused::UnknownLink(_)) => unreachable!(),
+    }
 }
 
-/// The answer to a query over the history, whose length is its pin; or the query's first unknown name, without a pin: the
-/// seat is as it was.
+/// The answer to a query over the history, whose length is its pin; or the query's first unknown name, without a pin:
+/// the seat is as it was.
 fn outcome<G: Gate, R: Threads + Wait + Sync>(
     rt: &R,
     desk: &Desk<'_, G>,
@@ -94,8 +82,7 @@ fn outcome<G: Gate, R: Threads + Wait + Sync>(
     query: &Query,
 ) -> Result<Outcome, OutOfMemory>
     requires lock { IsSeatOf desk.now seat.old }
-    ensures saw { SawMore seat.old seat.new }
-    ensures own { own_of seat.old.number seat.new.seen ≡ own_of seat.old.number seat.old.seen }
+    ensures looks { LooksOn seat.old seat.new }
     ensures unpinned { (u : UnknownIs) → unknown_of desk.now.setup.basis.topology query.now ≡ Some u
         → seat.new ≡ seat.old }
     ensures good { IfOk result (IsOutcomeNow desk.now.setup.basis.topology seat.new.seen query.now) }
@@ -103,35 +90,39 @@ fn outcome<G: Gate, R: Threads + Wait + Sync>(
     if let Some(unknown) = query.unknown(desk.topology()) {
         return Ok(Outcome::Unknown(unknown));
     }
-    let snapshot = desk.pin(rt, seat)?;
+    let snapshot = desk.look(rt, seat)?;
+    desk.pinned();
     let outcome = outcome_over(rt, desk.alloc(), &snapshot, query, desk.asks_by_all())?;
     desk.answered();
     Ok(outcome)
 }
 
-/// Asks a query, and adds what is told of it.
-pub(crate) fn ask<G: Gate, R: Threads + Wait + Sync>(
-    rt: &R,
-    desk: &Desk<'_, G>,
-    seat: &mut Seat,
-    line: u32,
-    query: &Query,
-    told: &mut List<Told>,
-) -> Result<(), OutOfMemory>
-    requires lock { IsSeatOf desk.now seat.old }
-    ensures saw { SawMore seat.old seat.new }
-    ensures own { own_of seat.old.number seat.new.seen ≡ own_of seat.old.number seat.old.seen }
-    ensures unpinned { (u : UnknownIs) → unknown_of desk.now.setup.basis.topology query.now ≡ Some u
-        → seat.new ≡ seat.old }
-    ensures told { OnOk result (Adds told.old told.new line query.now (IsOutcomeNow desk.now.setup.basis.topology
-        seat.new.seen query.now)) }
-    ensures err { OnErr result (told.new ≡ told.old) }
-{
-    let outcome = outcome(rt, desk, seat, query)?;
-    let query = query.copy(desk.alloc())?;
-    told.push(Told {
-        line,
-        query,
-        outcome,
-    })
+impl<S: Source> Work<S> {
+    ghost use Rattle.feed_threads.specs.Works.{IsAtWork, Works};
+
+    /// Asks a query, and adds what is told of it.
+    pub(crate) fn ask<G: Gate, R: Threads + Wait + Sync>(
+        &mut self,
+        rt: &R,
+        desk: &Desk<'_, G>,
+        line: u32,
+        query: &Query,
+    ) -> Result<(), OutOfMemory>
+        requires work { IsAtWork desk.now self.old }
+        ensures works { Works desk.now S.left S.faults S.place result self.old self.new (Ask line query.now ∷ []) }
+        ensures looks { LooksOn self.old.seat self.new.seat }
+        ensures unpinned { (u : UnknownIs) → unknown_of desk.now.setup.basis.topology query.now ≡ Some u
+            → self.new.seat ≡ self.old.seat }
+        ensures told { OnOk result (Adds self.old.told self.new.told line query.now
+            (IsOutcomeNow desk.now.setup.basis.topology self.new.seat.seen query.now)) }
+        ensures err { OnErr result (self.new.told ≡ self.old.told) }
+    {
+        let outcome = outcome(rt, desk, &mut self.seat, query)?;
+        let query = query.copy(desk.alloc())?;
+        self.told.push(Told {
+            line,
+            query,
+            outcome,
+        })
+    }
 }

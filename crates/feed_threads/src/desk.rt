@@ -2,10 +2,11 @@
 
 ghost use Rattle.std.specs.Prelude.{◌≡◌, ◌≤◌, ◌++◌, ◌∷◌, [], length, true, false, if◌then◌else◌, IfOk, OnErr};
 ghost use Rattle.version_lock.specs.Callers.{IsSeatOf};
-ghost use Rattle.version_store.specs.Kept.{IsTaken};
-ghost use Rattle.feed_threads.specs.Seats.{own_of, SawMore};
+ghost use Rattle.feed_threads.specs.Seats.{own_of, IsSeenBy, LooksOn, SawMore};
 ghost use Rattle.feed_threads.specs.Shown.{IsShown, ShowsOn};
+ghost use Rattle.feed_threads.specs.Takes.{MayAdd};
 
+use crate::site::Site;
 use dn_io::{Gate, Point};
 use dn_model::{Entry, OutOfMemory, Topology};
 use fast_pins::Publisher;
@@ -13,54 +14,37 @@ use std::alloc::Global;
 use std::cell::Cell;
 use std::marker::Model;
 use std::sync::Wait;
-use version_lock::{PostRefused, Seat, VersionLock};
-use version_store::{Snapshot, Store};
+use version_lock::{PostRefused, Seat};
+use version_store::Snapshot;
 
 /// By what a job shows to others what it applies: nothing, where no job reads alone.
 pub(crate) type Shown = Option<Publisher<Snapshot>>;
 
-/// What a job works with: the lock and the lock's network, the gate of tests, the job's number, whether it may ask by all
-/// processors, and whether it applied something since it last showed what it applies. A contract sees the lock.
+/// What a job works with: where it runs, the job's number, whether it may ask by all processors, and whether it applied
+/// something since it last showed what it applies. A contract sees the lock.
 #[derive(Drop)]
 pub(crate) struct Desk<'a, G: Gate> {
-    alloc: Global,
-    lock: &'a VersionLock<Store>,
-    topology: &'a Topology,
-    gate: &'a G,
+    site: &'a Site<'a, G>,
     job: u32,
     by_all: bool,
     is_behind: Cell<bool>,
 }
 
 impl<'a, G: Gate> Model for Desk<'a, G> {
-    ghost use Rattle.std.specs.Prelude.{◌≡◌};
     ghost use Rattle.version_lock.specs.Callers.{Lock};
 
     ghost Value = { Lock };
 
-    ghost view = { λ d. d.lock.now };
-
-    ghost invariant = { λ d. d.topology.now ≡ d.lock.now.setup.basis.topology };
+    ghost view = { λ d. d.site.now };
 }
 
 impl<'a, G: Gate> Desk<'a, G> {
     /// The desk of a job, which may ask by all processors, or by its own thread alone.
-    pub(crate) fn new(
-        alloc: Global,
-        lock: &'a VersionLock<Store>,
-        topology: &'a Topology,
-        gate: &'a G,
-        job: u32,
-        by_all: bool,
-    ) -> Desk<'a, G>
-        requires { topology.now ≡ lock.now.setup.basis.topology }
-        ensures { result ≡ lock.now }
+    pub(crate) fn new(site: &'a Site<'a, G>, job: u32, by_all: bool) -> Desk<'a, G>
+        ensures { result ≡ site.now }
     {
         Desk {
-            alloc,
-            lock,
-            topology,
-            gate,
+            site,
             job,
             by_all,
             is_behind: Cell::new(false),
@@ -69,7 +53,8 @@ impl<'a, G: Gate> Desk<'a, G> {
 
     /// What memory comes from.
     pub(crate) fn alloc(&self) -> Global {
-        self.alloc
+        let site = self.site;
+        site.alloc
     }
 
     /// Whether the job may ask by all processors.
@@ -81,7 +66,8 @@ impl<'a, G: Gate> Desk<'a, G> {
     pub(crate) fn topology(&self) -> &Topology
         ensures { result.now ≡ self.now.setup.basis.topology }
     {
-        self.topology
+        let site = self.site;
+        site.topology
     }
 
     /// Applies an entry, and answers whether the history took it: it did not where it was full. Where memory is wanting
@@ -92,8 +78,7 @@ impl<'a, G: Gate> Desk<'a, G> {
         seat: &mut Seat,
         entry: &Entry,
     ) -> Result<bool, OutOfMemory>
-        requires lock { IsSeatOf self.now seat.old }
-        requires entry { IsTaken self.now.setup.basis.topology entry.now }
+        requires { MayAdd self.now seat.old entry.now }
         ensures saw { SawMore seat.old seat.new }
         ensures own { IfOk result (λ taken. own_of seat.old.number seat.new.seen ≡ own_of seat.old.number seat.old.seen
             ++ (if taken then entry.now ∷ [] else [])) }
@@ -101,11 +86,12 @@ impl<'a, G: Gate> Desk<'a, G> {
         ensures full { IfOk result (λ taken. taken ≡ false → self.now.setup.basis.limit ≤ length seat.new.seen) }
     {
         let _number = seat.number();
-        self.gate.at(self.job, Point::BeforeApply);
-        match self.lock.apply(rt, seat, entry) {
+        let site = self.site;
+        site.gate.at(self.job, Point::BeforeApply);
+        match site.lock.apply(rt, seat, entry) {
             Ok(_) => {
                 self.is_behind.set(true);
-                self.gate.at(self.job, Point::AfterApply);
+                site.gate.at(self.job, Point::AfterApply);
                 Ok(true)
             }
             Err(PostRefused::Full { .. }) => Ok(false),
@@ -114,33 +100,21 @@ impl<'a, G: Gate> Desk<'a, G> {
     }
 
     /// A snapshot of the history, all of which the seat has then seen.
-    fn look<R: Wait>(&self, rt: &R, seat: &mut Seat) -> Result<Snapshot, OutOfMemory>
+    #[tactic(auto, using(crate::proofs::SeatLemmas::looks_kept))]
+    pub(crate) fn look<R: Wait>(&self, rt: &R, seat: &mut Seat) -> Result<Snapshot, OutOfMemory>
         requires lock { IsSeatOf self.now seat.old }
-        ensures saw { SawMore seat.old seat.new }
-        ensures own { own_of seat.old.number seat.new.seen ≡ own_of seat.old.number seat.old.seen }
-        ensures shown { IfOk result (λ s. s.history ≡ seat.new.seen) }
-        ensures topology { IfOk result (λ s. s.topology ≡ self.now.setup.basis.topology) }
+        ensures looks { LooksOn seat.old seat.new }
+        ensures seen { IfOk result (IsSeenBy self.now seat.new) }
     {
         let _number = seat.number();
-        let pinned = self.lock.pin(rt, seat)?;
+        let site = self.site;
+        let pinned = site.lock.pin(rt, seat)?;
         Ok(pinned.snap)
     }
 
-    /// The same for a query, which the gate is told of.
-    pub(crate) fn pin<R: Wait>(&self, rt: &R, seat: &mut Seat) -> Result<Snapshot, OutOfMemory>
-        requires lock { IsSeatOf self.now seat.old }
-        ensures saw { SawMore seat.old seat.new }
-        ensures own { own_of seat.old.number seat.new.seen ≡ own_of seat.old.number seat.old.seen }
-        ensures shown { IfOk result (λ s. s.history ≡ seat.new.seen) }
-        ensures topology { IfOk result (λ s. s.topology ≡ self.now.setup.basis.topology) }
-    {
-        let snapshot = self.look(rt, seat)?;
-        self.gate.at(self.job, Point::AfterPin);
-        Ok(snapshot)
-    }
-
-    /// Shows to the jobs that read alone, where there are such, what the seat sees now, if the job applied something since it
-    /// last did so. After `OutOfMemory` they are shown what they were.
+    /// Shows to the jobs that read alone, where there are such, what the seat sees now, if the job applied something
+    /// since it last did so. After `OutOfMemory` they are shown what they were.
+    #[tactic(auto, using(crate::proofs::SeatLemmas::looks_none))]
     pub(crate) fn show<R: Wait>(
         &self,
         rt: &R,
@@ -149,8 +123,7 @@ impl<'a, G: Gate> Desk<'a, G> {
     ) -> Result<(), OutOfMemory>
         requires lock { IsSeatOf self.now seat.old }
         requires shown { IsShown self.now.setup.basis.topology seat.old.seen shown.old }
-        ensures saw { SawMore seat.old seat.new }
-        ensures own { own_of seat.old.number seat.new.seen ≡ own_of seat.old.number seat.old.seen }
+        ensures looks { LooksOn seat.old seat.new }
         ensures shows { ShowsOn self.now.setup.basis.topology seat.new.seen shown.old shown.new }
     {
         let Some(publisher) = shown else {
@@ -163,8 +136,15 @@ impl<'a, G: Gate> Desk<'a, G> {
         publisher.publish(rt, snapshot)
     }
 
+    /// A query's snapshot was taken.
+    pub(crate) fn pinned(&self) {
+        let site = self.site;
+        site.gate.at(self.job, Point::AfterPin);
+    }
+
     /// A query was answered.
     pub(crate) fn answered(&self) {
-        self.gate.at(self.job, Point::AfterAnswer);
+        let site = self.site;
+        site.gate.at(self.job, Point::AfterAnswer);
     }
 }

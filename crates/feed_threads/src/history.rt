@@ -6,6 +6,7 @@ ghost use Rattle.feed_threads.specs.Jobs.{AreApart, IsFresh};
 
 use crate::all_jobs::run_jobs;
 use crate::job::{JobDone, JobList};
+use crate::site::Site;
 use dn_io::{Gate, Source};
 use dn_model::Topology;
 use std::alloc::Global;
@@ -24,9 +25,9 @@ fn numbers_for<S: Source>(jobs: &JobList<S>) -> u32
     if count == 0 { 1 } else { count }
 }
 
-/// Runs jobs side by side over an empty store, and gives back the store with their history, and what the jobs came to, in
-/// order. Where none of them wanted memory, the history is a shuffle of what it took of their feeds, each job's entries stand
-/// there in the job's order, and each query is answered over the first entries of it.
+/// Runs jobs side by side over an empty store, and gives back the store with their history, and what the jobs came to,
+/// in order. Where none of them wanted memory, the history is a shuffle of what it took of their feeds, each job's
+/// entries stand there in the job's order, and each query is answered over the first entries of it.
 ///
 /// # Errors
 ///
@@ -54,7 +55,8 @@ pub fn run_history<S: Source, G: Gate, R: Threads + Wait + Sync>(
     let Ok((lock, seat)) = VersionLock::new(alloc, store, numbers) else {
         return Err(jobs);
     };
-    let (seat, dones) = run_jobs(rt, alloc, &lock, seat, gate, topology, jobs);
+    let site = Site::new(alloc, &lock, topology, gate);
+    let (seat, dones) = run_jobs(rt, &site, seat, jobs);
     let store = lock.close(seat);
     let _length = store.len();
     Ok((store, dones))

@@ -12,8 +12,8 @@ use route_feed::FeedReader;
 use std::alloc::Global;
 use std::marker::Model;
 
-/// A job: its number, its script, if it has one, and the readers of the feeds that it alone takes. It has the memory that
-/// its sources need to come back. A contract sees it as a `Task`.
+/// A job: its number, its script, if it has one, and the readers of the feeds that it alone takes. It has the memory
+/// that its sources need to come back. A contract sees it as a `Task`.
 #[derive(Drop)]
 pub struct Job<S: Source> {
     pub(crate) number: u32,
@@ -39,8 +39,8 @@ impl<S: Source> Model for Job<S> {
         × (length j.feeds.items ≤ vec_capacity j.room) };
 }
 
-/// What a job came to. Where it wanted memory it ended there: it tells of the first queries of its script, and its feeds
-/// may have given more than the history took of them.
+/// What a job came to. Where it wanted memory it ended there: it tells of the first queries of its script, and its
+/// feeds may have given more than the history took of them.
 #[derive(Drop)]
 pub struct JobDone<S: Source> {
     pub number: u32,

@@ -3,21 +3,23 @@
 
 mod all_jobs;
 mod ask;
-mod beside;
 mod desk;
 mod feed;
-mod fleet;
+mod feed_by_router;
 mod history;
 mod job;
-mod lines;
 mod one_job;
-mod places;
-mod read;
-mod readers;
+mod one_writer;
+mod reader_job;
+mod reader_jobs;
+mod shown_readers;
+mod site;
 mod take;
-mod unrun;
+mod unrun_jobs;
+mod work;
 
 pub use all_jobs::run_jobs;
 pub use history::run_history;
 pub use job::{Job, JobDone, JobList};
 pub use one_job::run_job;
+pub use site::Site;

@@ -1,33 +1,29 @@
 //! One job, from its beginning to its end.
 
-ghost use Rattle.std.specs.Prelude.{◌≡◌, ◌≤◌, ◌<◌, ◌++◌, [], List, All, map, length};
-ghost use Rattle.std.specs.Prelude.{vec_capacity};
-ghost use Rattle.version_lock.specs.Callers.{IsSeatOf};
-ghost use Rattle.feed_threads.specs.Feeds.{told_with};
-ghost use Rattle.feed_threads.specs.Jobs.{AreApart, Ends, IsFresh, back_of, lines_of};
-ghost use Rattle.feed_threads.specs.Seats.{own_of, SawMore};
+ghost use Rattle.std.specs.Prelude.{◌≡◌, length, map};
+ghost use Rattle.feed_threads.specs.Jobs.{back_of, lines_of};
+ghost use Rattle.feed_threads.specs.Room.{HasRoom};
+ghost use Rattle.feed_threads.specs.Runs.{MayRun, RanJob};
 ghost use Rattle.feed_threads.specs.Shown.{IsShown, ShowsOn};
 
 use crate::desk::{Desk, Shown};
 use crate::feed::Feed;
 use crate::job::{Job, JobDone};
-use crate::lines::do_all;
+use crate::site::Site;
+use crate::work::Work;
 use dn_formats::{FeedTold, Line, Script};
 use dn_io::{Gate, Source};
-use dn_model::{List, Topology};
-use std::alloc::Global;
+use dn_model::List;
 use std::sync::Wait;
 use std::thread::Threads;
-use version_lock::{Seat, VersionLock};
-use version_store::Store;
+use version_lock::Seat;
 
 /// The sources of feeds and what is told of each, in order.
 pub(crate) fn give_back<S: Source>(
     feeds: Vec<Feed<S>>,
     room: Vec<(S, FeedTold)>,
 ) -> Vec<(S, FeedTold)>
-    requires empty { room.items ≡ [] }
-    requires room { length feeds.items ≤ vec_capacity room }
+    requires room { HasRoom (length feeds.items) room }
     ensures { result.items ≡ map back_of feeds.items }
 {
     let mut backs = room;
@@ -50,26 +46,16 @@ pub(crate) fn lines_of_script(script: &Option<Script>) -> &[Line]
 /// Runs a job, and shows what it applies to the jobs that read alone, where there are such.
 pub(crate) fn run_shown<S: Source, G: Gate, R: Threads + Wait + Sync>(
     rt: &R,
-    alloc: Global,
-    lock: &VersionLock<Store>,
-    seat: &mut Seat,
-    shown: &mut Shown,
-    gate: &G,
-    topology: &Topology,
+    site: &Site<'_, G>,
+    seat: Seat,
+    shown: Shown,
     job: Job<S>,
     by_all: bool,
-) -> JobDone<S>
-    requires lock { IsSeatOf lock.now seat.old }
-    requires topology { topology.now ≡ lock.now.setup.basis.topology }
-    requires fresh { All (IsFresh topology.now S.faults) job.feeds }
-    requires apart { AreApart job.feeds }
-    requires shown { IsShown topology.now seat.old.seen shown.old }
-    ensures saw { SawMore seat.old seat.new }
-    ensures number { result.number ≡ job.number }
-    ensures ends { Ends topology.now S.left S.faults S.place lock.now.setup.basis.limit
-        seat.old.number (own_of seat.old.number seat.old.seen) seat.new.seen
-        job result.wanted_memory result.told result.feeds.items }
-    ensures shows { ShowsOn topology.now seat.new.seen shown.old shown.new }
+) -> (Seat, Shown, JobDone<S>)
+    requires job { MayRun site.now S.faults seat job }
+    requires shown { IsShown site.now.setup.basis.topology seat.seen shown }
+    ensures ran { RanJob site.now S.left S.faults S.place seat result.0 job result.2 }
+    ensures shows { ShowsOn site.now.setup.basis.topology result.0.seen shown result.1 }
 {
     let Job {
         number,
@@ -77,50 +63,50 @@ pub(crate) fn run_shown<S: Source, G: Gate, R: Threads + Wait + Sync>(
         feeds,
         room,
     } = job;
-    let desk = Desk::new(alloc, lock, topology, gate, number, by_all);
-    let mut feeds = feeds;
-    let mut told = List::new(alloc);
+    let desk = Desk::new(site, number, by_all);
+    let told = List::new(site.alloc);
     let lines = lines_of_script(&script);
-    let done = do_all(rt, &desk, seat, shown, &mut feeds, lines, &mut told);
-    JobDone {
+    let mut work = Work {
+        seat,
+        shown,
+        feeds,
+        told,
+    };
+    let ended = work.do_all(rt, &desk, lines);
+    let Work {
+        seat,
+        shown,
+        feeds,
+        told,
+    } = work;
+    let done = JobDone {
         number,
         told,
         feeds: give_back(feeds, room),
-        wanted_memory: done.is_err(),
-    }
+        wanted_memory: ended.is_err(),
+    };
+    (seat, shown, done)
 }
 
-/// Runs a job: its script's lines in order, and then the rest of its feeds. Its entries bear the seat's number.
+/// Runs a job: its script's lines in order, and then the rest of its feeds. Its entries bear the seat's number. The
+/// seat comes back.
 ///
-/// Frames are decoded with no turn of the lock held, and a query is answered after its pin. It returns once the lock has
-/// given it each turn that it asked for. Every source comes back, in any case. `by_all` says whether it may ask by all
-/// processors, as where no other job runs beside it.
+/// Frames are decoded with no turn of the lock held, and a query is answered after its pin. It returns once the lock
+/// has given it each turn that it asked for. Every source comes back, in any case. `by_all` says whether it may ask by
+/// all processors, as where no other job runs beside it.
 pub fn run_job<S: Source, G: Gate, R: Threads + Wait + Sync>(
     rt: &R,
-    alloc: Global,
-    lock: &VersionLock<Store>,
-    seat: &mut Seat,
-    gate: &G,
-    topology: &Topology,
+    site: &Site<'_, G>,
+    seat: Seat,
     job: Job<S>,
     by_all: bool,
-) -> JobDone<S>
-    requires lock { IsSeatOf lock.now seat.old }
-    requires topology { topology.now ≡ lock.now.setup.basis.topology }
-    requires fresh { All (IsFresh topology.now S.faults) job.feeds }
-    requires apart { AreApart job.feeds }
-    ensures saw { SawMore seat.old seat.new }
-    ensures number { result.number ≡ job.number }
-    ensures ends { Ends topology.now S.left S.faults S.place lock.now.setup.basis.limit
-        seat.old.number (own_of seat.old.number seat.old.seen) seat.new.seen
-        job result.wanted_memory result.told result.feeds.items }
+) -> (Seat, JobDone<S>)
+    requires job { MayRun site.now S.faults seat job }
+    ensures { RanJob site.now S.left S.faults S.place seat result.0 job result.1 }
 {
-    let mut shown = None;
-    let done = run_shown(
-        rt, alloc, lock, seat, &mut shown, gate, topology, job, by_all,
-    );
+    let (seat, shown, done) = run_shown(rt, site, seat, None, job, by_all);
     if let Some(publisher) = shown {
         publisher.close(rt);
     }
-    done
+    (seat, done)
 }

@@ -1,13 +1,10 @@
 //! Frames of one feed are taken through the lock.
 
-ghost use Rattle.std.specs.Prelude.{◌≡◌, ℕ, ◌<◌, ◌≤◌, ◌++◌, [], List, All, length, take, IfOk, OnOk, OnErr, is_none, true, false, Some, None};
+ghost use Rattle.std.specs.Prelude.{◌≡◌, ◌<◌, ◌≤◌, ◌++◌, All, length, take, IfOk, OnErr, Some, None};
 ghost use Rattle.dn_formats.specs.Steps.{entries_by};
-ghost use Rattle.route_feed.specs.FeedReader.{IsFeedOp};
-ghost use Rattle.version_lock.specs.Callers.{IsSeatOf};
-ghost use Rattle.feed_threads.specs.Feeds.{ReadsOn, end_of_feed};
 ghost use Rattle.feed_threads.specs.Seats.{own_of, SawMore};
-ghost use Rattle.feed_threads.specs.Shown.{IsShown, ShowsOn};
-ghost use Rattle.feed_threads.specs.Takes.{GivesFirst, HasTaken, TakesSome, TookFirst};
+ghost use Rattle.feed_threads.specs.Takes.{HasTaken, IsStep, MayPost, MayPostOf, MayShow, MayTake, Takes, TakesShown};
+ghost use Rattle.feed_threads.specs.Takes.{TookFirst};
 
 use crate::desk::{Desk, Shown};
 use crate::feed::{Feed, next_step};
@@ -17,8 +14,8 @@ use route_feed::FeedStep;
 use std::sync::Wait;
 use version_lock::Seat;
 
-/// Applies updates of one router's feed, in order, and answers how many of them the history took: all, or fewer where it
-/// was full. Where memory is wanting it took the first of them.
+/// Applies updates of one router's feed, in order, and answers how many of them the history took: all, or fewer where
+/// it was full. Where memory is wanting it took the first of them.
 #[tactic(auto, using(crate::proofs::OpLemmas::op_taken))]
 fn post_all<G: Gate, R: Wait>(
     rt: &R,
@@ -28,9 +25,7 @@ fn post_all<G: Gate, R: Wait>(
     router: RouterId,
     ops: &[Op],
 ) -> Result<usize, OutOfMemory>
-    requires lock { IsSeatOf desk.now seat.old }
-    requires router { router.0 < length desk.now.setup.basis.topology.routers }
-    requires ops { All (IsFeedOp desk.now.setup.basis.topology) ops.now }
+    requires { MayPost desk.now seat.old router ops.now }
     ensures saw { SawMore seat.old seat.new }
     ensures few { IfOk result (λ n. n ≤ length ops.now) }
     ensures own { IfOk result (λ n. own_of seat.old.number seat.new.seen ≡ own_of seat.old.number seat.old.seen
@@ -51,52 +46,16 @@ fn post_all<G: Gate, R: Wait>(
     Ok(ops.len())
 }
 
-/// Applies the updates of a frame that a feed's reader has just handed out, and answers whether the history took all of
-/// them. Where it did not the feed is at its end.
+/// Applies the updates of a frame that a feed's reader has just handed out, which gets the list back then, for its
+/// memory. Answers whether the history took all of them. Where it did not the feed is at its end.
 fn take_ops<S: Source, G: Gate, R: Wait>(
-    rt: &R,
-    desk: &Desk<'_, G>,
-    seat: &mut Seat,
-    feed: &mut Feed<S>,
-    ops: &[Op],
-) -> Result<bool, OutOfMemory>
-    requires lock { IsSeatOf desk.now seat.old }
-    requires router { feed.old.reader.told.router.0 < length desk.now.setup.basis.topology.routers }
-    requires ops { All (IsFeedOp desk.now.setup.basis.topology) ops.now }
-    requires counted { length ops.now ≤ feed.old.reader.told.updates }
-    requires going { feed.old.kept ≡ None }
-    ensures saw { SawMore seat.old seat.new }
-    ensures reader { feed.new.reader ≡ feed.old.reader }
-    ensures took { IfOk result (λ more. HasTaken desk.now.setup.basis.limit seat.old.number more feed.new.kept
-        feed.old.reader.told seat.old.seen seat.new.seen ops.now) }
-    ensures first { OnErr result (TookFirst seat.old.number feed.old.reader.told.feed_no feed.old.reader.told.router
-        seat.old.seen seat.new.seen ops.now) }
-    ensures going { OnErr result (feed.new.kept ≡ None) }
-{
-    let feed_no = feed.reader.told().feed_no;
-    let router = feed.reader.told().router;
-    let taken = post_all(rt, desk, seat, feed_no, router, ops)?;
-    if taken == ops.len() {
-        return Ok(true);
-    }
-    let missed = (ops.len() - taken) as u64;
-    feed.kept = Some(feed.reader.told().updates - missed);
-    Ok(false)
-}
-
-/// The same; the reader gets the list back then, for its memory.
-fn take_list<S: Source, G: Gate, R: Wait>(
     rt: &R,
     desk: &Desk<'_, G>,
     seat: &mut Seat,
     feed: &mut Feed<S>,
     ops: List<Op>,
 ) -> Result<bool, OutOfMemory>
-    requires lock { IsSeatOf desk.now seat.old }
-    requires router { feed.old.reader.told.router.0 < length desk.now.setup.basis.topology.routers }
-    requires ops { All (IsFeedOp desk.now.setup.basis.topology) ops }
-    requires counted { length ops ≤ feed.old.reader.told.updates }
-    requires going { feed.old.kept ≡ None }
+    requires { MayPostOf desk.now seat.old feed.old ops }
     ensures saw { SawMore seat.old seat.new }
     ensures reader { feed.new.reader ≡ feed.old.reader }
     ensures took { IfOk result (λ more. HasTaken desk.now.setup.basis.limit seat.old.number more feed.new.kept
@@ -105,37 +64,37 @@ fn take_list<S: Source, G: Gate, R: Wait>(
         seat.old.seen seat.new.seen ops) }
     ensures going { OnErr result (feed.new.kept ≡ None) }
 {
-    let taken = take_ops(rt, desk, seat, feed, ops.as_slice());
+    let feed_no = feed.reader.told().feed_no;
+    let router = feed.reader.told().router;
+    let count = ops.len();
+    let taken = post_all(rt, desk, seat, feed_no, router, ops.as_slice());
     feed.reader.take_back(ops);
-    taken
+    let taken = taken?;
+    if taken == count {
+        return Ok(true);
+    }
+    let missed = (count - taken) as u64;
+    feed.kept = Some(feed.reader.told().updates - missed);
+    Ok(false)
 }
 
-/// Takes the next frame of a feed: its updates are applied. Answers whether the feed goes on, and not whether the frame was
-/// accepted. A frame whose updates met a full history is the feed's last.
+/// Takes the next frame of a feed: its updates are applied. Answers whether the feed goes on, and not whether the frame
+/// was accepted. A frame whose updates met a full history is the feed's last.
 fn take_frame<S: Source, G: Gate, R: Wait>(
     rt: &R,
     desk: &Desk<'_, G>,
     seat: &mut Seat,
     feed: &mut Feed<S>,
 ) -> Result<bool, OutOfMemory>
-    requires lock { IsSeatOf desk.now seat.old }
-    requires router { feed.old.reader.told.router.0 < length desk.now.setup.basis.topology.routers }
-    ensures saw { SawMore seat.old seat.new }
-    ensures taken { OnOk result (TakesSome desk.now.setup.basis.topology S.left S.faults S.place
-        desk.now.setup.basis.limit seat.old.number (Some 1) feed.old feed.new seat.old.seen seat.new.seen) }
-    ensures first { OnErr result (GivesFirst desk.now.setup.basis.topology S.left S.faults S.place
-        desk.now.setup.basis.limit seat.old.number (Some 1) feed.old feed.new seat.old.seen seat.new.seen) }
-    ensures more { IfOk result (λ more. more ≡ is_none (end_of_feed feed.new)) }
-    ensures grows { IfOk result (λ more. more ≡ true → (feed.old.reader.passed < feed.new.reader.passed)
-        × (feed.new.reader.passed ≤ feed.new.reader.limit)) }
-    ensures reads { ReadsOn desk.now.setup.basis.topology S.left S.faults S.place feed.old.reader feed.new.reader }
-    ensures limit { feed.new.reader.limit ≡ feed.old.reader.limit }
+    requires { MayTake desk.now seat.old feed.old }
+    ensures takes { Takes desk.now S.left S.faults S.place result (Some 1) seat.old seat.new feed.old feed.new }
+    ensures step { IsStep result feed.old feed.new }
 {
     if feed.kept.is_some() {
         return Ok(false);
     }
     match next_step(desk.alloc(), desk.topology(), &mut feed.reader)? {
-        FeedStep::Ops(ops, _) => take_list(rt, desk, seat, feed, ops),
+        FeedStep::Ops(ops, _) => take_ops(rt, desk, seat, feed, ops),
         FeedStep::Refused { .. } => Ok(true),
         FeedStep::End => Ok(false),
         FeedStep::CutShort { .. } => Ok(false),
@@ -153,20 +112,10 @@ fn take_shown<S: Source, G: Gate, R: Wait>(
     shown: &mut Shown,
     feed: &mut Feed<S>,
 ) -> Result<bool, OutOfMemory>
-    requires lock { IsSeatOf desk.now seat.old }
-    requires router { feed.old.reader.told.router.0 < length desk.now.setup.basis.topology.routers }
-    requires shown { IsShown desk.now.setup.basis.topology seat.old.seen shown.old }
-    ensures saw { SawMore seat.old seat.new }
-    ensures shows { ShowsOn desk.now.setup.basis.topology seat.new.seen shown.old shown.new }
-    ensures taken { OnOk result (TakesSome desk.now.setup.basis.topology S.left S.faults S.place
-        desk.now.setup.basis.limit seat.old.number (Some 1) feed.old feed.new seat.old.seen seat.new.seen) }
-    ensures first { OnErr result (GivesFirst desk.now.setup.basis.topology S.left S.faults S.place
-        desk.now.setup.basis.limit seat.old.number (Some 1) feed.old feed.new seat.old.seen seat.new.seen) }
-    ensures more { IfOk result (λ more. more ≡ is_none (end_of_feed feed.new)) }
-    ensures grows { IfOk result (λ more. more ≡ true → (feed.old.reader.passed < feed.new.reader.passed)
-        × (feed.new.reader.passed ≤ feed.new.reader.limit)) }
-    ensures reads { ReadsOn desk.now.setup.basis.topology S.left S.faults S.place feed.old.reader feed.new.reader }
-    ensures limit { feed.new.reader.limit ≡ feed.old.reader.limit }
+    requires { MayShow desk.now seat.old shown.old feed.old }
+    ensures taken { TakesShown desk.now S.left S.faults S.place result (Some 1) seat.old seat.new shown.old
+        shown.new feed.old feed.new }
+    ensures step { IsStep result feed.old feed.new }
 {
     if !feed.waits() {
         return take_frame(rt, desk, seat, feed);
@@ -184,16 +133,9 @@ fn take_some<S: Source, G: Gate, R: Wait>(
     feed: &mut Feed<S>,
     count: u32,
 ) -> Result<(), OutOfMemory>
-    requires lock { IsSeatOf desk.now seat.old }
-    requires router { feed.old.reader.told.router.0 < length desk.now.setup.basis.topology.routers }
-    requires shown { IsShown desk.now.setup.basis.topology seat.old.seen shown.old }
-    ensures saw { SawMore seat.old seat.new }
-    ensures shows { ShowsOn desk.now.setup.basis.topology seat.new.seen shown.old shown.new }
-    ensures taken { OnOk result (TakesSome desk.now.setup.basis.topology S.left S.faults S.place
-        desk.now.setup.basis.limit seat.old.number (Some count) feed.old feed.new seat.old.seen seat.new.seen) }
-    ensures first { OnErr result (GivesFirst desk.now.setup.basis.topology S.left S.faults S.place
-        desk.now.setup.basis.limit seat.old.number (Some count) feed.old feed.new seat.old.seen seat.new.seen) }
-    ensures reads { ReadsOn desk.now.setup.basis.topology S.left S.faults S.place feed.old.reader feed.new.reader }
+    requires { MayShow desk.now seat.old shown.old feed.old }
+    ensures { TakesShown desk.now S.left S.faults S.place result (Some count) seat.old seat.new shown.old
+        shown.new feed.old feed.new }
 {
     for taken in 0..count {
         let _ = taken;
@@ -212,16 +154,9 @@ fn take_rest<S: Source, G: Gate, R: Wait>(
     shown: &mut Shown,
     feed: &mut Feed<S>,
 ) -> Result<(), OutOfMemory>
-    requires lock { IsSeatOf desk.now seat.old }
-    requires router { feed.old.reader.told.router.0 < length desk.now.setup.basis.topology.routers }
-    requires shown { IsShown desk.now.setup.basis.topology seat.old.seen shown.old }
-    ensures saw { SawMore seat.old seat.new }
-    ensures shows { ShowsOn desk.now.setup.basis.topology seat.new.seen shown.old shown.new }
-    ensures taken { OnOk result (TakesSome desk.now.setup.basis.topology S.left S.faults S.place
-        desk.now.setup.basis.limit seat.old.number None feed.old feed.new seat.old.seen seat.new.seen) }
-    ensures first { OnErr result (GivesFirst desk.now.setup.basis.topology S.left S.faults S.place
-        desk.now.setup.basis.limit seat.old.number None feed.old feed.new seat.old.seen seat.new.seen) }
-    ensures reads { ReadsOn desk.now.setup.basis.topology S.left S.faults S.place feed.old.reader feed.new.reader }
+    requires { MayShow desk.now seat.old shown.old feed.old }
+    ensures { TakesShown desk.now S.left S.faults S.place result None seat.old seat.new shown.old
+        shown.new feed.old feed.new }
 {
     let mut more = true;
     while more {
@@ -240,16 +175,9 @@ pub(crate) fn take_frames<S: Source, G: Gate, R: Wait>(
     feed: &mut Feed<S>,
     count: Option<u32>,
 ) -> Result<(), OutOfMemory>
-    requires lock { IsSeatOf desk.now seat.old }
-    requires router { feed.old.reader.told.router.0 < length desk.now.setup.basis.topology.routers }
-    requires shown { IsShown desk.now.setup.basis.topology seat.old.seen shown.old }
-    ensures saw { SawMore seat.old seat.new }
-    ensures shows { ShowsOn desk.now.setup.basis.topology seat.new.seen shown.old shown.new }
-    ensures taken { OnOk result (TakesSome desk.now.setup.basis.topology S.left S.faults S.place
-        desk.now.setup.basis.limit seat.old.number count feed.old feed.new seat.old.seen seat.new.seen) }
-    ensures first { OnErr result (GivesFirst desk.now.setup.basis.topology S.left S.faults S.place
-        desk.now.setup.basis.limit seat.old.number count feed.old feed.new seat.old.seen seat.new.seen) }
-    ensures reads { ReadsOn desk.now.setup.basis.topology S.left S.faults S.place feed.old.reader feed.new.reader }
+    requires { MayShow desk.now seat.old shown.old feed.old }
+    ensures { TakesShown desk.now S.left S.faults S.place result count seat.old seat.new shown.old
+        shown.new feed.old feed.new }
 {
     match count {
         Some(count) => take_some(rt, desk, seat, shown, feed, count),

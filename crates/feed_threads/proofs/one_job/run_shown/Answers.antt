@@ -1,20 +1,26 @@
-use Rattle.std.proofs.Common.{arith}
+use Rattle.std.proofs.Common.{◌∙◌, ap, arith, length, refl}
 use Rattle.feed_threads.specs.Jobs.{lines_of}
-use Rattle.feed_threads.proofs.DoesLemmas.{job-routers, job-ends, read-length}
+use Rattle.feed_threads.specs.Works.{Work}
+use Rattle.feed_threads.proofs.DoesLemmas.{job-at-work, job-ran, job-shows, read-length}
 use Rattle.feed_threads.proofs.one_job.run_shown.Goals as goal
 
-pub do_all-done-requires-clause-routers : goal.do_all-done-requires-clause-routers
-do_all-done-requires-clause-routers g c κs within =
-    job-routers c.new-desk.result c.args.lock.now g.S.Source.left g.S.Source.faults g.S.Source.place c.args.topology.now c.args.job c.job.inside.number (lines_of c.job.inside.script) c.job.inside.feeds.items
-    c.new-desk.ensures c.requires.topology c.job.view_is c.job.invariant.0 c.requires.fresh
+pub do_all-ended-requires-clause-work : goal.do_all-ended-requires-clause-work
+do_all-ended-requires-clause-work g c κs within =
+    job-at-work c.new-desk.result c.args.site.now g.S.Source.left g.S.Source.faults g.S.Source.place c.args.job c.job.inside.number (lines_of c.job.inside.script) c.job.inside.feeds.items c.new-desk.ensures c.job.view_is c.job.invariant.0 c.requires.job.1 c.args.seat c.args.shown c.new-told.result c.requires.job.0 c.requires.shown
 
 pub give_back-requires-clause-room : goal.give_back-requires-clause-room
 give_back-requires-clause-room g c κs within =
-    omega (arith, c.job.invariant.2, read-length c.new-desk.result.setup.basis.topology g.S.Source.left g.S.Source.faults g.S.Source.place c.job.inside.feeds.items c.do_all-done.new.feeds.items c.do_all-done.ensures.reads)
+    let same = ap (λ (w : Work _). length w.feeds) c.work.view_is ∙ read-length c.new-desk.result.setup.basis.topology g.S.Source.left g.S.Source.faults g.S.Source.place c.job.inside.feeds.items c.do_all-ended.new.self.feeds c.do_all-ended.ensures.works.on.reads in
+    (c.job.invariant.1, omega (arith, c.job.invariant.2, same))
 
-pub returns-clause-ends : goal.returns-clause-ends
-returns-clause-ends g c =
-    job-ends c.new-desk.result c.args.lock.now g.S.Source.left g.S.Source.faults g.S.Source.place c.do_all-done.result c.is_err.result c.args.topology.now c.args.seat.now c.do_all-done.new.seat c.args.job
-    c.job.inside.number (lines_of c.job.inside.script) c.lines_of_script-lines.result.now c.job.inside.feeds.items c.do_all-done.new.feeds.items c.new-told.result c.do_all-done.new.told c.give_back.result.items
-    c.new-desk.ensures c.requires.topology c.job.view_is c.job.invariant.0 c.lines_of_script-lines.ensures c.new-told.ensures c.is_err.ensures.value c.give_back.ensures
-    c.requires.fresh c.requires.apart c.do_all-done.ensures.reads c.do_all-done.ensures.does c.do_all-done.ensures.breaks c.do_all-done.ensures.front
+pub returns-clause-ran : goal.returns-clause-ran
+returns-clause-ran g c =
+    job-ran c.new-desk.result c.args.site.now g.S.Source.left g.S.Source.faults g.S.Source.place c.args.job c.job.inside.number (lines_of c.job.inside.script) c.job.inside.feeds.items c.new-desk.ensures c.job.view_is c.job.invariant.0 c.requires.job.1
+    c.do_all-ended.result c.is_err.result (record { seat = c.args.seat; shown = c.args.shown; feeds = c.job.inside.feeds.items; told = c.new-told.result }) c.do_all-ended.new.self
+    c.work.inside.seat c.work.inside.shown c.work.inside.feeds.items c.work.inside.told c.lines_of_script-lines.result.now c.give_back.result
+    c.work.view_is refl c.new-told.ensures c.lines_of_script-lines.ensures c.is_err.ensures.value c.give_back.ensures c.do_all-ended.ensures.works c.do_all-ended.ensures.front
+
+pub returns-clause-shows : goal.returns-clause-shows
+returns-clause-shows g c =
+    job-shows c.new-desk.result c.args.site.now g.S.Source.left g.S.Source.faults g.S.Source.place c.args.job c.job.inside.number (lines_of c.job.inside.script) c.job.inside.feeds.items c.new-desk.ensures c.job.view_is c.job.invariant.0 c.requires.job.1
+    c.do_all-ended.result (record { seat = c.args.seat; shown = c.args.shown; feeds = c.job.inside.feeds.items; told = c.new-told.result }) c.do_all-ended.new.self c.work.inside.seat c.work.inside.shown c.work.inside.feeds.items c.work.inside.told _ c.work.view_is c.do_all-ended.ensures.works

@@ -14,5 +14,5 @@ publish-requires-sync-S g c κs within = search (Snapshot-sync, sendable, crosse
 
 pub returns-clause-shows : goal.returns-clause-shows
 returns-clause-shows g c =
-    shows-published c.publish.result _ _ _ c.in-Some.publisher c.publish.new.self _ _ c.in-Some.is refl c.in_ok-snapshot.ensures.shown
-    (shown-of-later _ _ _ _ c.look.ensures.saw.seen (subst (IsShown _ c.args.seat.now.seen) c.in-Some.is c.requires.shown)) c.publish.ensures.ok c.publish.ensures.err
+    shows-published c.publish.result _ _ _ c.in-Some.publisher c.publish.new.self _ _ c.in-Some.is refl c.in_ok-snapshot.ensures.seen.history
+    (shown-of-later _ _ _ _ c.look.ensures.looks.saw.seen (subst (IsShown _ c.args.seat.now.seen) c.in-Some.is c.requires.shown)) c.publish.ensures.ok c.publish.ensures.err

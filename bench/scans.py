@@ -10,7 +10,6 @@ Usage: bench/scans.py [--product BIN] [RUNS [N]]   runs of each script (3), of w
 """
 
 import os
-import os
 import sys
 import tempfile
 
@@ -22,13 +21,14 @@ from ring import words, write_feeds, write_network
 ROUTERS = 64
 PROCESSORS = (1, 2, 4)
 QUERIES = ("reach m0 m1", "blackholes m0", "without l0 loops")
-queries.ASKED = 16  # how often each query is asked in a run
+ASKED = 16  # how often each query is asked in a run
 
 
 def seconds(folder, count, query, answer, runs):
     """The least time by the clock of a run that asks this query several times, or nothing."""
-    write_network(folder, [query] * queries.ASKED if query else [], ROUTERS)
-    due = queries.expected(count, ROUTERS, query, answer)
+    times = ASKED if query else 0
+    write_network(folder, [query] * times, ROUTERS)
+    due = queries.expected(count, ROUTERS, query, answer, times)
     return min(program.run(folder, words(folder, ROUTERS), *due).clock for _ in range(runs))
 
 
@@ -50,7 +50,7 @@ def main():
             os.sched_setaffinity(0, free[:processors])
             none = seconds(folder, count, "", "", runs)
             for query in QUERIES:
-                took = (seconds(folder, count, query, answers[query], runs) - none) / queries.ASKED
+                took = (seconds(folder, count, query, answers[query], runs) - none) / ASKED
                 least.setdefault(query, took)
                 print(
                     f"{processors} processors, {rows} rows: {query}: {took * 1000:.1f} ms, "

@@ -1,20 +1,13 @@
--- Where no history was full the law speaks of all that a feed gave; and what is told is told over fewer feeds too.
-use Rattle.std.proofs.Common.{◌≡◌, ℕ, ◌+◌, List, [], ◌∷◌, ◌++◌, length, filter, take, drop, All, Option, None, Some, refl, ap, sym, ◌∙◌, arith, length-append}
+-- Where no history was full the law speaks of all that a feed gave.
+use Rattle.std.proofs.Common.{◌≡◌, ℕ, ◌+◌, ◌-◌, List, [], ◌++◌, length, take, drop, Option, None, Some, refl, ap, sym, ◌∙◌, arith, length-append}
 use Rattle.std.proofs.lemmas.Grind.{flat_map-append}
 use Rattle.std.proofs.lemmas.List.{append-nil, take_all, take-append-drop}
-use Rattle.std.proofs.lemmas.List.Elements.{All-nil}
-use Rattle.dn_model.specs.Query.{Question}
-use Rattle.dn_formats.specs.Lawful.{IsWhole, IsKept, IsKeptAt, IsOutcome, Tells, TellsLines, front_of, taken, kept_by, is_from, pin_after}
-use Rattle.dn_formats.specs.Steps.{FrameStep, FeedRead, ops_of, updates, kept_of, entries_of}
+use Rattle.dn_formats.specs.Lawful.{IsWhole, IsKept, IsKeptAt, front_of, taken, kept_by}
+use Rattle.feed_model.specs.Steps.{FrameStep, FeedRead, ops_of, updates, kept_of}
 use Rattle.dn_model.specs.declared.entry.Entry.{Entry}
-use Rattle.dn_model.specs.declared.topology.Topology.{Topology}
 use Rattle.dn_formats.specs.declared.script.Line.{Line}
-use Rattle.dn_formats.specs.declared.script.Line.TheVariants as line
-use Rattle.dn_formats.specs.declared.told.FeedEnd.{FeedEnd}
-use Rattle.dn_formats.specs.declared.told.FeedEnd.TheVariants as ends
-use Rattle.dn_formats.specs.declared.told.Outcome.{Outcome}
-use Rattle.dn_formats.specs.declared.told.Outcome.TheVariants.{Answered, Unknown}
-use Rattle.dn_formats.specs.declared.told.Told.{Told}
+use Rattle.feed_model.specs.declared.feed_told.FeedEnd.{FeedEnd}
+use Rattle.feed_model.specs.declared.feed_told.FeedEnd.TheVariants as ends
 
 -- ---- what is kept
 
@@ -62,29 +55,3 @@ front-back (Some n) steps = sym (take-append-drop n steps)
 -- all updates of the frames that lines take of it are kept
 pub kept-taken : (f : FeedRead) (lines : List Line) → IsWhole f → kept_by lines f ≡ updates (taken lines f)
 kept-taken f lines all = kept-front f (taken lines f) (back_of _ f.steps) all (front-back _ f.steps)
-
--- ---- what is told
-
--- these feeds are among those
-abbrev pub AreAmong : List FeedRead → List FeedRead → Type 1
-AreAmong fewer feeds = (P : FeedRead → Type 0) → All P feeds → All P fewer
-
-outcome-among : (t : Topology) (h : List Entry) (fewer feeds : List FeedRead) (before : List Line) (last : ℕ) (q : Question) (o : Outcome) → AreAmong fewer feeds →
-    IsOutcome t h feeds before last q o → IsOutcome t h fewer before last q o
-outcome-among t h fewer feeds before last q (Unknown u) among is = is
-outcome-among t h fewer feeds before last q (Answered n answer) among is =
-    (is.0, is.1, is.2, among (λ f. filter (is_from f) (take n h) ≡ entries_of f (kept_by before f)) is.3, is.4)
-
--- what is told over some feeds is told over fewer
-pub tells-among : (t : Topology) (h : List Entry) (fewer feeds : List FeedRead) (before : List Line) (last : ℕ) (lines : List Line) (tolds : List Told) → AreAmong fewer feeds →
-    Tells t h feeds before last lines tolds → Tells t h fewer before last lines tolds
-tells-among t h fewer feeds before last [] [] among tells = tt
-tells-among t h fewer feeds before last [] (x ∷ xs) among tells = tells
-tells-among t h fewer feeds before last (line.Take l r c ∷ lines) tolds among tells = tells-among t h fewer feeds (before ++ line.Take l r c ∷ []) last lines tolds among tells
-tells-among t h fewer feeds before last (line.Ask l q ∷ lines) [] among tells = tells
-tells-among t h fewer feeds before last (line.Ask l q ∷ lines) (x ∷ xs) among tells =
-    (tells.0, tells.1, outcome-among t h fewer feeds before last q x.outcome among tells.2, tells-among t h fewer feeds (before ++ line.Ask l q ∷ []) (pin_after last x.outcome) lines xs among tells.3)
-
--- what is told of a job is told of its lines
-pub tells-lines : (t : Topology) (h : List Entry) (feeds : List FeedRead) (lines : List Line) (tolds : List Told) → Tells t h feeds [] 0 lines tolds → TellsLines t h lines tolds
-tells-lines t h feeds lines tolds tells = tells-among t h [] feeds [] 0 lines tolds (λ P all. All-nil P) tells

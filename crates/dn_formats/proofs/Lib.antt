@@ -1,12 +1,9 @@
 pub mod AddressLemmas
 pub mod Decimals
 pub mod Digits
-pub mod FeedLemmas
-pub mod FramesLemmas
 pub mod LawfulLemmas
 pub mod MainTables
 pub mod QueryLemmas
-pub mod RoomLemmas
 pub mod SplitLemmas
 pub mod TopologyLinksSound
 pub mod TopologySound

@@ -1,5 +1,5 @@
 -- What is printed of a query: its words, and its answer or its first unknown name.
-use Rattle.std.specs.Prelude.{ℕ, List, [], ◌∷◌, ◌++◌, ◌-◌, Option, None, Some, option_and_then, map, codes, decimal, slice_get, unwrap_or}
+use Rattle.std.specs.Prelude.{ℕ, Bool, List, [], ◌∷◌, ◌++◌, ◌-◌, Option, None, Some, option_and_then, map, codes, decimal, slice_get, unwrap_or}
 use Rattle.std.specs.List.{flat_map}
 use Rattle.dn_model.specs.Lookup.{link_of}
 use Rattle.dn_model.specs.Query.{Question, names_of, text_of_name}
@@ -19,10 +19,13 @@ use Rattle.base.specs.declared.run.Run.{Run}
 use Rattle.dn_model.specs.declared.topology.TopoLink.{TopoLink}
 use Rattle.dn_model.specs.declared.topology.Topology.{Topology}
 use Rattle.dn_formats.specs.QueryWords.{query_text}
-use Rattle.dn_formats.specs.Texts.{line, address_text, run_text, name_of_router, target_text}
+use Rattle.dn_formats.specs.Texts.{address_text, line, link_state_text, run_text, name_of_router, target_text}
 use Rattle.dn_formats.specs.declared.told.Outcome.{Outcome}
 use Rattle.dn_formats.specs.declared.told.Outcome.TheVariants as outcome
+use Rattle.dn_formats.specs.declared.told.LinkOutcome.{LinkOutcome}
+use Rattle.dn_formats.specs.declared.told.LinkOutcome.TheVariants.{At as AtEntry, Full, UnknownLink}
 use Rattle.dn_formats.specs.declared.told.Told.{Told}
+use Rattle.dn_formats.specs.declared.told.Told.TheVariants.{Asked, Linked}
 
 -- ---- a query
 
@@ -110,5 +113,15 @@ outcome_lines t l q (outcome.Answered n answer) =
 outcome_lines t l q (outcome.Unknown unknown) =
     line (codes "line " ++ decimal l ++ codes " " ++ query_text q) ++ unknown_line q unknown
 
+-- a link line's line, with the position of its entry or why it has none; below it the link's name where it is unknown
+abbrev pub link_outcome_lines : ℕ → List ℕ → Bool → LinkOutcome → List ℕ
+link_outcome_lines l name down (AtEntry p) =
+    line (codes "line " ++ decimal l ++ codes " at " ++ decimal p ++ codes " " ++ link_state_text down ++ name)
+link_outcome_lines l name down Full =
+    line (codes "line " ++ decimal l ++ codes " full " ++ link_state_text down ++ name)
+link_outcome_lines l name down UnknownLink =
+    line (codes "line " ++ decimal l ++ codes " " ++ link_state_text down ++ name) ++ line (codes "unknown link " ++ name)
+
 abbrev pub told_lines : Topology → Told → List ℕ
-told_lines t told = outcome_lines t told.line told.query told.outcome
+told_lines t (Asked l query outcome) = outcome_lines t l query outcome
+told_lines t (Linked l name down outcome) = link_outcome_lines l name down outcome

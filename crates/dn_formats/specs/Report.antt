@@ -1,5 +1,5 @@
 -- The report, as a text made of what is told: feeds, history, jobs; and the line that stands in its place.
-use Rattle.std.specs.Prelude.{ℕ, Bool, true, false, List, [], ◌∷◌, ◌++◌, Option, None, Some, length, codes, decimal, ◌+◌}
+use Rattle.std.specs.Prelude.{ℕ, List, [], ◌∷◌, ◌++◌, Option, None, Some, length, codes, decimal, ◌+◌}
 use Rattle.std.specs.List.{flat_map}
 use Rattle.dn_model.specs.declared.topology.Topology.{Topology}
 use Rattle.dn_model.specs.declared.entry.Op.{Op}
@@ -7,15 +7,15 @@ use Rattle.dn_model.specs.declared.entry.Op.TheVariants.{Set, SetBy, Clear, Obje
 use Rattle.dn_model.specs.declared.entry.Entry.{Entry}
 use Rattle.dn_model.specs.declared.entry.Entry.TheVariants.{Route, Link}
 use Rattle.dn_formats.specs.AnswerText.{told_lines}
-use Rattle.dn_formats.specs.Causes.{name_of_cause}
-use Rattle.dn_formats.specs.FrameCauses.{cause_text}
+use Rattle.feed_model.specs.Causes.{name_of_cause}
+use Rattle.feed_model.specs.FrameCauses.{cause_text}
 use Rattle.dn_formats.specs.ScriptCauses.{script_causes}
 use Rattle.dn_formats.specs.TopologyCauses.{topology_causes}
-use Rattle.dn_formats.specs.Texts.{line, prefix_text, target_text, name_of_router, name_of_link}
-use Rattle.dn_formats.specs.declared.told.RefusedFrame.{RefusedFrame}
-use Rattle.dn_formats.specs.declared.told.FeedEnd.{FeedEnd}
-use Rattle.dn_formats.specs.declared.told.FeedEnd.TheVariants.{End, CutShort, Lost, TooLong, Full, Faulted}
-use Rattle.dn_formats.specs.declared.told.FeedTold.{FeedTold}
+use Rattle.dn_formats.specs.Texts.{line, link_state_text, prefix_text, target_text, name_of_router, name_of_link}
+use Rattle.feed_model.specs.declared.feed_told.RefusedFrame.{RefusedFrame}
+use Rattle.feed_model.specs.declared.feed_told.FeedEnd.{FeedEnd}
+use Rattle.feed_model.specs.declared.feed_told.FeedEnd.TheVariants.{End, CutShort, Lost, TooLong, Full, Faulted}
+use Rattle.feed_model.specs.declared.feed_told.FeedTold.{FeedTold}
 use Rattle.dn_formats.specs.declared.told.JobTold.{JobTold}
 use Rattle.dn_formats.specs.declared.topology_fault.TopoFault.{TopoFault}
 use Rattle.dn_formats.specs.declared.topology_fault.TopoPart.{TopoPart}
@@ -57,11 +57,6 @@ feed_line t f =
 -- a feed's line, and one for each of its refused frames
 abbrev pub feed_lines : Topology → FeedTold → List ℕ
 feed_lines t f = feed_line t f ++ flat_map refused_line f.refused
-
--- what a link does: it goes down or comes up
-abbrev pub link_state_text : Bool → List ℕ
-link_state_text true = codes "down "
-link_state_text false = codes "up "
 
 -- an entry: which feed's update of which router it is, or which job's line of which link
 abbrev pub entry_text : Topology → Entry → List ℕ

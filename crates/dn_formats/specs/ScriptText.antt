@@ -96,11 +96,22 @@ abbrev pub ask_meaning : ℕ → Option Question → Result (Option Line) ℕ
 ask_meaning n None = Err bad_line
 ask_meaning n (Some query) = Ok (Some (line.Ask n query))
 
+abbrev pub one_of : List (List ℕ) → Option (List ℕ)
+one_of (a ∷ []) = Some a
+one_of _ = None
+
+-- `down L` and `up L`: the link of this name goes down, or comes up again; the network may have no such link
+abbrev pub link_meaning : ℕ → Bool → Option (List ℕ) → Result (Option Line) ℕ
+link_meaning n down None = Err bad_line
+link_meaning n down (Some name) = if is_name_text name then Ok (Some (line.Link n name down)) else Err bad_line
+
 -- what a line's words mean that doesn't pass
 abbrev pub command_meaning : List (List ℕ) → List RouterId → List RouterId → ℕ → List (List ℕ) → Result (Option Line) ℕ
 command_meaning routers feeds taken n [] = Err bad_line
 command_meaning routers feeds taken n (verb ∷ operands) =
     if bytes_eq verb (codes "take") then take_meaning routers feeds taken n (two_of operands)
+    else if bytes_eq verb (codes "down") then link_meaning n true (one_of operands)
+    else if bytes_eq verb (codes "up") then link_meaning n false (one_of operands)
     else ask_meaning n (query_of verb operands)
 
 -- what line n means: what it does, nothing where it passes, or the cause for which it is refused

@@ -1,5 +1,5 @@
 -- How addresses, prefixes, runs and targets are written.
-use Rattle.std.specs.Prelude.{ℕ, List, [], ◌∷◌, ◌++◌, map, codes, decimal, slice_get, unwrap_or, ◌/◌, ◌%◌, ◌^◌}
+use Rattle.std.specs.Prelude.{ℕ, Bool, true, false, List, [], ◌∷◌, ◌++◌, map, codes, decimal, slice_get, unwrap_or, ◌/◌, ◌%◌, ◌^◌}
 use Rattle.base.specs.Cidr.{Cidr}
 use Rattle.base.specs.declared.ids.RouterId.{RouterId}
 use Rattle.base.specs.declared.ids.LinkId.{LinkId}
@@ -46,3 +46,8 @@ target_text t (Exit i) = codes "exit " ++ decimal i
 target_text t (OnLink i) = codes "onlink " ++ decimal i
 target_text t (To s l) = codes "to " ++ name_of_router t s ++ codes " by " ++ name_of_link t l
 target_text t (LinkDown l) = codes "linkdown " ++ name_of_link t l
+
+-- what a link does: it goes down or comes up
+abbrev pub link_state_text : Bool → List ℕ
+link_state_text true = codes "down "
+link_state_text false = codes "up "

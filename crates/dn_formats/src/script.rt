@@ -1,7 +1,7 @@
 //! Scripts: what a job does, line by line.
 
 use crate::asked::Asked;
-use dn_model::{List, RouterId};
+use dn_model::{List, Name, RouterId};
 
 /// A line of a script that does something. Lines count from 1, those that pass included.
 #[derive(Drop)]
@@ -16,6 +16,12 @@ pub enum Line {
     Ask {
         line: u32,
         query: Asked,
+    },
+    /// Says that the link of this name goes down, or comes up again. The network may have no such link.
+    Link {
+        line: u32,
+        link: Name,
+        down: bool,
     },
 }
 

@@ -1,7 +1,7 @@
 //! The causes for which a text is no script: their numbers and names.
 
 ghost use Rattle.std.specs.Prelude.{◌≡◌};
-ghost use Rattle.dn_formats.specs.Causes.{name_of_cause};
+ghost use Rattle.feed_model.specs.Causes.{name_of_cause};
 ghost use Rattle.dn_formats.specs.ScriptCauses.{script_causes};
 
 /// A line is none of a script's, or it does something and has more than 1,024 bytes.

@@ -1,51 +1,23 @@
-//! What the report prints of feeds and jobs.
+//! What the report prints of jobs.
 
-use dn_model::{Answer, List, Query, RouterId, Unknown};
+use dn_model::{Answer, List, Name, Query, Unknown};
 
-/// A refused frame: where it begins in the feed, where the refused message begins in its payload, and the cause, by its
-/// number in the module `frame_cause`.
-#[derive(Clone, Copy, Debug, PartialEq, Eq)]
-pub struct RefusedFrame {
-    pub offset: u64,
-    pub at: u32,
-    pub cause: u8,
-}
-
-/// How a feed ended.
-#[derive(Clone, Copy, Debug, PartialEq, Eq)]
-pub enum FeedEnd {
-    /// Nothing is left of it.
-    End,
-    /// It ends inside the frame that begins at this offset.
-    CutShort { offset: u64 },
-    /// At this offset stands no frame's header, for this cause: `BAD_VERSION` or `BAD_FRAME_LENGTH` of `frame_cause`.
-    Lost { offset: u64, cause: u8 },
-    /// It is longer than the limit.
-    TooLong,
-    /// The history was full at one of its updates.
-    Full,
-    /// Reading it failed.
-    Faulted,
-}
-
-/// What is told of a feed. Feeds count from 1. `updates` counts the updates of its accepted frames, as far as the history
-/// took them, `skipped` the messages that accepted frames passed over; `end` is None until it has ended.
+/// What is told of a line of a script that takes no frames. Lines count from 1.
 #[derive(Drop)]
-pub struct FeedTold {
-    pub feed_no: u32,
-    pub router: RouterId,
-    pub updates: u64,
-    pub skipped: u64,
-    pub refused: List<RefusedFrame>,
-    pub end: Option<FeedEnd>,
-}
-
-/// What is told of a query line of a script. Lines count from 1.
-#[derive(Drop)]
-pub struct Told {
-    pub line: u32,
-    pub query: Query,
-    pub outcome: Outcome,
+pub enum Told {
+    /// It asks a query.
+    Asked {
+        line: u32,
+        query: Query,
+        outcome: Outcome,
+    },
+    /// It says that the link of this name goes down, or comes up again.
+    Linked {
+        line: u32,
+        link: Name,
+        down: bool,
+        outcome: LinkOutcome,
+    },
 }
 
 /// What became of a query.
@@ -55,6 +27,17 @@ pub enum Outcome {
     Answered { number: u32, answer: Answer },
     /// It has an unknown name.
     Unknown(Unknown),
+}
+
+/// What became of a line that says that a link goes down or comes up.
+#[derive(Clone, Copy, Debug, PartialEq, Eq)]
+pub enum LinkOutcome {
+    /// It is the entry at this position of the history, from 1.
+    At(u32),
+    /// The history was full.
+    Full,
+    /// The network has no link of this name.
+    UnknownLink,
 }
 
 /// What is told of a job. Jobs count from 1.

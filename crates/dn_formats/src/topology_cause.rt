@@ -1,7 +1,7 @@
 //! The causes for which a text is no topology: their numbers and names.
 
 ghost use Rattle.std.specs.Prelude.{◌≡◌};
-ghost use Rattle.dn_formats.specs.Causes.{name_of_cause};
+ghost use Rattle.feed_model.specs.Causes.{name_of_cause};
 ghost use Rattle.dn_formats.specs.TopologyCauses.{topology_causes};
 
 /// The bytes are no text in UTF-8, or no document of TOML 1.1.

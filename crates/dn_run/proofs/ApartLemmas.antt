@@ -1,22 +1,24 @@
--- No two scripts take from one router: a script that would is refused.
-use Rattle.std.proofs.Common.{◌≡◌, ℕ, ◌+◌, ◌==◌, ◌||◌, Bool, true, false, nat_lt, Result, Ok, Err, List, [], ◌∷◌, ◌++◌, codes, length, Option, None, Some, refl, sym, ◌∙◌, subst, arith}
+-- No two scripts take from one router, and none has too many lines: a script that would is refused.
+use Rattle.std.proofs.Common.{◌≡◌, ℕ, ◌+◌, ◌≤◌, ◌==◌, All, ◌||◌, Bool, true, false, nat_lt, Result, Ok, Err, List, [], ◌∷◌, ◌++◌, codes, length, Option, None, Some, refl, sym, ◌∙◌, subst, arith}
 use Rattle.std.specs.Prelude.{if◌then◌else◌}
 use Rattle.std.specs.Str.{bytes_eq}
 use Rattle.std.specs.List.{find, flat_map, list_any}
 use Rattle.std.proofs.lemmas.Bool.Decides.{nat_tests}
+use Rattle.std.proofs.lemmas.List.Elements.{All-append, All-cons, All-nil}
 use Rattle.std.proofs.lemmas.List.Folds.{list_any-append}
-use Rattle.dn_formats.specs.ScriptText.{ScriptFault, ask_meaning, at_line, command_meaning, count_of, is_named, line_meaning, lines_meaning, lines_of, numbered, passes, script_of, take_count, take_from, take_meaning, two_of, with_line, words_of}
+use Rattle.dn_formats.specs.ScriptText.{ScriptFault, ask_meaning, at_line, command_meaning, count_of, is_named, line_meaning, lines_meaning, lines_of, link_meaning, numbered, one_of, passes, script_of, take_count, take_from, take_meaning, two_of, with_line, words_of}
 use Rattle.dn_formats.specs.QueryWords.{query_of}
-use Rattle.dn_formats.specs.ScriptCauses.{taken_twice, too_long}
+use Rattle.dn_formats.specs.ScriptCauses.{taken_twice, too_long, too_many_lines}
 use Rattle.dn_formats.specs.Lawful.{takes}
 use Rattle.dn_formats.specs.declared.script.Line.{Line}
-use Rattle.dn_formats.specs.declared.script.Line.TheVariants.{Take, Ask}
+use Rattle.dn_formats.specs.declared.script.Line.TheVariants.{Take, Ask, Link}
 use Rattle.base.specs.Name.{is_name_text}
 use Rattle.dn_model.specs.Query.{Question}
 use Rattle.base.specs.declared.ids.RouterId.{RouterId}
-use Rattle.dn_run.specs.Jobs.{TakeApart}
+use Rattle.dn_run.specs.Jobs.{AreFit, TakeApart}
+use Rattle.dn_run.specs.Limits.{most_lines}
 use Rattle.dn_run.specs.Run.{taken_by_line, takes_router}
-use Rattle.dn_run.specs.Stops.{AreTaken, TakeNoneOf}
+use Rattle.dn_run.specs.Stops.{AreTaken, MayFollow}
 
 -- whether a router is among these
 abbrev among : List RouterId → RouterId → Bool
@@ -57,9 +59,16 @@ module _ (routers : List (List ℕ)) (feeds taken : List RouterId) where
   ask-clear n None = tt
   ask-clear n (Some query) = λ r same. absurd (cc)
 
+  link-clear : (n : ℕ) (down : Bool) (name : Option (List ℕ)) → MayBe taken (link_meaning n down name)
+  link-clear n down None = tt
+  link-clear n down (Some name) = if-may taken (is_name_text name) _ _ (λ r same. absurd (cc)) tt
+
   command-clear : (n : ℕ) (words : List (List ℕ)) → MayBe taken (command_meaning routers feeds taken n words)
   command-clear n [] = tt
-  command-clear n (verb ∷ operands) = if-may taken (bytes_eq verb (codes "take")) _ _ (take-clear n (two_of operands)) (ask-clear n (query_of verb operands))
+  command-clear n (verb ∷ operands) =
+      if-may taken (bytes_eq verb (codes "take")) _ _ (take-clear n (two_of operands))
+      (if-may taken (bytes_eq verb (codes "down")) _ _ (link-clear n true (one_of operands))
+      (if-may taken (bytes_eq verb (codes "up")) _ _ (link-clear n false (one_of operands)) (ask-clear n (query_of verb operands))))
 
   line-clear : (n : ℕ) (text : List ℕ) → MayBe taken (line_meaning routers feeds taken n text)
   line-clear n text = if-may taken (passes (words_of text)) _ _ tt (if-may taken (nat_lt 1024 (length text)) _ _ tt (command-clear n (words_of text)))
@@ -107,7 +116,45 @@ module _ (routers : List (List ℕ)) (feeds taken : List RouterId) where
   pub clear : (bytes : List ℕ) (lines : List Line) → script_of routers feeds taken bytes ≡ Ok lines → AreClear lines
   clear bytes lines is = subst (λ m. MayAll m) is (script-clear bytes)
 
+-- ---- how many lines a script has
+
+-- lines of which the first has this number end within the most that a script may have
+abbrev EndWithin : ℕ → Result (List Line) ScriptFault → Type 0
+EndWithin n (Err f) = Unit {0}
+EndWithin n (Ok lines) = length lines + n ≤ 65537
+
+with-within : (n : ℕ) (l : Result (Option Line) ScriptFault) (rest : Result (List Line) ScriptFault) → EndWithin (n + 1) rest → EndWithin n (with_line l rest)
+with-within n (Err f) rest within = tt
+with-within n (Ok l) (Err f) within = tt
+with-within n (Ok None) (Ok lines) within = omega (arith, within)
+with-within n (Ok (Some l)) (Ok lines) within = omega (arith, within)
+
+lines-within : (meaning : ℕ → List ℕ → Result (Option Line) ℕ) (n : ℕ) (texts : List (List ℕ)) → n ≤ 65537 → EndWithin n (lines_meaning meaning n texts)
+lines-within meaning n [] below = omega (arith, below)
+lines-within meaning n (text ∷ texts) below = by-number (nat_lt 65536 n) refl (lines-within meaning (n + 1) texts)
+  where
+    by-number : (b : Bool) → nat_lt 65536 n ≡ b → (n + 1 ≤ 65537 → EndWithin (n + 1) (lines_meaning meaning (n + 1) texts)) →
+        EndWithin n (with_line (if b then Err (record { line = n; cause = too_many_lines }) else at_line n (meaning n text)) (lines_meaning meaning (n + 1) texts))
+    by-number true is rest = tt
+    by-number false is rest =
+        let low : n + 1 ≤ 65537 = grind (arith, nat_tests, is) in
+        with-within n (at_line n (meaning n text)) (lines_meaning meaning (n + 1) texts) (rest low)
+
+-- a script that was read has no more lines than a script may have
+pub short : (routers : List (List ℕ)) (feeds taken : List RouterId) (bytes : List ℕ) (lines : List Line) → script_of routers feeds taken bytes ≡ Ok lines → length lines ≤ most_lines
+short routers feeds taken bytes lines is =
+    let within : EndWithin 1 (Ok lines) = subst (λ m. EndWithin 1 m) is (by-length (nat_lt 16777216 (length bytes))) in
+    omega (arith, within)
+  where
+    by-length : (b : Bool) → EndWithin 1 (if b then Err (record { line = 0; cause = too_long }) else lines_meaning (line_meaning routers feeds taken) 1 (lines_of bytes))
+    by-length true = tt
+    by-length false = lines-within (line_meaning routers feeds taken) 1 (lines_of bytes) (omega arith)
+
 -- ---- one more script
+
+-- no script is none too many
+pub fit-none : AreFit []
+fit-none = record { apart = tt; short = All-nil (λ lines. length lines ≤ most_lines) }
 
 both-false : (a b : Bool) → (a || b) ≡ false → (a ≡ false) × (b ≡ false)
 both-false true b is = absurd (cc)
@@ -140,6 +187,7 @@ line-among r (Take n q count) = or-false (q.0 == r.0)
     or-false true = refl
     or-false false = refl
 line-among r (Ask n query) = refl
+line-among r (Link n name down) = refl
 
 lines-among : (r : RouterId) (lines : List Line) → among (flat_map taken_by_line lines) r ≡ takes_router r lines
 lines-among r [] = refl
@@ -150,6 +198,10 @@ scripts-among r [] = refl
 scripts-among r (lines ∷ scripts) =
     list_any-append (λ q. q.0 == r.0) (flat_map taken_by_line lines) (flat_map (flat_map taken_by_line) scripts) ∙ rw (lines-among r lines, scripts-among r scripts) refl
 
-pub apart-added : (taken : List RouterId) (read new : List (List Line)) (lines : List Line) → AreTaken taken read → TakeApart read → TakeNoneOf taken lines → new ≡ read ++ lines ∷ [] → TakeApart new
-apart-added taken read new lines are apart none added =
-    subst TakeApart (sym added) (apart-push read lines apart (λ r is. sym (are r ∙ scripts-among r read) ∙ none r is))
+pub fit-added : (taken : List RouterId) (read new : List (List Line)) (lines : List Line) → AreTaken taken read → AreFit read → MayFollow taken lines → new ≡ read ++ lines ∷ [] → AreFit new
+fit-added taken read new lines are fit follows added =
+    let P : List Line → Type 0 = λ ls. length ls ≤ most_lines in
+    record {
+      apart = subst TakeApart (sym added) (apart-push read lines fit.apart (λ r is. sym (are r ∙ scripts-among r read) ∙ follows.clear r is));
+      short = subst (All P) (sym added) (All-append P read (lines ∷ []) fit.short (All-cons P lines [] follows.short (All-nil P)));
+    }

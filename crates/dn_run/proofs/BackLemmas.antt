@@ -3,11 +3,11 @@ use Rattle.std.proofs.Common.{◌≡◌, ℕ, zero, suc, ◌<◌, List, [], ◌�
 use Rattle.std.specs.List.{AllZip, flat_map}
 use Rattle.std.specs.List.Sorted.{IsNonDecreasingBy, IsPermutation}
 use Rattle.std.proofs.lemmas.List.{length-map, map-append}
-use Rattle.dn_formats.specs.Steps.{FeedRead}
+use Rattle.feed_model.specs.Steps.{FeedRead}
 use Rattle.std.proofs.lemmas.List.Elements.{All-head, All-tail}
 use Rattle.std.proofs.lemmas.List.Sorted.{IsPermutation-map, IsPermutation-trans}
 use Rattle.dn_formats.specs.declared.script.Line.{Line}
-use Rattle.dn_formats.specs.declared.told.FeedTold.{FeedTold}
+use Rattle.feed_model.specs.declared.feed_told.FeedTold.{FeedTold}
 use Rattle.dn_formats.specs.declared.told.JobTold.{JobTold}
 use Rattle.dn_model.specs.declared.entry.Posted.{Posted}
 use Rattle.dn_model.specs.declared.topology.Topology.{Topology}
@@ -118,7 +118,7 @@ module _ {S : Type 0} (t : Topology) (left : S → Option (List ℕ)) (faults pl
   tags-back (r ∷ rs) [] zip = absurd zip
   tags-back (r ∷ rs) (b ∷ bs) zip = ap₂ (λ a more. a ∷ more) (tag-back r b zip.0) (tags-back rs bs zip.1)
 
-  pub all-tags : (seen : List Posted) (tasks : List (Task S)) (dones : List (JobDone S)) → AllZip (IsBackFrom t left faults place limit seen) tasks dones →
+  pub all-tags : (seen : List Posted) (tasks : List (Task S)) (dones : List (JobDone S)) → AllZip (IsBackFrom t left faults place limit) tasks dones →
       map (back_tag place) (flat_map (λ done. done.feeds.items) dones) ≡ map (reader_tag place) (readers_of tasks)
   all-tags seen [] [] zip = refl
   all-tags seen [] (d ∷ ds) zip = absurd zip
@@ -129,7 +129,7 @@ module _ {S : Type 0} (t : Topology) (left : S → Option (List ℕ)) (faults pl
       ∙ sym (map-append (reader_tag place) x.feeds (readers_of xs))
 
   -- whatever jobs that were dealt the readers of a run came to, each source has come back
-  pub came-back : (seen : List Posted) (scripts : List (List Line)) (readers : List (Reader S)) (dones : List (JobDone S)) → AllZip (IsBackFrom t left faults place limit seen) (tasks_of scripts readers) dones →
+  pub came-back : (seen : List Posted) (scripts : List (List Line)) (readers : List (Reader S)) (dones : List (JobDone S)) → AllZip (IsBackFrom t left faults place limit) (tasks_of scripts readers) dones →
       IsPermutation (map (reader_tag place) readers) (map (back_tag place) (flat_map (λ done. done.feeds.items) dones))
   came-back seen scripts readers dones zip =
       subst (λ tags. IsPermutation (map (reader_tag place) readers) tags) (sym (all-tags seen (tasks_of scripts readers) dones zip))

@@ -7,8 +7,8 @@ use Rattle.std.proofs.lemmas.Bool.Decides.{nat_tests}
 use Rattle.std.proofs.lemmas.Grind.{flat_map-append}
 use Rattle.std.proofs.lemmas.List.Elements.{All-cons, All-head, All-tail, All-nil}
 use Rattle.std.proofs.lemmas.List.Sorted.{IsPermutation-append_right, IsPermutation-filter_both, IsPermutation-refl, IsPermutation-trans}
-use Rattle.dn_formats.specs.Lawful.{Job, feed_jobs, jobs_of, script_jobs, takes, takes_feed, untaken_feeds}
-use Rattle.dn_formats.specs.Steps.{FeedRead}
+use Rattle.dn_formats.specs.Lawful.{Job, ScriptRun, feed_jobs, jobs_of, script_jobs, takes, takes_feed, untaken_feeds}
+use Rattle.feed_model.specs.Steps.{FeedRead}
 use Rattle.dn_formats.specs.declared.script.Line.{Line}
 use Rattle.base.specs.declared.ids.RouterId.{RouterId}
 use Rattle.route_feed.specs.FeedReader.{Reader}
@@ -68,12 +68,33 @@ module _ {X Y : Type 0} (of : X → ℕ) (num : Y → ℕ) (d : X → Y) where
       let apart : All (λ z. (num y == of z) ≡ false) xs = λ k e less. subst (λ n. (n == of (get_or xs k e)) ≡ false) (sym zip.0) (differ.0 k e less) in
       ap₂ (λ a rest-of. a ∷ rest-of) here (pick-later y ys xs apart ∙ picks xs ys zip.1 differ.1)
 
+-- the lines of scripts, and of how many of their link lines the entry was taken
+abbrev pub lines_of_runs : List ScriptRun → List (List Line)
+lines_of_runs runs = map (λ run. run.lines) runs
+
+abbrev pub kept_of_runs : List ScriptRun → List ℕ
+kept_of_runs runs = map (λ run. run.kept_links) runs
+
 module _ {S : Type 0} where
   -- ---- what is left by some lines is taken by others as it was
 
   -- whether lines take a reader's feed, as for the definition of jobs
-  abbrev pub task_job : (Reader S → FeedRead) → Task S → Job
-  task_job g task = record { number = task.number; lines = task.lines; feeds = map g task.feeds }
+  abbrev pub task_job : (Reader S → FeedRead) → Task S → ℕ → Job
+  task_job g task kept = record { number = task.number; lines = task.lines; feeds = map g task.feeds; kept_links = kept }
+
+  -- the same of tasks, by how many of each one's link lines the entry was taken
+  abbrev pub task_jobs : (Reader S → FeedRead) → List (Task S) → List ℕ → List Job
+  task_jobs g [] kept = []
+  task_jobs g (task ∷ tasks) [] = []
+  task_jobs g (task ∷ tasks) (k ∷ kept) = task_job g task k ∷ task_jobs g tasks kept
+
+  task-jobs-append : (g : Reader S → FeedRead) (xs ys : List (Task S)) (ks js : List ℕ) → length ks ≡ length xs → task_jobs g (xs ++ ys) (ks ++ js) ≡ task_jobs g xs ks ++ task_jobs g ys js
+  task-jobs-append g [] ys [] js same = refl
+  task-jobs-append g [] ys (k ∷ ks) js same = cc
+  task-jobs-append g (x ∷ xs) ys [] js same = cc
+  task-jobs-append g (x ∷ xs) ys (k ∷ ks) js same =
+      let less : length ks ≡ length xs = omega (arith, same) in
+      ap (λ rest. task_job g x k ∷ rest) (task-jobs-append g xs ys ks js less)
 
   keeps : (lines others : List Line) (rs : List (Reader S)) → ((r : RouterId) → takes_router r lines ≡ true → takes_router r others ≡ false) →
       filter (takes_reader others) (left_by_lines lines rs) ≡ filter (takes_reader others) rs
@@ -119,16 +140,18 @@ module _ {S : Type 0} where
   same-takes : (lines : List Line) (g : Reader S → FeedRead) (rs : List (Reader S)) → HasRouters g rs → All (λ r. takes_feed lines (g r) ≡ takes_reader lines r) rs
   same-takes lines g rs has = λ k d less. ap (λ router. list_any (takes router) lines) (has k d less)
 
-  scripts-jobs : (g : Reader S → FeedRead) (n : ℕ) (scripts : List (List Line)) (rest readers : List (Reader S)) → HasRouters g readers → TakeApart scripts → AreLeft scripts rest readers →
-      script_jobs n scripts (map g readers) ≡ map (task_job g) (script_tasks n scripts rest)
+  scripts-jobs : (g : Reader S → FeedRead) (n : ℕ) (runs : List ScriptRun) (rest readers : List (Reader S)) → HasRouters g readers → TakeApart (lines_of_runs runs) → AreLeft (lines_of_runs runs) rest readers →
+      script_jobs n runs (map g readers) ≡ task_jobs g (script_tasks n (lines_of_runs runs) rest) (kept_of_runs runs)
   scripts-jobs g n [] rest readers has apart are = refl
-  scripts-jobs g n (lines ∷ scripts) rest readers has apart are =
+  scripts-jobs g n (run ∷ runs) rest readers has apart are =
+      let lines : List Line = run.lines in
+      let scripts : List (List Line) = lines_of_runs runs in
       let mine : filter (takes_feed lines) (map g readers) ≡ map g (filter (takes_reader lines) rest) =
       filter-map (takes_feed lines) (takes_reader lines) g readers (same-takes lines g readers has)
       ∙ ap (map g) (sym (All-head (λ lines'. filter (takes_reader lines') rest ≡ filter (takes_reader lines') readers) lines scripts are)) in
       let later : AreLeft scripts (left_by_lines lines rest) readers =
       are-left lines scripts rest readers apart.0 (All-tail (λ lines'. filter (takes_reader lines') rest ≡ filter (takes_reader lines') readers) lines scripts are) in
-      ap₂ (λ fs js. record { number = n; lines = lines; feeds = fs } ∷ js) mine (scripts-jobs g (suc n) scripts (left_by_lines lines rest) readers has apart.1 later)
+      ap₂ (λ fs js. record { number = n; lines = lines; feeds = fs; kept_links = run.kept_links } ∷ js) mine (scripts-jobs g (suc n) runs (left_by_lines lines rest) readers has apart.1 later)
 
   -- ---- the jobs of feeds that no script takes
 
@@ -158,25 +181,37 @@ module _ {S : Type 0} where
       left-is scripts (left_by_lines lines rs) ∙ filter-two (takes_reader lines) (is_left scripts) rs
       ∙ filter-same (λ r. not (takes_reader lines r) && is_left scripts r) (is_left (lines ∷ scripts)) rs (λ r. not-or (takes_reader lines r) (list_any (λ lines'. takes_reader lines' r) scripts))
 
-  any-same : (scripts : List (List Line)) (f : FeedRead) (r : Reader S) → f.router ≡ r.told.router → list_any (λ lines. takes_feed lines f) scripts ≡ list_any (λ lines. takes_reader lines r) scripts
-  any-same scripts f r is = ap (λ router. list_any (λ lines. list_any (takes router) lines) scripts) is
+  any-same : (runs : List ScriptRun) (f : FeedRead) (r : Reader S) → f.router ≡ r.told.router → list_any (λ run. takes_feed run.lines f) runs ≡ list_any (λ lines. takes_reader lines r) (lines_of_runs runs)
+  any-same [] f r is = refl
+  any-same (run ∷ runs) f r is = ap₂ (λ b c. b || c) (ap (λ router. list_any (takes router) run.lines) is) (any-same runs f r is)
 
-  untaken-is : (g : Reader S → FeedRead) (scripts : List (List Line)) (rs : List (Reader S)) → HasRouters g rs → untaken_feeds scripts (map g rs) ≡ map g (left_over scripts rs)
-  untaken-is g scripts rs has =
-      filter-map (λ f. not (list_any (λ lines. takes_feed lines f) scripts)) (is_left scripts) g rs (λ k d less. ap not (any-same scripts (g (get_or rs k d)) (get_or rs k d) (has k d less)))
-      ∙ ap (map g) (sym (left-is scripts rs))
+  untaken-is : (g : Reader S → FeedRead) (runs : List ScriptRun) (rs : List (Reader S)) → HasRouters g rs → untaken_feeds runs (map g rs) ≡ map g (left_over (lines_of_runs runs) rs)
+  untaken-is g runs rs has =
+      filter-map (λ f. not (list_any (λ run. takes_feed run.lines f) runs)) (is_left (lines_of_runs runs)) g rs (λ k d less. ap not (any-same runs (g (get_or rs k d)) (get_or rs k d) (has k d less)))
+      ∙ ap (map g) (sym (left-is (lines_of_runs runs) rs))
 
-  owns-jobs : (g : Reader S → FeedRead) (n : ℕ) (rs : List (Reader S)) → feed_jobs n (map g rs) ≡ map (task_job g) (own_tasks n rs)
+  -- no link entries of feeds' own jobs
+  abbrev pub no_links : List (Reader S) → List ℕ
+  no_links rs = map (λ r. 0) rs
+
+  owns-jobs : (g : Reader S → FeedRead) (n : ℕ) (rs : List (Reader S)) → feed_jobs n (map g rs) ≡ task_jobs g (own_tasks n rs) (no_links rs)
   owns-jobs g n [] = refl
-  owns-jobs g n (r ∷ rs) = ap (λ js. record { number = n; lines = []; feeds = g r ∷ [] } ∷ js) (owns-jobs g (suc n) rs)
+  owns-jobs g n (r ∷ rs) = ap (λ js. record { number = n; lines = []; feeds = g r ∷ []; kept_links = 0 } ∷ js) (owns-jobs g (suc n) rs)
+
+  tasks-many : (n : ℕ) (runs : List ScriptRun) (rest : List (Reader S)) → length (kept_of_runs runs) ≡ length (script_tasks n (lines_of_runs runs) rest)
+  tasks-many n [] rest = refl
+  tasks-many n (run ∷ runs) rest = ap suc (tasks-many (suc n) runs (left_by_lines run.lines rest))
 
   -- the jobs of a run are those that its readers were dealt to
-  pub jobs-are : (g : Reader S → FeedRead) (scripts : List (List Line)) (readers : List (Reader S)) → HasRouters g readers → TakeApart scripts →
-      jobs_of scripts (map g readers) ≡ map (task_job g) (tasks_of scripts readers)
-  jobs-are g scripts readers has apart =
-      ap₂ (λ xs ys. xs ++ ys) (scripts-jobs g 1 scripts readers readers has apart (all-left scripts readers))
-      (ap (feed_jobs (suc (length scripts))) (untaken-is g scripts readers has) ∙ owns-jobs g (suc (length scripts)) (left_over scripts readers))
-      ∙ sym (map-append (task_job g) (script_tasks 1 scripts readers) (own_tasks (suc (length scripts)) (left_over scripts readers)))
+  pub jobs-are : (g : Reader S → FeedRead) (runs : List ScriptRun) (readers : List (Reader S)) → HasRouters g readers → TakeApart (lines_of_runs runs) →
+      jobs_of runs (map g readers) ≡ task_jobs g (tasks_of (lines_of_runs runs) readers) (kept_of_runs runs ++ no_links (left_over (lines_of_runs runs) readers))
+  jobs-are g runs readers has apart =
+      let scripts : List (List Line) = lines_of_runs runs in
+      let left : List (Reader S) = left_over scripts readers in
+      let many : length scripts ≡ length runs = length-map runs (λ (run : ScriptRun). run.lines) in
+      ap₂ (λ xs ys. xs ++ ys) (scripts-jobs g 1 runs readers readers has apart (all-left scripts readers))
+      (ap (feed_jobs (suc (length runs))) (untaken-is g runs readers has) ∙ ap (λ n. feed_jobs (suc n) (map g left)) (sym many) ∙ owns-jobs g (suc (length scripts)) left)
+      ∙ sym (task-jobs-append g (script_tasks 1 scripts readers) (own_tasks (suc (length scripts)) left) (kept_of_runs runs) (no_links left) (tasks-many 1 runs readers))
 
   -- ---- every reader has one job
 

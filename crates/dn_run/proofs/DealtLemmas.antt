@@ -5,7 +5,7 @@ use Rattle.std.specs.List.Sorted.{IsNonDecreasingBy, IsPermutation}
 use Rattle.std.proofs.lemmas.List.{append-nil, length-map}
 use Rattle.std.proofs.lemmas.List.Sorted.{IsPermutation-map, length_permutation}
 use Rattle.dn_formats.specs.declared.script.Line.{Line}
-use Rattle.dn_formats.specs.declared.told.FeedTold.{FeedTold}
+use Rattle.feed_model.specs.declared.feed_told.FeedTold.{FeedTold}
 use Rattle.dn_formats.specs.declared.told.JobTold.{JobTold}
 use Rattle.dn_model.specs.declared.entry.Posted.{Posted}
 use Rattle.dn_model.specs.declared.topology.Topology.{Topology}
@@ -14,7 +14,7 @@ use Rattle.feed_threads.specs.AllJobs.{AllRan, IsBackFrom, told_by}
 use Rattle.feed_threads.specs.Jobs.{Task}
 use Rattle.feed_threads.specs.declared.job.JobDone.{JobDone}
 use Rattle.dn_run.specs.Deal.{readers_of, tasks_of, unread_back}
-use Rattle.dn_run.specs.Jobs.{AreNumbered, HasRun, IsFresh, TakeApart}
+use Rattle.dn_run.specs.Jobs.{AreFit, AreNumbered, HasRun, IsFresh}
 use Rattle.dn_run.specs.Ran.{ListRan, RanAs, back_tag, reader_tag}
 use Rattle.dn_run.specs.Limits.{history_limit}
 use Rattle.dn_run.proofs.BackLemmas.{all-tags, has-run, places-in-order}
@@ -74,7 +74,7 @@ module _ {S : Type 0} (place : S → ℕ) where
 -- ---- what was made
 
 module _ {S : Type 0} (t : Topology) (left : S → Option (List ℕ)) (faults place : S → ℕ) where
-  pub back-count : (seen : List Posted) (tasks : List (Task S)) (dones : List (JobDone S)) → AllZip (IsBackFrom t left faults place history_limit seen) tasks dones →
+  pub back-count : (seen : List Posted) (tasks : List (Task S)) (dones : List (JobDone S)) → AllZip (IsBackFrom t left faults place history_limit) tasks dones →
       length (flat_map (λ done. done.feeds.items) dones) ≡ length (readers_of tasks)
   back-count seen tasks dones zip =
       sym (length-map (flat_map (λ done. done.feeds.items) dones) (back_tag place)) ∙ ap length (all-tags t left faults place history_limit seen tasks dones zip)
@@ -101,7 +101,7 @@ module _ {S : Type 0} (t : Topology) (left : S → Option (List ℕ)) (faults pl
     came-sources = back-count seen tasks dones ran-at.each
 
     pub came-jobs : length dones ≡ length tasks
-    came-jobs = zip-count (IsBackFrom t left faults place history_limit seen) tasks dones ran-at.each
+    came-jobs = zip-count (IsBackFrom t left faults place history_limit) tasks dones ran-at.each
 
     pub came-tags : (backs : List (S × FeedTold)) → backs ≡ flat_map (λ done. done.feeds.items) dones → map (back_tag place) backs ≡ map (reader_tag place) (readers_of tasks)
     came-tags backs is = list-tags seen tasks dones backs ran-at is
@@ -111,10 +111,10 @@ module _ {S : Type 0} (t : Topology) (left : S → Option (List ℕ)) (faults pl
     came-ran wanted backs told history wanted_is none backs_are told_are history_is =
         subst (λ h. ListRan t left faults place tasks backs h told) (sym history_is) (list-ran seen tasks dones backs told ran-at (sym wanted_is ∙ none) backs_are told_are)
 
-  pub ran-of : (scripts : List (List Line)) (readers : List (Reader S)) (backs : List (S × FeedTold)) (history : List Posted) (told : List JobTold) → AreNumbered 1 readers → TakeApart scripts →
-      length readers ≤ 64 → All (IsFresh t faults) readers → ListRan t left faults place (tasks_of scripts readers) backs history told → RanAs t left faults readers backs history scripts told
-  ran-of scripts readers backs history told numbered apart few fresh ran =
-      let is = ran-as t left faults place history scripts readers ran.dones numbered apart few (λ k d less. (fresh k d less).limit) unread_back ran.lawful in
+  pub ran-of : (scripts : List (List Line)) (readers : List (Reader S)) (backs : List (S × FeedTold)) (history : List Posted) (told : List JobTold) → AreNumbered 1 readers → AreFit scripts →
+      length readers ≤ 64 → length (tasks_of scripts readers) ≤ 64 → All (IsFresh t faults) readers → ListRan t left faults place (tasks_of scripts readers) backs history told → RanAs t left faults readers backs history scripts told
+  ran-of scripts readers backs history told numbered fit few few-tasks fresh ran =
+      let is = ran-as t left faults place history scripts readers ran.dones numbered fit few few-tasks (λ k d less. (fresh k d less).limit) unread_back ran.lawful in
       subst (λ bs. RanAs t left faults readers bs history scripts told) (sym ran.backs_are)
       (subst (λ js. RanAs t left faults readers (flat_map (λ done. done.feeds.items) ran.dones) history scripts js) (sym ran.told_are) is)
 

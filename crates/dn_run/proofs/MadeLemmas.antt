@@ -1,25 +1,25 @@
 -- The run over the generated input: its readers, what its one job tells, and that it tells one thing alone.
-use Rattle.std.proofs.Common.{◌≡◌, ℕ, ◌+◌, ◌<◌, Bool, true, List, [], ◌∷◌, All, length, map, filter, take, Option, Some, refl, ap, ap₂, sym, ◌∙◌, subst, arith}
+use Rattle.std.proofs.Common.{◌≡◌, ℕ, ◌+◌, ◌<◌, ◌≤◌, Bool, true, List, [], ◌∷◌, All, length, map, filter, take, Option, Some, refl, ap, ap₂, sym, ◌∙◌, subst, arith}
 use Rattle.std.specs.List.{AllZip}
 use Rattle.std.proofs.lemmas.Grind.{common_steps}
 use Rattle.std.proofs.lemmas.List.Elements.{All-cons, All-head, All-nil, All-tail}
-use Rattle.dn_formats.specs.Feed.{IsReading}
-use Rattle.dn_formats.specs.Lawful.{IsLawful, IsOutcome, Job, Tells, TellsAll, feed_jobs, jobs_of, takes_feed, untaken_feeds}
-use Rattle.dn_formats.specs.Steps.{FeedRead}
+use Rattle.feed_model.specs.Feed.{IsReading}
+use Rattle.dn_formats.specs.Lawful.{IsLawful, IsOutcome, Job, ScriptRun, Tells, TellsAll, feed_jobs, jobs_of, takes_feed, untaken_feeds}
+use Rattle.feed_model.specs.Steps.{FeedRead}
 use Rattle.dn_model.specs.Tables.{parts}
 use Rattle.dn_formats.specs.declared.script.Line.{Line}
 use Rattle.dn_formats.specs.declared.script.Line.TheVariants.{Ask}
-use Rattle.dn_formats.specs.declared.told.FeedEnd.{FeedEnd}
-use Rattle.dn_formats.specs.declared.told.FeedEnd.TheVariants as ends
-use Rattle.dn_formats.specs.declared.told.FeedTold.{FeedTold}
+use Rattle.feed_model.specs.declared.feed_told.FeedEnd.{FeedEnd}
+use Rattle.feed_model.specs.declared.feed_told.FeedEnd.TheVariants as ends
+use Rattle.feed_model.specs.declared.feed_told.FeedTold.{FeedTold}
 use Rattle.dn_formats.specs.declared.told.JobTold.{JobTold}
 use Rattle.dn_formats.specs.declared.told.Outcome.{Outcome}
 use Rattle.dn_formats.specs.declared.told.Outcome.TheVariants.{Answered, Unknown}
 use Rattle.dn_formats.specs.declared.told.Told.{Told}
+use Rattle.dn_formats.specs.declared.told.Told.TheVariants.{Asked, Linked}
 use Rattle.dn_io.specs.Memory.{SureSourceView}
 use Rattle.dn_model.specs.Answer.{IsLoopsAnswer}
 use Rattle.dn_model.specs.Entry.{entries}
-use Rattle.dn_model.specs.Query.{Question}
 use Rattle.dn_model.specs.Next.{next}
 use Rattle.dn_model.specs.declared.answer.Answer.{Answer}
 use Rattle.dn_model.specs.declared.answer.Answer.TheVariants as answers
@@ -33,8 +33,9 @@ use Rattle.feed_threads.specs.Feeds.{CountsBy, StandsBy}
 use Rattle.made_input.specs.Network.{made_routers}
 use Rattle.made_input.specs.Updates.{feeds_below, made_feed}
 use Rattle.route_feed.specs.FeedReader.{HasEnded, Reader}
-use Rattle.dn_run.specs.Jobs.{AreFewJobs, AreNumbered, AreReadAs, HasRun, HaveRoutersApart, IsFresh, IsReadAs, TakeApart, routers_of_readers}
-use Rattle.dn_run.specs.Limits.{feed_limit, history_limit}
+use Rattle.dn_run.specs.Jobs.{AreFewJobs, AreFit, AreNumbered, AreReadAs, HasRun, HaveRoutersApart, IsFresh, IsReadAs, routers_of_readers}
+use Rattle.dn_run.specs.Law.{whole_scripts}
+use Rattle.dn_run.specs.Limits.{feed_limit, history_limit, most_lines}
 use Rattle.dn_run.specs.Made.{IsMadeFeed, IsMadeRun, TellsCycles, loops_question, made_job, made_lines, made_network, made_router, made_take, router_numbers, told_cycles}
 use Rattle.dn_run.specs.Run.{takes_router}
 use Rattle.dn_run.specs.MadeReaders.{made_reader, made_readers, reader_of}
@@ -88,8 +89,11 @@ made-apart n = refl
 pub made-few : (n : ℕ) → AreFewJobs (made_lines ∷ []) (routers_of_readers (made_readers n))
 made-few n = omega arith
 
-pub made-take-apart : TakeApart (made_lines ∷ [])
-made-take-apart = (λ r is. refl, tt)
+pub made-fit : AreFit (made_lines ∷ [])
+made-fit = record {
+  apart = (λ r is. refl, tt);
+  short = All-cons (λ lines. length lines ≤ most_lines) made_lines [] (let few : length made_lines ≡ 9 = refl in omega (arith, few)) (All-nil (λ lines. length lines ≤ most_lines));
+}
 
 -- ---- what reading them comes to
 
@@ -152,15 +156,19 @@ each-taken t n (i ∷ is) [] are taken = absurd are
 each-taken t n (i ∷ is) (f ∷ fs) are taken =
     All-cons (λ f. takes_feed made_lines f ≡ true) f fs (ap (λ r. takes_router r made_lines) are.0.router_is ∙ taken.0) (each-taken t n is fs are.1 taken.1)
 
-none-untaken : (fs : List FeedRead) → All (λ f. takes_feed made_lines f ≡ true) fs → untaken_feeds (made_lines ∷ []) fs ≡ []
+-- the script has no link line
+abbrev run : ScriptRun
+run = record { lines = made_lines; kept_links = 0 }
+
+none-untaken : (fs : List FeedRead) → All (λ f. takes_feed made_lines f ≡ true) fs → untaken_feeds (run ∷ []) fs ≡ []
 none-untaken [] all = refl
 none-untaken (f ∷ fs) all =
     rw (All-head (λ f. takes_feed made_lines f ≡ true) f fs all) (none-untaken fs (All-tail (λ f. takes_feed made_lines f ≡ true) f fs all))
 
-one-job : (t : Topology) (n : ℕ) (fs : List FeedRead) → AllZip (IsMadeFeed t n) router_numbers fs → jobs_of (made_lines ∷ []) fs ≡ made_job fs ∷ []
+one-job : (t : Topology) (n : ℕ) (fs : List FeedRead) → AllZip (IsMadeFeed t n) router_numbers fs → jobs_of (whole_scripts t 1 (made_lines ∷ [])) fs ≡ made_job fs ∷ []
 one-job t n fs are =
     let all = each-taken t n router_numbers fs are are-taken in
-    ap₂ (λ mine others. record { number = 1; lines = made_lines; feeds = mine } ∷ feed_jobs 2 others) (all-pass (takes_feed made_lines) fs all) (none-untaken fs all)
+    ap₂ (λ mine others. record { number = 1; lines = made_lines; feeds = mine; kept_links = 0 } ∷ feed_jobs 2 others) (all-pass (takes_feed made_lines) fs all) (none-untaken fs all)
 
 -- what a run's jobs came to is what the run over the generated input comes to
 pub made-run : (t : Topology) (n : ℕ) (sources : List SureSourceView) (tolds : List FeedTold) (history : List Posted) (told : List JobTold) → parts t ≡ made_network →
@@ -186,33 +194,30 @@ answer-cycles does (answers.Uses first second) is = absurd is
 answer-cycles does (answers.Holes holes) is = absurd is
 answer-cycles does (answers.Delta changes) is = absurd is
 
-outcome-cycles : (t : Topology) (h : List Entry) (feeds : List FeedRead) (before : List Line) (last : ℕ) (outcome : Outcome) → IsOutcome t h feeds before last loops_question outcome →
+outcome-cycles : (t : Topology) (h : List Entry) (job : Job) (before : List Line) (last : ℕ) (outcome : Outcome) → IsOutcome t h job before last loops_question outcome →
     (pin : ℕ) × (cycles : List Cycle) × (outcome ≡ Answered pin (answers.Loops cycles))
-outcome-cycles t h feeds before last (Unknown u) is = absurd (cc)
-outcome-cycles t h feeds before last (Answered pin answer) is =
+outcome-cycles t h job before last (Unknown u) is = absurd (cc)
+outcome-cycles t h job before last (Answered pin answer) is =
     let made = answer-cycles (next t (take pin h) []) answer is.4 in (pin, made.0, ap (λ a. Answered pin a) made.1)
 
-same-told : (told : Told) (line : ℕ) (query : Question) (outcome : Outcome) → told.line ≡ line → told.query ≡ query → told.outcome ≡ outcome → told ≡ record { line = line; query = query; outcome = outcome }
-same-told told line query outcome a b c =
-    ap₂ (λ l q. record { line = l; query = q; outcome = told.outcome }) a b ∙ ap (λ o. record { line = line; query = query; outcome = o }) c
-
-query-told : (t : Topology) (h : List Entry) (feeds : List FeedRead) (before : List Line) (tolds : List Told) → Tells t h feeds before 0 (Ask 9 loops_question ∷ []) tolds →
+query-told : (t : Topology) (limit : ℕ) (h : List Entry) (job : Job) (before : List Line) (tolds : List Told) → Tells t limit h job before 0 (Ask 9 loops_question ∷ []) tolds →
     (pin : ℕ) × (cycles : List Cycle) × (tolds ≡ (told_cycles pin cycles).told)
-query-told t h feeds before [] tells = absurd tells
-query-told t h feeds before (told ∷ []) tells =
-    let out = outcome-cycles t h feeds before 0 told.outcome tells.2 in
-    (out.0, out.1, ap (λ x. x ∷ []) (same-told told 9 loops_question (Answered out.0 (answers.Loops out.1)) tells.0 tells.1 out.2))
-query-told t h feeds before (told ∷ more ∷ rest) tells = absurd tells.3
+query-told t limit h job before [] tells = absurd tells
+query-told t limit h job before (Linked l name down outcome ∷ rest) tells = absurd tells
+query-told t limit h job before (Asked l q outcome ∷ []) tells =
+    let out = outcome-cycles t h job before 0 outcome tells.2 in
+    (out.0, out.1, ap₂ (λ m x. Asked m x outcome ∷ []) tells.0 tells.1 ∙ ap (λ o. Asked 9 loops_question o ∷ []) out.2)
+query-told t limit h job before (Asked l q outcome ∷ more ∷ rest) tells = absurd tells.3
 
 same-job-told : (told : JobTold) (number : ℕ) (tolds : List Told) → told.number ≡ number → told.told ≡ tolds → told ≡ record { number = number; told = tolds }
 same-job-told told number tolds a b = ap₂ (λ n ts. record { number = n; told = ts }) a b
 
-job-told : (t : Topology) (h : List Entry) (feeds : List FeedRead) (told : List JobTold) → TellsAll t h (made_job feeds ∷ []) told → TellsCycles told
-job-told t h feeds [] tells = absurd tells
-job-told t h feeds (told ∷ []) tells =
-    let query = query-told t h feeds (map made_take router_numbers) told.told tells.0.1 in
+job-told : (t : Topology) (limit : ℕ) (h : List Entry) (feeds : List FeedRead) (told : List JobTold) → TellsAll t limit h (made_job feeds ∷ []) told → TellsCycles told
+job-told t limit h feeds [] tells = absurd tells
+job-told t limit h feeds (told ∷ []) tells =
+    let query = query-told t limit h (made_job feeds) (map made_take router_numbers) told.told tells.0.1 in
     (query.0, query.1, ap (λ x. x ∷ []) (same-job-told told 1 (told_cycles query.0 query.1).told tells.0.0 query.2))
-job-told t h feeds (told ∷ more ∷ rest) tells = absurd tells.1
+job-told t limit h feeds (told ∷ more ∷ rest) tells = absurd tells.1
 
 pub tells-cycles : (n : ℕ) (told : List JobTold) → IsMadeRun n told → TellsCycles told
-tells-cycles n told run = job-told run.t run.history run.feeds told run.lawful.tells
+tells-cycles n told run = job-told run.t history_limit run.history run.feeds told run.lawful.tells

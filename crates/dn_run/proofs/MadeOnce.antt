@@ -1,17 +1,18 @@
 -- The generated input of so many updates makes one text.
-use Rattle.std.proofs.Common.{◌≡◌, ℕ, ◌+◌, Bool, true, false, ◌||◌, List, [], ◌∷◌, ◌++◌, All, IsTrue, cond, drop, filter, length, map, take, None, refl, ap, ap₂, sym, ◌∙◌, subst, nat_lt}
+use Rattle.std.proofs.Common.{◌≡◌, ℕ, ◌+◌, Bool, true, false, ◌||◌, List, [], ◌∷◌, ◌++◌, All, IsTrue, cond, drop, filter, get_or, length, map, take, None, refl, ap, ap₂, sym, ◌∙◌, subst, nat_lt}
 use Rattle.std.specs.List.{AllZip, list_any}
 use Rattle.std.proofs.Math.Bool.{So-prop}
 use Rattle.std.proofs.lemmas.List.{append_cancel_left, append-nil, take-append-drop}
 use Rattle.std.proofs.lemmas.List.Elements.{All-cons, All-drop, All-head, All-nil, All-tail, filter-append}
-use Rattle.dn_formats.specs.Feed.{IsReading, ending}
-use Rattle.dn_formats.specs.Frames.{FrameRest, NoRest, CutFrame, BadVersion, BadFrameLength, frames_text, rest_kind}
-use Rattle.dn_formats.specs.Lawful.{HoldsWhatWasTaken, IsKept, IsLawful, IsWhole, asked, entries_of_job, front_of, is_from, is_from_some, kept_by}
-use Rattle.dn_formats.specs.Steps.{FeedRead, entries_of, kept_of, updates}
+use Rattle.feed_model.specs.Feed.{IsReading, ending}
+use Rattle.feed_model.specs.Frames.{FrameRest, NoRest, CutFrame, BadVersion, BadFrameLength, frames_text, rest_kind}
+use Rattle.dn_formats.specs.Lawful.{HoldsWhatWasGiven, IsKept, IsLawful, IsWhole, KeepsOrder, asked, entries_of_job, front_of, is_by, is_from, is_from_some, is_own, kept_by, kept_of_links}
+use Rattle.feed_model.specs.Steps.{FeedRead, entries_of, kept_of, updates}
 use Rattle.dn_model.specs.Tables.{parts}
 use Rattle.dn_formats.specs.declared.script.Line.{Line}
-use Rattle.dn_formats.specs.declared.told.FeedEnd.TheVariants as ends
-use Rattle.dn_formats.proofs.FeedLemmas.{reading_once}
+use Rattle.feed_model.specs.declared.feed_told.FeedEnd.TheVariants as ends
+use Rattle.dn_formats.specs.declared.told.JobTold.{JobTold}
+use Rattle.feed_model.proofs.FeedLemmas.{reading_once}
 use Rattle.dn_formats.proofs.LawfulLemmas.{whole}
 use Rattle.base.specs.Cycles.{AreCycles}
 use Rattle.dn_model.specs.Topology.{Parts, is_sound_topology}
@@ -84,12 +85,33 @@ all-feeds t n h j (i ∷ is) (f ∷ fs) (g ∷ gs) a kept b also =
 
 -- ---- the history
 
+-- where no entry is of a link line each is of a feed
+of-feeds : (feeds : List FeedRead) (h : List Entry) → filter (is_by 1) h ≡ [] → All (λ e. IsTrue (is_from_some feeds e || (is_by 1 e || false))) h → All (λ e. IsTrue (is_from_some feeds e)) h
+of-feeds feeds [] none only = All-nil (λ e. IsTrue (is_from_some feeds e))
+of-feeds feeds (e ∷ h) none only =
+    by-test (is_by 1 e) none (All-head (λ e. IsTrue (is_from_some feeds e || (is_by 1 e || false))) e h only)
+    (λ rest. of-feeds feeds h rest (All-tail (λ e. IsTrue (is_from_some feeds e || (is_by 1 e || false))) e h only))
+  where
+    no-more : (a : Bool) → (a || false) ≡ true → a ≡ true
+    no-more true is = refl
+    no-more false is = is
+
+    by-test : (b : Bool) → cond b (e ∷ filter (is_by 1) h) (filter (is_by 1) h) ≡ [] → (is_from_some feeds e || (b || false)) ≡ true →
+        (filter (is_by 1) h ≡ [] → All (λ e. IsTrue (is_from_some feeds e)) h) → All (λ e. IsTrue (is_from_some feeds e)) (e ∷ h)
+    by-test true none here rest = absurd (cc)
+    by-test false none here rest = All-cons (λ e. IsTrue (is_from_some feeds e)) e h (no-more (is_from_some feeds e) here) (rest none)
+
+only-feeds : (t : Topology) (feeds : List FeedRead) (h : List Entry) (told : List JobTold) → IsLawful t history_limit feeds (made_job feeds ∷ []) h told → All (λ e. IsTrue (is_from_some feeds e)) h
+only-feeds t feeds h told lawful =
+    of-feeds feeds h (All-head (λ job. filter (is_by job.number) h ≡ kept_of_links t job job.lines) (made_job feeds) [] lawful.shuffle.each_link) lawful.shuffle.only
+
 -- the one job's entries are the whole history
 one-history : (t : Topology) (feeds : List FeedRead) (h : List Entry) (pin : ℕ) (cycles : List Cycle) →
-    IsLawful t history_limit feeds (made_job feeds ∷ []) h (told_cycles pin cycles ∷ []) → h ≡ entries_of_job (made_job feeds)
+    IsLawful t history_limit feeds (made_job feeds ∷ []) h (told_cycles pin cycles ∷ []) → h ≡ entries_of_job t (made_job feeds)
 one-history t feeds h pin cycles lawful =
-    sym (all-pass (is_from_some feeds) h lawful.shuffle.only)
-    ∙ All-head (λ job. filter (is_from_some job.feeds) h ≡ entries_of_job job) (made_job feeds) [] lawful.order
+    let only = only-feeds t feeds h (told_cycles pin cycles ∷ []) lawful in
+    sym (all-pass (is_own (made_job feeds)) h (λ k d less. let here : is_from_some feeds (get_or h k d) ≡ true = only k d less in rw here refl))
+    ∙ All-head (KeepsOrder t h) (made_job feeds) [] lawful.order
 
 -- ---- the position of the query
 
@@ -145,15 +167,16 @@ none-left (e ∷ es) fs only none = absurd (of-none e es fs none (All-head (λ e
 whole-pin : (t : Topology) (n : ℕ) (feeds : List FeedRead) (h : List Entry) (pin : ℕ) (cycles : List Cycle) → AllZip (IsMadeFeed t n) router_numbers feeds →
     IsLawful t history_limit feeds (made_job feeds ∷ []) h (told_cycles pin cycles ∷ []) → take pin h ≡ h
 whole-pin t n feeds h pin cycles are lawful =
-    let holds : HoldsWhatWasTaken feeds takes (take pin h) = lawful.tells.0.1.2.3 in
-    let none = none-after t n h pin router_numbers feeds are ask-for-all holds lawful.shuffle.each in
-    let rest : drop pin h ≡ [] = none-left (drop pin h) feeds (All-drop (λ e. IsTrue (is_from_some feeds e)) pin h lawful.shuffle.only) none in
+    let holds : HoldsWhatWasGiven t (made_job feeds) takes (take pin h) = lawful.tells.0.1.2.3 in
+    let none = none-after t n h pin router_numbers feeds are ask-for-all holds.taken lawful.shuffle.each in
+    let only = only-feeds t feeds h (told_cycles pin cycles ∷ []) lawful in
+    let rest : drop pin h ≡ [] = none-left (drop pin h) feeds (All-drop (λ e. IsTrue (is_from_some feeds e)) pin h only) none in
     sym (append-nil (take pin h)) ∙ ap (λ xs. take pin h ++ xs) (sym rest) ∙ take-append-drop pin h
 
 -- ---- the cycles
 
 cycles-are : (t : Topology) (n : ℕ) (feeds : List FeedRead) (h : List Entry) (pin : ℕ) (cycles : List Cycle) → AllZip (IsMadeFeed t n) router_numbers feeds →
-    IsLawful t history_limit feeds (made_job feeds ∷ []) h (told_cycles pin cycles ∷ []) → AreCycles (next t (entries_of_job (made_job feeds)) []) cycles
+    IsLawful t history_limit feeds (made_job feeds ∷ []) h (told_cycles pin cycles ∷ []) → AreCycles (next t (entries_of_job t (made_job feeds)) []) cycles
 cycles-are t n feeds h pin cycles are lawful =
     let answer : AreCycles (next t (take pin h) []) cycles = lawful.tells.0.1.2.4 in
     subst (λ es. AreCycles (next t es []) cycles) (whole-pin t n feeds h pin cycles are lawful ∙ one-history t feeds h pin cycles lawful) answer
@@ -166,8 +189,8 @@ same-cycles n t u fs gs h j pin at xs ys same a p b q =
     let there : AllZip (IsMadeFeed t n) router_numbers gs = subst (λ (v : Topology). AllZip (IsMadeFeed v n) router_numbers gs) (sym same) b in
     let lawful : IsLawful t history_limit gs (made_job gs ∷ []) j (told_cycles at ys ∷ []) = subst (λ (v : Topology). IsLawful v history_limit gs (made_job gs ∷ []) j (told_cycles at ys ∷ [])) (sym same) q in
     let feeds : fs ≡ gs = all-feeds t n h j router_numbers fs gs a p.shuffle.kept there lawful.shuffle.kept in
-    cycles-once (next t (entries_of_job (made_job fs)) []) xs ys (cycles-are t n fs h pin xs a p)
-    (subst (λ (ks : List FeedRead). AreCycles (next t (entries_of_job (made_job ks)) []) ys) (sym feeds) (cycles-are t n gs j at ys there lawful))
+    cycles-once (next t (entries_of_job t (made_job fs)) []) xs ys (cycles-are t n fs h pin xs a p)
+    (subst (λ (ks : List FeedRead). AreCycles (next t (entries_of_job t (made_job ks)) []) ys) (sym feeds) (cycles-are t n gs j at ys there lawful))
 
 pub made-once : (n : ℕ) (x y : List ℕ) → IsMade n x → IsMade n y → x ≡ y
 made-once n x y p q =

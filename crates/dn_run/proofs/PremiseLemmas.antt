@@ -3,7 +3,7 @@ use Rattle.std.proofs.Common.{◌≡◌, ℕ, suc, ◌+◌, ◌==◌, ◌≤◌,
 use Rattle.std.specs.List.{list_any}
 use Rattle.std.proofs.lemmas.List.{append-nil, length-append, map-append}
 use Rattle.std.proofs.lemmas.List.Elements.{All-cons, All-head, All-tail, All-nil}
-use Rattle.std.proofs.lemmas.List.Sorted.{All-permutation, IsPermutation-map, length_permutation}
+use Rattle.std.proofs.lemmas.List.Sorted.{All-permutation, IsPermutation-map, IsPermutation-refl, length_permutation}
 use Rattle.dn_formats.specs.declared.script.Line.{Line}
 use Rattle.base.specs.Lists.{all_differ}
 use Rattle.base.specs.declared.ids.RouterId.{RouterId}
@@ -11,7 +11,7 @@ use Rattle.dn_model.specs.declared.topology.Topology.{Topology}
 use Rattle.route_feed.specs.FeedReader.{Reader}
 use Rattle.feed_threads.specs.AllJobs.{AreNumberedApart}
 use Rattle.feed_threads.specs.Jobs.{AreApart, IsFresh as IsUnread, Task}
-use Rattle.dn_run.specs.Deal.{left_over, own_tasks, readers_of, script_tasks, tasks_of}
+use Rattle.dn_run.specs.Deal.{left_by_lines, left_over, own_tasks, readers_of, script_tasks, tasks_of}
 use Rattle.dn_run.specs.Jobs.{AreFewJobs, AreNumbered, HaveRoutersApart, IsFresh, routers_of_readers, same_router, scripts_of}
 use Rattle.dn_run.specs.Run.{untaken}
 use Rattle.dn_run.specs.Work.{IsReady}
@@ -102,10 +102,27 @@ module _ {S : Type 0} where
   from-numbered n [] are = tt
   from-numbered n (r ∷ rs) are = (are.0, from-numbered (suc n) rs are.1)
 
+  -- the tasks of a run are numbered in order
+  own-from : (n : ℕ) (rs : List (Reader S)) → IsFrom (λ (task : Task S). task.number) n (own_tasks n rs)
+  own-from n [] = tt
+  own-from n (r ∷ rs) = (refl, own-from (suc n) rs)
+
+  scripts-from : (n m : ℕ) (scripts : List (List Line)) (readers : List (Reader S)) (own : List (Task S)) → m ≡ n + length scripts → IsFrom (λ (task : Task S). task.number) m own →
+      IsFrom (λ (task : Task S). task.number) n (script_tasks n scripts readers ++ own)
+  scripts-from n m [] readers own is from = subst (λ (k : ℕ). IsFrom (λ (task : Task S). task.number) k own) (let e : m ≡ n = omega (arith, is) in e) from
+  scripts-from n m (lines ∷ scripts) readers own is from = (refl, scripts-from (suc n) m scripts (left_by_lines lines readers) own (omega (arith, is)) from)
+
+  tasks-from : (scripts : List (List Line)) (readers : List (Reader S)) → IsFrom (λ (task : Task S). task.number) 1 (tasks_of scripts readers)
+  tasks-from scripts readers =
+      scripts-from 1 (suc (length scripts)) scripts readers (own_tasks (suc (length scripts)) (left_over scripts readers)) (omega arith) (own-from (suc (length scripts)) (left_over scripts readers))
+
   pub tasks-numbered : (scripts : List (List Line)) (readers : List (Reader S)) → AreNumbered 1 readers → AreNumberedApart (tasks_of scripts readers)
-  tasks-numbered scripts readers numbered =
-      differ-all (λ (r : Reader S). r.told.feed_no) (readers_of (tasks_of scripts readers))
-      (differs (λ (r : Reader S). r.told.feed_no) 1 readers (readers_of (tasks_of scripts readers)) (from-numbered 1 readers numbered) (readers-dealt scripts readers))
+  tasks-numbered scripts readers numbered = record {
+    feeds = differ-all (λ (r : Reader S). r.told.feed_no) (readers_of (tasks_of scripts readers))
+        (differs (λ (r : Reader S). r.told.feed_no) 1 readers (readers_of (tasks_of scripts readers)) (from-numbered 1 readers numbered) (readers-dealt scripts readers));
+    jobs = differ-all (λ (task : Task S). task.number) (tasks_of scripts readers)
+        (differs (λ (task : Task S). task.number) 1 (tasks_of scripts readers) (tasks_of scripts readers) (tasks-from scripts readers) (IsPermutation-refl (tasks_of scripts readers)));
+  }
 
   -- ---- how many jobs there are
 

@@ -4,15 +4,15 @@ use Rattle.std.proofs.lemmas.Bool.Decides.{nat_tests}
 use Rattle.std.proofs.lemmas.List.Elements.{All-head, All-tail}
 use Rattle.dn_io.specs.Calls.{Back, back_with}
 use Rattle.dn_io.specs.Told.{with_front}
-use Rattle.dn_formats.specs.Feed.{IsReading, IsFaultedReading}
+use Rattle.feed_model.specs.Feed.{IsReading, IsFaultedReading}
 use Rattle.dn_model.specs.Entry.{entries}
 use Rattle.dn_formats.specs.Report.{report}
-use Rattle.dn_formats.specs.Steps.{FeedRead}
+use Rattle.feed_model.specs.Steps.{FeedRead}
 use Rattle.dn_formats.specs.declared.script.Line.{Line}
 use Rattle.dn_model.specs.declared.topology.Topology.{Topology}
-use Rattle.dn_formats.specs.declared.told.FeedEnd.{FeedEnd}
-use Rattle.dn_formats.specs.declared.told.FeedEnd.TheVariants as ends
-use Rattle.dn_formats.specs.declared.told.FeedTold.{FeedTold}
+use Rattle.feed_model.specs.declared.feed_told.FeedEnd.{FeedEnd}
+use Rattle.feed_model.specs.declared.feed_told.FeedEnd.TheVariants as ends
+use Rattle.feed_model.specs.declared.feed_told.FeedTold.{FeedTold}
 use Rattle.dn_run.specs.Feeds.{opened, AreLeft, some_rose}
 use Rattle.dn_run.specs.Jobs.{AreNumbered, IsReadAs, AreReadAs, HasRun, routers_of_readers}
 use Rattle.feed_threads.specs.Feeds.{CountsBy, StandsBy}

@@ -4,16 +4,16 @@ use Rattle.std.proofs.lemmas.List.{append-nil}
 use Rattle.dn_io.specs.Calls.{Call, CallState, Out, Refused, Back}
 use Rattle.dn_io.specs.Files.{Files, bytes_of}
 use Rattle.dn_io.specs.Told.{with_end}
-use Rattle.dn_formats.specs.Feed.{IsReading}
+use Rattle.feed_model.specs.Feed.{IsReading}
 use Rattle.dn_formats.specs.Report.{report}
 use Rattle.dn_formats.specs.ScriptText.{script_of}
-use Rattle.dn_formats.specs.Steps.{FeedRead, told_of}
+use Rattle.feed_model.specs.Steps.{FeedRead, told_of}
 use Rattle.dn_formats.specs.TopologyText.{topology_of}
 use Rattle.dn_formats.specs.Words.{FeedWords, PartsSaid, parts_of}
 use Rattle.dn_formats.specs.declared.error_line.ErrorLine.{ErrorLine}
 use Rattle.dn_formats.specs.declared.error_line.ErrorLine.TheVariants as errors
 use Rattle.dn_formats.specs.declared.script.Line.{Line}
-use Rattle.dn_formats.specs.declared.told.FeedTold.{FeedTold}
+use Rattle.feed_model.specs.declared.feed_told.FeedTold.{FeedTold}
 use Rattle.base.specs.declared.ids.RouterId.{RouterId}
 use Rattle.dn_model.specs.declared.topology.Topology.{Topology}
 use Rattle.dn_run.specs.CommandLine.{Run, RunWords, command_of}

@@ -22,7 +22,7 @@ use Rattle.dn_run.specs.RoutersFound.{AreRoutersRefused}
 use Rattle.dn_run.specs.Limits.{most_jobs}
 use Rattle.dn_run.specs.Run.{Follows, IsLine, Reads, Steps, feed_files, or_fails, read_scripts, names_due, names_of_parts, names_of_run, untaken, routers_of, script_files}
 use Rattle.dn_run.specs.Stage.{Stage, is_fault, may_end_early}
-use Rattle.dn_run.specs.Stops.{AreTaken, Due, EndsWith, GoesOn, Reaches, ScriptEnds, ScriptGoesOn, ScriptsEnd, ScriptsGoOn, Stops, StopsAs, TakeNoneOf, names_left, from_feeds, from_jobs, from_run, from_scripts, stop_of_parts, stop_of_routers}
+use Rattle.dn_run.specs.Stops.{AreTaken, Due, EndsWith, GoesOn, MayFollow, Reaches, ScriptEnds, ScriptGoesOn, ScriptsEnd, ScriptsGoOn, Stops, StopsAs, names_left, from_feeds, from_jobs, from_run, from_scripts, stop_of_parts, stop_of_routers}
 use Rattle.dn_run.specs.declared.load.Loaded.{Loaded}
 use Rattle.dn_run.specs.declared.load.Loaded.TheVariants.{Read, Refused, Failed}
 use Rattle.dn_run.specs.declared.parts.PartsRefused.{PartsRefused}
@@ -33,7 +33,7 @@ use Rattle.dn_run.specs.declared.status.Verdict.{Verdict}
 use Rattle.dn_run.specs.declared.status.Verdict.TheVariants.{BadWords, BadTopology, BadScript, ReadFault}
 use Rattle.dn_run.specs.declared.stop.Stop.{Stop}
 use Rattle.dn_run.specs.declared.stop.Stop.TheVariants.{Line, OutOfMemory}
-use Rattle.dn_run.proofs.ApartLemmas.{clear}
+use Rattle.dn_run.proofs.ApartLemmas.{clear, short}
 use Rattle.dn_run.proofs.ProgramLemmas.{on-bytes-out, or-map, stage-line, stage-may, stage-none, stage-read, stage-stops}
 use Rattle.dn_run.proofs.StepLemmas.{from_routers, from_topology, not-too-many, read_network, routers-refused, script-failed, script-read, script-refused, too-many, topology-failed, topology-read, topology-refused}
 
@@ -213,18 +213,18 @@ pub part-stops : {A : Type 0} (result : Result A Stop) (files : Option Files) (t
 part-stops (Ok x) files t routers taken part file old new loaded loads is = tt
 part-stops (Err stop) files t routers taken part file old new loaded loads is = script-stop files t routers taken part file old new loaded stop loads is
 
--- a script that was read takes from none of the routers that were taken before
-pub loads-clear : (files : Option Files) (t : Topology) (routers taken : List RouterId) (part : ℕ) (file : List ℕ) (old new : List Call) (script : Script) →
-    LoadsScript t routers taken part files old file new (Read script) → TakeNoneOf taken script.lines
-loads-clear files t routers taken part file old new script loads =
-    on-bytes-out files file loads.0 (λ bytes. script_of t.routers routers taken bytes ≡ Ok script.lines) (TakeNoneOf taken script.lines)
-    (λ bytes is. clear t.routers routers taken bytes script.lines is) loads.2
+-- a script that was read may follow the scripts before it
+pub loads-follows : (files : Option Files) (t : Topology) (routers taken : List RouterId) (part : ℕ) (file : List ℕ) (old new : List Call) (script : Script) →
+    LoadsScript t routers taken part files old file new (Read script) → MayFollow taken script.lines
+loads-follows files t routers taken part file old new script loads =
+    on-bytes-out files file loads.0 (λ bytes. script_of t.routers routers taken bytes ≡ Ok script.lines) (MayFollow taken script.lines)
+    (λ bytes is. record { clear = clear t.routers routers taken bytes script.lines is; short = short t.routers routers taken bytes script.lines is }) loads.2
 
-pub part-clear : {E : Type 0} (result : Result Script E) (files : Option Files) (t : Topology) (routers taken : List RouterId) (part : ℕ) (file : List ℕ) (old new : List Call) (x : Loaded Script) →
-    LoadsScript t routers taken part files old file new x → IfOk result (λ script. x ≡ Read script) → IfOk result (λ script. TakeNoneOf taken script.lines)
-part-clear (Err e) files t routers taken part file old new x loads is = tt
-part-clear (Ok script) files t routers taken part file old new x loads is =
-    loads-clear files t routers taken part file old new script (subst (λ (y : Loaded Script). LoadsScript t routers taken part files old file new y) is loads)
+pub part-follows : {E : Type 0} (result : Result Script E) (files : Option Files) (t : Topology) (routers taken : List RouterId) (part : ℕ) (file : List ℕ) (old new : List Call) (x : Loaded Script) →
+    LoadsScript t routers taken part files old file new x → IfOk result (λ script. x ≡ Read script) → IfOk result (λ script. MayFollow taken script.lines)
+part-follows (Err e) files t routers taken part file old new x loads is = tt
+part-follows (Ok script) files t routers taken part file old new x loads is =
+    loads-follows files t routers taken part file old new script (subst (λ (y : Loaded Script). LoadsScript t routers taken part files old file new y) is loads)
 
 -- ---- the scripts
 

@@ -4,12 +4,12 @@ use Rattle.std.proofs.lemmas.List.{append_cancel_right}
 use Rattle.std.proofs.lemmas.List.Elements.{All-head, All-tail}
 use Rattle.dn_io.specs.Calls.{Call, CallState, Out, Refused, Back}
 use Rattle.dn_io.specs.Files.{Files, bytes_of}
-use Rattle.dn_formats.specs.Feed.{IsReading, IsFaultedReading}
-use Rattle.dn_formats.specs.Frames.{frames_text, rest_kind}
+use Rattle.feed_model.specs.Feed.{IsReading, IsFaultedReading}
+use Rattle.feed_model.specs.Frames.{frames_text, rest_kind}
 use Rattle.dn_formats.specs.Lawful.{IsWhole, IsKept}
-use Rattle.dn_formats.specs.Steps.{FeedRead, updates, told_of}
+use Rattle.feed_model.specs.Steps.{FeedRead, updates, told_of}
 use Rattle.dn_formats.specs.Words.{FeedWords}
-use Rattle.dn_formats.proofs.FeedLemmas.{reading_once, faulted_once}
+use Rattle.feed_model.proofs.FeedLemmas.{reading_once, faulted_once}
 use Rattle.dn_formats.proofs.LawfulLemmas.{whole}
 use Rattle.dn_model.specs.declared.entry.Entry.{Entry}
 use Rattle.base.specs.declared.ids.RouterId.{RouterId}
@@ -17,8 +17,8 @@ use Rattle.dn_model.specs.declared.topology.Topology.{Topology}
 use Rattle.dn_formats.specs.declared.error_line.ErrorLine.{ErrorLine}
 use Rattle.dn_formats.specs.declared.error_line.ErrorLine.TheVariants as errors
 use Rattle.dn_formats.specs.declared.script.Line.{Line}
-use Rattle.dn_formats.specs.declared.told.FeedEnd.TheVariants as ends
-use Rattle.dn_formats.specs.declared.told.FeedTold.{FeedTold}
+use Rattle.feed_model.specs.declared.feed_told.FeedEnd.TheVariants as ends
+use Rattle.feed_model.specs.declared.feed_told.FeedTold.{FeedTold}
 use Rattle.dn_run.specs.Alike.{AreAlike, AreRunsOfOne}
 use Rattle.dn_run.specs.CommandLine.{CommandWords, Make, Run, command_of}
 use Rattle.dn_run.specs.Ending.{Ruled}

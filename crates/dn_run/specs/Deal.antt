@@ -2,7 +2,7 @@
 use Rattle.std.specs.Prelude.{ℕ, suc, Bool, not, List, [], ◌∷◌, ◌++◌, length, filter}
 use Rattle.std.specs.List.{flat_map}
 use Rattle.dn_formats.specs.declared.script.Line.{Line}
-use Rattle.dn_formats.specs.declared.told.FeedTold.{FeedTold}
+use Rattle.feed_model.specs.declared.feed_told.FeedTold.{FeedTold}
 use Rattle.feed_threads.specs.Jobs.{Task}
 use Rattle.route_feed.specs.FeedReader.{Reader}
 use Rattle.dn_run.specs.Run.{ScriptLines, takes_router}

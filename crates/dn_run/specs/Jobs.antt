@@ -1,20 +1,20 @@
 -- What the jobs of a run came to.
 use Rattle.std.specs.Prelude.{◌≡◌, ℕ, suc, ◌+◌, ◌<◌, ◌≤◌, ◌^◌, ◌==◌, Bool, true, false, IsTrue, map, List, [], ◌∷◌}
-use Rattle.std.specs.Prelude.{length, Option, Some}
+use Rattle.std.specs.Prelude.{length, All, Option, Some}
 use Rattle.std.specs.List.{list_any}
-use Rattle.dn_formats.specs.Lawful.{IsLawful, jobs_of}
-use Rattle.dn_formats.specs.Steps.{FeedRead, told_of}
+use Rattle.feed_model.specs.Steps.{FeedRead, told_of}
 use Rattle.dn_model.specs.Entry.{entries}
 use Rattle.dn_model.specs.declared.entry.Posted.{Posted}
 use Rattle.base.specs.Lists.{all_differ}
 use Rattle.base.specs.declared.ids.RouterId.{RouterId}
 use Rattle.dn_formats.specs.declared.script.Script.{Script}
 use Rattle.dn_model.specs.declared.topology.Topology.{Topology}
-use Rattle.dn_formats.specs.declared.told.FeedTold.{FeedTold}
+use Rattle.feed_model.specs.declared.feed_told.FeedTold.{FeedTold}
 use Rattle.dn_formats.specs.declared.told.JobTold.{JobTold}
 use Rattle.route_feed.specs.FeedReader.{Reader, told_so_far}
 use Rattle.feed_threads.specs.Feeds.{CountsBy, StandsBy}
-use Rattle.dn_run.specs.Limits.{history_limit, most_jobs}
+use Rattle.dn_run.specs.Law.{IsLawfulRun}
+use Rattle.dn_run.specs.Limits.{most_jobs, most_lines}
 use Rattle.dn_run.specs.Run.{ScriptLines, takes_router, untaken}
 
 -- the lines of scripts
@@ -52,6 +52,11 @@ TakeApart [] = Unit {0}
 TakeApart (lines ∷ scripts) =
     ((r : RouterId) → takes_router r lines ≡ true → list_any (takes_router r) scripts ≡ false) × TakeApart scripts
 
+-- Scripts as a run has them: no two take from one router, and none has more lines than a script may have.
+pub record AreFit (scripts : ScriptLines) : Type 0 where
+  pub apart : TakeApart scripts
+  pub short : All (λ lines. length lines ≤ most_lines) scripts
+
 -- scripts over feeds of these routers are no more jobs than a run has
 abbrev pub AreFewJobs : ScriptLines → List RouterId → Type 0
 AreFewJobs scripts routers = length scripts + length (untaken scripts routers) ≤ most_jobs
@@ -79,11 +84,11 @@ AreReadAs t left faults (start ∷ starts) (source ∷ sources) (told ∷ tolds)
     IsReadAs t left faults start source told f × AreReadAs t left faults starts sources tolds fs
 AreReadAs t left faults starts sources tolds fs = ⊥
 
--- The jobs were run, and the feeds read to their ends: the history is a lawful one of what these gave, and so is what
--- is told of each job.
+-- The jobs were run, and the feeds read to their ends: the history is a lawful one of what these and the scripts' link
+-- lines gave, and so is what is told of each job.
 pub record HasRun {S : Type 0} (t : Topology) (left : S → Option (List ℕ)) (faults : S → ℕ) (starts : List (Reader S))
     (sources : List S) (tolds : List FeedTold) (history : List Posted) (scripts : ScriptLines)
     (jobs : List JobTold) : Type 0 where
   pub feeds : List FeedRead
   pub read : AreReadAs t left faults starts sources tolds feeds
-  pub lawful : IsLawful t history_limit feeds (jobs_of scripts feeds) (entries history) jobs
+  pub lawful : IsLawfulRun t feeds scripts (entries history) jobs

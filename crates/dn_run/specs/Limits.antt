@@ -13,6 +13,10 @@ history_limit = 4294967295
 abbrev pub most_jobs : ℕ
 most_jobs = 64
 
+-- a script has at most so many lines
+abbrev pub most_lines : ℕ
+most_lines = 65536
+
 -- an input of at most so many updates is made
 abbrev pub most_updates : ℕ
 most_updates = 1000000

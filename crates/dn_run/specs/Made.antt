@@ -2,15 +2,16 @@
 -- for the loops.
 use Rattle.std.specs.Prelude.{ℕ, ◌+◌, ◌%◌, ◌≡◌, codes, decimal, List, [], ◌∷◌, ◌++◌, length, map, sum, None, false}
 use Rattle.std.specs.List.{AllZip, range_with_len}
-use Rattle.dn_formats.specs.Feed.{IsReading}
+use Rattle.feed_model.specs.Feed.{IsReading}
 use Rattle.dn_formats.specs.Lawful.{IsLawful, Job}
-use Rattle.dn_formats.specs.Steps.{FeedRead}
+use Rattle.feed_model.specs.Steps.{FeedRead}
 use Rattle.dn_model.specs.Topology.{Parts}
 use Rattle.dn_model.specs.Tables.{parts}
 use Rattle.dn_formats.specs.declared.script.Line.{Line}
 use Rattle.dn_formats.specs.declared.script.Line.TheVariants.{Take, Ask}
 use Rattle.dn_formats.specs.declared.told.JobTold.{JobTold}
 use Rattle.dn_formats.specs.declared.told.Outcome.TheVariants.{Answered}
+use Rattle.dn_formats.specs.declared.told.Told.TheVariants.{Asked}
 use Rattle.dn_model.specs.Query.{Question}
 use Rattle.dn_model.specs.declared.answer.Answer.TheVariants as answers
 use Rattle.base.specs.declared.cycle.Cycle.{Cycle}
@@ -87,13 +88,13 @@ pub record IsMadeFeed (t : Topology) (n i : ℕ) (f : FeedRead) : Type 0 where
 
 -- the one job: the script over all feeds
 abbrev pub made_job : List FeedRead → Job
-made_job feeds = record { number = 1; lines = made_lines; feeds = feeds }
+made_job feeds = record { number = 1; lines = made_lines; feeds = feeds; kept_links = 0 }
 
 -- what the job tells: its one query is answered with these cycles, over so many first entries of the history
 abbrev pub told_cycles : ℕ → List Cycle → JobTold
 told_cycles pin cycles = record {
   number = 1;
-  told = record { line = made_routers + 1; query = loops_question; outcome = Answered pin (answers.Loops cycles) } ∷ [];
+  told = Asked (made_routers + 1) loops_question (Answered pin (answers.Loops cycles)) ∷ [];
 }
 
 -- three lines: how many updates there are, how many cycles, and how many addresses go round them

@@ -2,9 +2,8 @@
 use Rattle.std.specs.Prelude.{ℕ, ◌≡◌, All, List, map, Option}
 use Rattle.std.specs.List.{flat_map}
 use Rattle.std.specs.List.Sorted.{IsPermutation}
-use Rattle.dn_formats.specs.Lawful.{IsLawful, jobs_of}
-use Rattle.dn_formats.specs.Steps.{FeedRead}
-use Rattle.dn_formats.specs.declared.told.FeedTold.{FeedTold}
+use Rattle.feed_model.specs.Steps.{FeedRead}
+use Rattle.feed_model.specs.declared.feed_told.FeedTold.{FeedTold}
 use Rattle.dn_formats.specs.declared.told.JobTold.{JobTold}
 use Rattle.dn_model.specs.Entry.{entries}
 use Rattle.dn_model.specs.declared.entry.Posted.{Posted}
@@ -14,6 +13,7 @@ use Rattle.feed_threads.specs.AllJobs.{AreLawful, told_by}
 use Rattle.feed_threads.specs.Jobs.{Task}
 use Rattle.feed_threads.specs.declared.job.JobDone.{JobDone}
 use Rattle.dn_run.specs.Jobs.{IsReadAs}
+use Rattle.dn_run.specs.Law.{IsLawfulRun}
 use Rattle.dn_run.specs.Limits.{history_limit}
 use Rattle.dn_run.specs.Run.{ScriptLines}
 
@@ -42,4 +42,4 @@ pub record RanAs {S : Type 0} (t : Topology) (left : S → Option (List ℕ)) (f
   pub feed : Reader S → FeedRead
   pub backs_are : IsPermutation (map back readers) backs
   pub each : All (λ r. IsReadAs t left faults r (back r).0 (back r).1 (feed r)) readers
-  pub lawful : IsLawful t history_limit (map feed readers) (jobs_of scripts (map feed readers)) (entries history) told
+  pub lawful : IsLawfulRun t (map feed readers) scripts (entries history) told

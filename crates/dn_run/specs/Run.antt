@@ -13,25 +13,26 @@ use Rattle.dn_model.specs.Tables.{parts}
 use Rattle.dn_model.specs.Topology.{Parts}
 use Rattle.dn_model.specs.Lookup.{router_of}
 use Rattle.dn_formats.specs.ScriptText.{script_of}
-use Rattle.dn_formats.specs.Feed.{IsReading, IsFaultedReading}
-use Rattle.dn_formats.specs.Steps.{FeedRead, told_of}
-use Rattle.dn_formats.specs.Lawful.{IsLawful, takes, jobs_of}
+use Rattle.feed_model.specs.Feed.{IsReading, IsFaultedReading}
+use Rattle.feed_model.specs.Steps.{FeedRead, told_of}
+use Rattle.dn_formats.specs.Lawful.{takes}
 use Rattle.dn_formats.specs.Report.{report, error_text}
 use Rattle.base.specs.declared.ids.RouterId.{RouterId}
 use Rattle.dn_model.specs.declared.topology.Topology.{Topology}
 use Rattle.dn_model.specs.declared.entry.Entry.{Entry}
 use Rattle.dn_formats.specs.declared.script.Line.{Line}
-use Rattle.dn_formats.specs.declared.script.Line.TheVariants.{Take, Ask}
-use Rattle.dn_formats.specs.declared.told.FeedEnd.{FeedEnd}
-use Rattle.dn_formats.specs.declared.told.FeedEnd.TheVariants as ends
-use Rattle.dn_formats.specs.declared.told.FeedTold.{FeedTold}
+use Rattle.dn_formats.specs.declared.script.Line.TheVariants.{Take, Ask, Link}
+use Rattle.feed_model.specs.declared.feed_told.FeedEnd.{FeedEnd}
+use Rattle.feed_model.specs.declared.feed_told.FeedEnd.TheVariants as ends
+use Rattle.feed_model.specs.declared.feed_told.FeedTold.{FeedTold}
 use Rattle.dn_formats.specs.declared.told.JobTold.{JobTold}
 use Rattle.dn_formats.specs.declared.error_line.ErrorLine.{ErrorLine}
 use Rattle.dn_formats.specs.declared.error_line.ErrorLine.TheVariants as errors
 use Rattle.dn_run.specs.CommandLine.{CommandWords, Run, Make, RunWords, command_of}
 use Rattle.dn_run.specs.Ending.{Ending, Ruled, Stopped, IfRuled, OrStops}
 use Rattle.dn_run.specs.Exit.{Exit, ByVerdict, ByWriteFault, ByMemory}
-use Rattle.dn_run.specs.Limits.{feed_limit, history_limit, most_jobs}
+use Rattle.dn_run.specs.Law.{IsLawfulRun}
+use Rattle.dn_run.specs.Limits.{feed_limit, most_jobs}
 use Rattle.dn_run.specs.Made.{IsMade}
 use Rattle.dn_run.specs.Opened.{text_limit, IsReadFront, OnBytes, WithBytes, FailsWhereTold}
 use Rattle.dn_run.specs.declared.status.Verdict.{Verdict}
@@ -83,13 +84,14 @@ verdict_of tolds = if some_faulted tolds then ReadFault else (if all_well tolds 
 
 -- ---- the report
 
--- The report of a run, which tells this of the feeds: one lawful history, a shuffle of what the feeds gave, in which
--- each job's own entries stand in the order in which it takes them; and each query's answer over its pin.
+-- The report of a run, which tells this of the feeds: one lawful history, a shuffle of what the feeds gave and of the
+-- scripts' link lines, in which each job's own entries stand in the order of its lines; and each query's answer over its
+-- pin, and each link line's position.
 pub record IsReported (t : Topology) (scripts : ScriptLines) (feeds : List FeedRead) (tolds : List FeedTold)
     (text : List ℕ) : Type 0 where
   pub history : List Entry
   pub told : List JobTold
-  pub lawful : IsLawful t history_limit feeds (jobs_of scripts feeds) history told
+  pub lawful : IsLawfulRun t feeds scripts history told
   pub text_is : text ≡ report t tolds history told
 
 -- of a feed that ended of itself, or inside a frame, nothing is left
@@ -197,6 +199,7 @@ untaken scripts routers = filter (λ r. not (list_any (takes_router r) scripts))
 abbrev pub taken_by_line : Line → List RouterId
 taken_by_line (Take l r count) = r ∷ []
 taken_by_line (Ask l q) = []
+taken_by_line (Link l name down) = []
 
 -- the routers whose feeds scripts take
 abbrev pub taken_by_scripts : ScriptLines → List RouterId

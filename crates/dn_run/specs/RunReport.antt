@@ -1,17 +1,17 @@
 -- What the report of a run over files tells.
 use Rattle.std.specs.Prelude.{ℕ, suc, List, [], ◌∷◌, ◌≡◌, map, IsSomeAnd}
 use Rattle.dn_io.specs.Files.{Files, bytes_of}
-use Rattle.dn_formats.specs.Feed.{IsReading}
-use Rattle.dn_formats.specs.Lawful.{IsLawful, jobs_of}
+use Rattle.feed_model.specs.Feed.{IsReading}
 use Rattle.dn_formats.specs.Report.{report}
-use Rattle.dn_formats.specs.Steps.{FeedRead, told_of}
+use Rattle.feed_model.specs.Steps.{FeedRead, told_of}
 use Rattle.dn_formats.specs.declared.told.JobTold.{JobTold}
 use Rattle.base.specs.declared.ids.RouterId.{RouterId}
 use Rattle.dn_model.specs.Tables.{parts}
 use Rattle.dn_model.specs.declared.entry.Entry.{Entry}
 use Rattle.dn_model.specs.declared.topology.Topology.{Topology}
 use Rattle.dn_run.specs.CommandLine.{RunWords}
-use Rattle.dn_run.specs.Limits.{feed_limit, history_limit}
+use Rattle.dn_run.specs.Law.{IsLawfulRun}
+use Rattle.dn_run.specs.Limits.{feed_limit}
 use Rattle.dn_run.specs.Run.{Fails, FeedParts, Knows, Reads, RunInput, Runs, Steps, steps_of}
 
 -- there is a file of this name, and this is said of its bytes
@@ -43,5 +43,5 @@ pub record IsReportOf (files : Files) (command : RunWords) (text : List ℕ) : T
   pub feeds_are : AreFeedsOf files input.t 1 input.routers input.feeds feeds
   pub history : List Entry
   pub told : List JobTold
-  pub lawful : IsLawful input.t history_limit feeds (jobs_of input.scripts feeds) history told
+  pub lawful : IsLawfulRun input.t feeds input.scripts history told
   pub text_is : text ≡ report input.t (map told_of feeds) history told

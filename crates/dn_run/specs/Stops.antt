@@ -12,7 +12,8 @@ use Rattle.base.specs.declared.ids.RouterId.{RouterId}
 use Rattle.dn_model.specs.declared.topology.Topology.{Topology}
 use Rattle.dn_run.specs.CommandLine.{RunWords}
 use Rattle.dn_run.specs.Ending.{Ending, Stopped}
-use Rattle.dn_run.specs.Jobs.{scripts_of, same_router, AreFewJobs, TakeApart}
+use Rattle.dn_run.specs.Jobs.{scripts_of, same_router, AreFewJobs, AreFit}
+use Rattle.dn_run.specs.Limits.{most_lines}
 use Rattle.dn_run.specs.PartsRead.{feed_texts}
 use Rattle.dn_run.specs.Run.{FeedParts, Follows, FromFeeds, FromWords, IsLine, ScriptLines, ScriptParts, count_jobs}
 use Rattle.dn_run.specs.Run.{feed_files, names_of_run, read_scripts, script_files, steps_of, taken_by_scripts}
@@ -90,9 +91,11 @@ abbrev pub AreTaken : List RouterId → ScriptLines → Type 0
 AreTaken taken scripts =
     (r : RouterId) → list_any (λ q. q.0 == r.0) taken ≡ list_any (λ q. q.0 == r.0) (taken_by_scripts scripts)
 
--- these lines take from none of these routers
-abbrev pub TakeNoneOf : List RouterId → List script_line → Type 0
-TakeNoneOf taken lines = (r : RouterId) → takes_router r lines ≡ true → list_any (λ q. q.0 == r.0) taken ≡ false
+-- These lines may follow scripts that take from these routers: they take from none of them, and there are no more of them
+-- than a script may have.
+pub record MayFollow (taken : List RouterId) (lines : List script_line) : Type 0 where
+  pub clear : (r : RouterId) → takes_router r lines ≡ true → list_any (λ q. q.0 == r.0) taken ≡ false
+  pub short : length lines ≤ most_lines
 
 -- the script of this part was read, after scripts that take from these routers
 abbrev pub ScriptGoesOn : Option Files → Topology → List RouterId → List RouterId → List Call → ℕ × List ℕ →
@@ -127,8 +130,8 @@ abbrev pub from_jobs : Option Files → Topology → List RouterId → ScriptLin
 from_jobs files t routers scripts feeds ending calls =
     Follows files (count_jobs (record { t = t; routers = routers; scripts = scripts; feeds = feeds })) calls ending
 
--- The input of a run that came as far as these calls: its feeds, its scripts, of which no two take from one router, its
--- jobs, no more than may be, and the routers of the feeds, which the topology has and which differ.
+-- The input of a run that came as far as these calls: its feeds, its scripts, its jobs, no more than may be, and the
+-- routers of the feeds, which the topology has and which differ.
 pub record Starts (words : RunWords) (files : Option Files) (calls : List Call) (input : Input) : Type 0 where
   pub reaches : Reaches words files calls (feed_files (map feed_texts input.feeds.items))
       (from_feeds files (arc_value input.topology) input.routers.items (scripts_of input.scripts.items)
@@ -136,7 +139,7 @@ pub record Starts (words : RunWords) (files : Option Files) (calls : List Call) 
   pub as_many : length input.routers.items ≡ length input.feeds.items
   pub few : length input.feeds.items ≤ 64
   pub few_jobs : AreFewJobs (scripts_of input.scripts.items) input.routers.items
-  pub apart_scripts : TakeApart (scripts_of input.scripts.items)
+  pub fit_scripts : AreFit (scripts_of input.scripts.items)
   pub known : All (λ r. r.0 < length (arc_value input.topology).routers) input.routers.items
   pub apart : IsTrue (all_differ same_router input.routers.items)
   pub room : length calls ≤ 65

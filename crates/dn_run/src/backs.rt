@@ -5,8 +5,8 @@ ghost use Rattle.std.specs.Prelude.{vec_capacity};
 ghost use Rattle.std.specs.List.Sorted.{IsNonDecreasingBy, IsPermutation};
 ghost use Rattle.dn_run.specs.Deal.{unread_back};
 
-use dn_formats::FeedTold;
 use dn_io::Source;
+use feed_model::FeedTold;
 use route_feed::FeedReader;
 
 /// Sources behind others, for which there is room.

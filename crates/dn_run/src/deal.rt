@@ -11,8 +11,9 @@ ghost use Rattle.dn_run.specs.Jobs.{scripts_of};
 
 use crate::backs::{append, append_readers};
 use crate::untaken::{MOST_JOBS, takes_feed};
-use dn_formats::{FeedTold, Line, Script};
+use dn_formats::{Line, Script};
 use dn_io::Source;
+use feed_model::FeedTold;
 use feed_threads::{Job, JobList};
 use route_feed::FeedReader;
 use std::alloc::Global;

@@ -2,11 +2,11 @@
 
 ghost use Rattle.std.specs.Prelude.{◌≡◌, ◌<◌, ◌≤◌, ◌==◌, ◌||◌, ◌+◌, ◌++◌, ◌∷◌, ◌^◌, [], length, map, IfOk, IfErr, OnOk};
 ghost use Rattle.std.specs.List.{flat_map, list_any};
-ghost use Rattle.dn_run.specs.Jobs.{TakeApart, scripts_of};
+ghost use Rattle.dn_run.specs.Jobs.{AreFit, scripts_of};
 ghost use Rattle.dn_run.specs.PartsRead.{script_texts};
 ghost use Rattle.dn_run.specs.Run.{taken_by_line};
 ghost use Rattle.dn_run.specs.Stops.{AreTaken, ScriptEnds, ScriptGoesOn, ScriptsEnd, ScriptsGoOn, Starts, Stops};
-ghost use Rattle.dn_run.specs.Stops.{StopsAs, TakeNoneOf};
+ghost use Rattle.dn_run.specs.Stops.{MayFollow, StopsAs};
 ghost use Rattle.dn_run.specs.WordsRefused.{run_texts};
 
 use crate::load::{Loaded, Scope, load_script, load_topology};
@@ -65,6 +65,7 @@ fn add_taken(taken: &mut Vec<RouterId>, line: &Line) -> Result<(), OutOfMemory>
             Ok(())
         }
         Line::Ask { .. } => Ok(()),
+        Line::Link { .. } => Ok(()),
     }
 }
 
@@ -84,10 +85,10 @@ impl ScriptsRead {
     /// Adds a script that takes from none of the routers from which those before it take.
     fn add(&mut self, script: Script) -> Result<(), OutOfMemory>
         requires taken { AreTaken self.old.taken.items (scripts_of self.old.scripts.items) }
-        requires apart { TakeApart (scripts_of self.old.scripts.items) }
-        requires clear { TakeNoneOf self.old.taken.items script.lines }
+        requires fit { AreFit (scripts_of self.old.scripts.items) }
+        requires follows { MayFollow self.old.taken.items script.lines }
         ensures taken { OnOk result (AreTaken self.new.taken.items (scripts_of self.new.scripts.items)) }
-        ensures apart { OnOk result (TakeApart (scripts_of self.new.scripts.items)) }
+        ensures fit { OnOk result (AreFit (scripts_of self.new.scripts.items)) }
         ensures added { OnOk result (scripts_of self.new.scripts.items ≡ scripts_of self.old.scripts.items
             ++ script.lines ∷ []) }
         ensures len { OnOk result (length self.new.scripts.items ≡ length self.old.scripts.items + 1) }
@@ -111,7 +112,7 @@ fn read_part<W: World>(
         script.lines) }
     ensures stops { IfErr result (ScriptEnds (W.files world.old) scope.entry.topology.now scope.entry.routers.now
         scope.entry.taken.now (W.calls world.old) (script_texts part.now) (W.calls world.new)) }
-    ensures clear { IfOk result (λ script. TakeNoneOf scope.entry.taken.now script.lines) }
+    ensures follows { IfOk result (λ script. MayFollow scope.entry.taken.now script.lines) }
     ensures few { IfOk result (λ script. length (W.calls world.new) ≤ length (W.calls world.old) + 1) }
     ensures same_files { W.files world.new ≡ W.files world.old }
 {
@@ -134,7 +135,7 @@ fn read_scripts<W: World>(
         (map script_texts parts.now) (W.calls world.new)) }
     ensures few { IfOk result (λ scripts. length (W.calls world.new) ≤ length (W.calls world.old) + length parts.now) }
     ensures len { IfOk result (λ scripts. length scripts.items ≡ length parts.now) }
-    ensures apart { IfOk result (λ scripts. TakeApart (scripts_of scripts.items)) }
+    ensures fit { IfOk result (λ scripts. AreFit (scripts_of scripts.items)) }
     ensures same_files { W.files world.new ≡ W.files world.old }
 {
     let mut read = ScriptsRead {

@@ -12,7 +12,7 @@ use crate::ring::{made_script, made_topology};
 use crate::ruling::Ruling;
 use crate::status::Verdict;
 use crate::summary::summary_text;
-use dn_formats::{JobTold, Outcome, Text};
+use dn_formats::{JobTold, Outcome, Text, Told};
 use dn_io::{Gate, SureSource};
 use dn_model::{Answer, Cycle, OutOfMemory, RouterId};
 use made_input::{MadeInput, make_input};
@@ -80,7 +80,10 @@ fn cycles_of(told: &[JobTold]) -> &[Cycle]
     let [query] = job.told.as_slice() else {
         unreachable!();
     };
-    let Outcome::Answered { answer, .. } = &query.outcome else {
+    let Told::Asked { outcome, .. } = query else {
+        unreachable!();
+    };
+    let Outcome::Answered { answer, .. } = outcome else {
         unreachable!();
     };
     let Answer::Loops(cycles) = answer else {

@@ -6,7 +6,7 @@ ghost use Rattle.std.specs.String.{string_bytes};
 ghost use Rattle.dn_io.specs.Calls.{names_of};
 ghost use Rattle.base.specs.Lists.{all_differ};
 ghost use Rattle.dn_run.specs.Ending.{ending_of};
-ghost use Rattle.dn_run.specs.Jobs.{AreFewJobs, TakeApart, scripts_of, same_router};
+ghost use Rattle.dn_run.specs.Jobs.{AreFewJobs, AreFit, scripts_of, same_router};
 ghost use Rattle.dn_run.specs.PartsRead.{feed_texts};
 ghost use Rattle.dn_run.specs.Exit.{ByVerdict, exit_of};
 ghost use Rattle.dn_run.specs.Run.{IsDue, IsWritten, IsFinished, names_of_run, names_of_words, feed_files};
@@ -40,7 +40,7 @@ fn run_input<W: World, G: Gate, R: Threads + Wait + Sync>(
     requires as_many { length input.routers.items ≡ length input.feeds.items }
     requires few { length input.feeds.items ≤ 64 }
     requires jobs { AreFewJobs (scripts_of input.scripts.items) input.routers.items }
-    requires apart_scripts { TakeApart (scripts_of input.scripts.items) }
+    requires fit_scripts { AreFit (scripts_of input.scripts.items) }
     requires known { All (λ r. r.0 < length (arc_value input.topology).routers) input.routers.items }
     requires apart { IsTrue (all_differ same_router input.routers.items) }
     requires room { length (W.calls world.old) ≤ 65 }

@@ -8,8 +8,9 @@ ghost use Rattle.dn_run.specs.Ending.{ending_of};
 ghost use Rattle.dn_run.specs.Run.{IsLine, verdict_of, ended_well, is_faulted, some_faulted, all_well};
 
 use crate::status::Verdict;
-use dn_formats::{ErrorLine, FeedEnd, FeedTold, JobTold};
+use dn_formats::{ErrorLine, JobTold};
 use dn_model::{OutOfMemory, Posted, Topology};
+use feed_model::{FeedEnd, FeedTold};
 use run_report::{Report, error_line};
 use std::alloc::Global;
 use std::sync::Arc;

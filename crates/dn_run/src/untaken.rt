@@ -20,6 +20,7 @@ fn is_take_of(line: &Line, router: RouterId) -> bool
     match line {
         Line::Take { router: taken, .. } => *taken == router,
         Line::Ask { .. } => false,
+        Line::Link { .. } => false,
     }
 }
 

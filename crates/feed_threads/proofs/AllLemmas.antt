@@ -1,5 +1,5 @@
 -- What jobs with a seat came to holds of what is seen later too, and of one job more.
-use Rattle.std.proofs.Common.{◌≡◌, ℕ, zero, suc, ◌+◌, ◌-◌, ◌<◌, ◌≤◌, ◌⊎◌, inl, inr, ⊎_elim, Bool, true, false, ◌==◌, List, [], ◌∷◌, ◌++◌, length, get_or, take, All, Option, None, Some, refl, ap, sym, ◌∙◌, arith, subst}
+use Rattle.std.proofs.Common.{◌≡◌, ℕ, zero, suc, ◌+◌, ◌-◌, ◌<◌, ◌≤◌, ◌⊎◌, inl, inr, ⊎_elim, Bool, true, false, ◌==◌, List, [], ◌∷◌, ◌++◌, length, get_or, take, All, Option, None, Some, refl, ap, sym, ◌∙◌, arith, subst, length-take}
 use Rattle.std.specs.Global.{Vec}
 use Rattle.std.specs.List.{list_any, Contains}
 use Rattle.std.specs.Prelude.{nat_lt}
@@ -13,18 +13,22 @@ use Rattle.dn_model.specs.Entry.{entries}
 use Rattle.dn_model.specs.Query.{Question}
 use Rattle.base.specs.Lists.{all_differ}
 use Rattle.dn_model.specs.declared.entry.Entry.{Entry}
+use Rattle.dn_model.specs.declared.entry.Entry.TheVariants as entry
 use Rattle.dn_model.specs.declared.entry.Posted.{Posted}
 use Rattle.dn_model.specs.declared.topology.Topology.{Topology}
 use Rattle.dn_formats.proofs.TopologySound.{all_differ-push}
-use Rattle.dn_formats.specs.Lawful.{HoldsWhatWasTaken, IsOutcome, Tells, TellsFront, entries_of_job, taken_along, pin_after}
-use Rattle.dn_formats.specs.Steps.{FrameStep, FeedRead}
+use Rattle.dn_formats.specs.Lawful.{Job, entries_of_job, entry_after, given_along, link_entries, pin_after}
+use Rattle.feed_model.specs.Steps.{FrameStep, FeedRead}
 use Rattle.dn_model.specs.declared.entry.Op.{Op}
 use Rattle.dn_formats.specs.declared.script.Line.{Line}
 use Rattle.dn_formats.specs.declared.script.Line.TheVariants as line
-use Rattle.dn_formats.specs.declared.told.FeedTold.{FeedTold}
+use Rattle.feed_model.specs.declared.feed_told.FeedTold.{FeedTold}
 use Rattle.dn_formats.specs.declared.told.Outcome.{Outcome}
 use Rattle.dn_formats.specs.declared.told.Outcome.TheVariants.{Answered, Unknown}
+use Rattle.dn_formats.specs.declared.told.LinkOutcome.{LinkOutcome}
+use Rattle.dn_formats.specs.declared.told.LinkOutcome.TheVariants.{At, Full, UnknownLink}
 use Rattle.dn_formats.specs.declared.told.Told.{Told}
+use Rattle.dn_formats.specs.declared.told.Told.TheVariants.{Asked, Linked}
 use Rattle.route_feed.specs.FeedReader.{Reader}
 use Rattle.version_lock.proofs.Histories.{prefix_self, prefix_trans}
 use Rattle.version_lock.specs.Callers.{Caller, HasNumber, IsSeatOf, KeepsOwn, Lock, numbers, upper_seat}
@@ -35,11 +39,12 @@ use Rattle.feed_threads.specs.declared.all_jobs.Batch.{Batch}
 use Rattle.feed_threads.specs.declared.job.JobDone.{JobDone}
 use Rattle.feed_threads.specs.AllJobs.{AllEnd, CameTo, Run, numbers_of_runs, same_no}
 use Rattle.feed_threads.specs.Feeds.{Feed, IsBroken, StandsFront, TookFront}
-use Rattle.feed_threads.specs.Jobs.{AreApart, AreReadBy, Ends, HasRunUnless, IsFresh, IsKeptSo, IsReadBy, Task}
+use Rattle.feed_threads.specs.Jobs.{AreApart, AreReadBy, Ends, HasRunUnless, IsFresh, IsKeptSo, IsReadBy, Task, job_of}
 use Rattle.feed_threads.specs.Room.{HasRoom}
 use Rattle.feed_threads.specs.Runs.{AllRun, AreReady, IsReady, IsReadyBatch, MayRun, RanJob}
 use Rattle.feed_threads.specs.Seats.{own_of, SawMore}
-use Rattle.feed_threads.specs.Tells.{IsOwnOutcome, TellsOwn}
+use Rattle.feed_threads.specs.Tells.{IsOwnLinkOutcome, IsOwnOutcome, TellsOwn, TellsOwnFront}
+use Rattle.feed_threads.specs.Tracks.{TookFirstLinks, TookLinks}
 use Rattle.feed_threads.proofs.SeatLemmas.{saw-seat}
 use Rattle.feed_threads.proofs.TakeLemmas.{took-later}
 
@@ -51,58 +56,71 @@ take-prefix n xs ys within p = sym (take-append-le n xs p.0 within) ∙ ap (take
 longer-prefix : {X : Type 0} (xs ys : List X) → IsPrefix xs ys → length xs ≤ length ys
 longer-prefix xs ys p = let e : length ys ≡ length xs + length p.0 = ap length (sym p.1) ∙ length-append xs p.0 in omega (arith, e)
 
-entries-prefix : (xs ys : List Posted) → IsPrefix xs ys → IsPrefix (entries xs) (entries ys)
-entries-prefix xs ys p = (entries p.0, sym (map-append (λ (q : Posted). q.entry) xs p.0) ∙ ap entries p.1)
+module _ (t : Topology) (limit : ℕ) (seen later : List Posted) (n : ℕ) (start : List Entry) (job : Job) (p : IsPrefix seen later) where
+  own-outcome-later : (before : List Line) (last : ℕ) (q : Question) (o : Outcome) → IsOwnOutcome t limit seen n start job before last q o → IsOwnOutcome t limit later n start job before last q o
+  own-outcome-later before last q (Unknown u) is = is
+  own-outcome-later before last q (Answered m answer) is =
+      let same : take m seen ≡ take m later = take-prefix m seen later is.2 p in (
+        is.0,
+        is.1,
+        (let within : m ≤ length seen = is.2 in let more : length seen ≤ length later = longer-prefix seen later p in omega (arith, within, more)),
+        subst (λ (ps : List Posted). own_of n ps ≡ start ++ given_along t job [] before) same is.3,
+        subst (λ (ps : List Posted). IsAnswer t (entries ps) q answer) same is.4,
+      )
 
-outcome-later : (t : Topology) (h later : List Entry) (fs : List FeedRead) (before : List Line) (last : ℕ) (q : Question) (o : Outcome) → IsPrefix h later →
-    IsOutcome t h fs before last q o → IsOutcome t later fs before last q o
-outcome-later t h later fs before last q (Unknown u) p is = is
-outcome-later t h later fs before last q (Answered n answer) p is =
-    let same : take n h ≡ take n later = take-prefix n h later is.2 p in (
-      is.0,
-      is.1,
-      (let within : n ≤ length h = is.2 in let more : length h ≤ length later = longer-prefix h later p in omega (arith, within, more)),
-      subst (λ (es : List Entry). HoldsWhatWasTaken fs before es) same is.3,
-      subst (λ (es : List Entry). IsAnswer t es q answer) same is.4,
-    )
+  -- an entry that stands at a position stands within what is seen
+  link-within : (m : ℕ) (x : Posted) → take m seen ≡ take (m - 1) seen ++ x ∷ [] → m ≤ length seen
+  link-within m x is =
+      let more : length (take m seen) ≡ length (take (m - 1) seen) + 1 = ap length is ∙ length-append (take (m - 1) seen) (x ∷ []) in
+      let here = length-take m seen in
+      let before = length-take (m - 1) seen in
+      omega (arith, more, here, before)
 
-tells-later : (t : Topology) (h later : List Entry) (fs : List FeedRead) (before : List Line) (last : ℕ) (lines : List Line) (tolds : List Told) → IsPrefix h later →
-    Tells t h fs before last lines tolds → Tells t later fs before last lines tolds
-tells-later t h later fs before last [] [] p told = tt
-tells-later t h later fs before last [] (o ∷ os) p told = told
-tells-later t h later fs before last (line.Take l r count ∷ lines) tolds p told = tells-later t h later fs (before ++ line.Take l r count ∷ []) last lines tolds p told
-tells-later t h later fs before last (line.Ask l q ∷ lines) [] p told = told
-tells-later t h later fs before last (line.Ask l q ∷ lines) (o ∷ os) p told = (
-  told.0,
-  told.1,
-  outcome-later t h later fs before last q o.outcome p told.2,
-  tells-later t h later fs (before ++ line.Ask l q ∷ []) (pin_after last o.outcome) lines os p told.3,
-)
+  own-link-later : (before : List Line) (last : ℕ) (name : List ℕ) (down : Bool) (o : LinkOutcome) → IsOwnLinkOutcome t limit seen n start job before last name down o → IsOwnLinkOutcome t limit later n start job before last name down o
+  own-link-later before last name down UnknownLink is = is
+  own-link-later before last name down Full is = (is.0, is.1, (let full : limit ≤ length seen = is.2 in let more : length seen ≤ length later = longer-prefix seen later p in omega (arith, full, more)))
+  own-link-later before last name down (At m) is =
+      let within : m ≤ length seen = link-within m _ is.entry in
+      let same : take m seen ≡ take m later = take-prefix m seen later within p in
+      let front : take (m - 1) seen ≡ take (m - 1) later = take-prefix (m - 1) seen later (omega (arith, within)) p in
+      record {
+        link = is.link;
+        named = is.named;
+        later = is.later;
+        entry = sym same ∙ is.entry ∙ ap (λ (ps : List Posted). ps ++ record { seat = n; entry = entry.Link job.number is.link down } ∷ []) front;
+        own = ap (own_of n) (sym front) ∙ is.own;
+      }
 
-own-outcome-later : (t : Topology) (seen later : List Posted) (n : ℕ) (start : List Entry) (fs : List FeedRead) (before : List Line) (last : ℕ) (q : Question) (o : Outcome) → IsPrefix seen later →
-    IsOwnOutcome t seen n start fs before last q o → IsOwnOutcome t later n start fs before last q o
-own-outcome-later t seen later n start fs before last q (Unknown u) p is = is
-own-outcome-later t seen later n start fs before last q (Answered m answer) p is =
-    let same : take m seen ≡ take m later = take-prefix m seen later is.2 p in (
-      is.0,
-      is.1,
-      (let within : m ≤ length seen = is.2 in let more : length seen ≤ length later = longer-prefix seen later p in omega (arith, within, more)),
-      subst (λ (ps : List Posted). own_of n ps ≡ start ++ taken_along fs [] before) same is.3,
-      subst (λ (ps : List Posted). IsAnswer t (entries ps) q answer) same is.4,
-    )
+  tells-own-later : (before : List Line) (last : ℕ) (lines : List Line) (tolds : List Told) → TellsOwn t limit seen n start job before last lines tolds → TellsOwn t limit later n start job before last lines tolds
+  tells-own-later before last [] [] told = tt
+  tells-own-later before last [] (o ∷ os) told = told
+  tells-own-later before last (line.Take l r count ∷ lines) tolds told = tells-own-later (before ++ line.Take l r count ∷ []) last lines tolds told
+  tells-own-later before last (line.Ask l q ∷ lines) [] told = told
+  tells-own-later before last (line.Ask l q ∷ lines) (Linked m name d o ∷ os) told = told
+  tells-own-later before last (line.Ask l q ∷ lines) (Asked m a o ∷ os) told = (
+    told.0,
+    told.1,
+    own-outcome-later before last q o told.2,
+    tells-own-later (before ++ line.Ask l q ∷ []) (pin_after last o) lines os told.3,
+  )
+  tells-own-later before last (line.Link l name d ∷ lines) [] told = told
+  tells-own-later before last (line.Link l name d ∷ lines) (Asked m a o ∷ os) told = told
+  tells-own-later before last (line.Link l name d ∷ lines) (Linked m named is o ∷ os) told = (
+    told.0,
+    told.1,
+    told.2,
+    own-link-later before last name d o told.3,
+    tells-own-later (before ++ line.Link l name d ∷ []) (entry_after last o) lines os told.4,
+  )
 
-tells-own-later : (t : Topology) (seen later : List Posted) (n : ℕ) (start : List Entry) (fs : List FeedRead) (before : List Line) (last : ℕ) (lines : List Line) (tolds : List Told) → IsPrefix seen later →
-    TellsOwn t seen n start fs before last lines tolds → TellsOwn t later n start fs before last lines tolds
-tells-own-later t seen later n start fs before last [] [] p told = tt
-tells-own-later t seen later n start fs before last [] (o ∷ os) p told = told
-tells-own-later t seen later n start fs before last (line.Take l r count ∷ lines) tolds p told = tells-own-later t seen later n start fs (before ++ line.Take l r count ∷ []) last lines tolds p told
-tells-own-later t seen later n start fs before last (line.Ask l q ∷ lines) [] p told = told
-tells-own-later t seen later n start fs before last (line.Ask l q ∷ lines) (o ∷ os) p told = (
-  told.0,
-  told.1,
-  own-outcome-later t seen later n start fs before last q o.outcome p told.2,
-  tells-own-later t seen later n start fs (before ++ line.Ask l q ∷ []) (pin_after last o.outcome) lines os p told.3,
-)
+-- what was taken of link entries was taken where more is seen
+took-links-later : (full : Bool) (limit : ℕ) (seen later : List Posted) (all count : ℕ) → IsPrefix seen later → TookLinks full limit seen all count → TookLinks full limit later all count
+took-links-later false limit seen later all count p took = took
+took-links-later true limit seen later all count p took = (took.0, (let full : limit ≤ length seen = took.1 in let more : length seen ≤ length later = longer-prefix seen later p in omega (arith, full, more)))
+
+first-links-later : (full : Bool) (limit : ℕ) (seen later : List Posted) (all count : ℕ) → IsPrefix seen later → TookFirstLinks full limit seen all count → TookFirstLinks full limit later all count
+first-links-later false limit seen later all count p took = took
+first-links-later true limit seen later all count p took = (took.0, (let full : limit ≤ length seen = took.1 in let more : length seen ≤ length later = longer-prefix seen later p in omega (arith, full, more)))
 
 -- ---- what a job came to
 
@@ -160,18 +178,21 @@ run-later : {S : Type 0} (t : Topology) (left : S → Option (List ℕ)) (faults
     HasRunUnless t left faults place limit wanted n start seen task told backs → HasRunUnless t left faults place limit wanted n start later task told backs
 run-later t left faults place limit n start seen later task true told backs p same run = record {
   strands = run.strands;
+  links = run.links;
   starts = run.starts;
   backs_are = run.backs_are;
   each = λ k d i. stands-front-later t left faults place limit seen later (get_or run.strands k d).start (get_or run.strands k d).now (get_or run.strands k d).steps (get_or run.strands k d).ops p (run.each k d i);
+  linked = first-links-later run.links.full limit seen later (length (link_entries t task.number task.lines)) run.links.count p run.linked;
   count = ap length (ap entries same) ∙ run.count;
-  order = λ fs zip.
-      subst (λ (es : List Entry). IsPrefix es (start ++ entries_of_job (record { number = task.number; lines = task.lines; feeds = fs }))) (sym (ap entries same)) (run.order fs zip);
+  order = λ job on lines-are. subst (λ (es : List Entry). IsPrefix es (start ++ entries_of_job t job)) (sym (ap entries same)) (run.order job on lines-are);
 }
 run-later t left faults place limit n start seen later task false told backs p same run = record {
   feeds = run.feeds;
+  links = run.links;
   read = reads-later t left faults place limit seen later task.feeds backs run.feeds p run.read;
+  linked = took-links-later run.links.full limit seen later (length (link_entries t task.number task.lines)) run.links.count p run.linked;
   order = ap entries same ∙ run.order;
-  tells = tells-own-later t seen later n start run.feeds [] 0 task.lines told p run.tells;
+  tells = tells-own-later t limit seen later n start (job_of task run.feeds run.links.count) p [] 0 task.lines told run.tells;
 }
 
 -- what a job came to, it came to where more is seen and nothing more of its number
@@ -180,8 +201,8 @@ ends-later : {S : Type 0} (t : Topology) (left : S → Option (List ℕ)) (fault
     Ends t left faults place limit n start seen task wanted told backs → Ends t left faults place limit n start later task wanted told backs
 ends-later t left faults place limit n start seen later task wanted told backs p same ends = record {
   done = run-later t left faults place limit n start seen later task wanted told backs p same ends.done;
-  front = (let f : TellsFront t (entries seen) task.lines told = ends.front in
-      (f.0, f.1, f.2, tells-later t (entries seen) (entries later) [] [] 0 f.0 told (entries-prefix seen later p) f.3));
+  front = (let f : TellsOwnFront t limit seen n start task.number task.lines told = ends.front in
+      record { front = f.front; back = f.back; lines_are = f.lines_are; job = f.job; number_is = f.number_is; tells = tells-own-later t limit seen later n start f.job p [] 0 f.front told f.tells });
   back = ends.back;
 }
 

@@ -1,5 +1,5 @@
 -- Where memory was wanting: the job's own entries are the first of what its lines give, whatever its feeds come to.
-use Rattle.std.proofs.Common.{◌≡◌, ℕ, ◌+◌, ◌-◌, ◌≤◌, ◌<◌, ◌==◌, true, false, List, [], ◌∷◌, ◌++◌, length, map, take, drop, get_or, All, Option, None, Some, refl, ap, sym, ◌∙◌, arith, subst, append_assoc}
+use Rattle.std.proofs.Common.{◌≡◌, ℕ, ◌+◌, ◌-◌, ◌≤◌, ◌<◌, ◌==◌, true, false, List, [], ◌∷◌, ◌++◌, length, map, take, drop, get_or, Bool, All, Option, None, Some, refl, ap, sym, ◌∙◌, arith, subst, append_assoc}
 use Rattle.std.specs.List.{AllZip, flat_map}
 use Rattle.std.proofs.lemmas.List.{append-nil, length-append, length-map, length-take-le, map-append, take_all, take-append-drop}
 use Rattle.std.proofs.lemmas.List.Elements.{All-head, All-tail}
@@ -7,11 +7,11 @@ use Rattle.std.proofs.lemmas.Bool.{eqb-true}
 use Rattle.std.proofs.Math.Seq.{take-append-add}
 use mathlib.Core.List.{IsPrefix}
 use Rattle.version_lock.proofs.Histories.{prefix_trans}
-use Rattle.dn_formats.specs.Lawful.{asked, asked_by, both_counts, front_of, kept_by, taken_by, taken_along, takes}
-use Rattle.dn_formats.specs.Steps.{FrameStep, FeedRead, updates, kept_of, entries_by}
+use Rattle.dn_formats.specs.Lawful.{Job, asked, asked_by, both_counts, front_of, given_along, kept_by, link_entries, taken_by, takes}
+use Rattle.feed_model.specs.Steps.{FrameStep, FeedRead, updates, kept_of, entries_by}
 use Rattle.dn_formats.specs.declared.script.Line.{Line}
 use Rattle.dn_formats.specs.declared.script.Line.TheVariants as line
-use Rattle.dn_formats.specs.declared.told.FeedEnd.{FeedEnd}
+use Rattle.feed_model.specs.declared.feed_told.FeedEnd.{FeedEnd}
 use Rattle.dn_formats.specs.declared.told.Told.{Told}
 use Rattle.dn_model.specs.declared.entry.Entry.{Entry}
 use Rattle.dn_model.specs.declared.entry.Op.{Op}
@@ -24,13 +24,12 @@ use Rattle.feed_threads.specs.Jobs.{Task, HasBegun, back_of}
 use Rattle.feed_threads.specs.Places.{FailsOf, ReadOn}
 use Rattle.feed_threads.specs.Seats.{own_of}
 use Rattle.feed_threads.specs.Takes.{GivesFirst, IsCount, IsWithin}
-use Rattle.feed_threads.specs.Tracks.{Strand, GoesOn, IsApartFrom, MayBecome, MayKeep, Begun, Woven, Tracks, rests_of, rests_by, taken_of_all}
-use Rattle.feed_threads.proofs.EndLemmas.{job-order, map-then, rest_line, rests-of-routers, rests-same, two-of}
+use Rattle.feed_threads.specs.Tracks.{Begun, GoesOn, IsApartFrom, IsJobOn, Links, MayBecome, MayKeep, Strand, TookFirstLinks, TookLinks, Tracks, Woven, rests_by, rests_of, taken_of_all}
+use Rattle.feed_threads.proofs.EndLemmas.{job-order, links-all, map-then, rest_line, rests-of-links, rests-of-routers, rests-same, two-of}
 use Rattle.feed_threads.proofs.ListLemmas.{Parts, all-parts, all-joined, all-through, ZipParts, zip-parts}
-use Rattle.feed_threads.proofs.OrderLemmas.{asked-push, taken_along-push, none-taken, one-alone, taken_by-own}
-use Rattle.feed_threads.proofs.RestLemmas.{taken_along-append}
+use Rattle.feed_threads.proofs.OrderLemmas.{asked-push, given-append, given-push, gives-taken, links-append, links-same, none-taken, one-alone, taken_by-own}
 use Rattle.feed_threads.proofs.StrandLemmas.{nows, grown, Others, apart-kept, apart-others, count-grown, Split, split-at}
-use Rattle.feed_threads.proofs.TakeLemmas.{count-within, entries_by-append, later-more, took-later, updates-append}
+use Rattle.feed_threads.proofs.TakeLemmas.{count-within, entries_by-append, later-more, prefix-length, took-later, updates-append}
 use Rattle.feed_threads.proofs.TracksLemmas.{Counted, found-feed, kept-is, other-takes}
 
 -- ---- what a feed may come to
@@ -115,7 +114,18 @@ took-front : (limit : ℕ) (seen later : List Posted) (kept : Option ℕ) (steps
 took-front limit seen later None steps ops begins took = ([], append-nil ops ∙ took)
 took-front limit seen later (Some n) steps ops begins took = took-later limit seen later (Some n) steps ops begins took
 
-module _ {S : Type 0} (t : Topology) (left : S → Option (List ℕ)) (faults place : S → ℕ) (limit number : ℕ) where
+-- ---- link lines
+
+-- of what the history took of link entries the first were taken, where more is seen
+first-links : (full : Bool) (limit : ℕ) (a b : List Posted) (all all' count : ℕ) → length a ≤ length b → all ≤ all' → TookLinks full limit a all count → TookFirstLinks full limit b all' count
+first-links false limit a b all all' count longer more took = omega (arith, took, more)
+first-links true limit a b all all' count longer more took = (omega (arith, took.0, more), omega (arith, took.1, longer))
+
+first-links-more : (full : Bool) (limit : ℕ) (seen : List Posted) (all all' count : ℕ) → all ≤ all' → TookFirstLinks full limit seen all count → TookFirstLinks full limit seen all' count
+first-links-more false limit seen all all' count more took = omega (arith, took, more)
+first-links-more true limit seen all all' count more took = (omega (arith, took.0, more), took.1)
+
+module _ {S : Type 0} (t : Topology) (left : S → Option (List ℕ)) (faults place : S → ℕ) (limit number job_number : ℕ) where
   -- a feed of which all was taken, or that was broken off
   stands-front : (seen later : List Posted) (s : Strand S) → IsPrefix seen later → Stands t left faults place limit seen s.start s.now s.steps s.ops → StandsFront t left faults place limit later s.start s.now s.steps s.ops
   stands-front seen later s begins st = record { reads = st.reads; took = took-front limit seen later s.now.kept s.steps s.ops begins st.took; unended = st.unended }
@@ -173,12 +183,14 @@ module _ {S : Type 0} (t : Topology) (left : S → Option (List ℕ)) (faults pl
       )
 
   -- the job's own entries where memory was wanting at a feed that a line names
-  begun-own : (start : List Entry) (a b : List Posted) (before : List Line) (front : List (Strand S)) (mid : Strand S) (back : List (Strand S)) (new : Feed S) (l : ℕ) (r : RouterId) (count : Option ℕ) (fs : List FeedRead) →
+  begun-own : (start : List Entry) (a b : List Posted) (before : List Line) (front : List (Strand S)) (mid : Strand S) (back : List (Strand S)) (new : Feed S) (l : ℕ) (r : RouterId) (count : Option ℕ) (job : Job) →
       (mid.now.reader.told.router.0 == r.0) ≡ true → (x : GivesFirst t left faults place limit number count mid.now new a b) → Stands t left faults place limit a mid.start mid.now mid.steps mid.ops →
-      Counted before mid → Others front mid back → AllZip MayBecome (front ++ first_of count mid new a b x ∷ back) fs → own_of number a ≡ start ++ taken_along fs [] before →
-      IsPrefix (own_of number b) (start ++ taken_along fs [] (before ++ line.Take l r count ∷ []))
-  begun-own start a b before front mid back new l r count fs this x st counted others zip order =
+      Counted before mid → Others front mid back → AllZip MayBecome (front ++ first_of count mid new a b x ∷ back) job.feeds → own_of number a ≡ start ++ given_along t job [] before →
+      IsPrefix (own_of number b) (start ++ given_along t job [] (before ++ line.Take l r count ∷ []))
+  begun-own start a b before front mid back new l r count job this x st counted others zip order =
       let y : Line = line.Take l r count in
+      let fs : List FeedRead = job.feeds in
+      let before-gives : List Entry = given_along t job [] before in
       let q : RouterId = mid.now.reader.told.router in
       let m : ℕ = mid.now.reader.told.feed_no in
       let first : List Op = take x.took.n (updates x.more) in
@@ -205,19 +217,21 @@ module _ {S : Type 0} (t : Topology) (left : S → Option (List ℕ)) (faults pl
       (none-taken before y z.front_ys (all-through MayBecome (IsApartFrom mid) (λ f. takes f.router y ≡ false) front z.front_ys (λ s f may p. other-takes mid s f l r count this p may.router) z.front_zip others.in_front))
       own
       (none-taken before y z.back_ys (all-through MayBecome (IsApartFrom mid) (λ f. takes f.router y ≡ false) back z.back_ys (λ s f may p. other-takes mid s f l r count this p may.router) z.back_zip others.in_back)) in
-      let line-gives : taken_along fs [] (before ++ y ∷ []) ≡ taken_along fs [] before ++ (es ++ tail) =
-      taken_along-push fs [] before y ∙ ap (λ (w : List Entry). taken_along fs [] before ++ w) (ap (flat_map (taken_by before y)) z.whole ∙ alone) in (
+      let line-gives : given_along t job [] (before ++ y ∷ []) ≡ before-gives ++ (es ++ tail) =
+      given-push t job [] before y ∙ ap (λ (w : List Entry). before-gives ++ w) (gives-taken t job before y refl ∙ ap (flat_map (taken_by before y)) z.whole ∙ alone) in (
         tail,
-        ap (λ (w : List Entry). w ++ tail) (x.took.grows ∙ ap (λ (w : List Entry). w ++ es) order) ∙ append_assoc (start ++ taken_along fs [] before) es tail
-            ∙ append_assoc start (taken_along fs [] before) (es ++ tail) ∙ ap (λ (w : List Entry). start ++ w) (sym line-gives),
+        ap (λ (w : List Entry). w ++ tail) (x.took.grows ∙ ap (λ (w : List Entry). w ++ es) order) ∙ append_assoc (start ++ before-gives) es tail
+            ∙ append_assoc start before-gives (es ++ tail) ∙ ap (λ (w : List Entry). start ++ w) (sym line-gives),
       )
 
-  begun-grown : (start : List Entry) (olds : List (Reader S)) (news news' : List (Feed S)) (a b : List Posted) (before : List Line) (front : List (Strand S)) (mid : Strand S) (back : List (Strand S)) (new : Feed S) (l : ℕ) (r : RouterId) (count : Option ℕ) →
+  begun-grown : (start : List Entry) (olds : List (Reader S)) (news news' : List (Feed S)) (a b : List Posted) (before : List Line) (links : Links) (front : List (Strand S)) (mid : Strand S) (back : List (Strand S)) (new : Feed S) (l : ℕ) (r : RouterId) (count : Option ℕ) →
       IsPrefix a b → (mid.now.reader.told.router.0 == r.0) ≡ true → news' ≡ nows front ++ new ∷ nows back → GivesFirst t left faults place limit number count mid.now new a b →
-      Woven t left faults place limit olds news a (front ++ mid ∷ back) → All (Counted before) (front ++ mid ∷ back) → length (own_of number a) ≡ length start + taken_of_all (front ++ mid ∷ back) →
-      ((feeds : List FeedRead) → AllZip GoesOn (front ++ mid ∷ back) feeds → own_of number a ≡ start ++ taken_along feeds [] before) →
-      Begun t left faults place limit number start olds news' b (before ++ line.Take l r count ∷ [])
-  begun-grown start olds news news' a b before front mid back new l r count begins this news-are x w counted count-before order =
+      Woven t left faults place limit olds news a (front ++ mid ∷ back) → All (Counted before) (front ++ mid ∷ back) → TookLinks links.full limit a (length (link_entries t job_number before)) links.count →
+      length (own_of number a) ≡ length start + (taken_of_all (front ++ mid ∷ back) + links.count) →
+      ((job : Job) → IsJobOn GoesOn job_number (front ++ mid ∷ back) links job → own_of number a ≡ start ++ given_along t job [] before) →
+      Begun t left faults place limit number job_number start olds news' b (before ++ line.Take l r count ∷ [])
+  begun-grown start olds news news' a b before links front mid back new l r count begins this news-are x w counted linked count-before order =
+      let y : Line = line.Take l r count in
       let s' : Strand S = first_of count mid new a b x in
       let um : List Op = updates x.more in
       let n : ℕ = x.took.n in
@@ -237,77 +251,101 @@ module _ {S : Type 0} (t : Topology) (left : S → Option (List ℕ)) (faults pl
       } in
       record {
         strands = front ++ s' ∷ back;
+        links = links;
         starts = map-append (λ s. s.start) front (s' ∷ back) ∙ sym (map-append (λ s. s.start) front (mid ∷ back)) ∙ w.starts;
         nows = map-append (λ s. s.now) front (s' ∷ back) ∙ sym news-are;
         each = all-joined P front s' back (λ k d i. stands-front a b (get_or front k d) begins (each.front_all k d i)) here (λ k d i. stands-front a b (get_or back k d) begins (each.back_all k d i));
         apart = apart-kept front mid s' back (first-router count mid new a b x st) w.apart;
-        count = count-grown front mid s' back (own_of number a) (own_of number b) start mid.now.reader.told.feed_no mid.now.reader.told.router (take n um) refl x.took.grows count-before;
-        order = λ fs zip.
-            begun-own start a b before front mid back new l r count fs this x st mine others zip
-            (order fs (become-go-back count front mid back new a b x fs st (λ k d i. (w.each k d i).took) zip));
+        linked = first-links links.full limit a b (length (link_entries t job_number before)) (length (link_entries t job_number (before ++ y ∷ []))) links.count
+            (prefix-length a b begins) (let same = ap length (links-same t job_number before y refl) in omega (arith, same)) linked;
+        count = count-grown front mid s' back (own_of number a) (own_of number b) start mid.now.reader.told.feed_no mid.now.reader.told.router (take n um) links.count refl x.took.grows count-before;
+        order = λ job on.
+            begun-own start a b before front mid back new l r count job this x st mine others on.feeds
+            (order job (record {
+              number = on.number;
+              feeds = become-go-back count front mid back new a b x job.feeds st (λ k d i. (w.each k d i).took) on.feeds;
+              kept = on.kept;
+            }));
       }
 
   -- memory was wanting at a line that takes frames
   pub begun-at : (start : List Entry) (olds : List (Reader S)) (news news' : List (Feed S)) (a b : List Posted) (before : List Line) (tolds : List Told) (l : ℕ) (r : RouterId) (count : Option ℕ) → IsPrefix a b →
-      FailsOf t left faults place limit number r count news news' a b → Tracks t left faults place limit number start olds news a before tolds →
-      Begun t left faults place limit number start olds news' b (before ++ line.Take l r count ∷ [])
+      FailsOf t left faults place limit number r count news news' a b → Tracks t left faults place limit number job_number start olds news a before tolds →
+      Begun t left faults place limit number job_number start olds news' b (before ++ line.Take l r count ∷ [])
   begun-at start olds news news' a b before tolds l r count begins fails tracks =
       let x = fails.fails in
       let sp : Split tracks.strands x.front x.old x.back = split-at tracks.strands x.front x.old x.back (tracks.woven.nows ∙ x.olds_are) in
       let w : Woven t left faults place limit olds news a (sp.front ++ sp.mid ∷ sp.back) = subst (λ (ss : List (Strand S)). Woven t left faults place limit olds news a ss) sp.whole tracks.woven in
       let place-is : length sp.front ≡ fails.at = sym (length-map sp.front (λ s. s.now)) ∙ ap length sp.front_is ∙ x.at_place in
-      begun-grown start olds news news' a b before sp.front sp.mid sp.back x.new l r count begins
+      begun-grown start olds news news' a b before tracks.links sp.front sp.mid sp.back x.new l r count begins
       (found-feed r sp.front sp.mid sp.back news fails.at w.nows place-is fails.found)
       (x.news_are ∙ ap (λ (f : List (Feed S)). f ++ x.new ∷ x.back) (sym sp.front_is) ∙ ap (λ (b : List (Feed S)). nows sp.front ++ x.new ∷ b) (sym sp.back_is))
       (subst (λ (f : Feed S). GivesFirst t left faults place limit number count f x.new a b) (sym sp.mid_is) x.step) w
-      (subst (λ (ss : List (Strand S)). All (Counted before) ss) sp.whole tracks.counted)
-      (subst (λ (ss : List (Strand S)). length (own_of number a) ≡ length start + taken_of_all ss) sp.whole tracks.count)
-      (λ fs zip. (tracks.whatever fs (subst (λ (ss : List (Strand S)). AllZip GoesOn ss fs) (sym sp.whole) zip)).order)
+      (subst (λ (ss : List (Strand S)). All (Counted before) ss) sp.whole tracks.counted) tracks.linked
+      (subst (λ (ss : List (Strand S)). length (own_of number a) ≡ length start + (taken_of_all ss + tracks.links.count)) sp.whole tracks.count)
+      (λ job on. (tracks.whatever job (subst (λ (ss : List (Strand S)). IsJobOn GoesOn job_number ss tracks.links job) (sym sp.whole) on)).order)
 
   -- memory was wanting where nothing was taken since the lines that were done
   pub begun-still : (start : List Entry) (olds : List (Reader S)) (news : List (Feed S)) (a b : List Posted) (before : List Line) (tolds : List Told) → IsPrefix a b → own_of number b ≡ own_of number a →
-      Tracks t left faults place limit number start olds news a before tolds → Begun t left faults place limit number start olds news b before
+      Tracks t left faults place limit number job_number start olds news a before tolds → Begun t left faults place limit number job_number start olds news b before
   begun-still start olds news a b before tolds begins same tracks = record {
     strands = tracks.strands;
+    links = tracks.links;
     starts = tracks.woven.starts;
     nows = tracks.woven.nows;
     each = λ k d i. stands-front a b (get_or tracks.strands k d) begins (tracks.woven.each k d i);
     apart = tracks.woven.apart;
+    linked = first-links tracks.links.full limit a b (length (link_entries t job_number before)) (length (link_entries t job_number before)) tracks.links.count (prefix-length a b begins) (omega arith) tracks.linked;
     count = ap length same ∙ tracks.count;
-    order = λ fs zip.
-        ([], append-nil (own_of number b) ∙ same ∙ (tracks.whatever fs (all-become-go limit a tracks.strands fs (λ k d i. (tracks.woven.each k d i).took) zip)).order);
+    order = λ job on. (
+      [],
+      append-nil (own_of number b) ∙ same ∙ (tracks.whatever job (record {
+        number = on.number;
+        feeds = all-become-go limit a tracks.strands job.feeds (λ k d i. (tracks.woven.each k d i).took) on.feeds;
+        kept = on.kept;
+      })).order,
+    );
   }
 
   -- what was begun within lines was begun within these and others
   pub begun-more : (start : List Entry) (olds : List (Reader S)) (news : List (Feed S)) (seen : List Posted) (lines more : List Line) →
-      Begun t left faults place limit number start olds news seen lines → Begun t left faults place limit number start olds news seen (lines ++ more)
+      Begun t left faults place limit number job_number start olds news seen lines → Begun t left faults place limit number job_number start olds news seen (lines ++ more)
   begun-more start olds news seen lines more begun = record {
     strands = begun.strands;
+    links = begun.links;
     starts = begun.starts;
     nows = begun.nows;
     each = begun.each;
     apart = begun.apart;
+    linked = first-links-more begun.links.full limit seen (length (link_entries t job_number lines)) (length (link_entries t job_number (lines ++ more))) begun.links.count
+        (let len = ap length (links-append t job_number lines more) ∙ length-append (link_entries t job_number lines) (link_entries t job_number more) in omega (arith, len)) begun.linked;
     count = begun.count;
-    order = λ fs zip.
-        prefix_trans (own_of number seen) (start ++ taken_along fs [] lines) (start ++ taken_along fs [] (lines ++ more)) (begun.order fs zip)
-        (taken_along fs lines more, append_assoc start (taken_along fs [] lines) (taken_along fs lines more) ∙ ap (λ (w : List Entry). start ++ w) (sym (taken_along-append fs [] lines more)));
+    order = λ job on.
+        prefix_trans (own_of number seen) (start ++ given_along t job [] lines) (start ++ given_along t job [] (lines ++ more)) (begun.order job on)
+        (given_along t job lines more, append_assoc start (given_along t job [] lines) (given_along t job lines more) ∙ ap (λ (w : List Entry). start ++ w) (sym (given-append t job [] lines more)));
   }
 
   -- a job whose lines and rests were begun
-  pub has-begun : (start : List Entry) (seen : List Posted) (task : Task S) (olds news : List (Feed S)) → ReadOn t left faults place olds news →
-      Begun t left faults place limit number start task.feeds news seen ((task.lines ++ rests_of task.lines) ++ rests_by olds) → HasBegun t left faults place limit number start seen task (map back_of news)
-  has-begun start seen task olds news on begun =
+  pub has-begun : (start : List Entry) (seen : List Posted) (task : Task S) (olds news : List (Feed S)) → task.number ≡ job_number → ReadOn t left faults place olds news →
+      Begun t left faults place limit number job_number start task.feeds news seen ((task.lines ++ rests_of task.lines) ++ rests_by olds) → HasBegun t left faults place limit number start seen task (map back_of news)
+  has-begun start seen task olds news is on begun =
+      let all : List Line = (task.lines ++ rests_of task.lines) ++ rests_by olds in
       let ss : List (Strand S) = begun.strands in
       record {
         strands = ss;
+        links = begun.links;
         starts = begun.starts;
         backs_are = sym (map-then (λ (s : Strand S). s.now) back_of ss) ∙ ap (map back_of) begun.nows;
         each = begun.each;
+        linked = subst (λ (es : List Entry). TookFirstLinks begun.links.full limit seen (length es) begun.links.count)
+            (links-all t job_number task.lines (rests_by olds) (rests-of-links t job_number olds) ∙ ap (λ (n : ℕ). link_entries t n task.lines) (sym is)) begun.linked;
         count = begun.count;
-        order = λ fs zip.
+        order = λ job jo lines-are.
+            let fs : List FeedRead = job.feeds in
             let same : rests_by olds ≡ map rest_line fs =
-            rests-same t left faults place limit news ss olds on begun.nows ∙ rests-of-routers MayBecome (λ s f may. may.router) ss fs zip in
+            rests-same t left faults place limit news ss olds on begun.nows ∙ rests-of-routers MayBecome (λ s f may. may.router) ss fs jo.feeds in
             subst (λ (es : List Entry). IsPrefix (own_of number seen) (start ++ es))
-            (ap (λ ls. taken_along fs [] ((task.lines ++ rests_of task.lines) ++ ls)) same ∙ job-order task.number task.lines fs (two-of MayBecome (λ s f may. may.router) ss fs zip begun.apart))
-            (begun.order fs zip);
+            (ap (λ ls. given_along t job [] ((task.lines ++ rests_of task.lines) ++ ls)) same
+            ∙ ap (λ ls. given_along t job [] ((ls ++ rests_of ls) ++ map rest_line fs)) (sym lines-are) ∙ job-order t job (two-of MayBecome (λ s f may. may.router) ss fs jo.feeds begun.apart))
+            (begun.order job (record { number = jo.number ∙ is; feeds = jo.feeds; kept = jo.kept }));
       }

@@ -8,9 +8,10 @@ use Rattle.std.proofs.lemmas.List.{append-nil, append_assoc}
 use Rattle.std.proofs.lemmas.List.Folds.{list_any_none}
 use Rattle.std.proofs.lemmas.List.Elements.{All-nil, All-cons, All-head, All-tail, All-map, Contains-append_left, Contains-append_right, Contains-append_cases}
 use mathlib.Core.List.{IsPrefix}
-use Rattle.dn_formats.specs.Lawful.{TellsFront, entries_of_job, first_taken, left_by}
+use Rattle.dn_formats.specs.Lawful.{Job, entries_of_job, first_taken, left_by, link_entries}
 use Rattle.dn_formats.specs.declared.script.Line.{Line}
-use Rattle.dn_formats.specs.declared.told.FeedTold.{FeedTold}
+use Rattle.dn_formats.specs.declared.script.Line.TheVariants as line
+use Rattle.feed_model.specs.declared.feed_told.FeedTold.{FeedTold}
 use Rattle.dn_formats.specs.declared.told.Told.{Told}
 use Rattle.dn_model.specs.Entry.{entries}
 use Rattle.base.specs.Lists.{all_differ}
@@ -29,17 +30,16 @@ use Rattle.fast_pins.specs.Known.{Known, published}
 use Rattle.feed_threads.specs.declared.reader_job.Read.{Read}
 use Rattle.feed_threads.specs.Jobs.{AreReadBy, Ends, HasBegun, HasRunUnless, IsBack, IsFresh, Task}
 use Rattle.feed_threads.specs.Readers.{AllRead, HasRead, Reading}
-use Rattle.feed_threads.specs.Reads.{ReadsAlone, TellsRead, TellsReadFront}
+use Rattle.feed_threads.specs.Reads.{IsAsk, ReadsAlone, TellsRead, TellsReadFront}
 use Rattle.feed_threads.specs.Runs.{IsReady, RanJob}
 use Rattle.feed_threads.specs.Seats.{own_of, LooksOn, SawMore}
-use Rattle.feed_threads.specs.Tells.{TellsOwn}
+use Rattle.feed_threads.specs.Tells.{TellsOwn, TellsOwnFront}
 use Rattle.feed_threads.specs.Feeds.{StandsFront}
 use Rattle.feed_threads.specs.Tracks.{Strand}
 use Rattle.feed_threads.proofs.EndLemmas.{fresh-begun, hands-none}
 use Rattle.feed_threads.proofs.LawLemmas.{all-unmap, map-map}
-use Rattle.feed_threads.proofs.ReadLemmas.{read-none, taken-none}
+use Rattle.feed_threads.proofs.ReadLemmas.{given-none, read-none}
 use Rattle.feed_threads.proofs.SeatLemmas.{saw-more, saw-number, saw-seat}
-use Rattle.feed_threads.proofs.TellLemmas.{tells-lines}
 
 -- ---- one more at a place
 
@@ -168,9 +168,20 @@ first-none : (before lines : List Line) → first_taken [] before lines ≡ []
 first-none before [] = refl
 first-none before (l ∷ lines) = first-none (before ++ l ∷ []) lines
 
-job-none : (number : ℕ) (lines : List Line) → entries_of_job (record { number = number; lines = lines; feeds = [] }) ≡ []
-job-none number lines =
-    ap₂ (λ xs ys. xs ++ flat_map (left_by lines) (ys ++ [])) (taken-none [] lines) (first-none [] lines)
+job-none : (t : Topology) (task_number : ℕ) (lines : List Line) → All IsAsk lines → entries_of_job t (record { number = task_number; lines = lines; feeds = []; kept_links = 0 }) ≡ []
+job-none t number lines asks =
+    ap₂ (λ xs ys. xs ++ flat_map (left_by lines) (ys ++ [])) (given-none t (record { number = number; lines = lines; feeds = []; kept_links = 0 }) [] lines refl asks) (first-none [] lines)
+
+-- a job of this number and lines that has no feeds and no link entries
+abbrev asking : ℕ → List Line → Job
+asking number lines = record { number = number; lines = lines; feeds = []; kept_links = 0 }
+
+-- lines that ask make no link entry
+asks-link : (t : Topology) (number : ℕ) (lines : List Line) → All IsAsk lines → link_entries t number lines ≡ []
+asks-link t number [] asks = refl
+asks-link t number (line.Ask l q ∷ lines) asks = asks-link t number lines (All-tail IsAsk (line.Ask l q) lines asks)
+asks-link t number (line.Take l r c ∷ lines) asks = absurd (All-head IsAsk (line.Take l r c) lines asks)
+asks-link t number (line.Link l n d ∷ lines) asks = absurd (All-head IsAsk (line.Link l n d) lines asks)
 
 module _ {S : Type 0} (t : Topology) (left : S → Option (List ℕ)) (faults place : S → ℕ) (limit : ℕ) where
   no-feeds : (seen : List Posted) (readers : List (Reader S)) (backs : List (S × FeedTold)) → readers ≡ [] → backs ≡ [] → AreReadBy t left faults place limit seen readers backs []
@@ -183,29 +194,33 @@ module _ {S : Type 0} (t : Topology) (left : S → Option (List ℕ)) (faults pl
 
   -- what is told by snapshots is told by the history that begins with them, under a number of which it has nothing more
   tells-now : (m : ℕ) (before seen : List Posted) (task : Task S) (done : JobDone S) (r : CameByReading t before seen task done) → posted_by m seen ≡ posted_by m before →
-      (lines : List Line) (tolds : List Told) → TellsRead t r.first r.list lines tolds → TellsOwn t seen m (own_of m before) [] [] 0 lines tolds
-  tells-now m before seen task done r same lines tolds told =
+      (lines : List Line) (tolds : List Told) (job : Job) → job.feeds ≡ [] → TellsRead t r.first r.list lines tolds → TellsOwn t limit seen m (own_of m before) job [] 0 lines tolds
+  tells-now m before seen task done r same lines tolds job none told =
       let whole : IsPrefix r.first seen = prefix_trans r.first r.list seen told.begins r.within in
       let first : posted_by m r.first ≡ posted_by m before = same_between m before r.first seen r.begins whole (sym same) in
-      let tells : TellsOwn t (r.list ++ r.within.0) m (own_of m r.first) [] [] 0 lines tolds = told.tells m r.within.0 (ap (posted_by m) r.within.1 ∙ same ∙ sym first) in
-      subst (λ (ps : List Posted). TellsOwn t ps m (own_of m before) [] [] 0 lines tolds) r.within.1
-      (subst (λ (es : List Entry). TellsOwn t (r.list ++ r.within.0) m es [] [] 0 lines tolds) (ap entries first) tells)
+      let tells : TellsOwn t limit (r.list ++ r.within.0) m (own_of m r.first) job [] 0 lines tolds = told.tells limit m job r.within.0 none (ap (posted_by m) r.within.1 ∙ same ∙ sym first) in
+      subst (λ (ps : List Posted). TellsOwn t limit ps m (own_of m before) job [] 0 lines tolds) r.within.1
+      (subst (λ (es : List Entry). TellsOwn t limit (r.list ++ r.within.0) m es job [] 0 lines tolds) (ap entries first) tells)
 
   run-unless : (wanted : Bool) (m : ℕ) (before seen : List Posted) (task : Task S) (done : JobDone S) → done.wanted_memory ≡ wanted → CameByReading t before seen task done → posted_by m seen ≡ posted_by m before →
       HasRunUnless t left faults place limit wanted m (own_of m before) seen task done.told done.feeds.items
   run-unless true m before seen task done is r same = record {
     strands = [];
+    links = record { count = 0; full = false };
     starts = sym r.ends.feeds;
     backs_are = sym r.ends.none;
     each = All-nil (λ (s : Strand S). StandsFront t left faults place limit seen s.start s.now s.steps s.ops);
+    linked = omega arith;
     count = (let e : length (own_of m seen) ≡ length (own_of m before) = ap length (ap entries same) in omega (arith, e));
-    order = λ fs zip. let es : List Entry = entries_of_job (record { number = task.number; lines = task.lines; feeds = fs }) in (es, ap (λ (xs : List Entry). xs ++ es) (ap entries same));
+    order = λ job on lines-are. let es : List Entry = entries_of_job t job in (es, ap (λ (xs : List Entry). xs ++ es) (ap entries same));
   }
   run-unless false m before seen task done is r same = record {
     feeds = [];
+    links = record { count = 0; full = false };
+    linked = ap length (sym (asks-link t task.number task.lines (r.ends.done is).asks));
     read = no-feeds seen task.feeds done.feeds.items r.ends.feeds r.ends.none;
-    order = ap entries same ∙ sym (ap (λ es. own_of m before ++ es) (job-none task.number task.lines) ∙ append-nil (own_of m before));
-    tells = tells-now m before seen task done r same task.lines done.told (r.ends.done is);
+    order = ap entries same ∙ sym (ap (λ es. own_of m before ++ es) (job-none t task.number task.lines (r.ends.done is).asks) ∙ append-nil (own_of m before));
+    tells = tells-now m before seen task done r same task.lines done.told (asking task.number task.lines) refl (r.ends.done is);
   }
 
   reading-ends : (m : ℕ) (before seen : List Posted) (task : Task S) (done : JobDone S) → CameByReading t before seen task done → posted_by m seen ≡ posted_by m before →
@@ -214,7 +229,14 @@ module _ {S : Type 0} (t : Topology) (left : S → Option (List ℕ)) (faults pl
       let f = r.ends.front in
       record {
         done = run-unless done.wanted_memory m before seen task done refl r same;
-        front = (f.front, f.back, f.lines_are, tells-lines t seen m (own_of m before) [] [] 0 f.front done.told (tells-now m before seen task done r same f.front done.told f.told));
+        front = record {
+          front = f.front;
+          back = f.back;
+          lines_are = f.lines_are;
+          job = asking task.number task.lines;
+          number_is = refl;
+          tells = tells-now m before seen task done r same f.front done.told (asking task.number task.lines) refl f.told;
+        };
         back = no-backs task.feeds done.feeds.items r.ends.feeds r.ends.none;
       }
 
@@ -268,7 +290,8 @@ module _ {S : Type 0} (t : Topology) (left : S → Option (List ℕ)) (faults pl
   not-run-ends n start seen task done fresh same is = record {
     done = wants done.wanted_memory n start seen task done.told done.feeds.items is.wanted
         (subst (λ (bs : List (S × FeedTold)). HasBegun t left faults place limit n start seen task bs) (sym is.feeds) (fresh-begun t left faults place limit n start seen task fresh same));
-    front = subst (λ (ts : List Told). TellsFront t (entries seen) task.lines ts) (sym is.told) ([], task.lines, refl, tt);
+    front = subst (λ (ts : List Told). TellsOwnFront t limit seen n start task.number task.lines ts) (sym is.told)
+        (record { front = []; back = task.lines; lines_are = refl; job = asking task.number task.lines; number_is = refl; tells = tt });
     back = subst (λ (bs : List (S × FeedTold)). AllZip (IsBack t left faults place limit) task.feeds bs) (sym is.feeds) (fresh-backs task.feeds fresh);
   }
 

@@ -8,8 +8,8 @@ use Rattle.std.proofs.Common.{[], ◌∷◌}
 use Rattle.std.proofs.Crossing as heap
 use Rattle.std.proofs.Crossing.{crosses}
 use Rattle.base.proofs.list.List.TheSendSync as list
-use Rattle.dn_formats.specs.contracts.told.FeedTold as FeedTold
-use Rattle.dn_formats.proofs.told.FeedTold.TheSendSync as feed-told
+use Rattle.feed_model.specs.contracts.feed_told.FeedTold as FeedTold
+use Rattle.feed_model.proofs.feed_told.FeedTold.TheSendSync as feed-told
 use Rattle.dn_formats.proofs.told.Told.TheSendSync as told
 use Rattle.dn_io.specs.declared.traits.Source as source
 use Rattle.fast_pins.specs.contracts.reader.FastReader as FastReader

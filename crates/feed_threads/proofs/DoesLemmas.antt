@@ -5,13 +5,13 @@ use Rattle.std.specs.List.{position}
 use Rattle.std.proofs.lemmas.Grind.{flat_map-append}
 use Rattle.std.proofs.lemmas.List.{append-nil}
 use Rattle.std.proofs.lemmas.List.Elements.{All-cons, All-head, All-map, All-tail}
-use Rattle.dn_formats.specs.Lawful.{TellsFront}
 use Rattle.dn_formats.specs.declared.script.Line.{Line}
 use Rattle.dn_formats.specs.declared.script.Line.TheVariants as line
-use Rattle.dn_formats.specs.declared.told.FeedTold.{FeedTold}
+use Rattle.feed_model.specs.declared.feed_told.FeedTold.{FeedTold}
 use Rattle.dn_formats.specs.declared.told.Outcome.{Outcome}
+use Rattle.dn_formats.specs.declared.told.LinkOutcome.{LinkOutcome}
 use Rattle.dn_formats.specs.declared.told.Told.{Told}
-use Rattle.dn_model.specs.Entry.{entries}
+use Rattle.dn_formats.specs.declared.told.Told.TheVariants.{Asked, Linked}
 use Rattle.dn_model.specs.Query.{Question}
 use Rattle.dn_model.specs.declared.entry.Entry.{Entry}
 use Rattle.dn_model.specs.declared.entry.Posted.{Posted}
@@ -28,7 +28,7 @@ use Rattle.feed_threads.specs.Runs.{IsReady, RanJob}
 use Rattle.feed_threads.specs.Seats.{own_of, LooksOn, SawMore}
 use Rattle.feed_threads.specs.Shown.{IsShown, ShowsOn}
 use Rattle.feed_threads.specs.Takes.{Takes}
-use Rattle.feed_threads.specs.Tells.{Adds, IsOutcomeNow}
+use Rattle.feed_threads.specs.Tells.{Adds, IsLinkOutcomeNow, IsOutcomeNow, TellsOwnFront}
 use Rattle.feed_threads.specs.Tracks.{rest_of, rests_of, rest_by, rests_by}
 use Rattle.feed_threads.specs.Works.{Work, IsAtWork, WorksOn, HasDone, HasBegun, Does, Breaks, TellsFrontOf, Works, TookAt}
 use Rattle.feed_threads.proofs.BegunLemmas.{begun-at, begun-still, begun-more, has-begun}
@@ -37,7 +37,7 @@ use Rattle.feed_threads.proofs.PlaceLemmas.{failed-at, read-at, read-none, took-
 use Rattle.feed_threads.proofs.SeatLemmas.{saw-none, saw-number, saw-more, saw-seat}
 use Rattle.feed_threads.proofs.ShownLemmas.{shows-more, shows-none, shows-still}
 use Rattle.feed_threads.proofs.StepLemmas.{reads-more}
-use Rattle.feed_threads.proofs.TracksLemmas.{tracks-at, tracks-ask}
+use Rattle.feed_threads.proofs.TracksLemmas.{tracks-ask, tracks-at, tracks-link, tracks-looks}
 
 -- ---- all feeds read on
 
@@ -96,10 +96,10 @@ read-length t left faults place (o ∷ olds) [] on = absurd on
 read-length t left faults place (o ∷ olds) (n ∷ news) on = ap suc (read-length t left faults place olds news on.1)
 
 -- what is told was added at the end
-pub told-adds : {A E : Type 0} (result : Result A E) (tolds tolds' : List Told) (told : Told) (l : ℕ) (q : Question) (P : Outcome → Type 0) → OnOk result (tolds' ≡ tolds ++ told ∷ []) → told.line ≡ l → told.query ≡ q → P told.outcome →
+pub told-adds : {A E : Type 0} (result : Result A E) (tolds tolds' : List Told) (l : ℕ) (q q' : Question) (o : Outcome) (P : Outcome → Type 0) → OnOk result (tolds' ≡ tolds ++ Asked l q' o ∷ []) → q' ≡ q → P o →
     OnOk result (Adds tolds tolds' l q P)
-told-adds (Ok o) tolds tolds' told l q P added line query good = record { told = told; added = added; line_is = line; query_is = query; good = good }
-told-adds (Err e) tolds tolds' told l q P added line query good = tt
+told-adds (Ok r) tolds tolds' l q q' o P added same good = record { outcome = o; added = added ∙ ap (λ (a : Question). tolds ++ Asked l a o ∷ []) same; good = good }
+told-adds (Err e) tolds tolds' l q q' o P added same good = tt
 
 module _ {S : Type 0} (lock : Lock) (left : S → Option (List ℕ)) (faults place : S → ℕ) where
   -- ---- going on
@@ -118,6 +118,7 @@ module _ {S : Type 0} (lock : Lock) (left : S → Option (List ℕ)) (faults pla
 
   pub on-none : (work : Work S) → IsAtWork lock work → WorksOn lock left faults place work work
   on-none work at = record {
+    number = refl;
     saw = saw-none work.seat;
     shows = shows-none lock.setup.basis.topology work.seat.seen work.shown at.shown;
     reads = read-none lock.setup.basis.topology left faults place lock.setup.basis.limit work.feeds;
@@ -125,6 +126,7 @@ module _ {S : Type 0} (lock : Lock) (left : S → Option (List ℕ)) (faults pla
 
   pub on-more : (old mid new : Work S) → WorksOn lock left faults place old mid → WorksOn lock left faults place mid new → WorksOn lock left faults place old new
   on-more old mid new a b = record {
+    number = b.number ∙ a.number;
     saw = saw-more old.seat mid.seat new.seat a.saw b.saw;
     shows = shows-more lock.setup.basis.topology mid.seat.seen new.seat.seen old.shown mid.shown new.shown a.shows b.shows;
     reads = read-more lock.setup.basis.topology left faults place old.feeds mid.feeds new.feeds a.reads b.reads;
@@ -132,10 +134,21 @@ module _ {S : Type 0} (lock : Lock) (left : S → Option (List ℕ)) (faults pla
 
   -- ---- lines that are done
 
+  -- by the same numbers
+  renumber : (k k' n n' : ℕ) (start : List Entry) (readers : List (Reader S)) (lines : List Line) (w : Work S) → k ≡ k' → n ≡ n' →
+      HasDone lock left faults place k n start readers lines w → HasDone lock left faults place k' n' start readers lines w
+  renumber k k' n n' start readers lines w seats numbers h =
+      subst (λ (x : ℕ). HasDone lock left faults place x n' start readers lines w) seats (subst (λ (x : ℕ). HasDone lock left faults place k x start readers lines w) numbers h)
+
+  renumber-begun : (k k' n n' : ℕ) (start : List Entry) (readers : List (Reader S)) (lines : List Line) (w : Work S) → k ≡ k' → n ≡ n' →
+      HasBegun lock left faults place k n start readers lines w → HasBegun lock left faults place k' n' start readers lines w
+  renumber-begun k k' n n' start readers lines w seats numbers h =
+      subst (λ (x : ℕ). HasBegun lock left faults place x n' start readers lines w) seats (subst (λ (x : ℕ). HasBegun lock left faults place k x start readers lines w) numbers h)
+
   -- nothing is done
   pub does-none : (work : Work S) → Does lock left faults place work work []
   does-none work = record {
-    on = λ start readers before h. subst (λ (ls : List Line). HasDone lock left faults place work.seat.number start readers ls work) (sym (append-nil before)) h;
+    on = λ start readers before h. subst (λ (ls : List Line). HasDone lock left faults place work.seat.number work.number start readers ls work) (sym (append-nil before)) h;
   }
 
   -- and then some more lines
@@ -144,11 +157,11 @@ module _ {S : Type 0} (lock : Lock) (left : S → Option (List ℕ)) (faults pla
   does-more old mid new xs ys all on first second is = record {
     on = λ start readers before h.
         let n : mid.seat.number ≡ old.seat.number = saw-number old.seat mid.seat on.saw in
-        let between : HasDone lock left faults place mid.seat.number start readers (before ++ xs) mid =
-        subst (λ (k : ℕ). HasDone lock left faults place k start readers (before ++ xs) mid) (sym n) (first.on start readers before h) in
-        let after : HasDone lock left faults place old.seat.number start readers ((before ++ xs) ++ ys) new =
-        subst (λ (k : ℕ). HasDone lock left faults place k start readers ((before ++ xs) ++ ys) new) n (second.on start readers (before ++ xs) between) in
-        subst (λ (ls : List Line). HasDone lock left faults place old.seat.number start readers ls new) (append_assoc before xs ys ∙ ap (λ ls. before ++ ls) (sym is)) after;
+        let between : HasDone lock left faults place mid.seat.number mid.number start readers (before ++ xs) mid =
+        renumber old.seat.number mid.seat.number old.number mid.number start readers (before ++ xs) mid (sym n) (sym on.number) (first.on start readers before h) in
+        let after : HasDone lock left faults place old.seat.number old.number start readers ((before ++ xs) ++ ys) new =
+        renumber mid.seat.number old.seat.number mid.number old.number start readers ((before ++ xs) ++ ys) new n on.number (second.on start readers (before ++ xs) between) in
+        subst (λ (ls : List Line). HasDone lock left faults place old.seat.number old.number start readers ls new) (append_assoc before xs ys ∙ ap (λ ls. before ++ ls) (sym is)) after;
   }
 
   -- lines were done, and then memory was wanting within others
@@ -157,22 +170,22 @@ module _ {S : Type 0} (lock : Lock) (left : S → Option (List ℕ)) (faults pla
   breaks-after old mid new xs ys more all on first second is = record {
     on = λ start readers before h.
         let n : mid.seat.number ≡ old.seat.number = saw-number old.seat mid.seat on.saw in
-        let between : HasDone lock left faults place mid.seat.number start readers (before ++ xs) mid =
-        subst (λ (k : ℕ). HasDone lock left faults place k start readers (before ++ xs) mid) (sym n) (first.on start readers before h) in
-        let broken : HasBegun lock left faults place old.seat.number start readers ((before ++ xs) ++ ys) new =
-        subst (λ (k : ℕ). HasBegun lock left faults place k start readers ((before ++ xs) ++ ys) new) n (second.on start readers (before ++ xs) between) in
-        subst (λ (ls : List Line). HasBegun lock left faults place old.seat.number start readers ls new)
+        let between : HasDone lock left faults place mid.seat.number mid.number start readers (before ++ xs) mid =
+        renumber old.seat.number mid.seat.number old.number mid.number start readers (before ++ xs) mid (sym n) (sym on.number) (first.on start readers before h) in
+        let broken : HasBegun lock left faults place old.seat.number old.number start readers ((before ++ xs) ++ ys) new =
+        renumber-begun mid.seat.number old.seat.number mid.number old.number start readers ((before ++ xs) ++ ys) new n on.number (second.on start readers (before ++ xs) between) in
+        subst (λ (ls : List Line). HasBegun lock left faults place old.seat.number old.number start readers ls new)
         (ap (λ ls. ls ++ more) (append_assoc before xs ys) ∙ append_assoc before (xs ++ ys) more ∙ ap (λ ls. before ++ ls) (sym is))
-        (begun-more lock.setup.basis.topology left faults place lock.setup.basis.limit old.seat.number start readers new.feeds new.seat.seen ((before ++ xs) ++ ys) more broken);
+        (begun-more lock.setup.basis.topology left faults place lock.setup.basis.limit old.seat.number old.number start readers new.feeds new.seat.seen ((before ++ xs) ++ ys) more broken);
   }
 
   -- memory was wanting within the first of these lines
   pub breaks-more : (old new : Work S) (xs more all : List Line) → Breaks lock left faults place old new xs → all ≡ xs ++ more → Breaks lock left faults place old new all
   breaks-more old new xs more all first is = record {
     on = λ start readers before h.
-        subst (λ (ls : List Line). HasBegun lock left faults place old.seat.number start readers ls new)
+        subst (λ (ls : List Line). HasBegun lock left faults place old.seat.number old.number start readers ls new)
         (append_assoc before xs more ∙ ap (λ ls. before ++ ls) (sym is))
-        (begun-more lock.setup.basis.topology left faults place lock.setup.basis.limit old.seat.number start readers new.feeds new.seat.seen (before ++ xs) more (first.on start readers before h));
+        (begun-more lock.setup.basis.topology left faults place lock.setup.basis.limit old.seat.number old.number start readers new.feeds new.seat.seen (before ++ xs) more (first.on start readers before h));
   }
 
   -- ---- calls
@@ -203,8 +216,8 @@ module _ {S : Type 0} (lock : Lock) (left : S → Option (List ℕ)) (faults pla
     on = took.on;
     does = record {
       on = λ start readers before h.
-          subst (λ (x : List Told). HasDone lock left faults place old.seat.number start readers (before ++ line.Take l r count ∷ []) (record new { told = x })) (sym took.told)
-          (tracks-at lock.setup.basis.topology left faults place lock.setup.basis.limit old.seat.number start readers old.feeds new.feeds old.seat.seen new.seat.seen before old.told l r count (Some at) took.on.saw.seen found took.took h);
+          subst (λ (x : List Told). HasDone lock left faults place old.seat.number old.number start readers (before ++ line.Take l r count ∷ []) (record new { told = x })) (sym took.told)
+          (tracks-at lock.setup.basis.topology left faults place lock.setup.basis.limit old.seat.number old.number start readers old.feeds new.feeds old.seat.seen new.seat.seen before old.told l r count (Some at) took.on.saw.seen found took.took h);
     };
     breaks = tt;
   }
@@ -213,7 +226,7 @@ module _ {S : Type 0} (lock : Lock) (left : S → Option (List ℕ)) (faults pla
     does = tt;
     breaks = record {
       on = λ start readers before h.
-          begun-at lock.setup.basis.topology left faults place lock.setup.basis.limit old.seat.number start readers old.feeds new.feeds old.seat.seen new.seat.seen before old.told l r count took.on.saw.seen
+          begun-at lock.setup.basis.topology left faults place lock.setup.basis.limit old.seat.number old.number start readers old.feeds new.feeds old.seat.seen new.seat.seen before old.told l r count took.on.saw.seen
           (record { at = at; found = found; fails = took.fails }) h;
     };
   }
@@ -222,53 +235,126 @@ module _ {S : Type 0} (lock : Lock) (left : S → Option (List ℕ)) (faults pla
   pub works-not : (work : Work S) (r : RouterId) (count : Option ℕ) → IsAtWork lock work → position (is_feed_of r) work.feeds ≡ None → (l : ℕ) → Does lock left faults place work work (line.Take l r count ∷ [])
   works-not work r count at none l = record {
     on = λ start readers before h.
-        tracks-at lock.setup.basis.topology left faults place lock.setup.basis.limit work.seat.number start readers work.feeds work.feeds work.seat.seen work.seat.seen before work.told l r count None (prefix_self work.seat.seen) none (refl, refl) h;
+        tracks-at lock.setup.basis.topology left faults place lock.setup.basis.limit work.seat.number work.number start readers work.feeds work.feeds work.seat.seen work.seat.seen before work.told l r count None (prefix_self work.seat.seen) none (refl, refl) h;
   }
 
   -- a query was asked, or memory was wanting
   asked-on : {A E : Type 0} (result : Result A E) (old : Work S) (s : Caller) (told : List Told) (l : ℕ) (q : Question) → IsAtWork lock old → LooksOn old.seat s →
       OnOk result (Adds old.told told l q (IsOutcomeNow lock.setup.basis.topology s.seen q)) → Works lock left faults place result old (record old { seat = s; told = told }) (line.Ask l q ∷ [])
   asked-on (Ok o) old s told l q at looks adds = record {
-    on = record { saw = looks.saw; shows = shows-still lock.setup.basis.topology old.seat.seen s.seen old.shown looks.saw.seen at.shown; reads = read-none lock.setup.basis.topology left faults place lock.setup.basis.limit old.feeds };
+    on = record { number = refl; saw = looks.saw; shows = shows-still lock.setup.basis.topology old.seat.seen s.seen old.shown looks.saw.seen at.shown; reads = read-none lock.setup.basis.topology left faults place lock.setup.basis.limit old.feeds };
     does = record {
       on = λ start readers before h.
-          tracks-ask lock.setup.basis.topology left faults place lock.setup.basis.limit old.seat.number start readers old.feeds old.seat.seen s.seen before old.told told l q looks.saw.seen looks.own adds h;
+          tracks-ask lock.setup.basis.topology left faults place lock.setup.basis.limit old.seat.number old.number start readers old.feeds old.seat.seen s.seen before old.told told l q looks.saw.seen looks.own adds h;
     };
     breaks = tt;
   }
   asked-on (Err e) old s told l q at looks adds = record {
-    on = record { saw = looks.saw; shows = shows-still lock.setup.basis.topology old.seat.seen s.seen old.shown looks.saw.seen at.shown; reads = read-none lock.setup.basis.topology left faults place lock.setup.basis.limit old.feeds };
+    on = record { number = refl; saw = looks.saw; shows = shows-still lock.setup.basis.topology old.seat.seen s.seen old.shown looks.saw.seen at.shown; reads = read-none lock.setup.basis.topology left faults place lock.setup.basis.limit old.feeds };
     does = tt;
     breaks = record {
       on = λ start readers before h.
-          begun-more lock.setup.basis.topology left faults place lock.setup.basis.limit old.seat.number start readers old.feeds s.seen before (line.Ask l q ∷ [])
-          (begun-still lock.setup.basis.topology left faults place lock.setup.basis.limit old.seat.number start readers old.feeds old.seat.seen s.seen before old.told looks.saw.seen looks.own h);
+          begun-more lock.setup.basis.topology left faults place lock.setup.basis.limit old.seat.number old.number start readers old.feeds s.seen before (line.Ask l q ∷ [])
+          (begun-still lock.setup.basis.topology left faults place lock.setup.basis.limit old.seat.number old.number start readers old.feeds old.seat.seen s.seen before old.told looks.saw.seen looks.own h);
     };
   }
 
-  pub works-asked : {A E : Type 0} (result : Result A E) (old : Work S) (s s' : Caller) (shown : Option Known) (feeds : List (Feed S)) (told told' : List Told) (l : ℕ) (q : Question) →
-      record { seat = s; shown = shown; feeds = feeds; told = told } ≡ old → IsAtWork lock old → LooksOn s s' → OnOk result (Adds told told' l q (IsOutcomeNow lock.setup.basis.topology s'.seen q)) →
-      Works lock left faults place result old (record { seat = s'; shown = shown; feeds = feeds; told = told' }) (line.Ask l q ∷ [])
-  works-asked result old s s' shown feeds told told' l q is at looks adds =
-      let w : Work S = record { seat = s; shown = shown; feeds = feeds; told = told } in
-      subst (λ (x : Work S). Works lock left faults place result x (record { seat = s'; shown = shown; feeds = feeds; told = told' }) (line.Ask l q ∷ [])) is
+  pub works-asked : {A E : Type 0} (result : Result A E) (old : Work S) (n : ℕ) (s s' : Caller) (shown : Option Known) (feeds : List (Feed S)) (told told' : List Told) (l : ℕ) (q : Question) →
+      record { number = n; seat = s; shown = shown; feeds = feeds; told = told } ≡ old → IsAtWork lock old → LooksOn s s' → OnOk result (Adds told told' l q (IsOutcomeNow lock.setup.basis.topology s'.seen q)) →
+      Works lock left faults place result old (record { number = n; seat = s'; shown = shown; feeds = feeds; told = told' }) (line.Ask l q ∷ [])
+  works-asked result old n s s' shown feeds told told' l q is at looks adds =
+      let w : Work S = record { number = n; seat = s; shown = shown; feeds = feeds; told = told } in
+      subst (λ (x : Work S). Works lock left faults place result x (record { number = n; seat = s'; shown = shown; feeds = feeds; told = told' }) (line.Ask l q ∷ [])) is
       (asked-on result w s' told' l q (subst (λ (x : Work S). IsAtWork lock x) (sym is) at) looks adds)
 
+  -- ---- a link line
+
+  -- the entry of a link line was applied, or there was none, and then it was shown and told; or memory was wanting at one of these
+  set-link : {A E : Type 0} (result : Result A E) (old : Work S) (mid new : Caller) (shown : Option Known) (told : List Told) (l : ℕ) (name : List ℕ) (down : Bool) (o : LinkOutcome) → SawMore old.seat mid →
+      IsLinkOutcomeNow lock old.number name down old.seat mid o → LooksOn mid new → ShowsOn lock.setup.basis.topology new.seen old.shown shown →
+      OnOk result (told ≡ old.told ++ Linked l name down o ∷ []) → Works lock left faults place result old (record old { seat = new; shown = shown; told = told }) (line.Link l name down ∷ [])
+  set-link result old mid new shown told l name down o saw is looks shows adds =
+      let t : Topology = lock.setup.basis.topology in
+      let limit : ℕ = lock.setup.basis.limit in
+      let y : List Line = line.Link l name down ∷ [] in
+      let tolds : List Told = old.told ++ Linked l name down o ∷ [] in
+      let done : (start : List Entry) (readers : List (Reader S)) (before : List Line) → HasDone lock left faults place old.seat.number old.number start readers before old →
+      HasDone lock left faults place old.seat.number old.number start readers (before ++ y) (record old { seat = mid; told = tolds }) =
+      λ start readers before h. tracks-link lock left faults place old.seat mid old.number start readers old.feeds before old.told l name down o saw.seen is h in
+      let own : own_of old.seat.number new.seen ≡ own_of old.seat.number mid.seen = subst (λ (k : ℕ). own_of k new.seen ≡ own_of k mid.seen) (saw-number old.seat mid saw) looks.own in
+      let on : WorksOn lock left faults place old (record old { seat = new; shown = shown; told = told }) =
+      record { number = refl; saw = saw-more old.seat mid new saw looks.saw; shows = shows; reads = read-none t left faults place limit old.feeds } in
+      linked result on done own adds
+    where
+      linked : {A E : Type 0} (result : Result A E) → WorksOn lock left faults place old (record old { seat = new; shown = shown; told = told }) →
+          ((start : List Entry) (readers : List (Reader S)) (before : List Line) → HasDone lock left faults place old.seat.number old.number start readers before old →
+          HasDone lock left faults place old.seat.number old.number start readers (before ++ line.Link l name down ∷ []) (record old { seat = mid; told = old.told ++ Linked l name down o ∷ [] })) →
+          own_of old.seat.number new.seen ≡ own_of old.seat.number mid.seen → OnOk result (told ≡ old.told ++ Linked l name down o ∷ []) →
+          Works lock left faults place result old (record old { seat = new; shown = shown; told = told }) (line.Link l name down ∷ [])
+      linked (Ok r) on done own adds = record {
+        on = on;
+        does = record {
+          on = λ start readers before h.
+              subst (λ (ts : List Told). HasDone lock left faults place old.seat.number old.number start readers (before ++ line.Link l name down ∷ []) (record old { seat = new; shown = shown; told = ts })) (sym adds)
+              (tracks-looks lock.setup.basis.topology left faults place lock.setup.basis.limit old.seat.number old.number start readers old.feeds mid.seen new.seen (before ++ line.Link l name down ∷ []) (old.told ++ Linked l name down o ∷ [])
+              looks.saw.seen own (done start readers before h));
+        };
+        breaks = tt;
+      }
+      linked (Err e) on done own adds = record {
+        on = on;
+        does = tt;
+        breaks = record {
+          on = λ start readers before h.
+              begun-still lock.setup.basis.topology left faults place lock.setup.basis.limit old.seat.number old.number start readers old.feeds mid.seen new.seen (before ++ line.Link l name down ∷ []) (old.told ++ Linked l name down o ∷ [])
+              looks.saw.seen own (done start readers before h);
+        };
+      }
+
+  -- memory was wanting before a link line's entry was applied
+  pub link-broke : {A E : Type 0} (result : Result A E) (old : Work S) (new : Caller) (l : ℕ) (name : List ℕ) (down : Bool) → IsErr result → IsAtWork lock old → SawMore old.seat new →
+      own_of old.seat.number new.seen ≡ own_of old.seat.number old.seat.seen → Works lock left faults place result old (record old { seat = new }) (line.Link l name down ∷ [])
+  link-broke result old new l name down err at saw own =
+      works-broke result old (record old { seat = new }) (line.Link l name down ∷ []) err
+      (record { number = refl; saw = saw; shows = shows-still lock.setup.basis.topology old.seat.seen new.seen old.shown saw.seen at.shown; reads = read-none lock.setup.basis.topology left faults place lock.setup.basis.limit old.feeds })
+      (record {
+        on = λ start readers before h.
+            begun-more lock.setup.basis.topology left faults place lock.setup.basis.limit old.seat.number old.number start readers old.feeds new.seen before (line.Link l name down ∷ [])
+            (begun-still lock.setup.basis.topology left faults place lock.setup.basis.limit old.seat.number old.number start readers old.feeds old.seat.seen new.seen before old.told saw.seen own h);
+      })
+
+  -- the same by the parts of the job as a call has them
+  pub works-linked : {A E : Type 0} (result : Result A E) (old : Work S) (n : ℕ) (s mid new : Caller) (shown shown' : Option Known) (feeds : List (Feed S)) (told told' : List Told) (l : ℕ) (name : List ℕ) (down : Bool) (o : LinkOutcome) →
+      record { number = n; seat = s; shown = shown; feeds = feeds; told = told } ≡ old → SawMore s mid → IsLinkOutcomeNow lock n name down s mid o → LooksOn mid new → ShowsOn lock.setup.basis.topology new.seen shown shown' →
+      OnOk result (told' ≡ told ++ Linked l name down o ∷ []) → Works lock left faults place result old (record { number = n; seat = new; shown = shown'; feeds = feeds; told = told' }) (line.Link l name down ∷ [])
+  works-linked result old n s mid new shown shown' feeds told told' l name down o is saw outcome looks shows adds =
+      let w : Work S = record { number = n; seat = s; shown = shown; feeds = feeds; told = told } in
+      subst (λ (x : Work S). Works lock left faults place result x (record { number = n; seat = new; shown = shown'; feeds = feeds; told = told' }) (line.Link l name down ∷ [])) is
+      (set-link result w mid new shown' told' l name down o saw outcome looks shows adds)
+
+  pub works-unlinked : {A E : Type 0} (result : Result A E) (old : Work S) (n : ℕ) (s new : Caller) (shown : Option Known) (feeds : List (Feed S)) (told : List Told) (l : ℕ) (name : List ℕ) (down : Bool) →
+      record { number = n; seat = s; shown = shown; feeds = feeds; told = told } ≡ old → IsErr result → IsAtWork lock old → SawMore s new → own_of s.number new.seen ≡ own_of s.number s.seen →
+      Works lock left faults place result old (record { number = n; seat = new; shown = shown; feeds = feeds; told = told }) (line.Link l name down ∷ [])
+  works-unlinked result old n s new shown feeds told l name down is err at saw own =
+      let w : Work S = record { number = n; seat = s; shown = shown; feeds = feeds; told = told } in
+      subst (λ (x : Work S). Works lock left faults place result x (record { number = n; seat = new; shown = shown; feeds = feeds; told = told }) (line.Link l name down ∷ [])) is
+      (link-broke result w new l name down err (subst (λ (x : Work S). IsAtWork lock x) (sym is) at) saw own)
+
   -- frames of the feed at a place
-  pub work-took : {A E : Type 0} (result : Result A E) (old : Work S) (s s' : Caller) (shown shown' : Option Known) (feeds : List (Feed S)) (told : List Told) (at : ℕ) (count : Option ℕ) (v new : Feed S) →
-      record { seat = s; shown = shown; feeds = feeds; told = told } ≡ old → at < length old.feeds → v ≡ get_or feeds at v → ShowsOn lock.setup.basis.topology s'.seen shown shown' → Takes lock left faults place result count s s' v new →
-      TookAt lock left faults place result at count old (record { seat = s'; shown = shown'; feeds = set feeds at new; told = told })
-  work-took result old s s' shown shown' feeds told at count v new is less value shows takes =
-      let w : Work S = record { seat = s; shown = shown; feeds = feeds; told = told } in
+  pub work-took : {A E : Type 0} (result : Result A E) (old : Work S) (n : ℕ) (s s' : Caller) (shown shown' : Option Known) (feeds : List (Feed S)) (told : List Told) (at : ℕ) (count : Option ℕ) (v new : Feed S) →
+      record { number = n; seat = s; shown = shown; feeds = feeds; told = told } ≡ old → at < length old.feeds → v ≡ get_or feeds at v → ShowsOn lock.setup.basis.topology s'.seen shown shown' → Takes lock left faults place result count s s' v new →
+      TookAt lock left faults place result at count old (record { number = n; seat = s'; shown = shown'; feeds = set feeds at new; told = told })
+  work-took result old n s s' shown shown' feeds told at count v new is less value shows takes =
+      let w : Work S = record { number = n; seat = s; shown = shown; feeds = feeds; told = told } in
       let below : at < length feeds = subst (λ (x : Work S). at < length x.feeds) (sym is) less in
-      let took : TookAt lock left faults place result at count w (record { seat = s'; shown = shown'; feeds = set feeds at new; told = told }) =
+      let took : TookAt lock left faults place result at count w (record { number = n; seat = s'; shown = shown'; feeds = set feeds at new; told = told }) =
       record {
-        on = record { saw = takes.saw; shows = shows; reads = read-at lock.setup.basis.topology left faults place lock.setup.basis.limit feeds at v new below value takes.reads };
+        on = record { number = refl; saw = takes.saw; shows = shows; reads = read-at lock.setup.basis.topology left faults place lock.setup.basis.limit feeds at v new below value takes.reads };
         took = took-at lock.setup.basis.topology left faults place lock.setup.basis.limit s.number result at count feeds v new s.seen s'.seen below value takes.taken;
         fails = failed-at lock.setup.basis.topology left faults place lock.setup.basis.limit s.number result at count feeds v new s.seen s'.seen below value takes.first;
         told = refl;
       } in
-      subst (λ (x : Work S). TookAt lock left faults place result at count x (record { seat = s'; shown = shown'; feeds = set feeds at new; told = told })) is took
+      subst (λ (x : Work S). TookAt lock left faults place result at count x (record { number = n; seat = s'; shown = shown'; feeds = set feeds at new; told = told })) is took
 
   -- ---- what is told
 
@@ -278,51 +364,53 @@ module _ {S : Type 0} (lock : Lock) (left : S → Option (List ℕ)) (faults pla
   front-told old mid new xs ys all saw same does is = record {
     on = λ start readers more h.
         let later : List Posted = saw.seen.0 in
-        let told : TellsFront lock.setup.basis.topology (entries (mid.seat.seen ++ (later ++ more))) all mid.told =
-        front-of lock.setup.basis.topology left faults place lock.setup.basis.limit old.seat.number start readers mid.feeds mid.seat.seen xs ys all mid.told (later ++ more) is (does.on start readers [] h) in
-        subst (λ (tolds : List Told). TellsFront lock.setup.basis.topology (entries (new.seat.seen ++ more)) all tolds) (sym same)
-        (subst (λ (seen : List Posted). TellsFront lock.setup.basis.topology (entries seen) all mid.told) (sym (append_assoc mid.seat.seen later more) ∙ ap (λ s. s ++ more) saw.seen.1) told);
+        let told : TellsOwnFront lock.setup.basis.topology lock.setup.basis.limit (mid.seat.seen ++ (later ++ more)) old.seat.number start old.number all mid.told =
+        front-of lock.setup.basis.topology left faults place lock.setup.basis.limit old.seat.number old.number start readers mid.feeds mid.seat.seen xs ys all mid.told (later ++ more) is (does.on start readers [] h) in
+        subst (λ (tolds : List Told). TellsOwnFront lock.setup.basis.topology lock.setup.basis.limit (new.seat.seen ++ more) old.seat.number start old.number all tolds) (sym same)
+        (subst (λ (seen : List Posted). TellsOwnFront lock.setup.basis.topology lock.setup.basis.limit seen old.seat.number start old.number all mid.told) (sym (append_assoc mid.seat.seen later more) ∙ ap (λ s. s ++ more) saw.seen.1) told);
   }
 
   pub front-later : (old mid new : Work S) (all : List Line) → SawMore mid.seat new.seat → new.told ≡ mid.told → TellsFrontOf lock left faults place old mid all →
       TellsFrontOf lock left faults place old new all
   front-later old mid new all saw same told = record {
     on = λ start readers more h.
-        subst (λ (tolds : List Told). TellsFront lock.setup.basis.topology (entries (new.seat.seen ++ more)) all tolds) (sym same)
-        (subst (λ (seen : List Posted). TellsFront lock.setup.basis.topology (entries seen) all mid.told) (sym (append_assoc mid.seat.seen saw.seen.0 more) ∙ ap (λ s. s ++ more) saw.seen.1)
+        subst (λ (tolds : List Told). TellsOwnFront lock.setup.basis.topology lock.setup.basis.limit (new.seat.seen ++ more) old.seat.number start old.number all tolds) (sym same)
+        (subst (λ (seen : List Posted). TellsOwnFront lock.setup.basis.topology lock.setup.basis.limit seen old.seat.number start old.number all mid.told) (sym (append_assoc mid.seat.seen saw.seen.0 more) ∙ ap (λ s. s ++ more) saw.seen.1)
         (told.on start readers (saw.seen.0 ++ more) h));
   }
 
   -- ---- the job
 
-  run-unless : {A E : Type 0} (result : Result A E) (old new : Work S) (task : Task S) → old.feeds ≡ map unread task.feeds →
+  run-unless : {A E : Type 0} (result : Result A E) (old new : Work S) (task : Task S) → task.number ≡ old.number → old.feeds ≡ map unread task.feeds →
       All (IsFresh lock.setup.basis.topology faults) task.feeds → ReadOn lock.setup.basis.topology left faults place old.feeds new.feeds →
-      HasDone lock left faults place old.seat.number (own_of old.seat.number old.seat.seen) task.feeds [] old →
+      HasDone lock left faults place old.seat.number old.number (own_of old.seat.number old.seat.seen) task.feeds [] old →
       Works lock left faults place result old new ((task.lines ++ rests_of task.lines) ++ rests_by old.feeds) →
       HasRunUnless lock.setup.basis.topology left faults place lock.setup.basis.limit (is_err result) old.seat.number (own_of old.seat.number old.seat.seen) new.seat.seen task new.told (map back_of new.feeds)
-  run-unless (Ok o) old new task are fresh on begins works =
+  run-unless (Ok o) old new task number are fresh on begins works =
       has-run lock.setup.basis.topology left faults place lock.setup.basis.limit old.seat.number (own_of old.seat.number old.seat.seen) new.seat.seen task old.feeds new.feeds new.told fresh on
-      (works.does.on (own_of old.seat.number old.seat.seen) task.feeds [] begins)
-  run-unless (Err e) old new task are fresh on begins works =
-      has-begun lock.setup.basis.topology left faults place lock.setup.basis.limit old.seat.number (own_of old.seat.number old.seat.seen) new.seat.seen task old.feeds new.feeds on
+      (renumber old.seat.number old.seat.number old.number task.number (own_of old.seat.number old.seat.seen) task.feeds ((task.lines ++ rests_of task.lines) ++ rests_by old.feeds) new refl (sym number)
+      (works.does.on (own_of old.seat.number old.seat.seen) task.feeds [] begins))
+  run-unless (Err e) old new task number are fresh on begins works =
+      has-begun lock.setup.basis.topology left faults place lock.setup.basis.limit old.seat.number old.number (own_of old.seat.number old.seat.seen) new.seat.seen task old.feeds new.feeds number on
       (works.breaks.on (own_of old.seat.number old.seat.seen) task.feeds [] begins)
 
   -- what a job came to whose lines and rests were done, or not all of them
-  ends-of : {A E : Type 0} (result : Result A E) (wanted : Bool) (old new : Work S) (task : Task S) → wanted ≡ is_err result → old.feeds ≡ map unread task.feeds → old.told ≡ [] → IsReady lock faults task →
+  ends-of : {A E : Type 0} (result : Result A E) (wanted : Bool) (old new : Work S) (task : Task S) → wanted ≡ is_err result → task.number ≡ old.number → old.feeds ≡ map unread task.feeds → old.told ≡ [] → IsReady lock faults task →
       Works lock left faults place result old new ((task.lines ++ rests_of task.lines) ++ rests_by old.feeds) → TellsFrontOf lock left faults place old new task.lines →
       Ends lock.setup.basis.topology left faults place lock.setup.basis.limit old.seat.number (own_of old.seat.number old.seat.seen) new.seat.seen task wanted new.told (map back_of new.feeds)
-  ends-of result wanted old new task is are none ready works front =
+  ends-of result wanted old new task is named are none ready works front =
       let t : Topology = lock.setup.basis.topology in
       let limit : ℕ = lock.setup.basis.limit in
       let number : ℕ = old.seat.number in
       let start : List Entry = own_of old.seat.number old.seat.seen in
-      let begins : HasDone lock left faults place number start task.feeds [] old =
-      subst (λ (x : List Told). HasDone lock left faults place number start task.feeds [] (record old { told = x })) (sym none)
-      (tracks-start t left faults place limit number task.feeds old.feeds old.seat.seen are ready.fresh ready.apart) in
+      let begins : HasDone lock left faults place number old.number start task.feeds [] old =
+      subst (λ (x : List Told). HasDone lock left faults place number old.number start task.feeds [] (record old { told = x })) (sym none)
+      (tracks-start t left faults place limit number old.number task.feeds old.feeds old.seat.seen are ready.fresh ready.apart) in
       record {
         done = subst (λ (b : Bool). HasRunUnless t left faults place limit b number start new.seat.seen task new.told (map back_of new.feeds)) (sym is)
-            (run-unless result old new task are ready.fresh works.on.reads begins works);
-        front = subst (λ (h : List Posted). TellsFront t (entries h) task.lines new.told) (append-nil new.seat.seen) (front.on start task.feeds [] begins);
+            (run-unless result old new task named are ready.fresh works.on.reads begins works);
+        front = subst (λ (h : List Posted). TellsOwnFront t limit h number start task.number task.lines new.told) (append-nil new.seat.seen)
+            (subst (λ (n : ℕ). TellsOwnFront t limit (new.seat.seen ++ []) number start n task.lines new.told) (sym named) (front.on start task.feeds [] begins));
         back = backs-are t left faults place limit task.feeds old.feeds new.feeds are ready.fresh works.on.reads;
       }
 
@@ -334,19 +422,21 @@ module _ {S : Type 0} (desk lock : Lock) (left : S → Option (List ℕ)) (fault
   ready-here = subst (λ (l : Lock). IsReady l faults (record { number = number; lines = lines; feeds = map (λ (f : Feed S). f.reader) olds })) (sym same) (subst (λ (j : Task S). IsReady lock faults j) (sym is) ready)
 
   pub job-at-work : (seat : Caller) (shown : Option Known) (begins : List Told) → IsSeatOf lock seat → IsShown lock.setup.basis.topology seat.seen shown →
-      IsAtWork desk (record { seat = seat; shown = shown; feeds = olds; told = begins })
+      IsAtWork desk (record { number = number; seat = seat; shown = shown; feeds = olds; told = begins })
   job-at-work seat shown begins at shows = record {
     seat = subst (λ (l : Lock). IsSeatOf l seat) (sym same) at;
     routers = routers-fresh desk.setup.basis.topology faults (map (λ (f : Feed S). f.reader) olds) olds (feeds-unread olds are) (ready-here.fresh);
     shown = subst (λ (l : Lock). IsShown l.setup.basis.topology seat.seen shown) (sym same) shows;
   }
 
-  pub job-ran : {A E : Type 0} (result : Result A E) (wanted : Bool) (old new : Work S) (s : Caller) (shown : Option Known) (feeds : List (Feed S)) (told : List Told) (done : List Line) (backs : Vec (S × FeedTold)) →
-      record { seat = s; shown = shown; feeds = feeds; told = told } ≡ new → old.feeds ≡ olds → old.told ≡ [] → done ≡ lines → wanted ≡ is_err result → backs.items ≡ map back_of feeds →
+  pub job-ran : {A E : Type 0} (result : Result A E) (wanted : Bool) (old new : Work S) (n : ℕ) (s : Caller) (shown : Option Known) (feeds : List (Feed S)) (told : List Told) (done : List Line) (backs : Vec (S × FeedTold)) →
+      record { number = n; seat = s; shown = shown; feeds = feeds; told = told } ≡ new → old.number ≡ number → old.feeds ≡ olds → old.told ≡ [] → done ≡ lines → wanted ≡ is_err result → backs.items ≡ map back_of feeds →
       Works desk left faults place result old new ((done ++ rests_of done) ++ rests_by old.feeds) → TellsFrontOf desk left faults place old new done →
       RanJob lock left faults place old.seat s job (record { number = number; told = told; feeds = backs; wanted_memory = wanted })
-  job-ran result wanted old new s shown feeds told done backs new-is olds-are none lines-are wants backs-are works front =
-      let w : Work S = record { seat = s; shown = shown; feeds = feeds; told = told } in
+  job-ran result wanted old new n s shown feeds told done backs new-was same-number olds-are none lines-are wants backs-are works front =
+      let w : Work S = record { number = number; seat = s; shown = shown; feeds = feeds; told = told } in
+      let same-n : n ≡ number = ap (λ (x : Work S). x.number) new-was ∙ works.on.number ∙ same-number in
+      let new-is : w ≡ new = ap (λ (m : ℕ). record { number = m; seat = s; shown = shown; feeds = feeds; told = told }) (sym same-n) ∙ new-was in
       let task : Task S = record { number = number; lines = lines; feeds = map (λ (f : Feed S). f.reader) olds } in
       let start : List Entry = own_of old.seat.number old.seat.seen in
       let works' : Works desk left faults place result old w ((lines ++ rests_of lines) ++ rests_by old.feeds) =
@@ -355,7 +445,7 @@ module _ {S : Type 0} (desk lock : Lock) (left : S → Option (List ℕ)) (fault
       let front' : TellsFrontOf desk left faults place old w lines =
       subst (λ (x : Work S). TellsFrontOf desk left faults place old x lines) (sym new-is) (subst (λ (ls : List Line). TellsFrontOf desk left faults place old new ls) lines-are front) in
       let ends : Ends desk.setup.basis.topology left faults place desk.setup.basis.limit old.seat.number start s.seen task wanted told (map back_of feeds) =
-      ends-of desk left faults place result wanted old w task wants (olds-are ∙ feeds-unread olds are) none ready-here works' front' in
+      ends-of desk left faults place result wanted old w task wants (sym same-number) (olds-are ∙ feeds-unread olds are) none ready-here works' front' in
       record {
         saw = works'.on.saw;
         number = ap (λ (j : Task S). j.number) is;
@@ -364,7 +454,7 @@ module _ {S : Type 0} (desk lock : Lock) (left : S → Option (List ℕ)) (fault
             (subst (λ (l : Lock). Ends l.setup.basis.topology left faults place l.setup.basis.limit old.seat.number start s.seen task wanted told (map back_of feeds)) same ends));
       }
 
-  pub job-shows : {A E : Type 0} (result : Result A E) (old new : Work S) (s : Caller) (shown : Option Known) (feeds : List (Feed S)) (told : List Told) (done : List Line) →
-      record { seat = s; shown = shown; feeds = feeds; told = told } ≡ new → Works desk left faults place result old new done → ShowsOn lock.setup.basis.topology s.seen old.shown shown
-  job-shows result old new s shown feeds told done new-is works =
+  pub job-shows : {A E : Type 0} (result : Result A E) (old new : Work S) (n : ℕ) (s : Caller) (shown : Option Known) (feeds : List (Feed S)) (told : List Told) (done : List Line) →
+      record { number = n; seat = s; shown = shown; feeds = feeds; told = told } ≡ new → Works desk left faults place result old new done → ShowsOn lock.setup.basis.topology s.seen old.shown shown
+  job-shows result old new n s shown feeds told done new-is works =
       subst (λ (l : Lock). ShowsOn l.setup.basis.topology s.seen old.shown shown) same (subst (λ (x : Work S). Works desk left faults place result old x done) (sym new-is) works).on.shows

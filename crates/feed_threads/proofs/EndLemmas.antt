@@ -9,10 +9,9 @@ use Rattle.std.proofs.lemmas.List.{append-nil, map-append}
 use Rattle.std.proofs.lemmas.List.Folds.{list_any-append}
 use Rattle.std.proofs.lemmas.List.Elements.{All-nil, All-cons, All-head, All-tail, All-map, filter-append}
 use Rattle.dn_io.specs.Told.{with_front}
-use Rattle.dn_formats.specs.Frames.{IsFrame}
-use Rattle.dn_formats.specs.Lawful.{asked, takes, takes_feed, taken_along, first_taken, left_by, entries_of_job, TellsFront}
-use Rattle.dn_formats.specs.Steps.{FrameStep, FeedRead, updates, told_of}
-use Rattle.dn_model.specs.Entry.{entries}
+use Rattle.feed_model.specs.Frames.{IsFrame}
+use Rattle.dn_formats.specs.Lawful.{Job, asked, entries_of_job, first_taken, given_along, left_by, link_entries, takes, takes_feed}
+use Rattle.feed_model.specs.Steps.{FrameStep, FeedRead, updates, told_of}
 use Rattle.base.specs.Lists.{all_differ}
 use Rattle.dn_model.specs.declared.entry.Entry.{Entry}
 use Rattle.dn_model.specs.declared.entry.Op.{Op}
@@ -21,23 +20,24 @@ use Rattle.base.specs.declared.ids.RouterId.{RouterId}
 use Rattle.dn_model.specs.declared.topology.Topology.{Topology}
 use Rattle.dn_formats.specs.declared.script.Line.{Line}
 use Rattle.dn_formats.specs.declared.script.Line.TheVariants as line
-use Rattle.dn_formats.specs.declared.told.FeedEnd.{FeedEnd}
-use Rattle.dn_formats.specs.declared.told.FeedEnd.TheVariants as ends
-use Rattle.dn_formats.specs.declared.told.FeedTold.{FeedTold}
+use Rattle.feed_model.specs.declared.feed_told.FeedEnd.{FeedEnd}
+use Rattle.feed_model.specs.declared.feed_told.FeedEnd.TheVariants as ends
+use Rattle.feed_model.specs.declared.feed_told.FeedTold.{FeedTold}
 use Rattle.dn_formats.specs.declared.told.Told.{Told}
 use Rattle.route_feed.specs.FeedReader.{Reader, IsAt, told_so_far}
 use Rattle.feed_threads.specs.Feeds.{Feed, end_with, end_of_feed, told_upto, told_with, StandsBy, CountsBy, HandsOut, Stands, StandsFront, TookOf}
-use Rattle.feed_threads.specs.Jobs.{Task, AreApart, same_router, unread, back_of, IsFresh, IsKeptSo, AreReadBy, IsBack, HasBegun, HasRun}
+use Rattle.feed_threads.specs.Jobs.{Task, AreApart, same_router, unread, back_of, IsFresh, IsKeptSo, AreReadBy, IsBack, HasBegun, HasRun, job_of}
 use Rattle.feed_threads.specs.Places.{ReadOn}
 use Rattle.feed_threads.specs.Seats.{own_of}
 use Rattle.feed_threads.specs.Takes.{IsCount, Passes}
-use Rattle.feed_threads.specs.Tells.{TellsOwn}
-use Rattle.feed_threads.specs.Tracks.{Strand, GoesOn, IsApartFrom, AllApart, Tracks, Whatever, rest_of, rests_of, rests_by, taken_of_all}
+use Rattle.feed_threads.specs.Tells.{TellsOwn, TellsOwnFront}
+use Rattle.feed_threads.specs.Tracks.{AllApart, GoesOn, IsApartFrom, IsJobOn, Links, MayLink, Strand, TookLinks, Tracks, Whatever, rest_of, rests_by, rests_of, taken_of_all}
 use Rattle.feed_threads.proofs.ListLemmas.{All-unmap, Parts, all-parts, all-through, eqb-back}
-use Rattle.feed_threads.proofs.RestLemmas.{asked-rests, filter-none, rests-left, taken_along-append, first_taken-append}
+use Rattle.feed_threads.proofs.OrderLemmas.{given-append, links-append}
+use Rattle.feed_threads.proofs.RestLemmas.{asked-rests, filter-none, rests-left, first_taken-append}
 use Rattle.feed_threads.proofs.StrandLemmas.{nows}
 use Rattle.feed_threads.proofs.TakeLemmas.{later-nil, passes-none}
-use Rattle.feed_threads.proofs.TellLemmas.{tells-untake, tells-lines}
+use Rattle.feed_threads.proofs.TellLemmas.{tells-untake}
 
 -- ---- before the first line
 
@@ -215,30 +215,57 @@ rests-again : {S : Type 0} (ss : List (Strand S)) → rests_of (map (λ x. rest_
 rests-again [] = refl
 rests-again (s ∷ ss) = ap (λ ls. rest_line (feed_of s) ∷ ls) (rests-again ss)
 
--- A job's lines, then the rests of the feeds that they name, then those of all: what they take are the entries of the job.
-pub job-order : (number : ℕ) (lines : List Line) (fs : List FeedRead) → AllTwo fs →
-    taken_along fs [] ((lines ++ rests_of lines) ++ map rest_line fs) ≡ entries_of_job (record { number = number; lines = lines; feeds = fs })
-job-order number lines fs two =
+-- A job's lines, then the rests of the feeds that they name, then those of all: what they give are the entries of the job.
+pub job-order : (t : Topology) (job : Job) → AllTwo job.feeds → given_along t job [] ((job.lines ++ rests_of job.lines) ++ map rest_line job.feeds) ≡ entries_of_job t job
+job-order t job two =
+    let lines : List Line = job.lines in
+    let fs : List FeedRead = job.feeds in
     let rests : List Line = map rest_line fs in
     let order : (lines ++ rests_of lines) ++ rests ≡ lines ++ rests_of (lines ++ rests) =
     append_assoc lines (rests_of lines) rests ∙ ap (λ ls. lines ++ (rests_of lines ++ ls)) (sym (rests-themselves fs)) ∙ ap (λ ls. lines ++ ls) (sym (flat_map-append rest_of lines rests)) in
     let first : first_taken fs [] (lines ++ rests) ≡ first_taken fs [] lines ++ filter (λ f. not (takes_feed lines f)) fs =
     first_taken-append fs [] lines rests ∙ ap (λ gs. first_taken fs [] lines ++ gs)
     (ap (λ ls. first_taken fs ls rests) (sym (append-nil lines)) ∙ first-rests lines [] fs two) in
-    ap (taken_along fs []) order ∙ taken_along-append fs [] lines (rests_of (lines ++ rests))
-    ∙ ap (λ es. taken_along fs [] lines ++ es)
-    (ap (λ b. taken_along fs b (rests_of (lines ++ rests))) (sym (append-nil lines)) ∙ rests-left fs lines [] (lines ++ rests) ∙ ap (flat_map (left_by lines)) first)
+    ap (given_along t job []) order ∙ given-append t job [] lines (rests_of (lines ++ rests))
+    ∙ ap (λ es. given_along t job [] lines ++ es)
+    (ap (λ b. given_along t job b (rests_of (lines ++ rests))) (sym (append-nil lines)) ∙ rests-left t job lines [] (lines ++ rests) ∙ ap (flat_map (left_by lines)) first)
+
+-- ---- rests make no link entry
+
+rests-link : (t : Topology) (n : ℕ) (lines : List Line) → link_entries t n (rests_of lines) ≡ []
+rests-link t n [] = refl
+rests-link t n (line.Take l r c ∷ lines) = rests-link t n lines
+rests-link t n (line.Ask l q ∷ lines) = rests-link t n lines
+rests-link t n (line.Link l name d ∷ lines) = rests-link t n lines
+
+pub rests-of-links : {S : Type 0} (t : Topology) (n : ℕ) (feeds : List (Feed S)) → link_entries t n (rests_by feeds) ≡ []
+rests-of-links t n [] = refl
+rests-of-links t n (f ∷ fs) = rests-of-links t n fs
+
+-- so the link entries of a job's lines and rests are those of its lines
+pub links-all : (t : Topology) (n : ℕ) (lines rests : List Line) → link_entries t n rests ≡ [] → link_entries t n ((lines ++ rests_of lines) ++ rests) ≡ link_entries t n lines
+links-all t n lines rests none =
+    links-append t n (lines ++ rests_of lines) rests ∙ ap (λ es. link_entries t n (lines ++ rests_of lines) ++ es) none ∙ append-nil (link_entries t n (lines ++ rests_of lines))
+    ∙ links-append t n lines (rests_of lines) ∙ ap (λ es. link_entries t n lines ++ es) (rests-link t n lines) ∙ append-nil (link_entries t n lines)
 
 -- ---- what is told after takes alone
 
-pub tells-rests : (t : Topology) (h : List Posted) (k : ℕ) (start : List Entry) (feeds : List FeedRead) (lines more : List Line) (tolds : List Told) →
-    TellsOwn t h k start feeds [] 0 (lines ++ rests_of more) tolds → TellsOwn t h k start feeds [] 0 lines tolds
-tells-rests t h k start feeds lines [] tolds told = subst (λ (ls : List Line). TellsOwn t h k start feeds [] 0 ls tolds) (append-nil lines) told
-tells-rests t h k start feeds lines (line.Ask l q ∷ more) tolds told = tells-rests t h k start feeds lines more tolds told
-tells-rests t h k start feeds lines (line.Take l r c ∷ more) tolds told =
-    tells-untake t h k start feeds [] 0 lines tolds l r None
-    (tells-rests t h k start feeds (lines ++ line.Take l r None ∷ []) more tolds
-    (subst (λ (ls : List Line). TellsOwn t h k start feeds [] 0 ls tolds) (sym (append_assoc lines (line.Take l r None ∷ []) (rests_of more))) told))
+pub tells-rests : (t : Topology) (limit : ℕ) (h : List Posted) (k : ℕ) (start : List Entry) (job : Job) (lines more : List Line) (tolds : List Told) →
+    TellsOwn t limit h k start job [] 0 (lines ++ rests_of more) tolds → TellsOwn t limit h k start job [] 0 lines tolds
+tells-rests t limit h k start job lines [] tolds told = subst (λ (ls : List Line). TellsOwn t limit h k start job [] 0 ls tolds) (append-nil lines) told
+tells-rests t limit h k start job lines (line.Ask l q ∷ more) tolds told = tells-rests t limit h k start job lines more tolds told
+tells-rests t limit h k start job lines (line.Link l n d ∷ more) tolds told = tells-rests t limit h k start job lines more tolds told
+tells-rests t limit h k start job lines (line.Take l r c ∷ more) tolds told =
+    tells-untake t limit h k start job [] 0 lines tolds l r None
+    (tells-rests t limit h k start job (lines ++ line.Take l r None ∷ []) more tolds
+    (subst (λ (ls : List Line). TellsOwn t limit h k start job [] 0 ls tolds) (sym (append_assoc lines (line.Take l r None ∷ []) (rests_of more))) told))
+
+-- ---- a job as what was taken so far has it
+
+-- what was taken is what may be in the end
+may-itself : (full : Bool) (count : ℕ) → MayLink full count count
+may-itself false count = omega arith
+may-itself true count = refl
 
 module _ {S : Type 0} (t : Topology) (left : S → Option (List ℕ)) (faults place : S → ℕ) (limit : ℕ) where
   at-start : (r : Reader S) → IsFresh t faults r → (bytes : List ℕ) → left r.source ≡ Some bytes → IsAt t r (left r.source) bytes []
@@ -274,10 +301,11 @@ module _ {S : Type 0} (t : Topology) (left : S → Option (List ℕ)) (faults pl
   fresh-taken (r ∷ rs) = let rest : taken_of_all (map fresh_strand rs) ≡ 0 = fresh-taken rs in omega (arith, rest)
 
   -- a job that has done no line
-  pub tracks-start : (number : ℕ) (readers : List (Reader S)) (news : List (Feed S)) (seen : List Posted) → news ≡ map unread readers → All (IsFresh t faults) readers → AreApart readers →
-      Tracks t left faults place limit number (own_of number seen) readers news seen [] []
-  tracks-start number readers news seen are fresh apart = record {
+  pub tracks-start : (number job_number : ℕ) (readers : List (Reader S)) (news : List (Feed S)) (seen : List Posted) → news ≡ map unread readers → All (IsFresh t faults) readers → AreApart readers →
+      Tracks t left faults place limit number job_number (own_of number seen) readers news seen [] []
+  tracks-start number job_number readers news seen are fresh apart = record {
     strands = map fresh_strand readers;
+    links = record { count = 0; full = false };
     woven = record {
       starts = map-again fresh_strand (λ s. s.start) (λ r. refl) readers;
       nows = map-then fresh_strand (λ s. s.now) readers ∙ sym are;
@@ -291,9 +319,10 @@ module _ {S : Type 0} (t : Topology) (left : S → Option (List ℕ)) (faults pl
     };
     counted = All-map (λ (s : Strand S). IsCount (asked s.now.reader.told.router []) (length s.steps) (end_of_feed s.now)) fresh_strand readers
         (λ k d i. subst (λ (e : Option FeedEnd). IsCount (Some 0) 0 e) (sym (going-on (get_or readers k d) (fresh k d i))) refl);
+    linked = refl;
     pinned = omega arith;
     count = (let none : taken_of_all (map fresh_strand readers) ≡ 0 = fresh-taken readers in omega (arith, none));
-    whatever = λ fs zip. record { order = sym (append-nil (own_of number seen)); tells = λ later. tt };
+    whatever = λ job on. record { order = sym (append-nil (own_of number seen)); tells = λ later. tt };
   }
 
   -- a job of which nothing was done
@@ -301,6 +330,7 @@ module _ {S : Type 0} (t : Topology) (left : S → Option (List ℕ)) (faults pl
       HasBegun t left faults place limit number start seen task (map (λ r. (r.source, r.told)) task.feeds)
   fresh-begun number start seen task fresh is = record {
     strands = map fresh_strand task.feeds;
+    links = record { count = 0; full = false };
     starts = map-again fresh_strand (λ s. s.start) (λ r. refl) task.feeds;
     backs_are = map-then fresh_strand (λ s. back_of s.now) task.feeds;
     each = All-map (λ (s : Strand S). StandsFront t left faults place limit seen s.start s.now s.steps s.ops) fresh_strand task.feeds (λ k d i. record {
@@ -308,8 +338,9 @@ module _ {S : Type 0} (t : Topology) (left : S → Option (List ℕ)) (faults pl
       took = ([], refl);
       unended = λ n e. cc;
     });
+    linked = omega arith;
     count = (let none : taken_of_all (map fresh_strand task.feeds) ≡ 0 = fresh-taken task.feeds in let same : length (own_of number seen) ≡ length start = ap length is in omega (arith, none, same));
-    order = λ fs zip. let es : List Entry = entries_of_job (record { number = task.number; lines = task.lines; feeds = fs }) in (es, ap (λ (xs : List Entry). xs ++ es) is);
+    order = λ job on lines-are. let es : List Entry = entries_of_job t job in (es, ap (λ (xs : List Entry). xs ++ es) is);
   }
 
   -- ---- some feeds go on from the strands: those of what was read so far
@@ -329,13 +360,18 @@ module _ {S : Type 0} (t : Topology) (left : S → Option (List ℕ)) (faults pl
         goes-itself seen ss (All-tail (λ (s : Strand S). Stands t left faults place limit seen s.start s.now s.steps s.ops) s ss each),
       )
 
+  -- the job that these strands and link lines make, and it goes on from them
+  job-itself : (number : ℕ) (lines : List Line) (seen : List Posted) (ss : List (Strand S)) (links : Links) → All (λ s. Stands t left faults place limit seen s.start s.now s.steps s.ops) ss →
+      IsJobOn GoesOn number ss links (record { number = number; lines = lines; feeds = map feed_of ss; kept_links = links.count })
+  job-itself number lines seen ss links each = record { number = refl; feeds = goes-itself seen ss each; kept = may-itself links.full links.count }
+
   -- what some lines told is that of a front of lines that begin so
-  pub front-of : (number : ℕ) (start : List Entry) (readers : List (Reader S)) (news : List (Feed S)) (seen : List Posted) (xs ys all : List Line) (tolds : List Told) (more : List Posted) → all ≡ xs ++ ys →
-      Tracks t left faults place limit number start readers news seen xs tolds → TellsFront t (entries (seen ++ more)) all tolds
-  front-of number start readers news seen xs ys all tolds more is tracks =
-      let fs : List FeedRead = map feed_of tracks.strands in
-      let w : Whatever t number start seen xs tolds fs = tracks.whatever fs (goes-itself seen tracks.strands tracks.woven.each) in
-      (xs, ys, is, tells-lines t (seen ++ more) number start fs [] 0 xs tolds (w.tells more))
+  pub front-of : (number job_number : ℕ) (start : List Entry) (readers : List (Reader S)) (news : List (Feed S)) (seen : List Posted) (xs ys all : List Line) (tolds : List Told) (more : List Posted) → all ≡ xs ++ ys →
+      Tracks t left faults place limit number job_number start readers news seen xs tolds → TellsOwnFront t limit (seen ++ more) number start job_number all tolds
+  front-of number job_number start readers news seen xs ys all tolds more is tracks =
+      let job : Job = record { number = job_number; lines = xs; feeds = map feed_of tracks.strands; kept_links = tracks.links.count } in
+      let w : Whatever t limit number start seen xs tolds job = tracks.whatever job (job-itself job_number xs seen tracks.strands tracks.links tracks.woven.each) in
+      record { front = xs; back = ys; lines_are = is; job = job; number_is = refl; tells = w.tells more }
 
   -- ---- after the last line
 
@@ -404,30 +440,33 @@ module _ {S : Type 0} (t : Topology) (left : S → Option (List ℕ)) (faults pl
 
   -- a job that has done its lines and taken the rests has run
   pub has-run : (number : ℕ) (start : List Entry) (seen : List Posted) (task : Task S) (olds news : List (Feed S)) (tolds : List Told) → All (IsFresh t faults) task.feeds → ReadOn t left faults place olds news →
-      Tracks t left faults place limit number start task.feeds news seen ((task.lines ++ rests_of task.lines) ++ rests_by olds) tolds →
+      Tracks t left faults place limit number task.number start task.feeds news seen ((task.lines ++ rests_of task.lines) ++ rests_by olds) tolds →
       HasRun t left faults place limit number start seen task tolds (map back_of news)
   has-run number start seen task olds news tolds fresh on tracks =
       let ss : List (Strand S) = tracks.strands in
       let fs : List FeedRead = map feed_of ss in
+      let job : Job = job_of task fs tracks.links.count in
       let rests : List Line = map (λ x. rest_line (feed_of x)) ss in
       let before : List Line = task.lines ++ rests_of task.lines in
-      let itself : AllZip GoesOn ss fs = goes-itself seen ss tracks.woven.each in
+      let itself : IsJobOn GoesOn task.number ss tracks.links job = job-itself task.number task.lines seen ss tracks.links tracks.woven.each in
       let same : rests_by olds ≡ rests = rests-same news ss olds on tracks.woven.nows in
-      let w : Whatever t number start seen (before ++ rests_by olds) tolds fs = tracks.whatever fs itself in
+      let w : Whatever t limit number start seen (before ++ rests_by olds) tolds job = tracks.whatever job itself in
       let lines-are : before ++ rests_by olds ≡ before ++ rests_of rests = ap (λ ls. before ++ ls) (same ∙ sym (rests-again ss)) in
       let ended : All (λ (s : Strand S). end_of_feed s.now ≡ Some (end_or (end_of_feed s.now))) ss =
       ended-by before ss [] (subst (λ (ls : List Line). All (λ (s : Strand S). IsCount (asked s.now.reader.told.router ls) (length s.steps) (end_of_feed s.now)) ss) lines-are tracks.counted) in
       record {
         feeds = fs;
+        links = tracks.links;
         read = subst (λ (xs : List (Feed S)). AreReadBy t left faults place limit seen task.feeds (map back_of xs) fs) tracks.woven.nows
             (subst (λ (rs : List (Reader S)). AreReadBy t left faults place limit seen rs (map back_of (nows ss)) fs) tracks.woven.starts
             (read-itself seen ss (subst (λ (rs : List (Reader S)). All (IsFresh t faults) rs) (sym tracks.woven.starts) fresh) tracks.woven.each tracks.woven.passes ended));
-        order = w.order ∙ ap (λ es. start ++ es) (ap (λ ls. taken_along fs [] (before ++ ls)) (same ∙ rests-of-routers GoesOn (λ s f g. g.router) ss fs itself)
-            ∙ job-order task.number task.lines fs (two-of GoesOn (λ s f g. g.router) ss fs itself tracks.woven.apart));
-        tells = tells-rests t seen number start fs task.lines task.lines tolds
-            (tells-rests t seen number start fs before rests tolds
-            (subst (λ (ls : List Line). TellsOwn t seen number start fs [] 0 ls tolds) lines-are
-            (subst (λ (h : List Posted). TellsOwn t h number start fs [] 0 (before ++ rests_by olds) tolds) (append-nil seen) (w.tells []))));
+        linked = subst (λ (es : List Entry). TookLinks tracks.links.full limit seen (length es) tracks.links.count) (links-all t task.number task.lines (rests_by olds) (rests-of-links t task.number olds)) tracks.linked;
+        order = w.order ∙ ap (λ es. start ++ es) (ap (λ ls. given_along t job [] (before ++ ls)) (same ∙ rests-of-routers GoesOn (λ s f g. g.router) ss fs itself.feeds)
+            ∙ job-order t job (two-of GoesOn (λ s f g. g.router) ss fs itself.feeds tracks.woven.apart));
+        tells = tells-rests t limit seen number start job task.lines task.lines tolds
+            (tells-rests t limit seen number start job before rests tolds
+            (subst (λ (ls : List Line). TellsOwn t limit seen number start job [] 0 ls tolds) lines-are
+            (subst (λ (h : List Posted). TellsOwn t limit h number start job [] 0 (before ++ rests_by olds) tolds) (append-nil seen) (w.tells []))));
       }
 
   -- every source came back

@@ -1,22 +1,29 @@
--- What of a job's entries is one of its feeds'.
+-- What of a job's entries is one of its feeds', and what its link lines'.
 use Rattle.std.proofs.Common.{◌≡◌, ℕ, zero, suc, ◌+◌, ◌<◌, ◌≤◌, ◌⊎◌, inl, inr, ⊎_elim, Bool, true, false, ◌==◌, ◌&&◌, ◌||◌, not, cond, List, [], ◌∷◌, ◌++◌, length, get_or, filter, take, drop, All, Option, None, Some, refl, ap, sym, ◌∙◌, arith, subst, append_assoc, eq-eqb}
-use Rattle.std.specs.List.{list_any, flat_map, Contains}
-use Rattle.std.proofs.Math.Bool.{or-false}
+use Rattle.std.specs.List.{cons_option, list_any, flat_map, Contains}
+use Rattle.std.specs.Option.{option_map}
+use Rattle.std.proofs.Math.Bool.{or-false, or-true}
 use Rattle.std.proofs.Math.Seq.{take-nil, drop-append_seam}
 use Rattle.std.proofs.lemmas.Bool.{and_parts, or_parts}
 use Rattle.std.proofs.lemmas.Bool.Decides.{nat_tests}
 use Rattle.std.proofs.lemmas.Grind.{fold-append, flat_map-append}
 use Rattle.std.proofs.lemmas.List.{append-nil, map-append, length-append, take-append-drop, take-take, drop-append-le}
 use Rattle.std.proofs.lemmas.List.Folds.{list_any-append, list_any_at}
-use Rattle.std.proofs.lemmas.List.Elements.{All-nil, All-cons, All-head, All-tail, All-append, All-filter, All-map, All-contains, filter-append}
+use Rattle.std.proofs.lemmas.List.Elements.{All-nil, All-cons, All-head, All-tail, All-append, All-drop, All-filter, All-map, All-take, All-contains, filter-append}
 use Rattle.base.specs.Lists.{all_differ}
 use Rattle.dn_model.specs.declared.entry.Entry.{Entry}
 use Rattle.dn_model.specs.declared.entry.Entry.TheVariants.{Route}
+use Rattle.dn_model.specs.declared.entry.Entry.TheVariants as entry
+use Rattle.dn_model.specs.Lookup.{link_of}
+use Rattle.base.specs.declared.ids.LinkId.{LinkId}
+use Rattle.dn_model.specs.declared.topology.Topology.{Topology}
 use Rattle.dn_model.specs.declared.entry.Op.{Op}
 use Rattle.base.specs.declared.ids.RouterId.{RouterId}
-use Rattle.dn_formats.specs.Lawful.{Job, asked, asked_by, both_counts, front_of, taken, takes, takes_feed, kept_by, taken_by, taken_along, first_taken, left_by, entries_of_job, is_from, is_from_some}
-use Rattle.dn_formats.specs.Steps.{FrameStep, FeedRead, ops_of, updates, kept_of, entries_of}
+use Rattle.dn_formats.specs.Lawful.{Job, asked, asked_by, both_counts, entries_of_job, first_taken, front_of, given_along, is_by, is_from, is_from_some, is_own, kept_by, kept_of_links, left_by, link_entries, link_entry, linked_by, taken, taken_by, takes, takes_feed}
+use Rattle.feed_model.specs.Steps.{FrameStep, FeedRead, ops_of, updates, kept_of, entries_of}
 use Rattle.dn_formats.specs.declared.script.Line.{Line}
+use Rattle.dn_formats.specs.declared.script.Line.TheVariants as line
+use Rattle.feed_threads.proofs.OrderLemmas.{links-append}
 
 -- ---- lists of which one begins with the other
 
@@ -85,7 +92,14 @@ kept-whole lines f = kept-front f (taken lines f) f.steps (front-steps (asked f.
 entries-join : (f : FeedRead) (xs ys : List Op) → entries_of f xs ++ entries_of f ys ≡ entries_of f (xs ++ ys)
 entries-join f xs ys = sym (map-append (λ (op : Op). Route f.router f.feed_no op) xs ys)
 
--- ---- a job of one feed
+-- ---- what lines take of feeds
+
+-- what lines take of some feeds, line by line, beyond what lines before took
+abbrev pub taken_along : List FeedRead → List Line → List Line → List Entry
+taken_along fs before [] = []
+taken_along fs before (l ∷ lines) = flat_map (taken_by before l) fs ++ taken_along fs (before ++ l ∷ []) lines
+
+-- ---- a feed
 
 -- what lines take of one feed, beyond what lines before took
 taken-alone : (f : FeedRead) (before lines : List Line) → taken_along (f ∷ []) before lines ≡ entries_of f (drop (length (kept_by before f)) (kept_by (before ++ lines) f))
@@ -142,8 +156,9 @@ once f false = refl
 all-alone : (f : FeedRead) (lines : List Line) → first_taken (f ∷ []) [] lines ++ filter (λ f. not (takes_feed lines f)) (f ∷ []) ≡ f ∷ []
 all-alone f lines = ap (λ fs. fs ++ filter (λ f. not (takes_feed lines f)) (f ∷ [])) (first-alone f [] lines) ∙ once f (takes_feed lines f)
 
-job-alone : (f : FeedRead) (number : ℕ) (lines : List Line) → entries_of_job (record { number = number; lines = lines; feeds = f ∷ [] }) ≡ entries_of f (kept_of f f.steps)
-job-alone f number lines =
+job-alone : (f : FeedRead) (lines : List Line) →
+    taken_along (f ∷ []) [] lines ++ flat_map (left_by lines) (first_taken (f ∷ []) [] lines ++ filter (λ f. not (takes_feed lines f)) (f ∷ [])) ≡ entries_of f (kept_of f f.steps)
+job-alone f lines =
     ap (λ es. es ++ flat_map (left_by lines) (first_taken (f ∷ []) [] lines ++ filter (λ f. not (takes_feed lines f)) (f ∷ []))) (taken-first f lines)
     ∙ ap (λ fs. entries_of f (kept_by lines f) ++ flat_map (left_by lines) fs) (all-alone f lines)
     ∙ ap (λ es. entries_of f (kept_by lines f) ++ es) (append-nil (left_by lines f))
@@ -208,14 +223,125 @@ from-along f fs before (l ∷ lines) =
     (from-flat (λ x. drop (length (kept_by before x)) (kept_by (before ++ l ∷ []) x)) f fs)
     ∙ ap (λ es. flat_map (taken_by before l) (filter (same_as f) fs) ++ es) (from-along f fs (before ++ l ∷ []) lines)
 
-from-job : (f : FeedRead) (job : Job) →
-    filter (is_from f) (entries_of_job job) ≡ entries_of_job (record { number = job.number; lines = job.lines; feeds = filter (same_as f) job.feeds })
-from-job f job =
+-- ---- link entries
+
+-- an entry of a link line of the job of this number
+abbrev pub IsLinkOf : ℕ → Entry → Type 0
+IsLinkOf n (Route r m op) = ⊥
+IsLinkOf n (entry.Link j l down) = j ≡ n
+
+link-of-line : (t : Topology) (n : ℕ) (l : Line) (es : List Entry) → All (IsLinkOf n) es → All (IsLinkOf n) (cons_option (link_entry t n l) es)
+link-of-line t n (line.Take l r c) es all = all
+link-of-line t n (line.Ask l q) es all = all
+link-of-line t n (line.Link l name down) es all = made (link_of t name)
+  where
+    made : (o : Option LinkId) → All (IsLinkOf n) (cons_option (option_map (λ (id : LinkId). entry.Link n id down) o) es)
+    made None = all
+    made (Some id) = All-cons (IsLinkOf n) (entry.Link n id down) es refl all
+
+-- the link entries of lines are the job's
+pub links-own : (t : Topology) (n : ℕ) (lines : List Line) → All (IsLinkOf n) (link_entries t n lines)
+links-own t n [] = All-nil (IsLinkOf n)
+links-own t n (l ∷ lines) = link-of-line t n l (link_entries t n lines) (links-own t n lines)
+
+linked-own : (t : Topology) (job : Job) (before : List Line) (l : Line) → All (IsLinkOf job.number) (linked_by t job before l)
+linked-own t job before l =
+    All-drop (IsLinkOf job.number) (length (kept_of_links t job before)) (kept_of_links t job (before ++ l ∷ []))
+    (All-take (IsLinkOf job.number) job.kept_links (link_entries t job.number (before ++ l ∷ [])) (links-own t job.number (before ++ l ∷ [])))
+
+-- none of them is a feed's
+from-links : (f : FeedRead) (n : ℕ) (es : List Entry) → All (IsLinkOf n) es → filter (is_from f) es ≡ []
+from-links f n [] all = refl
+from-links f n (Route r m op ∷ es) all = absurd (All-head (IsLinkOf n) (Route r m op) es all)
+from-links f n (entry.Link j l down ∷ es) all = from-links f n es (All-tail (IsLinkOf n) (entry.Link j l down) es all)
+
+-- all of them are the job's
+by-links : (n : ℕ) (es : List Entry) → All (IsLinkOf n) es → filter (is_by n) es ≡ es
+by-links n [] all = refl
+by-links n (Route r m op ∷ es) all = absurd (All-head (IsLinkOf n) (Route r m op) es all)
+by-links n (entry.Link j l down ∷ es) all =
+    let here : (j == n) ≡ true = eq-eqb j n (All-head (IsLinkOf n) (entry.Link j l down) es all) in
+    ap (λ b. cond b (entry.Link j l down ∷ filter (is_by n) es) (filter (is_by n) es)) here
+    ∙ ap (λ xs. entry.Link j l down ∷ xs) (by-links n es (All-tail (IsLinkOf n) (entry.Link j l down) es all))
+
+-- a feed's entries are none
+by-feed : (n : ℕ) (x : FeedRead) (ops : List Op) → filter (is_by n) (entries_of x ops) ≡ []
+by-feed n x [] = refl
+by-feed n x (o ∷ os) = by-feed n x os
+
+by-flat : (n : ℕ) (h : FeedRead → List Op) (fs : List FeedRead) → filter (is_by n) (flat_map (gives h) fs) ≡ []
+by-flat n h [] = refl
+by-flat n h (x ∷ xs) =
+    filter-append (is_by n) (gives h x) (flat_map (gives h) xs) ∙ ap (λ es. es ++ filter (is_by n) (flat_map (gives h) xs)) (by-feed n x (h x)) ∙ by-flat n h xs
+
+-- lines after lines have the link entries of both
+kept-links-grow : (t : Topology) (job : Job) (before lines : List Line) → Front (kept_of_links t job before) (kept_of_links t job (before ++ lines))
+kept-links-grow t job before lines =
+    subst (λ (es : List Entry). Front (kept_of_links t job before) (take job.kept_links es)) (sym (links-append t job.number before lines))
+    (front-take job.kept_links (link_entries t job.number before) (link_entries t job.number lines))
+
+-- of what lines give, the link entries are those that the history took
+by-given : (t : Topology) (job : Job) (before lines : List Line) →
+    filter (is_by job.number) (given_along t job before lines) ≡ drop (length (kept_of_links t job before)) (kept_of_links t job (before ++ lines))
+by-given t job before [] =
+    sym (ap (λ b. drop (length (kept_of_links t job before)) (kept_of_links t job b)) (append-nil before) ∙ drop-all (kept_of_links t job before))
+by-given t job before (l ∷ lines) =
+    let n : ℕ = job.number in
+    let k : List Entry = kept_of_links t job before in
+    let m : List Entry = kept_of_links t job (before ++ l ∷ []) in
+    let z : List Entry = kept_of_links t job (before ++ l ∷ lines) in
+    let fs : List Entry = flat_map (taken_by before l) job.feeds in
+    let ls : List Entry = linked_by t job before l in
+    let rest : List Entry = given_along t job (before ++ l ∷ []) lines in
+    let grows : Front k m = kept-links-grow t job before (l ∷ []) in
+    let longer : length m ≡ length k + length grows.more = ap length grows.whole ∙ length-append k grows.more in
+    let later : Front m z = subst (λ (b : List Line). Front m (kept_of_links t job b)) (append_assoc before (l ∷ []) lines) (kept-links-grow t job (before ++ l ∷ []) lines) in
+    let firsts : filter (is_by n) (fs ++ ls) ≡ ls =
+    filter-append (is_by n) fs ls ∙ ap (λ es. es ++ filter (is_by n) ls) (by-flat n (λ x. drop (length (kept_by before x)) (kept_by (before ++ l ∷ []) x)) job.feeds)
+    ∙ by-links n ls (linked-own t job before l) in
+    filter-append (is_by n) (fs ++ ls) rest
+    ∙ ap (λ es. es ++ filter (is_by n) rest) firsts
+    ∙ ap (λ es. ls ++ es) (by-given t job (before ++ l ∷ []) lines)
+    ∙ ap (λ b. ls ++ drop (length m) (kept_of_links t job b)) (append_assoc before (l ∷ []) lines)
+    ∙ drops (length k) m z (omega (arith, longer)) later
+
+pub lines-links : (t : Topology) (job : Job) (lines : List Line) → filter (is_by job.number) (given_along t job [] lines) ≡ kept_of_links t job lines
+lines-links t job lines =
+    by-given t job [] lines ∙ ap (λ (es : List Entry). drop (length es) (kept_of_links t job lines)) (take-nil job.kept_links)
+
+-- of a job's entries, those of its link lines are those that the history took
+pub job-links : (t : Topology) (job : Job) → filter (is_by job.number) (entries_of_job t job) ≡ kept_of_links t job job.lines
+job-links t job =
+    let lines : List Line = job.lines in
+    let all : List FeedRead = first_taken job.feeds [] lines ++ filter (λ f. not (takes_feed lines f)) job.feeds in
+    filter-append (is_by job.number) (given_along t job [] lines) (flat_map (left_by lines) all)
+    ∙ ap (λ es. filter (is_by job.number) (given_along t job [] lines) ++ es) (by-flat job.number (λ x. drop (length (kept_by lines x)) (kept_of x x.steps)) all)
+    ∙ append-nil (filter (is_by job.number) (given_along t job [] lines)) ∙ lines-links t job lines
+
+-- of what lines give, that of a feed is what they take of feeds of its number
+from-given : (t : Topology) (f : FeedRead) (job : Job) (before lines : List Line) → filter (is_from f) (given_along t job before lines) ≡ filter (is_from f) (taken_along job.feeds before lines)
+from-given t f job before [] = refl
+from-given t f job before (l ∷ lines) =
+    let fs : List Entry = flat_map (taken_by before l) job.feeds in
+    let ls : List Entry = linked_by t job before l in
+    let rest : List Entry = given_along t job (before ++ l ∷ []) lines in
+    let taken : List Entry = taken_along job.feeds (before ++ l ∷ []) lines in
+    let firsts : filter (is_from f) (fs ++ ls) ≡ filter (is_from f) fs =
+    filter-append (is_from f) fs ls ∙ ap (λ es. filter (is_from f) fs ++ es) (from-links f job.number ls (linked-own t job before l)) ∙ append-nil (filter (is_from f) fs) in
+    filter-append (is_from f) (fs ++ ls) rest
+    ∙ ap (λ es. es ++ filter (is_from f) rest) firsts
+    ∙ ap (λ es. filter (is_from f) fs ++ es) (from-given t f job (before ++ l ∷ []) lines)
+    ∙ sym (filter-append (is_from f) fs taken)
+
+from-job : (t : Topology) (f : FeedRead) (job : Job) →
+    let own : List FeedRead = filter (same_as f) job.feeds in
+    filter (is_from f) (entries_of_job t job) ≡ taken_along own [] job.lines ++ flat_map (left_by job.lines) (first_taken own [] job.lines ++ filter (λ f. not (takes_feed job.lines f)) own)
+from-job t f job =
     let lines : List Line = job.lines in
     let all : List FeedRead = first_taken job.feeds [] lines ++ filter (λ f. not (takes_feed lines f)) job.feeds in
     let own : List FeedRead = filter (same_as f) job.feeds in
-    filter-append (is_from f) (taken_along job.feeds [] lines) (flat_map (left_by lines) all)
-    ∙ ap (λ es. es ++ filter (is_from f) (flat_map (left_by lines) all)) (from-along f job.feeds [] lines)
+    filter-append (is_from f) (given_along t job [] lines) (flat_map (left_by lines) all)
+    ∙ ap (λ es. es ++ filter (is_from f) (flat_map (left_by lines) all)) (from-given t f job [] lines ∙ from-along f job.feeds [] lines)
     ∙ ap (λ es. taken_along own [] lines ++ es)
     (from-flat (λ x. drop (length (kept_by lines x)) (kept_of x x.steps)) f all
     ∙ ap (flat_map (left_by lines))
@@ -277,15 +403,17 @@ alone (y ∷ ys) f d c =
     (contains-cases y ys f c)
 
 -- of a job's entries, those of one of its feeds are what was kept of the feed
-pub job-feed : (job : Job) (f : FeedRead) → all_differ same_number job.feeds ≡ true → Contains job.feeds f → filter (is_from f) (entries_of_job job) ≡ entries_of f (kept_of f f.steps)
-job-feed job f d c =
-    from-job f job ∙ ap (λ fs. entries_of_job (record { number = job.number; lines = job.lines; feeds = fs })) (alone job.feeds f d c) ∙ job-alone f job.number job.lines
+pub job-feed : (t : Topology) (job : Job) (f : FeedRead) → all_differ same_number job.feeds ≡ true → Contains job.feeds f → filter (is_from f) (entries_of_job t job) ≡ entries_of f (kept_of f f.steps)
+job-feed t job f d c =
+    let lines : List Line = job.lines in
+    from-job t f job
+    ∙ ap (λ fs. taken_along fs [] lines ++ flat_map (left_by lines) (first_taken fs [] lines ++ filter (λ f. not (takes_feed lines f)) fs)) (alone job.feeds f d c) ∙ job-alone f lines
 
--- of what lines take of a job's feeds, that of one of them is what they take of the feed
-pub lines-feed : (fs : List FeedRead) (lines : List Line) (f : FeedRead) → all_differ same_number fs ≡ true → Contains fs f → filter (is_from f) (taken_along fs [] lines) ≡ entries_of f (kept_by lines f)
-lines-feed fs lines f d c = from-along f fs [] lines ∙ ap (λ gs. taken_along gs [] lines) (alone fs f d c) ∙ taken-first f lines
+-- of what lines give, that of one of the job's feeds is what they take of the feed
+pub lines-feed : (t : Topology) (job : Job) (lines : List Line) (f : FeedRead) → all_differ same_number job.feeds ≡ true → Contains job.feeds f → filter (is_from f) (given_along t job [] lines) ≡ entries_of f (kept_by lines f)
+lines-feed t job lines f d c = from-given t f job [] lines ∙ from-along f job.feeds [] lines ∙ ap (λ gs. taken_along gs [] lines) (alone job.feeds f d c) ∙ taken-first f lines
 
--- ---- each entry is some feed's
+-- ---- each entry is the job's own
 
 -- an entry's feed is one of these
 abbrev IsFromSome : List FeedRead → Entry → Type 0
@@ -303,11 +431,30 @@ some-flat fs h [] a = All-nil (IsFromSome fs)
 some-flat fs h (x ∷ xs) a =
     All-append (IsFromSome fs) (gives h x) (flat_map (gives h) xs) (some-entries fs x (h x) (All-head (IsAmong fs) x xs a)) (some-flat fs h xs (All-tail (IsAmong fs) x xs a))
 
-some-along : (fs xs : List FeedRead) (before lines : List Line) → All (IsAmong fs) xs → All (IsFromSome fs) (taken_along xs before lines)
-some-along fs xs before [] a = All-nil (IsFromSome fs)
-some-along fs xs before (l ∷ lines) a =
-    All-append (IsFromSome fs) (flat_map (taken_by before l) xs) (taken_along xs (before ++ l ∷ []) lines)
-    (some-flat fs (λ x. drop (length (kept_by before x)) (kept_by (before ++ l ∷ []) x)) xs a) (some-along fs xs (before ++ l ∷ []) lines a)
+-- an entry of one of these feeds, or of a link line of the job of this number
+abbrev IsMine : List FeedRead → ℕ → Entry → Type 0
+IsMine fs n e = (is_from_some fs e || is_by n e) ≡ true
+
+mine-from : (fs : List FeedRead) (n : ℕ) (es : List Entry) → All (IsFromSome fs) es → All (IsMine fs n) es
+mine-from fs n es a = λ k d less. ap (λ b. b || is_by n (get_or es k d)) (a k d less)
+
+mine-link : (fs : List FeedRead) (n : ℕ) (es : List Entry) → All (IsLinkOf n) es → All (IsMine fs n) es
+mine-link fs n [] a = All-nil (IsMine fs n)
+mine-link fs n (Route r m op ∷ es) a = absurd (All-head (IsLinkOf n) (Route r m op) es a)
+mine-link fs n (entry.Link j l down ∷ es) a =
+    let e : Entry = entry.Link j l down in
+    let here : (j == n) ≡ true = eq-eqb j n (All-head (IsLinkOf n) e es a) in
+    All-cons (IsMine fs n) e es (ap (λ b. is_from_some fs e || b) here ∙ or-true (is_from_some fs e)) (mine-link fs n es (All-tail (IsLinkOf n) e es a))
+
+mine-along : (t : Topology) (job : Job) (before lines : List Line) → All (IsAmong job.feeds) job.feeds → All (IsMine job.feeds job.number) (given_along t job before lines)
+mine-along t job before [] a = All-nil (IsMine job.feeds job.number)
+mine-along t job before (l ∷ lines) a =
+    let P : Entry → Type 0 = IsMine job.feeds job.number in
+    let ls : List Entry = linked_by t job before l in
+    let fs : List Entry = flat_map (taken_by before l) job.feeds in
+    All-append P (fs ++ ls) (given_along t job (before ++ l ∷ []) lines)
+    (All-append P fs ls (mine-from job.feeds job.number fs (some-flat job.feeds (λ x. drop (length (kept_by before x)) (kept_by (before ++ l ∷ []) x)) job.feeds a))
+    (mine-link job.feeds job.number ls (linked-own t job before l))) (mine-along t job (before ++ l ∷ []) lines a)
 
 among-first : (P : FeedRead → Type 0) (xs : List FeedRead) (before lines : List Line) → All P xs → All P (first_taken xs before lines)
 among-first P xs before [] a = All-nil P
@@ -315,13 +462,14 @@ among-first P xs before (l ∷ lines) a =
     All-append P (filter (λ f. takes f.router l && not (takes_feed before f)) xs) (first_taken xs (before ++ l ∷ []) lines)
     (All-filter (λ f. takes f.router l && not (takes_feed before f)) P xs a) (among-first P xs (before ++ l ∷ []) lines a)
 
-pub job-some : (job : Job) → All (λ e. is_from_some job.feeds e ≡ true) (entries_of_job job)
-job-some job =
+pub job-own : (t : Topology) (job : Job) → All (λ e. is_own job e ≡ true) (entries_of_job t job)
+job-own t job =
     let fs : List FeedRead = job.feeds in
     let a : All (IsAmong fs) fs =
     (λ k d less. list_any_at (λ (f : FeedRead). (get_or fs k d).feed_no == f.feed_no) fs k d less (eq-eqb (get_or fs k d).feed_no (get_or fs k d).feed_no refl)) in
     let all : List FeedRead = first_taken fs [] job.lines ++ filter (λ f. not (takes_feed job.lines f)) fs in
-    All-append (IsFromSome fs) (taken_along fs [] job.lines) (flat_map (left_by job.lines) all) (some-along fs fs [] job.lines a)
+    All-append (IsMine fs job.number) (given_along t job [] job.lines) (flat_map (left_by job.lines) all) (mine-along t job [] job.lines a)
+    (mine-from fs job.number (flat_map (left_by job.lines) all)
     (some-flat fs (λ x. drop (length (kept_by job.lines x)) (kept_of x x.steps)) all
     (All-append (IsAmong fs) (first_taken fs [] job.lines) (filter (λ f. not (takes_feed job.lines f)) fs)
-    (among-first (IsAmong fs) fs [] job.lines a) (All-filter (λ f. not (takes_feed job.lines f)) (IsAmong fs) fs a)))
+    (among-first (IsAmong fs) fs [] job.lines a) (All-filter (λ f. not (takes_feed job.lines f)) (IsAmong fs) fs a))))

@@ -1,18 +1,20 @@
 -- From what jobs with the first seat came to, to the law of histories.
 use Rattle.std.proofs.Common.{◌≡◌, ℕ, ◌<◌, ◌≤◌, ◌⊎◌, inl, inr, ⊎_elim, Bool, true, false, ◌==◌, ◌&&◌, ◌||◌, not, cond, List, [], ◌∷◌, ◌++◌, length, get_or, map, All, Option, None, Some, refl, ap, sym, ◌∙◌, arith, subst, eq-eqb}
 use Rattle.std.specs.List.{AllZip, list_any, flat_map, Contains}
+use Rattle.std.proofs.lemmas.Bool.{and_parts}
+use Rattle.std.proofs.lemmas.Bool.Decides.{nat_tests}
 use Rattle.std.proofs.lemmas.List.{length-map}
-use Rattle.std.proofs.lemmas.List.Elements.{All-nil, All-cons, All-head, All-tail}
+use Rattle.std.proofs.lemmas.List.Elements.{All-contains, All-nil, All-cons, All-head, All-tail}
 use Rattle.dn_model.specs.Entry.{entries}
 use Rattle.base.specs.Lists.{all_differ}
 use Rattle.dn_model.specs.declared.entry.Posted.{Posted}
 use Rattle.dn_model.specs.declared.topology.Topology.{Topology}
 use Rattle.dn_formats.proofs.LawfulLemmas.{kept}
-use Rattle.dn_formats.specs.Lawful.{Job, IsKept, IsKeptAt, IsLawful, entries_of_job}
-use Rattle.dn_formats.specs.Steps.{FeedRead, updates}
-use Rattle.dn_formats.specs.declared.told.FeedEnd.{FeedEnd}
-use Rattle.dn_formats.specs.declared.told.FeedEnd.TheVariants as ends
-use Rattle.dn_formats.specs.declared.told.FeedTold.{FeedTold}
+use Rattle.dn_formats.specs.Lawful.{AreLinksKept, IsKept, IsKeptAt, IsLawful, Job, entries_of_job, link_entries}
+use Rattle.feed_model.specs.Steps.{FeedRead, updates}
+use Rattle.feed_model.specs.declared.feed_told.FeedEnd.{FeedEnd}
+use Rattle.feed_model.specs.declared.feed_told.FeedEnd.TheVariants as ends
+use Rattle.feed_model.specs.declared.feed_told.FeedTold.{FeedTold}
 use Rattle.dn_formats.specs.declared.told.JobTold.{JobTold}
 use Rattle.route_feed.specs.FeedReader.{Reader}
 use Rattle.version_lock.specs.Callers.{Caller, HasNumber, Lock, first_seat}
@@ -20,12 +22,13 @@ use Rattle.version_lock.specs.History.{posted_by}
 use Rattle.version_lock.specs.declared.book.Basis.{Basis}
 use Rattle.version_lock.specs.declared.view.Setup.{Setup}
 use Rattle.feed_threads.specs.declared.job.JobDone.{JobDone}
-use Rattle.feed_threads.specs.AllJobs.{AllEnd, AllRan, AreDoneAs, AreLawful, AreNumberedApart, CameTo, IsBackFrom, Run, feeds_of_jobs, numbers_of_runs, same_feed, told_by}
+use Rattle.feed_threads.specs.AllJobs.{AllEnd, AllRan, AreDoneAs, AreLawful, AreNumberedApart, CameTo, IsBackFrom, Run, feeds_of_jobs, numbers_of_runs, same_feed, same_job, told_by}
 use Rattle.feed_threads.specs.Feeds.{CountsBy, IsBroken, end_with}
-use Rattle.feed_threads.specs.Jobs.{AreReadBy, HasRun, HasRunUnless, IsKeptSo, IsReadBy, Task}
+use Rattle.feed_threads.specs.Jobs.{AreReadBy, HasRun, HasRunUnless, IsKeptSo, IsReadBy, Task, job_of}
 use Rattle.feed_threads.specs.Runs.{AllRun}
 use Rattle.feed_threads.specs.Seats.{own_of}
-use Rattle.feed_threads.proofs.EntriesLemmas.{same_number}
+use Rattle.feed_threads.specs.Tracks.{TookLinks}
+use Rattle.feed_threads.proofs.EntriesLemmas.{any-false, contains-cases, not-true, same_number}
 use Rattle.feed_threads.proofs.HistoryLemmas.{Shared, TellsOwnJob, feeds_of_all, lawful, zip-map}
 
 -- ---- lists
@@ -123,8 +126,10 @@ module _ {S : Type 0} (t : Topology) (left : S → Option (List ℕ)) (faults pl
     number : d.job.number ≡ d.run.task.number
     lines : d.job.lines ≡ d.run.task.lines
     read : AreReadBy t left faults place limit seen d.run.task.feeds d.run.done.feeds.items d.job.feeds
-    order : own_of d.run.number seen ≡ entries_of_job d.job
-    tells : TellsOwnJob t seen d.run.number d.job (told_by d.run.done)
+    full : Bool
+    linked : TookLinks full limit seen (length (link_entries t d.job.number d.job.lines)) d.job.kept_links
+    order : own_of d.run.number seen ≡ entries_of_job t d.job
+    tells : TellsOwnJob t limit seen d.run.number d.job (told_by d.run.done)
 
   record Made (seen : List Posted) (runs : List (Run S)) : Type 0 where
     dones : List (Done S)
@@ -136,9 +141,9 @@ one-made : {S : Type 0} (t : Topology) (left : S → Option (List ℕ)) (faults 
 one-made t left faults place limit seen run came none =
     let ran : HasRun t left faults place limit run.number [] seen run.task run.done.told run.done.feeds.items =
     subst (λ (b : Bool). HasRunUnless t left faults place limit b run.number [] seen run.task run.done.told run.done.feeds.items) none came.ends.done in (
-      record { run = run; job = record { number = run.task.number; lines = run.task.lines; feeds = ran.feeds } },
+      record { run = run; job = job_of run.task ran.feeds ran.links.count },
       refl,
-      record { number = refl; lines = refl; read = ran.read; order = ran.order; tells = (came.number, ran.tells) },
+      record { number = refl; lines = refl; read = ran.read; full = ran.links.full; linked = ran.linked; order = ran.order; tells = (came.number, ran.tells) },
     )
 
 made : {S : Type 0} (t : Topology) (left : S → Option (List ℕ)) (faults place : S → ℕ) (limit : ℕ) (seen : List Posted) (runs : List (Run S)) →
@@ -168,6 +173,46 @@ done-as t left faults place limit seen [] each = tt
 done-as t left faults place limit seen (d ∷ ds) each =
     let here : IsDone t left faults place limit seen d = All-head (IsDone t left faults place limit seen) d ds each in
     (record { number = here.number; lines = here.lines; read = here.read }, done-as t left faults place limit seen ds (All-tail (IsDone t left faults place limit seen) d ds each))
+
+-- ---- what a history kept of link lines
+
+links-kept : (full : Bool) (t : Topology) (limit : ℕ) (seen : List Posted) (job : Job) → length seen ≤ limit → TookLinks full limit seen (length (link_entries t job.number job.lines)) job.kept_links → AreLinksKept t limit (entries seen) job
+links-kept false t limit seen job within took = record { at_most = omega (arith, took); full = λ fewer. absurd (omega (arith, took, fewer)) }
+links-kept true t limit seen job within took = record {
+  at_most = (let fewer : job.kept_links < length (link_entries t job.number job.lines) = took.0 in omega (arith, fewer));
+  full = λ fewer. (let full : limit ≤ length seen = took.1 in let len : length (entries seen) ≡ length seen = length-map seen (λ (p : Posted). p.entry) in omega (arith, full, within, len));
+}
+
+-- ---- numbers of jobs
+
+any-map : {X Y : Type 0} (p : Y → Bool) (f : X → Y) (xs : List X) → list_any p (map f xs) ≡ list_any (λ x. p (f x)) xs
+any-map p f [] = refl
+any-map p f (x ∷ xs) = ap (λ b. p (f x) || b) (any-map p f xs)
+
+differ-map : {X Y : Type 0} (same : Y → Y → Bool) (f : X → Y) (xs : List X) → all_differ same (map f xs) ≡ all_differ (λ a b. same (f a) (f b)) xs
+differ-map same f [] = refl
+differ-map same f (x ∷ xs) =
+    ap (λ b. not b && all_differ same (map f xs)) (any-map (same (f x)) f xs) ∙ ap (λ b. not (list_any (λ y. same (f x) (f y)) xs) && b) (differ-map same f xs)
+
+eqb-flip : (m n : ℕ) → (m == n) ≡ false → (n == m) ≡ false
+eqb-flip m n e = grind (arith, nat_tests, e)
+
+-- two of some things are one, or their numbers differ
+numbers-apart : {X : Type 0} (g : X → ℕ) (xs : List X) (x y : X) → all_differ (λ a b. g a == g b) xs ≡ true → Contains xs x → Contains xs y → (x ≡ y → ⊥) → (g y == g x) ≡ false
+numbers-apart g [] x y d c e other = absurd (let less : c.0 < 0 = c.1 in omega (arith, less))
+numbers-apart g (z ∷ zs) x y d c e other =
+    let parts : (not (list_any (λ b. g z == g b) zs) ≡ true) × (all_differ (λ a b. g a == g b) zs ≡ true) = and_parts (not (list_any (λ b. g z == g b) zs)) (all_differ (λ a b. g a == g b) zs) d in
+    let others : All (λ b. (g z == g b) ≡ false) zs = any-false (λ b. g z == g b) zs (not-true (list_any (λ b. g z == g b) zs) parts.0) in
+    ⊎_elim
+    (λ (here : z ≡ x). ⊎_elim
+    (λ (also : z ≡ y). absurd (other (sym here ∙ also)))
+    (λ (later : Contains zs y). eqb-flip (g x) (g y) (ap (λ w. g w == g y) (sym here) ∙ All-contains (λ b. (g z == g b) ≡ false) zs y others later))
+    (contains-cases z zs y e))
+    (λ (later : Contains zs x). ⊎_elim
+    (λ (also : z ≡ y). ap (λ w. g w == g x) (sym also) ∙ All-contains (λ b. (g z == g b) ≡ false) zs x others later)
+    (λ (both : Contains zs y). numbers-apart g zs x y parts.1 later both other)
+    (contains-cases z zs y e))
+    (contains-cases z zs x c)
 
 -- ---- who bears what
 
@@ -209,11 +254,17 @@ all-lawful {S = S} t left faults place limit tasks dones runs seen tasks-are don
     let ts : tasks ≡ map (λ d. d.run.task) ds = tasks-are ∙ ap (map (λ (run : Run S). run.task)) (sym m.runs_are) ∙ map-map (λ (run : Run S). run.task) (λ d. d.run) ds in
     let dn : dones ≡ map (λ d. d.run.done) ds = dones-are ∙ ap (map (λ (run : Run S). run.done)) (sym m.runs_are) ∙ map-map (λ (run : Run S). run.done) (λ d. d.run) ds in
     let ns : numbers_of_runs runs ≡ map number ds = ap (map (λ (run : Run S). run.number)) (sym m.runs_are) ∙ map-map (λ (run : Run S). run.number) (λ d. d.run) ds in
-    let shared : Shared number job seen ds = record {
+    let named : all_differ (λ a b. a.run.task.number == b.run.task.number) ds ≡ true =
+    sym (differ-map same_job (λ (d : Done S). d.run.task) ds) ∙ subst (λ (xs : List (Task S)). all_differ same_job xs ≡ true) ts apart.jobs in
+    let of-task : (d : Done S) → Contains ds d → d.job.number ≡ d.run.task.number = λ d has. (All-contains (IsDone t left faults place limit seen) ds d m.each has).number in
+    let shared : Shared t number job seen ds = record {
       order = λ k d less. (m.each k d less).order;
       bears = subst (λ (ms : List ℕ). All (λ posted. Contains ms posted.seat) seen) ns borne;
       differ = sym (differ-through (flat_map (λ (task : Task S). task.feeds) (map (λ d. d.run.task) ds)) (feeds_of_all job ds) (done-numbers t left faults place limit seen ds m.each))
-          ∙ subst (λ (xs : List (Task S)). AreNumberedApart xs) ts apart;
+          ∙ subst (λ (xs : List (Task S)). all_differ same_feed (flat_map (λ (task : Task S). task.feeds) xs) ≡ true) ts apart.feeds;
+      apart = λ x y c e other.
+          ap (λ (n : ℕ). n == x.job.number) (of-task y e) ∙ ap (λ (n : ℕ). y.run.task.number == n) (of-task x c)
+          ∙ numbers-apart (λ (d : Done S). d.run.task.number) ds x y named c e (λ (same : x ≡ y). other (ap number same));
     } in
     record {
       jobs = map job ds;
@@ -224,6 +275,7 @@ all-lawful {S = S} t left faults place limit tasks dones runs seen tasks-are don
           subst (λ (js : List JobTold). IsLawful t limit feeds (map job ds) (entries seen) js) (sym (ap (map told_by) dn ∙ map-map told_by (λ (d : Done S). d.run.done) ds))
           (lawful number job told seen ds t limit feeds shared within
           (λ k d less. kept-read t left faults place limit seen (get_or ds k d).run.task.feeds (get_or ds k d).run.done.feeds.items (get_or ds k d).job.feeds within (m.each k d less).read)
+          (λ k d less. links-kept (m.each k d less).full t limit seen (get_or ds k d).job within (m.each k d less).linked)
           (λ k d less. (m.each k d less).tells)
           (λ f has. same.here f (subst (λ (fs : List FeedRead). Contains fs f) (sym all) has))
           (λ f has. subst (λ (fs : List FeedRead). Contains fs f) all (same.there f has)));
@@ -243,10 +295,10 @@ all-ran {S = S} t left faults place limit lock old new tasks dones history first
     (λ (same : posted_by n new.seen ≡ posted_by n old.seen). inr (ap (posted_by n) is ∙ same ∙ ap (posted_by n) none)) (all.others n has)) in
     record {
       came = record { runs = all.runs; tasks_are = all.tasks_are; dones_are = all.dones_are; each = came; differ = all.differ; only = borne };
-      each = subst (λ (ts : List (Task S)). AllZip (IsBackFrom t left faults place limit history) ts dones) (sym all.tasks_are)
-          (subst (λ (ds : List (JobDone S)). AllZip (IsBackFrom t left faults place limit history) (map (λ run. run.task) all.runs) ds) (sym all.dones_are)
-          (zip-map (IsBackFrom t left faults place limit history) (λ (run : Run S). run.task) (λ run. run.done) all.runs
-          (λ k d less. record { number = (came k d less).number; front = (came k d less).ends.front; back = (came k d less).ends.back })));
+      each = subst (λ (ts : List (Task S)). AllZip (IsBackFrom t left faults place limit) ts dones) (sym all.tasks_are)
+          (subst (λ (ds : List (JobDone S)). AllZip (IsBackFrom t left faults place limit) (map (λ run. run.task) all.runs) ds) (sym all.dones_are)
+          (zip-map (IsBackFrom t left faults place limit) (λ (run : Run S). run.task) (λ run. run.done) all.runs
+          (λ k d less. record { number = (came k d less).number; back = (came k d less).ends.back })));
       lawful = λ no-wants. all-lawful t left faults place limit tasks dones all.runs history all.tasks_are all.dones_are came borne within apart no-wants;
     }
 

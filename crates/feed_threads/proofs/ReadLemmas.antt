@@ -1,16 +1,20 @@
 -- What a job of queries alone tells, line by line.
 use Rattle.std.proofs.Common.{◌≡◌, ℕ, ◌+◌, ◌≤◌, Bool, false, List, [], ◌∷◌, ◌++◌, length, map, All, refl, ap, sym, ◌∙◌, arith, subst, append_assoc, Result, Ok, Err, OnOk, is_err}
+use Rattle.std.specs.List.{flat_map}
 use Rattle.std.proofs.lemmas.List.{append-nil, length-append, map-append}
-use Rattle.std.proofs.lemmas.List.Elements.{All-append, All-cons, All-nil}
+use Rattle.std.proofs.lemmas.List.Elements.{All-append, All-cons, All-head, All-nil, All-tail}
 use Rattle.std.proofs.lemmas.List.Sums.{fold-append}
 use mathlib.Core.List.{IsPrefix}
-use Rattle.dn_formats.specs.Lawful.{pin_after, taken_along}
+use Rattle.dn_formats.specs.Lawful.{Job, given_along, linked_by, pin_after, position_after, taken_by}
 use Rattle.dn_formats.specs.declared.script.Line.{Line}
 use Rattle.dn_formats.specs.declared.script.Line.TheVariants as line
-use Rattle.dn_formats.specs.declared.told.FeedTold.{FeedTold}
+use Rattle.feed_model.specs.declared.feed_told.FeedTold.{FeedTold}
+use Rattle.feed_model.specs.Steps.{FeedRead}
 use Rattle.dn_formats.specs.declared.told.Told.{Told}
+use Rattle.dn_formats.specs.declared.told.Told.TheVariants.{Asked}
 use Rattle.dn_model.specs.Entry.{entries}
 use Rattle.dn_model.specs.Query.{Question}
+use Rattle.dn_model.specs.declared.entry.Entry.{Entry}
 use Rattle.dn_model.specs.declared.entry.Posted.{Posted}
 use Rattle.dn_model.specs.declared.topology.Topology.{Topology}
 use Rattle.fast_pins.specs.Known.{Known, published}
@@ -23,7 +27,8 @@ use Rattle.feed_threads.specs.Readers.{AllRead, HasRead, Reading}
 use Rattle.feed_threads.specs.Reads.{IsAsk, PinsOn, ReadEnds, TellsRead, TellsReadFront}
 use Rattle.feed_threads.specs.Seats.{own_of}
 use Rattle.feed_threads.specs.Tells.{Adds, IsOutcomeNow, TellsOwn}
-use Rattle.feed_threads.specs.Tracks.{last_pin}
+use Rattle.feed_threads.specs.Tracks.{last_position}
+use Rattle.feed_threads.proofs.OrderLemmas.{linked-none}
 use Rattle.feed_threads.proofs.TellLemmas.{outcome-own, pin-now, tells-ask}
 
 -- ---- a reader goes on
@@ -41,13 +46,19 @@ pins-more a b c x y = record {
 
 -- ---- what is told
 
--- a job without feeds takes nothing
-pub taken-none : (before lines : List Line) → taken_along [] before lines ≡ []
-taken-none before [] = refl
-taken-none before (l ∷ lines) = taken-none (before ++ l ∷ []) lines
+-- lines that ask give nothing of a job without feeds
+pub given-none : (t : Topology) (job : Job) (before lines : List Line) → job.feeds ≡ [] → All IsAsk lines → given_along t job before lines ≡ []
+given-none t job before [] none asks = refl
+given-none t job before (line.Take l r c ∷ lines) none asks = absurd (All-head IsAsk (line.Take l r c) lines asks)
+given-none t job before (line.Link l n d ∷ lines) none asks = absurd (All-head IsAsk (line.Link l n d) lines asks)
+given-none t job before (line.Ask l q ∷ lines) none asks =
+    let y : Line = line.Ask l q in
+    let rest : List Entry = given_along t job (before ++ y ∷ []) lines in
+    ap (λ (fs : List FeedRead). (flat_map (taken_by before y) fs ++ linked_by t job before y) ++ rest) none
+    ∙ ap (λ es. es ++ rest) (linked-none t job before y refl) ∙ given-none t job (before ++ y ∷ []) lines none (All-tail IsAsk y lines asks)
 
 pub read-none : (t : Topology) (list : List Posted) → TellsRead t list list [] []
-read-none t list = record { begins = prefix_self list; pinned = omega arith; tells = λ k more same. tt }
+read-none t list = record { asks = All-nil IsAsk; begins = prefix_self list; pinned = omega arith; tells = λ limit k job more none same. tt }
 
 prefix-length : {X : Type 0} (xs ys : List X) → IsPrefix xs ys → length xs ≤ length ys
 prefix-length xs ys p = let e : length ys ≡ length xs + length p.0 = ap length (sym p.1) ∙ length-append xs p.0 in omega (arith, e)
@@ -56,12 +67,13 @@ prefix-length xs ys p = let e : length ys ≡ length xs + length p.0 = ap length
 pub read-later : (t : Topology) (first list later : List Posted) (lines : List Line) (tolds : List Told) → IsPrefix list later →
     TellsRead t first list lines tolds → TellsRead t first later lines tolds
 read-later t first list later lines tolds p told = record {
+  asks = told.asks;
   begins = prefix_trans first list later told.begins p;
-  pinned = (let longer : length list ≤ length later = prefix-length list later p in let pinned : last_pin tolds ≤ length list = told.pinned in omega (arith, longer, pinned));
-  tells = λ k more same.
+  pinned = (let longer : length list ≤ length later = prefix-length list later p in let pinned : last_position tolds ≤ length list = told.pinned in omega (arith, longer, pinned));
+  tells = λ limit k job more none same.
       let whole : list ++ (p.0 ++ more) ≡ later ++ more = sym (append_assoc list p.0 more) ∙ ap (λ ps. ps ++ more) p.1 in
-      subst (λ (ps : List Posted). TellsOwn t ps k (own_of k first) [] [] 0 lines tolds) whole
-      (told.tells k (p.0 ++ more) (ap (posted_by k) whole ∙ same));
+      subst (λ (ps : List Posted). TellsOwn t limit ps k (own_of k first) job [] 0 lines tolds) whole
+      (told.tells limit k job (p.0 ++ more) none (ap (posted_by k) whole ∙ same));
 }
 
 -- and one query more
@@ -69,18 +81,20 @@ pub read-ask : (t : Topology) (first list later : List Posted) (lines : List Lin
     TellsRead t first list lines tolds → Adds tolds tolds' l q (IsOutcomeNow t later q) → TellsRead t first later (lines ++ line.Ask l q ∷ []) tolds'
 read-ask t first list later lines l q tolds tolds' p told adds =
     let here : TellsRead t first later lines tolds = read-later t first list later lines tolds p told in
-    let added : last_pin tolds' ≡ pin_after (last_pin tolds) adds.told.outcome =
-    ap last_pin adds.added ∙ fold-append (λ (last : ℕ) (told : Told). pin_after last told.outcome) 0 tolds (adds.told ∷ []) in
+    let x : Told = Asked l q adds.outcome in
+    let added : last_position tolds' ≡ pin_after (last_position tolds) adds.outcome =
+    ap last_position adds.added ∙ fold-append position_after 0 tolds (x ∷ []) in
     record {
+      asks = All-append IsAsk lines (line.Ask l q ∷ []) here.asks (All-cons IsAsk (line.Ask l q) [] tt (All-nil IsAsk));
       begins = here.begins;
-      pinned = subst (λ (n : ℕ). n ≤ length later) (sym added) (pin-now t later (last_pin tolds) q adds.told.outcome adds.good here.pinned);
-      tells = λ k more same.
+      pinned = subst (λ (n : ℕ). n ≤ length later) (sym added) (pin-now t later (last_position tolds) q adds.outcome adds.good here.pinned);
+      tells = λ limit k job more none same.
           let own : own_of k later ≡ own_of k first = ap entries (same_between k first later (later ++ more) here.begins (more, refl) (sym same)) in
-          subst (λ (ts : List Told). TellsOwn t (later ++ more) k (own_of k first) [] [] 0 (lines ++ line.Ask l q ∷ []) ts) (sym adds.added)
-          (tells-ask t (later ++ more) k (own_of k first) [] [] 0 lines tolds l q adds.told adds.line_is adds.query_is
-          (outcome-own t later more k (own_of k first) [] lines (last_pin tolds) q adds.told.outcome adds.good here.pinned
-          (own ∙ sym (ap (λ es. own_of k first ++ es) (taken-none [] lines) ∙ append-nil (own_of k first))))
-          (here.tells k more same));
+          subst (λ (ts : List Told). TellsOwn t limit (later ++ more) k (own_of k first) job [] 0 (lines ++ line.Ask l q ∷ []) ts) (sym adds.added)
+          (tells-ask t limit (later ++ more) k (own_of k first) job [] 0 lines tolds l q adds.outcome
+          (outcome-own t limit later more k (own_of k first) job lines (last_position tolds) q adds.outcome adds.good here.pinned
+          (own ∙ sym (ap (λ es. own_of k first ++ es) (given-none t job [] lines none here.asks) ∙ append-nil (own_of k first))))
+          (here.tells limit k job more none same));
     }
 
 -- what is told of all lines is that of a front of them

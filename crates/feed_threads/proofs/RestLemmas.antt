@@ -1,18 +1,20 @@
 -- The rests of feeds, taken line by line, are what a job's lines leave of them.
-use Rattle.std.proofs.Common.{◌≡◌, ℕ, Bool, true, false, ◌==◌, ◌&&◌, ◌||◌, not, cond, if◌then◌else◌, List, [], ◌∷◌, ◌++◌, length, filter, drop, All, Option, None, Some, refl, ap, sym, ◌∙◌, append_assoc}
+use Rattle.std.proofs.Common.{◌≡◌, ℕ, Bool, true, false, ◌==◌, ◌&&◌, ◌||◌, not, cond, if◌then◌else◌, List, [], ◌∷◌, ◌++◌, length, filter, drop, get_or, All, Option, None, Some, refl, ap, sym, ◌∙◌, append_assoc}
 use Rattle.std.specs.List.{list_any, flat_map}
 use Rattle.std.proofs.lemmas.Bool.{or_parts}
 use Rattle.std.proofs.lemmas.Grind.{flat_map-append}
 use Rattle.std.proofs.lemmas.List.{append-nil}
 use Rattle.std.proofs.lemmas.List.Elements.{All-head, All-tail}
-use Rattle.dn_formats.specs.Lawful.{asked, asked_by, both_counts, front_of, takes, takes_feed, kept_by, taken_by, taken_along, first_taken, left_by}
-use Rattle.dn_formats.specs.Steps.{FeedRead, kept_of, entries_of}
+use Rattle.dn_formats.specs.Lawful.{Job, asked, asked_by, both_counts, first_taken, front_of, given_along, kept_by, left_by, linked_by, taken_by, takes, takes_feed}
+use Rattle.feed_model.specs.Steps.{FeedRead, kept_of, entries_of}
+use Rattle.dn_model.specs.declared.entry.Entry.{Entry}
 use Rattle.dn_model.specs.declared.entry.Op.{Op}
+use Rattle.dn_model.specs.declared.topology.Topology.{Topology}
 use Rattle.base.specs.declared.ids.RouterId.{RouterId}
 use Rattle.dn_formats.specs.declared.script.Line.{Line}
 use Rattle.dn_formats.specs.declared.script.Line.TheVariants as line
 use Rattle.feed_threads.specs.Tracks.{rest_of, rests_of}
-use Rattle.feed_threads.proofs.OrderLemmas.{asked-push, both-zero, asked-other, drop-all, taken_by-other}
+use Rattle.feed_threads.proofs.OrderLemmas.{asked-push, both-zero, asked-other, drop-all, linked-none, taken_by-other}
 
 -- ---- how many frames lines ask for
 
@@ -46,12 +48,14 @@ rests-by-name r before more l q c false other rest named =
 pub asked-rests : (r : RouterId) (before more : List Line) → list_any (takes r) more ≡ true → asked r (before ++ rests_of more) ≡ None
 asked-rests r before [] named = cc
 asked-rests r before (line.Ask l q ∷ more) named = asked-rests r before more named
+asked-rests r before (line.Link l n d ∷ more) named = asked-rests r before more named
 asked-rests r before (line.Take l q c ∷ more) named =
     rests-by-name r before more l q c (q.0 == r.0) refl (asked-rests r (before ++ line.Take l q None ∷ []) more) named
 
 pub asked-unnamed : (r : RouterId) (before more : List Line) → list_any (takes r) more ≡ false → asked r (before ++ rests_of more) ≡ asked r before
 asked-unnamed r before [] named = ap (asked r) (append-nil before)
 asked-unnamed r before (line.Ask l q ∷ more) named = asked-unnamed r before more named
+asked-unnamed r before (line.Link l n d ∷ more) named = asked-unnamed r before more named
 asked-unnamed r before (line.Take l q c ∷ more) named =
     let parts : ((q.0 == r.0) ≡ false) × (list_any (takes r) more ≡ false) = or_parts (q.0 == r.0) (list_any (takes r) more) named in
     ap (asked r) (sym (append_assoc before (line.Take l q None ∷ []) (rests_of more)))
@@ -100,34 +104,42 @@ filter-none p (x ∷ xs) a =
     let here : p x ≡ false = All-head (λ x. p x ≡ false) x xs a in
     rw here (filter-none p xs (All-tail (λ x. p x ≡ false) x xs a))
 
--- the rests of what lines name are what all lines leave of the feeds that these name first
-pub rests-left : (fs : List FeedRead) (lines done more : List Line) → taken_along fs (lines ++ rests_of done) (rests_of more) ≡ flat_map (left_by lines) (first_taken fs done more)
-rests-left fs lines done [] = refl
-rests-left fs lines done (line.Ask l q ∷ more) =
-    let none : filter (λ f. takes f.router (line.Ask l q) && not (takes_feed done f)) fs ≡ [] =
-    filter-none (λ f. takes f.router (line.Ask l q) && not (takes_feed done f)) fs (λ k d i. refl) in
-    let same : rests_of (done ++ line.Ask l q ∷ []) ≡ rests_of done = flat_map-append rest_of done (line.Ask l q ∷ []) ∙ append-nil (rests_of done) in
-    ap (λ b. taken_along fs (lines ++ b) (rests_of more)) (sym same) ∙ rests-left fs lines (done ++ line.Ask l q ∷ []) more
-    ∙ ap (λ gs. flat_map (left_by lines) (gs ++ first_taken fs (done ++ line.Ask l q ∷ []) more)) (sym none)
-rests-left fs lines done (line.Take l q c ∷ more) =
-    let y : Line = line.Take l q None in
-    let p : FeedRead → Bool = λ f. takes f.router (line.Take l q c) && not (takes_feed done f) in
-    let here : flat_map (taken_by (lines ++ rests_of done) y) fs ≡ flat_map (left_by lines) (filter p fs) =
-    flat-if p (left_by lines) (taken_by (lines ++ rests_of done) y) (λ f. rest-by lines done l q f (q.0 == f.router.0) (takes_feed done f) refl refl) fs in
-    let next : (lines ++ rests_of done) ++ y ∷ [] ≡ lines ++ rests_of (done ++ line.Take l q c ∷ []) =
-    append_assoc lines (rests_of done) (y ∷ []) ∙ ap (λ b. lines ++ b) (sym (flat_map-append rest_of done (line.Take l q c ∷ []))) in
-    ap (λ es. es ++ taken_along fs ((lines ++ rests_of done) ++ y ∷ []) (rests_of more)) here
-    ∙ ap (λ b. flat_map (left_by lines) (filter p fs) ++ taken_along fs b (rests_of more)) next
-    ∙ ap (λ es. flat_map (left_by lines) (filter p fs) ++ es) (rests-left fs lines (done ++ line.Take l q c ∷ []) more)
-    ∙ sym (flat_map-append (left_by lines) (filter p fs) (first_taken fs (done ++ line.Take l q c ∷ []) more))
+-- a line that takes nothing takes no feed first
+first-same : (fs : List FeedRead) (done : List Line) (l : Line) → ((r : RouterId) → takes r l ≡ false) → rest_of l ≡ [] → filter (λ f. takes f.router l && not (takes_feed done f)) fs ≡ []
+first-same fs done l none same = filter-none (λ f. takes f.router l && not (takes_feed done f)) fs (λ k d i. ap (λ b. b && not (takes_feed done (get_or fs k d))) (none (get_or fs k d).router))
+
+module _ (t : Topology) (job : Job) where
+  -- a line that takes nothing has no rest
+  rest-none : (lines done more : List Line) (l : Line) → ((r : RouterId) → takes r l ≡ false) → rest_of l ≡ [] →
+      given_along t job (lines ++ rests_of (done ++ l ∷ [])) (rests_of more) ≡ flat_map (left_by lines) (first_taken job.feeds (done ++ l ∷ []) more) →
+      given_along t job (lines ++ rests_of done) (rests_of more) ≡ flat_map (left_by lines) (first_taken job.feeds done (l ∷ more))
+  rest-none lines done more l none rest later =
+      let same : rests_of (done ++ l ∷ []) ≡ rests_of done =
+      flat_map-append rest_of done (l ∷ []) ∙ ap (λ ls. rests_of done ++ (ls ++ [])) rest ∙ append-nil (rests_of done) in
+      ap (λ b. given_along t job (lines ++ b) (rests_of more)) (sym same) ∙ later
+      ∙ ap (λ gs. flat_map (left_by lines) (gs ++ first_taken job.feeds (done ++ l ∷ []) more)) (sym (first-same job.feeds done l none rest))
+
+  -- the rests of what lines name are what all lines leave of the feeds that these name first
+  pub rests-left : (lines done more : List Line) → given_along t job (lines ++ rests_of done) (rests_of more) ≡ flat_map (left_by lines) (first_taken job.feeds done more)
+  rests-left lines done [] = refl
+  rests-left lines done (line.Ask l q ∷ more) = rest-none lines done more (line.Ask l q) (λ r. refl) refl (rests-left lines (done ++ line.Ask l q ∷ []) more)
+  rests-left lines done (line.Link l n d ∷ more) = rest-none lines done more (line.Link l n d) (λ r. refl) refl (rests-left lines (done ++ line.Link l n d ∷ []) more)
+  rests-left lines done (line.Take l q c ∷ more) =
+      let y : Line = line.Take l q None in
+      let p : FeedRead → Bool = λ f. takes f.router (line.Take l q c) && not (takes_feed done f) in
+      let here : flat_map (taken_by (lines ++ rests_of done) y) job.feeds ≡ flat_map (left_by lines) (filter p job.feeds) =
+      flat-if p (left_by lines) (taken_by (lines ++ rests_of done) y) (λ f. rest-by lines done l q f (q.0 == f.router.0) (takes_feed done f) refl refl) job.feeds in
+      let next : (lines ++ rests_of done) ++ y ∷ [] ≡ lines ++ rests_of (done ++ line.Take l q c ∷ []) =
+      append_assoc lines (rests_of done) (y ∷ []) ∙ ap (λ b. lines ++ b) (sym (flat_map-append rest_of done (line.Take l q c ∷ []))) in
+      let rest : List Entry = given_along t job ((lines ++ rests_of done) ++ y ∷ []) (rests_of more) in
+      ap (λ es. (es ++ linked_by t job (lines ++ rests_of done) y) ++ rest) here
+      ∙ ap (λ es. (flat_map (left_by lines) (filter p job.feeds) ++ es) ++ rest) (linked-none t job (lines ++ rests_of done) y refl)
+      ∙ ap (λ es. es ++ rest) (append-nil (flat_map (left_by lines) (filter p job.feeds)))
+      ∙ ap (λ b. flat_map (left_by lines) (filter p job.feeds) ++ given_along t job b (rests_of more)) next
+      ∙ ap (λ es. flat_map (left_by lines) (filter p job.feeds) ++ es) (rests-left lines (done ++ line.Take l q c ∷ []) more)
+      ∙ sym (flat_map-append (left_by lines) (filter p job.feeds) (first_taken job.feeds (done ++ line.Take l q c ∷ []) more))
 
 -- ---- lines after lines
-
-pub taken_along-append : (fs : List FeedRead) (before xs ys : List Line) → taken_along fs before (xs ++ ys) ≡ taken_along fs before xs ++ taken_along fs (before ++ xs) ys
-taken_along-append fs before [] ys = ap (λ b. taken_along fs b ys) (sym (append-nil before))
-taken_along-append fs before (x ∷ xs) ys =
-    ap (λ es. flat_map (taken_by before x) fs ++ es) (taken_along-append fs (before ++ x ∷ []) xs ys ∙ ap (λ b. taken_along fs (before ++ x ∷ []) xs ++ taken_along fs b ys) (append_assoc before (x ∷ []) xs))
-    ∙ sym (append_assoc (flat_map (taken_by before x) fs) (taken_along fs (before ++ x ∷ []) xs) (taken_along fs (before ++ x ∷ xs) ys))
 
 pub first_taken-append : (fs : List FeedRead) (before xs ys : List Line) → first_taken fs before (xs ++ ys) ≡ first_taken fs before xs ++ first_taken fs (before ++ xs) ys
 first_taken-append fs before [] ys = ap (λ b. first_taken fs b ys) (sym (append-nil before))

@@ -8,7 +8,7 @@ use Rattle.version_lock.specs.Callers.{Caller, IsSameSeat, KeepsOwn, IsSeatOf, L
 use Rattle.dn_model.specs.Entry.{entries}
 use Rattle.dn_model.specs.declared.entry.Entry.{Entry}
 use Rattle.dn_model.specs.declared.entry.Entry.TheVariants.{Route}
-use Rattle.dn_formats.specs.Steps.{entries_by}
+use Rattle.feed_model.specs.Steps.{entries_by}
 use Rattle.dn_model.specs.declared.entry.Op.{Op}
 use Rattle.base.specs.declared.ids.RouterId.{RouterId}
 use Rattle.feed_threads.specs.Seats.{own_of, LooksOn, SawMore}

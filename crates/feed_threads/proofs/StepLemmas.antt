@@ -5,14 +5,14 @@ use Rattle.std.proofs.lemmas.List.{append-nil}
 use Rattle.std.proofs.lemmas.List.Sums.{sum-map, sum_by-append}
 use Rattle.std.specs.Prelude.{IsOkAnd}
 use Rattle.dn_io.specs.Faults.{Rose}
-use Rattle.dn_formats.specs.Steps.{FrameStep, Accepted, Refused, updates, refusals, skipped_of, ops_of, refused_of}
+use Rattle.feed_model.specs.Steps.{FrameStep, Accepted, Refused, updates, refusals, skipped_of, ops_of, refused_of}
 use Rattle.dn_model.specs.declared.entry.Op.{Op}
 use Rattle.base.specs.declared.ids.RouterId.{RouterId}
 use Rattle.base.specs.declared.memory.OutOfMemory.{OutOfMemory}
 use Rattle.dn_model.specs.declared.topology.Topology.{Topology}
-use Rattle.dn_formats.specs.declared.told.FeedEnd.{FeedEnd}
-use Rattle.dn_formats.specs.declared.told.FeedTold.{FeedTold}
-use Rattle.dn_formats.specs.declared.told.RefusedFrame.{RefusedFrame}
+use Rattle.feed_model.specs.declared.feed_told.FeedEnd.{FeedEnd}
+use Rattle.feed_model.specs.declared.feed_told.FeedTold.{FeedTold}
+use Rattle.feed_model.specs.declared.feed_told.RefusedFrame.{RefusedFrame}
 use Rattle.route_feed.specs.FeedReader.{Reader, IsAt, IsAnswered, IsOutcome, FaultsAtStep, FaultsAt, told_so_far, told_after, told_then, end_of}
 use Rattle.route_feed.specs.declared.feed_step.FeedStep.{FeedStep}
 use Rattle.route_feed.specs.declared.feed_step.FeedStep.TheVariants as answers

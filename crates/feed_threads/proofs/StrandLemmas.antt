@@ -4,15 +4,15 @@ use Rattle.std.specs.List.{AllZip}
 use Rattle.std.proofs.lemmas.List.{append-nil, length-map, map-append}
 use Rattle.std.proofs.lemmas.List.Elements.{All-nil, All-cons}
 use mathlib.Core.List.{IsPrefix}
-use Rattle.dn_formats.specs.Steps.{FrameStep, FeedRead, updates, entries_by, kept_of}
+use Rattle.feed_model.specs.Steps.{FrameStep, FeedRead, updates, entries_by, kept_of}
 use Rattle.dn_model.specs.declared.entry.Entry.{Entry}
 use Rattle.dn_model.specs.declared.entry.Entry.TheVariants.{Route}
 use Rattle.dn_model.specs.declared.entry.Op.{Op}
 use Rattle.dn_model.specs.declared.entry.Posted.{Posted}
 use Rattle.base.specs.declared.ids.RouterId.{RouterId}
 use Rattle.dn_model.specs.declared.topology.Topology.{Topology}
-use Rattle.dn_formats.specs.declared.told.FeedEnd.{FeedEnd}
-use Rattle.dn_formats.specs.declared.told.FeedEnd.TheVariants as ends
+use Rattle.feed_model.specs.declared.feed_told.FeedEnd.{FeedEnd}
+use Rattle.feed_model.specs.declared.feed_told.FeedEnd.TheVariants as ends
 use Rattle.route_feed.specs.FeedReader.{Reader}
 use Rattle.feed_threads.specs.Feeds.{Feed, end_with, end_of_feed, Stands, TookOf}
 use Rattle.feed_threads.specs.Takes.{IsLater, Gives, Passes, TakesSome}
@@ -105,10 +105,10 @@ taken-at (x ∷ front) s s' back n is =
     omega (arith, rest)
 
 -- the job's own entries grow by as many as the updates that were taken of one feed
-pub count-grown : {S : Type 0} (front : List (Strand S)) (s s' : Strand S) (back : List (Strand S)) (own own' start : List Entry) (n : ℕ) (r : RouterId) (ops : List Op) →
-    s'.ops ≡ s.ops ++ ops → own' ≡ own ++ entries_by n r ops → length own ≡ length start + taken_of_all (front ++ s ∷ back) →
-    length own' ≡ length start + taken_of_all (front ++ s' ∷ back)
-count-grown front s s' back own own' start n r ops is grows count =
+pub count-grown : {S : Type 0} (front : List (Strand S)) (s s' : Strand S) (back : List (Strand S)) (own own' start : List Entry) (n : ℕ) (r : RouterId) (ops : List Op) (links : ℕ) →
+    s'.ops ≡ s.ops ++ ops → own' ≡ own ++ entries_by n r ops → length own ≡ length start + (taken_of_all (front ++ s ∷ back) + links) →
+    length own' ≡ length start + (taken_of_all (front ++ s' ∷ back) + links)
+count-grown front s s' back own own' start n r ops links is grows count =
     let more : length s'.ops ≡ length s.ops + length ops = ap length is ∙ length-append s.ops ops in
     let all : taken_of_all (front ++ s' ∷ back) ≡ taken_of_all (front ++ s ∷ back) + length ops = taken-at front s s' back (length ops) more in
     let len : length own' ≡ length own + length ops =

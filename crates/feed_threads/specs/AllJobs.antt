@@ -3,8 +3,8 @@ use Rattle.std.specs.Prelude.{ℕ, ◌≡◌, ◌+◌, ◌<◌, ◌≤◌, ◌==
 use Rattle.std.specs.Prelude.{Option}
 use Rattle.std.specs.List.{AllZip, flat_map}
 use mathlib.Core.List.{IsPrefix}
-use Rattle.dn_formats.specs.Lawful.{IsLawful, Job, TellsFront}
-use Rattle.dn_formats.specs.Steps.{FeedRead}
+use Rattle.dn_formats.specs.Lawful.{IsLawful, Job}
+use Rattle.feed_model.specs.Steps.{FeedRead}
 use Rattle.dn_formats.specs.declared.told.JobTold.{JobTold}
 use Rattle.dn_model.specs.Entry.{entries}
 use Rattle.base.specs.Lists.{all_differ}
@@ -59,12 +59,17 @@ module _ {S : Type 0} (t : Topology) (left : S → Option (List ℕ)) (faults pl
 
 -- ---- jobs over a history of their own
 
--- no two of all jobs' feeds have one number
+-- whether two feeds, or two jobs, have one number
 abbrev pub same_feed : {S : Type 0} → Reader S → Reader S → Bool
 same_feed q r = q.told.feed_no == r.told.feed_no
 
-abbrev pub AreNumberedApart : {S : Type 0} → List (Task S) → Type 0
-AreNumberedApart tasks = IsTrue (all_differ same_feed (flat_map (λ task. task.feeds) tasks))
+abbrev pub same_job : {S : Type 0} → Task S → Task S → Bool
+same_job x y = x.number == y.number
+
+-- no two of all jobs' feeds have one number, and no two of the jobs
+pub record AreNumberedApart {S : Type 0} (tasks : List (Task S)) : Type 0 where
+  pub feeds : IsTrue (all_differ same_feed (flat_map (λ task. task.feeds) tasks))
+  pub jobs : IsTrue (all_differ same_job tasks)
 
 -- the feeds of jobs, one job after another
 abbrev pub feeds_of_jobs : List Job → List FeedRead
@@ -100,10 +105,9 @@ module _ {S : Type 0} (t : Topology) (left : S → Option (List ℕ)) (faults pl
     pub lawful : (feeds : List FeedRead) → HaveSame feeds (feeds_of_jobs jobs) →
         IsLawful t limit feeds jobs (entries seen) (map told_by dones)
 
-  -- A job has its number, its sources were given back, and what is told is that of a front of its lines.
-  pub record IsBackFrom (seen : List Posted) (task : Task S) (done : JobDone S) : Type 0 where
+  -- A job has its number, and its sources were given back.
+  pub record IsBackFrom (task : Task S) (done : JobDone S) : Type 0 where
     pub number : done.number ≡ task.number
-    pub front : TellsFront t (entries seen) task.lines done.told
     pub back : AllZip (IsBack t left faults place limit) task.feeds done.feeds.items
 
   -- Each job came to what was given back for it, under a number that no other had, and each entry of the history bears
@@ -119,6 +123,6 @@ module _ {S : Type 0} (t : Topology) (left : S → Option (List ℕ)) (faults pl
   -- Jobs ran over a history of their own, which is this at the end. Where none of them wanted memory all were done, and
   -- what they made and told is lawful.
   pub record AllRan (tasks : List (Task S)) (seen : List Posted) (dones : List (JobDone S)) : Type 0 where
-    pub each : AllZip (IsBackFrom seen) tasks dones
+    pub each : AllZip IsBackFrom tasks dones
     pub came : AllCame tasks seen dones
     pub lawful : All (λ done. done.wanted_memory ≡ false) dones → AreLawful tasks seen dones

@@ -1,14 +1,14 @@
 -- Where a job's feed stands: what its reader handed out, and what the history took of that.
 use Rattle.std.specs.Prelude.{ℕ, ◌≡◌, ◌<◌, ◌≤◌, List, [], ◌∷◌, ◌++◌, length, take, Option, None, Some}
 use mathlib.Core.List.{IsPrefix}
-use Rattle.dn_formats.specs.Steps.{FrameStep, Accepted, Refused, updates}
+use Rattle.feed_model.specs.Steps.{FrameStep, Accepted, Refused, updates}
 use Rattle.dn_model.specs.declared.entry.Op.{Op}
 use Rattle.dn_model.specs.declared.entry.Posted.{Posted}
 use Rattle.base.specs.declared.ids.RouterId.{RouterId}
 use Rattle.dn_model.specs.declared.topology.Topology.{Topology}
-use Rattle.dn_formats.specs.declared.told.FeedEnd.{FeedEnd}
-use Rattle.dn_formats.specs.declared.told.FeedEnd.TheVariants as ends
-use Rattle.dn_formats.specs.declared.told.FeedTold.{FeedTold}
+use Rattle.feed_model.specs.declared.feed_told.FeedEnd.{FeedEnd}
+use Rattle.feed_model.specs.declared.feed_told.FeedEnd.TheVariants as ends
+use Rattle.feed_model.specs.declared.feed_told.FeedTold.{FeedTold}
 use Rattle.dn_io.specs.Told.{NothingLeft}
 use Rattle.route_feed.specs.FeedReader.{Reader, IsAt, HasEnded, HasFaulted, told_so_far}
 use Rattle.route_feed.specs.declared.feed_step.FeedStep.{FeedStep}

@@ -3,9 +3,8 @@ use Rattle.std.specs.Prelude.{ℕ, ◌≡◌, ◌+◌, ◌<◌, ◌≤◌, ◌*�
 use Rattle.std.specs.Prelude.{map, All, Option, None, Some}
 use Rattle.std.specs.List.{AllZip}
 use mathlib.Core.List.{IsPrefix}
-use Rattle.dn_formats.specs.Lawful.{entries_of_job, TellsFront}
-use Rattle.dn_formats.specs.Steps.{FrameStep, FeedRead, updates, told_of}
-use Rattle.dn_model.specs.Entry.{entries}
+use Rattle.dn_formats.specs.Lawful.{Job, entries_of_job, link_entries}
+use Rattle.feed_model.specs.Steps.{FrameStep, FeedRead, updates, told_of}
 use Rattle.base.specs.Lists.{all_differ}
 use Rattle.dn_model.specs.declared.entry.Entry.{Entry}
 use Rattle.dn_model.specs.declared.entry.Posted.{Posted}
@@ -13,13 +12,13 @@ use Rattle.base.specs.declared.ids.RouterId.{RouterId}
 use Rattle.dn_model.specs.declared.topology.Topology.{Topology}
 use Rattle.dn_formats.specs.declared.script.Line.{Line}
 use Rattle.dn_formats.specs.declared.script.Script.{Script}
-use Rattle.dn_formats.specs.declared.told.FeedTold.{FeedTold}
+use Rattle.feed_model.specs.declared.feed_told.FeedTold.{FeedTold}
 use Rattle.dn_formats.specs.declared.told.Told.{Told}
 use Rattle.route_feed.specs.FeedReader.{Reader, told_so_far}
 use Rattle.feed_threads.specs.Feeds.{Feed, end_with, HandsOut, IsBroken, StandsFront, told_with}
 use Rattle.feed_threads.specs.Seats.{own_of}
-use Rattle.feed_threads.specs.Tells.{TellsOwn}
-use Rattle.feed_threads.specs.Tracks.{Strand, MayBecome, taken_of_all}
+use Rattle.feed_threads.specs.Tells.{TellsOwn, TellsOwnFront}
+use Rattle.feed_threads.specs.Tracks.{IsJobOn, Links, MayBecome, Strand, TookFirstLinks, TookLinks, taken_of_all}
 
 -- a job: its number, its script's lines, none where it has no script, and the readers of the feeds that it alone takes
 pub record Task (S : Type 0) : Type 0 where
@@ -60,6 +59,10 @@ abbrev pub IsKeptSo : ℕ → List Posted → Option ℕ → FeedRead → Type 0
 IsKeptSo limit seen None f = f.kept ≡ length (updates f.steps)
 IsKeptSo limit seen (Some n) f = (f.kept ≡ n) × IsBroken limit seen f.steps n
 
+-- a job as its history has it: its feeds as they were read, and how many entries of its link lines were taken
+abbrev pub job_of : {S : Type 0} → Task S → List FeedRead → ℕ → Job
+job_of task feeds kept = record { number = task.number; lines = task.lines; feeds = feeds; kept_links = kept }
+
 module _ {S : Type 0} (t : Topology) (left : S → Option (List ℕ)) (faults place : S → ℕ) (limit : ℕ) where
   -- A feed was read to its end by a reader that began as `start`, and this was told of it when its source was given
   -- back: the frames are those that the reader handed out, with at least 28 bytes for each update, within the reader's
@@ -95,30 +98,33 @@ module _ {S : Type 0} (t : Topology) (left : S → Option (List ℕ)) (faults pl
     pub told_is : back.1 ≡ told_with kept reader.told
 
   -- A job of these lines and feeds was done, by a seat of this number whose own entries were `start` before it: the
-  -- feeds were read to their ends, the seat's own entries are then those of the job, in order, and each query of its
-  -- lines is told.
+  -- feeds were read to their ends, the history took the entries of its link lines or was full at one, the seat's own
+  -- entries are then those of the job, in order, and each query and link line is told.
   pub record HasRun (number : ℕ) (start : List Entry) (seen : List Posted) (task : Task S) (told : List Told)
       (backs : List (S × FeedTold)) : Type 0 where
     pub feeds : List FeedRead
+    pub links : Links
     pub read : AreReadBy seen task.feeds backs feeds
-    pub order : own_of number seen ≡
-        start ++ entries_of_job (record { number = task.number; lines = task.lines; feeds = feeds })
-    pub tells : TellsOwn t seen number start feeds [] 0 task.lines told
+    pub linked : TookLinks links.full limit seen (length (link_entries t task.number task.lines)) links.count
+    pub order : own_of number seen ≡ start ++ entries_of_job t (job_of task feeds links.count)
+    pub tells : TellsOwn t limit seen number start (job_of task feeds links.count) [] 0 task.lines told
 
   -- Memory was wanting before a job of these lines and feeds was done, by a seat of this number whose own entries were
-  -- `start` before it. From where the feeds stood when they were given back: whatever they may come to, `start` and
-  -- then the entries of the job begin with the seat's own entries; these are as many as the history took of the feeds;
-  -- and a feed is told as full only where a full history refused one of its updates, after as many as are told.
+  -- `start` before it. From where the feeds stood when they were given back: whatever the job may come to, `start` and
+  -- then the entries of the job begin with the seat's own entries; these are as many as the history took of the feeds
+  -- and link lines; and a feed is told as full only where a full history refused one of its updates, after as many as
+  -- are told.
   pub record HasBegun (number : ℕ) (start : List Entry) (seen : List Posted) (task : Task S)
       (backs : List (S × FeedTold)) : Type 0 where
     pub strands : List (Strand S)
+    pub links : Links
     pub starts : map (λ s. s.start) strands ≡ task.feeds
     pub backs_are : map (λ s. back_of s.now) strands ≡ backs
     pub each : All (λ s. StandsFront t left faults place limit seen s.start s.now s.steps s.ops) strands
-    pub count : length (own_of number seen) ≡ length start + taken_of_all strands
-    pub order : (feeds : List FeedRead) → AllZip MayBecome strands feeds →
-        IsPrefix (own_of number seen)
-        (start ++ entries_of_job (record { number = task.number; lines = task.lines; feeds = feeds }))
+    pub linked : TookFirstLinks links.full limit seen (length (link_entries t task.number task.lines)) links.count
+    pub count : length (own_of number seen) ≡ length start + (taken_of_all strands + links.count)
+    pub order : (job : Job) → IsJobOn MayBecome task.number strands links job → job.lines ≡ task.lines →
+        IsPrefix (own_of number seen) (start ++ entries_of_job t job)
 
   -- what a job came to: it was done, or memory was wanting before
   abbrev pub HasRunUnless : Bool → ℕ → List Entry → List Posted → Task S → List Told → List (S × FeedTold) → Type 0
@@ -130,5 +136,5 @@ module _ {S : Type 0} (t : Topology) (left : S → Option (List ℕ)) (faults pl
   pub record Ends (number : ℕ) (start : List Entry) (seen : List Posted) (task : Task S) (wanted : Bool)
       (told : List Told) (backs : List (S × FeedTold)) : Type 0 where
     pub done : HasRunUnless wanted number start seen task told backs
-    pub front : TellsFront t (entries seen) task.lines told
+    pub front : TellsOwnFront t limit seen number start task.number task.lines told
     pub back : AllZip IsBack task.feeds backs

@@ -1,14 +1,14 @@
 -- What taking frames of one feed does.
 use Rattle.std.specs.Prelude.{ℕ, ◌≡◌, ◌≤◌, ◌<◌, ◌+◌, ◌*◌, ◌-◌, Bool, true, false, All, List, [], ◌++◌, length, take}
 use Rattle.std.specs.Prelude.{Option, None, Some, Result, IfOk, OnOk, OnErr, is_none}
-use Rattle.dn_formats.specs.Steps.{FrameStep, entries_by, updates}
+use Rattle.feed_model.specs.Steps.{FrameStep, entries_by, updates}
 use Rattle.dn_model.specs.declared.entry.Entry.{Entry}
 use Rattle.dn_model.specs.declared.entry.Op.{Op}
 use Rattle.dn_model.specs.declared.entry.Posted.{Posted}
 use Rattle.base.specs.declared.ids.RouterId.{RouterId}
 use Rattle.dn_model.specs.declared.topology.Topology.{Topology}
-use Rattle.dn_formats.specs.declared.told.FeedEnd.{FeedEnd}
-use Rattle.dn_formats.specs.declared.told.FeedTold.{FeedTold}
+use Rattle.feed_model.specs.declared.feed_told.FeedEnd.{FeedEnd}
+use Rattle.feed_model.specs.declared.feed_told.FeedTold.{FeedTold}
 use Rattle.route_feed.specs.FeedReader.{IsFeedOp, Reader}
 use Rattle.version_lock.specs.Callers.{Caller, IsSeatOf, Lock}
 use Rattle.version_store.specs.Kept.{IsTaken}

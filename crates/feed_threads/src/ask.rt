@@ -119,7 +119,7 @@ impl<S: Source> Work<S> {
     {
         let outcome = outcome(rt, desk, &mut self.seat, query)?;
         let query = query.copy(desk.alloc())?;
-        self.told.push(Told {
+        self.told.push(Told::Asked {
             line,
             query,
             outcome,

@@ -1,7 +1,7 @@
 //! What a job works with, whatever its feeds are.
 
-ghost use Rattle.std.specs.Prelude.{◌≡◌, ◌≤◌, ◌++◌, ◌∷◌, [], length, true, false, if◌then◌else◌, IfOk, OnErr};
-ghost use Rattle.version_lock.specs.Callers.{IsSeatOf};
+ghost use Rattle.std.specs.Prelude.{◌≡◌, ◌≤◌, ◌++◌, ◌∷◌, [], length, if◌then◌else◌, IfOk, IfSome, None, OnErr, is_some};
+ghost use Rattle.version_lock.specs.Callers.{Applied, IsSeatOf};
 ghost use Rattle.feed_threads.specs.Seats.{own_of, IsSeenBy, LooksOn, SawMore};
 ghost use Rattle.feed_threads.specs.Shown.{IsShown, ShowsOn};
 ghost use Rattle.feed_threads.specs.Takes.{MayAdd};
@@ -70,31 +70,32 @@ impl<'a, G: Gate> Desk<'a, G> {
         site.topology
     }
 
-    /// Applies an entry, and answers whether the history took it: it did not where it was full. Where memory is wanting
-    /// nothing of the seat's own is added.
+    /// Applies an entry, and answers its position in the history, from 1; or none where the history was full and didn't
+    /// take it. Where memory is wanting nothing of the seat's own is added.
     pub(crate) fn post<R: Wait>(
         &self,
         rt: &R,
         seat: &mut Seat,
         entry: &Entry,
-    ) -> Result<bool, OutOfMemory>
+    ) -> Result<Option<u32>, OutOfMemory>
         requires { MayAdd self.now seat.old entry.now }
         ensures saw { SawMore seat.old seat.new }
-        ensures own { IfOk result (λ taken. own_of seat.old.number seat.new.seen ≡ own_of seat.old.number seat.old.seen
-            ++ (if taken then entry.now ∷ [] else [])) }
+        ensures at { IfOk result (λ at. IfSome at (Applied entry.now self.now.setup.basis.limit seat.old seat.new)) }
+        ensures own { IfOk result (λ at. own_of seat.old.number seat.new.seen ≡ own_of seat.old.number seat.old.seen
+            ++ (if is_some at then entry.now ∷ [] else [])) }
         ensures kept { OnErr result (own_of seat.old.number seat.new.seen ≡ own_of seat.old.number seat.old.seen) }
-        ensures full { IfOk result (λ taken. taken ≡ false → self.now.setup.basis.limit ≤ length seat.new.seen) }
+        ensures full { IfOk result (λ at. at ≡ None → self.now.setup.basis.limit ≤ length seat.new.seen) }
     {
         let _number = seat.number();
         let site = self.site;
         site.gate.at(self.job, Point::BeforeApply);
         match site.lock.apply(rt, seat, entry) {
-            Ok(_) => {
+            Ok(position) => {
                 self.is_behind.set(true);
                 site.gate.at(self.job, Point::AfterApply);
-                Ok(true)
+                Ok(Some(position))
             }
-            Err(PostRefused::Full { .. }) => Ok(false),
+            Err(PostRefused::Full { .. }) => Ok(None),
             Err(PostRefused::OutOfMemory) => Err(OutOfMemory),
         }
     }

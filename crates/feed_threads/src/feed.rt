@@ -1,15 +1,15 @@
 //! A feed of a job.
 
 ghost use Rattle.std.specs.Prelude.{◌≡◌, ◌+◌, ◌<◌, length, List, ◌++◌, IfOk, OnErr, OnOk, Some, None, IsTrue};
-ghost use Rattle.dn_formats.specs.Steps.{FrameStep, updates};
-ghost use Rattle.dn_formats.specs.declared.told.FeedEnd.{FeedEnd as EndIs};
+ghost use Rattle.feed_model.specs.Steps.{FrameStep, updates};
+ghost use Rattle.feed_model.specs.declared.feed_told.FeedEnd.{FeedEnd as EndIs};
 ghost use Rattle.dn_model.specs.declared.topology.Topology.{Topology as TopologyIs};
 ghost use Rattle.route_feed.specs.FeedReader.{Reader, end_of, AreOpsOf, Advances};
 ghost use Rattle.feed_threads.specs.Feeds.{HandsOut, handed_out, told_with};
 
-use dn_formats::{FeedEnd, FeedTold};
 use dn_io::Source;
 use dn_model::{OutOfMemory, Topology};
+use feed_model::{FeedEnd, FeedTold};
 use route_feed::{FeedReader, FeedStep};
 use std::alloc::Global;
 use std::marker::Model;

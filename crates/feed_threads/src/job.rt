@@ -5,9 +5,10 @@ ghost use Rattle.std.specs.Prelude.{vec_capacity};
 ghost use Rattle.feed_threads.specs.Jobs.{lines_of, unread};
 
 use crate::feed::Feed;
-use dn_formats::{FeedTold, Script, Told};
+use dn_formats::{Script, Told};
 use dn_io::Source;
 use dn_model::List;
+use feed_model::FeedTold;
 use route_feed::FeedReader;
 use std::alloc::Global;
 use std::marker::Model;
@@ -39,12 +40,12 @@ impl<S: Source> Model for Job<S> {
         × (length j.feeds.items ≤ vec_capacity j.room) };
 }
 
-/// What a job came to. Where it wanted memory it ended there: it tells of the first queries of its script, and its
-/// feeds may have given more than the history took of them.
+/// What a job came to. Where it wanted memory it ended there: it tells of the first queries and link lines of its
+/// script, and its feeds may have given more than the history took of them.
 #[derive(Drop)]
 pub struct JobDone<S: Source> {
     pub number: u32,
-    /// What is told of the script's queries, in order.
+    /// What is told of the script's queries and link lines, in order.
     pub told: List<Told>,
     /// Each feed's source, with the bytes that were not read, and what is told of the feed, in order.
     pub feeds: Vec<(S, FeedTold)>,

@@ -1,4 +1,5 @@
-//! Jobs over one version lock: each takes the feeds that it alone has, and asks its script's queries over snapshots.
+//! Jobs over one version lock: each takes the feeds that it alone has, takes links down and up, and asks its script's queries
+//! over snapshots.
 #![tactic(auto)]
 
 mod all_jobs;
@@ -8,6 +9,7 @@ mod feed;
 mod feed_by_router;
 mod history;
 mod job;
+mod link_line;
 mod one_job;
 mod one_writer;
 mod reader_job;

@@ -11,9 +11,10 @@ use crate::feed::Feed;
 use crate::job::{Job, JobDone};
 use crate::site::Site;
 use crate::work::Work;
-use dn_formats::{FeedTold, Line, Script};
+use dn_formats::{Line, Script};
 use dn_io::{Gate, Source};
 use dn_model::List;
+use feed_model::FeedTold;
 use std::sync::Wait;
 use std::thread::Threads;
 use version_lock::Seat;
@@ -67,6 +68,7 @@ pub(crate) fn run_shown<S: Source, G: Gate, R: Threads + Wait + Sync>(
     let told = List::new(site.alloc);
     let lines = lines_of_script(&script);
     let mut work = Work {
+        number,
         seat,
         shown,
         feeds,
@@ -74,6 +76,7 @@ pub(crate) fn run_shown<S: Source, G: Gate, R: Threads + Wait + Sync>(
     };
     let ended = work.do_all(rt, &desk, lines);
     let Work {
+        number: _,
         seat,
         shown,
         feeds,

@@ -76,7 +76,7 @@ impl<'a, G: Gate> Bench<'a, G> {
     {
         let outcome = self.outcome(rt, reader, query)?;
         let query = query.copy(self.alloc)?;
-        told.push(Told {
+        told.push(Told::Asked {
             line,
             query,
             outcome,
@@ -102,6 +102,7 @@ impl<'a, G: Gate> Bench<'a, G> {
         for line in lines {
             match line {
                 Line::Take { .. } => unreachable!(),
+                Line::Link { .. } => unreachable!(),
                 Line::Ask { line, query } => self.ask(rt, reader, *line, query.get(), told)?,
             }
         }
@@ -116,6 +117,7 @@ fn all_ask(lines: &[Line]) -> bool
     for line in lines {
         match line {
             Line::Take { .. } => return false,
+            Line::Link { .. } => return false,
             Line::Ask { .. } => {}
         }
     }

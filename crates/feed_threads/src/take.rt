@@ -1,7 +1,7 @@
 //! Frames of one feed are taken through the lock.
 
 ghost use Rattle.std.specs.Prelude.{◌≡◌, ◌<◌, ◌≤◌, ◌++◌, All, length, take, IfOk, OnErr, Some, None};
-ghost use Rattle.dn_formats.specs.Steps.{entries_by};
+ghost use Rattle.feed_model.specs.Steps.{entries_by};
 ghost use Rattle.feed_threads.specs.Seats.{own_of, SawMore};
 ghost use Rattle.feed_threads.specs.Takes.{HasTaken, IsStep, MayPost, MayPostOf, MayShow, MayTake, Takes, TakesShown};
 ghost use Rattle.feed_threads.specs.Takes.{TookFirst};
@@ -39,7 +39,7 @@ fn post_all<G: Gate, R: Wait>(
             feed_no,
             op: ops[taken],
         };
-        if !desk.post(rt, seat, &entry)? {
+        if desk.post(rt, seat, &entry)?.is_none() {
             return Ok(taken);
         }
     }

@@ -9,9 +9,9 @@ ghost use Rattle.feed_threads.specs.Room.{HasRoom};
 
 use crate::job::{Job, JobDone, JobList};
 use crate::one_job::give_back;
-use dn_formats::FeedTold;
 use dn_io::Source;
 use dn_model::List;
+use feed_model::FeedTold;
 use std::alloc::Global;
 
 impl<S: Source> Job<S> {

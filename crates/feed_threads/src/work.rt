@@ -13,9 +13,10 @@ use std::sync::Wait;
 use std::thread::Threads;
 use version_lock::Seat;
 
-/// A job at work: its seat, by what it shows what it applies, its feeds, and what is told of its queries so far. It
-/// isn't `Drop`, since a publisher is to be ended.
+/// A job at work: its number, its seat, by what it shows what it applies, its feeds, and what is told so far. It isn't
+/// `Drop`, since a publisher is to be ended.
 pub(crate) struct Work<S: Source> {
+    pub(crate) number: u32,
     pub(crate) seat: Seat,
     pub(crate) shown: Shown,
     pub(crate) feeds: Vec<Feed<S>>,
@@ -27,13 +28,19 @@ impl<S: Source> Model for Work<S> {
 
     ghost Value = { Work S };
 
-    ghost view = { λ w. record { seat = w.seat; shown = w.shown; feeds = w.feeds.items; told = w.told } };
+    ghost view = { λ w. record {
+      number = w.number;
+      seat = w.seat;
+      shown = w.shown;
+      feeds = w.feeds.items;
+      told = w.told;
+    } };
 }
 
 impl<S: Source> Work<S> {
     ghost use Rattle.feed_threads.specs.Works.{IsAtWork, TellsFrontOf, Works, WorksUntold};
 
-    /// Does a line: takes its frames, or asks its query.
+    /// Does a line: takes its frames, asks its query, or sets its link.
     fn do_line<G: Gate, R: Threads + Wait + Sync>(
         &mut self,
         rt: &R,
@@ -47,10 +54,11 @@ impl<S: Source> Work<S> {
         match line {
             Line::Take { router, count, .. } => self.take_of(rt, desk, *router, *count),
             Line::Ask { line, query } => self.ask(rt, desk, *line, query.get()),
+            Line::Link { line, link, down } => self.set_link(rt, desk, *line, link, *down),
         }
     }
 
-    /// Does the lines of a script, in order, and tells of each query.
+    /// Does the lines of a script, in order, and tells of each query and each link line.
     fn do_lines<G: Gate, R: Threads + Wait + Sync>(
         &mut self,
         rt: &R,
@@ -80,6 +88,7 @@ impl<S: Source> Work<S> {
         match line {
             Line::Take { router, .. } => self.take_of(rt, desk, *router, None),
             Line::Ask { .. } => Ok(()),
+            Line::Link { .. } => Ok(()),
         }
     }
 

@@ -4,9 +4,9 @@ ghost use Rattle.std.specs.Prelude.{◌≡◌, ◌<◌, ◌≤◌, ◌^◌, leng
 
 use crate::frames::{CHANGE_TEN, SET_IPV6, SET_MULTIPATH, SET_TEN, bytes_of};
 use crate::test_network::{FIRST, triangle};
-use dn_formats::{FeedEnd, FeedTold};
 use dn_io::{MemSource, Source};
 use dn_model::Topology;
+use feed_model::{FeedEnd, FeedTold};
 use route_feed::{FeedReader, FeedStep};
 use std::alloc::Global;
 use std::process::Abort;

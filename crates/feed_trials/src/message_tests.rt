@@ -1,7 +1,7 @@
 //! Payloads of frames, byte by byte: what they say, and what stands before a refusal; and a route as it is written.
 
 ghost use Rattle.std.specs.Prelude.{◌≤◌, ◌<◌, length};
-ghost use Rattle.dn_formats.specs.Payload.{CanBeSaid};
+ghost use Rattle.feed_model.specs.Payload.{CanBeSaid};
 
 use crate::frames::{BROKEN_LAST, SET_IPV6, SET_TEN, bytes_of};
 use dn_model::Prefix;

@@ -1,7 +1,7 @@
 -- What `next` answers is determined by what is held.
 use Rattle.std.proofs.Common.{◌≡◌, ℕ, ◌↔◌, List, None}
-use Rattle.dn_formats.specs.Frames.{Frame, BeginsFrame, IsFrameFront, rest_kind, lost_cause}
-use Rattle.dn_formats.proofs.FramesLemmas.{front-not_frame, front-not_lost, lost-not_frame}
+use Rattle.feed_model.specs.Frames.{Frame, BeginsFrame, IsFrameFront, rest_kind, lost_cause}
+use Rattle.feed_model.proofs.FramesLemmas.{front-not_frame, front-not_lost, lost-not_frame}
 use Rattle.fpm_frame.specs.Held.{Held}
 use Rattle.fpm_frame.specs.Answers.{HoldsFrame, AnswersNext, LosesFraming, IsFrameThere, IsMoreWanted, IsFramingLost}
 use Rattle.fpm_frame.specs.declared.cutter.Next.{Next}

@@ -1,6 +1,6 @@
 -- What a cutter of frames answers, by what it holds.
 use Rattle.std.specs.Prelude.{◌≡◌, ℕ, ◌++◌, List, Some}
-use Rattle.dn_formats.specs.Frames.{Frame, frame_text, IsFrame, IsFrameFront, rest_kind, lost_cause, NoRest, CutFrame}
+use Rattle.feed_model.specs.Frames.{Frame, frame_text, IsFrame, IsFrameFront, rest_kind, lost_cause, NoRest, CutFrame}
 use Rattle.fpm_frame.specs.Held.{Held}
 use Rattle.fpm_frame.specs.declared.cutter.Next.{Next}
 use Rattle.fpm_frame.specs.declared.cutter.Next.TheVariants as next

@@ -1,6 +1,6 @@
 -- What a cutter of frames holds of its stream.
 use Rattle.std.specs.Prelude.{◌≡◌, ℕ, ◌+◌, List, ◌++◌, length}
-use Rattle.dn_formats.specs.Frames.{Frame, frame_text, IsFrame}
+use Rattle.feed_model.specs.Frames.{Frame, frame_text, IsFrame}
 
 -- how many bytes of the stream were passed, and the bytes that were fed and not passed
 pub record Held : Type 0 where

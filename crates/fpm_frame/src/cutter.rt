@@ -1,12 +1,12 @@
 //! A cutter of frames: pieces of a stream go in, frames come out.
 
 ghost use Rattle.std.specs.Prelude.{◌≡◌, ◌+◌, ◌^◌, ◌<◌, ◌↔◌, ℕ, Some, List, [], ◌∷◌, ◌++◌, length, OnOk, OnErr};
-ghost use Rattle.dn_formats.specs.Frames.{Frame, frame_text, IsFrame, BeginsFrame, IsFrameFront, rest_kind, lost_cause};
+ghost use Rattle.feed_model.specs.Frames.{Frame, frame_text, IsFrame, BeginsFrame, IsFrameFront, rest_kind, lost_cause};
 ghost use Rattle.fpm_frame.specs.Held.{fed, PassesFrame};
 ghost use Rattle.fpm_frame.specs.Answers.{AnswersNext, AnswersFinish, IsFrameThere, IsMoreWanted, IsFramingLost, LosesFraming};
 
-use dn_formats::frame_cause::{BAD_FRAME_LENGTH, BAD_VERSION};
 use dn_model::OutOfMemory;
+use feed_model::frame_cause::{BAD_FRAME_LENGTH, BAD_VERSION};
 use std::alloc::Global;
 use std::marker::Model;
 
@@ -22,7 +22,7 @@ pub enum Next<'a> {
     /// Nothing, or the front of a frame.
     More,
     /// No frame: the framing is lost here. The cause is `BAD_VERSION` or
-    /// `BAD_FRAME_LENGTH` of the module `frame_cause` of `dn_formats`.
+    /// `BAD_FRAME_LENGTH` of the module `frame_cause` of `feed_model`.
     Lost {
         offset: u64,
         cause: u8,

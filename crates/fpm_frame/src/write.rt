@@ -1,7 +1,7 @@
 //! The text of a frame.
 
 ghost use Rattle.std.specs.Prelude.{◌≡◌, ◌≤◌, length, IfOk};
-ghost use Rattle.dn_formats.specs.Frames.{frame_text};
+ghost use Rattle.feed_model.specs.Frames.{frame_text};
 
 use dn_model::OutOfMemory;
 use std::alloc::Global;

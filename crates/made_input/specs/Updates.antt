@@ -1,11 +1,11 @@
 -- The generated updates, which are dealt out to the routers' feeds in turn.
 use Rattle.std.specs.Prelude.{ℕ, zero, suc, ◌+◌, ◌-◌, ◌*◌, ◌/◌, ◌%◌, ◌^◌, ◌==◌, ◌++◌, ◌∷◌, Bool, false, not, if◌then◌else◌, List, [], Some, None}
 use Rattle.base.specs.Cidr.{Cidr}
-use Rattle.dn_formats.specs.Frames.{frame_text}
-use Rattle.dn_formats.specs.Message.{message_text}
-use Rattle.dn_formats.specs.Payload.{main_table}
-use Rattle.dn_formats.specs.declared.raw_route.RouteKind.TheVariants.{Unicast, Local}
-use Rattle.dn_formats.specs.declared.raw_route.RawRoute.{RawRoute}
+use Rattle.feed_model.specs.Frames.{frame_text}
+use Rattle.feed_model.specs.Message.{message_text}
+use Rattle.feed_model.specs.Payload.{main_table}
+use Rattle.feed_model.specs.declared.raw_route.RouteKind.TheVariants.{Unicast, Local}
+use Rattle.feed_model.specs.declared.raw_route.RawRoute.{RawRoute}
 use Rattle.made_input.specs.Network.{made_routers}
 
 -- the prefix of an update, by its number: 8 to 24 bits

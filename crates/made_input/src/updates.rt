@@ -1,13 +1,14 @@
 //! The generated updates.
 
 ghost use Rattle.std.specs.Prelude.{◌≡◌, ◌≤◌, ◌<◌, ◌++◌, OnOk, IfOk};
-ghost use Rattle.dn_formats.specs.Payload.{CanBeSaid};
+ghost use Rattle.feed_model.specs.Payload.{CanBeSaid};
 ghost use Rattle.base.specs.Cidr.{IsCidr};
 ghost use Rattle.made_input.specs.Updates.{aligned, frame_for, made_feed, made_frame, made_len, made_prefix, made_route, scattered};
 
 use crate::network::ROUTERS;
-use dn_formats::{MAIN_TABLE, RawRoute, RouteKind, Text};
+use dn_formats::Text;
 use dn_model::{OutOfMemory, Prefix};
+use feed_model::{MAIN_TABLE, RawRoute, RouteKind};
 use fpm_frame::write_frame;
 use rt_netlink::write_route;
 use std::alloc::Global;

@@ -10,7 +10,7 @@ use Rattle.dn_model.specs.declared.query.Ask.{Ask}
 use Rattle.dn_model.specs.declared.query.Ask.TheVariants.{Path, Reach, Uses, Loops, Blackholes, Waypoint, Delta}
 use Rattle.dn_formats.specs.Decimal.{address_of}
 use Rattle.dn_formats.specs.QueryWords.{Operands, RouterThen, LinkThen, AddressThen, is_comma, names_in, read_as}
-use Rattle.dn_formats.specs.ScriptText.{two_of}
+use Rattle.dn_formats.specs.ScriptText.{one_of, two_of}
 use Rattle.query_lang.specs.Words.{address_first, name_first, IsUnread}
 use Rattle.query_lang.specs.declared.query_line.Unread.{Unread}
 use Rattle.query_lang.specs.declared.query_line.Unread.TheVariants.{NoQuery, OutOfMemory}
@@ -69,6 +69,12 @@ unread-again (Err d) e found last same is unread = subst (λ (x : Unread). IsUnr
 
 pub ruleset words_due = (router-read, link-read, address-read, router-unread, link-unread, address-unread)
 
+-- `down` and `up` have one word after them
+pub one_of-none : (ws : List (List ℕ)) → length ws ≢ 1 → one_of ws ≡ None
+one_of-none [] h = refl
+one_of-none (a ∷ []) h = absurd (h refl)
+one_of-none (a ∷ b ∷ cs) h = refl
+
 -- `take` has two words after it
 pub two_of-none : (ws : List (List ℕ)) → length ws ≢ 2 → two_of ws ≡ None
 two_of-none [] h = refl
@@ -124,3 +130,5 @@ is-question links ask h asked =
     record { few = omega arith; without = asked }
 
 pub ruleset operands_missing = two_of-none
+
+pub ruleset operand_missing = one_of-none

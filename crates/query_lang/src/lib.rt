@@ -1,4 +1,4 @@
-//! Scripts and queries, read from their text, and what is told of their queries, as text.
+//! Scripts and queries, read from their text, and what is told of their lines, as text.
 //!
 //! A script is read whole or refused with the first of its faults, by the line and the number of the cause (module
 //! `script_cause` of `dn_formats`).

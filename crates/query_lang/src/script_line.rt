@@ -4,7 +4,7 @@ ghost use Rattle.std.specs.Prelude.{◌≡◌, ◌≤◌, ℕ, length, find, ◌
 ghost use Rattle.base.specs.Name.{is_name_text};
 ghost use Rattle.std.specs.List.{list_any};
 ghost use Rattle.std.specs.Str.{bytes_eq};
-ghost use Rattle.dn_formats.specs.ScriptText.{line_meaning, words_of, count_of, is_named, same_router, take_count, take_from, take_meaning, two_of, command_meaning, ask_meaning};
+ghost use Rattle.dn_formats.specs.ScriptText.{line_meaning, words_of, count_of, is_named, same_router, take_count, take_from, take_meaning, one_of, two_of, command_meaning, ask_meaning, link_meaning};
 ghost use Rattle.dn_formats.specs.QueryWords.{query_of};
 ghost use Rattle.query_lang.specs.NameIndex.{IsIndex, IsNamed};
 ghost use Rattle.query_lang.specs.ScriptRefused.{IsRefusedLine, added};
@@ -12,10 +12,10 @@ ghost use Rattle.query_lang.specs.ScriptRefused.{IsRefusedLine, added};
 use crate::name_guess::{Guesses, Named};
 use crate::name_index::router_at;
 use crate::query_line::{LINE_BYTES, read_asked};
-use crate::text_cut::{has_first, is_same, next_word, two_words};
+use crate::text_cut::{has_first, is_same, next_word, one_word, two_words};
 use dn_formats::script_cause::{BAD_LINE, TAKE_UNKNOWN, TAKEN_TWICE};
 use dn_formats::{Asked, Line, read_number};
-use dn_model::{List, OutOfMemory, RouterId, Topology, is_name};
+use dn_model::{List, Name, OutOfMemory, RouterId, Topology, is_name};
 use std::alloc::Global;
 use std::collections::HashMap;
 
@@ -62,6 +62,26 @@ fn is_take(word: &[u8]) -> bool
 {
     match word {
         [b't', b'a', b'k', b'e'] => true,
+        _ => false,
+    }
+}
+
+/// Whether a word is `down`.
+fn is_down(word: &[u8]) -> bool
+    ensures { result ≡ bytes_eq word.now (codes "down") }
+{
+    match word {
+        [b'd', b'o', b'w', b'n'] => true,
+        _ => false,
+    }
+}
+
+/// Whether a word is `up`.
+fn is_up(word: &[u8]) -> bool
+    ensures { result ≡ bytes_eq word.now (codes "up") }
+{
+    match word {
+        [b'u', b'p'] => true,
         _ => false,
     }
 }
@@ -187,6 +207,29 @@ fn read_take(
     take_of(feeds, line, name, count, lines)
 }
 
+#[tactic(auto, using(crate::proofs::Questions::operand_missing))]
+/// Adds a link line, by the words after its verb: the name of a link, which the network may not have.
+fn read_link(
+    alloc: Global,
+    line: u32,
+    down: bool,
+    operands: &[u8],
+    lines: &mut List<Line>,
+) -> Result<(), LineRefused>
+    ensures ok { OnOk result (added lines.old (link_meaning line down (one_of (words_of operands.now))) ≡ Ok lines.new) }
+    ensures refused { IfErr result (λ e. IsRefusedLine e (link_meaning line down (one_of (words_of operands.now)))) }
+{
+    let Some(name) = one_word(operands) else {
+        return Err(LineRefused::Cause(BAD_LINE));
+    };
+    if !is_name(name) {
+        return Err(LineRefused::Cause(BAD_LINE));
+    }
+    let link = Name::from_text(alloc, name)?;
+    lines.push(Line::Link { line, link, down })?;
+    Ok(())
+}
+
 /// Adds a line that asks a query, by its verb and the words after it.
 fn read_ask_line(
     alloc: Global,
@@ -222,6 +265,12 @@ fn read_command(
 {
     if is_take(verb) {
         return read_take(feeds, line, operands, lines);
+    }
+    if is_down(verb) {
+        return read_link(alloc, line, true, operands, lines);
+    }
+    if is_up(verb) {
+        return read_link(alloc, line, false, operands, lines);
     }
     read_ask_line(alloc, line, verb, operands, lines)
 }

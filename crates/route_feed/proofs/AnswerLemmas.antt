@@ -6,19 +6,19 @@ use Rattle.std.proofs.lemmas.List.{append-nil}
 use Rattle.std.proofs.lemmas.List.Sums.{sum-map, sum_by-append}
 use Rattle.std.proofs.lemmas.List.Elements.{All-append, All-nil, All-cons}
 use Rattle.dn_io.specs.Told.{with_front, NothingLeft}
-use Rattle.dn_formats.specs.Feed.{AreSteps, IsStep, IsReading, ending}
-use Rattle.dn_formats.specs.Frames.{Frame, IsFrame, IsFrameFront, frame_text, frames_text, rest_kind, lost_cause}
-use Rattle.dn_formats.specs.Steps.{FrameStep, Accepted, Refused, updates, refusals, skipped_of, ops_of, refused_of}
+use Rattle.feed_model.specs.Feed.{AreSteps, IsStep, IsReading, ending}
+use Rattle.feed_model.specs.Frames.{Frame, IsFrame, IsFrameFront, frame_text, frames_text, rest_kind, lost_cause}
+use Rattle.feed_model.specs.Steps.{FrameStep, Accepted, Refused, updates, refusals, skipped_of, ops_of, refused_of}
 use Rattle.base.specs.declared.ids.RouterId.{RouterId}
 use Rattle.dn_model.specs.declared.topology.Topology.{Topology}
 use Rattle.dn_model.specs.declared.entry.Op.{Op}
-use Rattle.dn_formats.specs.declared.told.FeedTold.{FeedTold}
-use Rattle.dn_formats.specs.declared.told.RefusedFrame.{RefusedFrame}
-use Rattle.dn_formats.specs.declared.told.FeedEnd.{FeedEnd}
-use Rattle.dn_formats.specs.declared.told.FeedEnd.TheVariants as ends
+use Rattle.feed_model.specs.declared.feed_told.FeedTold.{FeedTold}
+use Rattle.feed_model.specs.declared.feed_told.RefusedFrame.{RefusedFrame}
+use Rattle.feed_model.specs.declared.feed_told.FeedEnd.{FeedEnd}
+use Rattle.feed_model.specs.declared.feed_told.FeedEnd.TheVariants as ends
 use Rattle.base.specs.declared.memory.OutOfMemory.{OutOfMemory}
-use Rattle.dn_formats.proofs.FeedLemmas.{steps_push, is_kept}
-use Rattle.dn_formats.proofs.FramesLemmas.{front-not_frame, front-not_lost, frames_text-push}
+use Rattle.feed_model.proofs.FeedLemmas.{steps_push, is_kept}
+use Rattle.feed_model.proofs.FramesLemmas.{front-not_frame, front-not_lost, frames_text-push}
 use Rattle.route_feed.specs.FeedReader.{IsAt, HasEnded, HasFaulted, IsAnswered, IsOutcome, told_so_far, told_after, end_of}
 use Rattle.route_feed.specs.FrameStep.{Hands, HandsTo}
 use Rattle.route_feed.specs.Intake.{Inflow, Keeps, LeadsToEnd, FillsOk, taken}

@@ -1,16 +1,16 @@
 -- Handing out the frame at the front.
 use Rattle.std.proofs.Common.{◌≡◌, ◌≢◌, ℕ, ◌+◌, ◌≤◌, List, [], ◌++◌, length, Some, Result, Ok, Err, IfOk, refl, ap, sym, ◌∙◌, subst, arith, inl, inr}
-use Rattle.dn_formats.proofs.RoomLemmas.{accepted-room}
-use Rattle.dn_formats.specs.Frames.{Frame, frame_text}
-use Rattle.dn_formats.specs.Feed.{IsStep, step_of}
-use Rattle.dn_formats.specs.Payload.{IsPayload}
-use Rattle.dn_formats.specs.Steps.{FrameStep, Accepted, Refused}
+use Rattle.feed_model.proofs.RoomLemmas.{accepted-room}
+use Rattle.feed_model.specs.Frames.{Frame, frame_text}
+use Rattle.feed_model.specs.Feed.{IsStep, step_of}
+use Rattle.feed_model.specs.Payload.{IsPayload}
+use Rattle.feed_model.specs.Steps.{FrameStep, Accepted, Refused}
 use Rattle.base.specs.declared.ids.RouterId.{RouterId}
 use Rattle.base.specs.declared.memory.OutOfMemory.{OutOfMemory}
-use Rattle.dn_formats.specs.declared.payload.Payload.{Payload}
-use Rattle.dn_formats.specs.FrameCauses.{frame_type}
+use Rattle.feed_model.specs.declared.payload.Payload.{Payload}
+use Rattle.feed_model.specs.FrameCauses.{frame_type}
 use Rattle.dn_model.specs.declared.topology.Topology.{Topology}
-use Rattle.dn_formats.specs.declared.told.FeedTold.{FeedTold}
+use Rattle.feed_model.specs.declared.feed_told.FeedTold.{FeedTold}
 use Rattle.fpm_frame.specs.Answers.{HoldsFrame}
 use Rattle.fpm_frame.specs.Held.{PassesFrame, Held}
 use Rattle.route_feed.specs.FeedReader.{told_after}

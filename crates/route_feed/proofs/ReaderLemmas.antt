@@ -5,16 +5,16 @@ use Rattle.std.proofs.Math.Seq.{take-append-add, take-append_seam}
 use Rattle.std.proofs.lemmas.Bool.Decides.{nat_tests}
 use Rattle.std.proofs.lemmas.List.{take_all}
 use Rattle.dn_io.specs.Told.{with_front}
-use Rattle.dn_formats.specs.Feed.{AreSteps, IsReading, ending}
-use Rattle.dn_formats.specs.Frames.{Frame, IsFrame, IsFrameFront, FrameRest, NoRest, CutFrame, frames_text, rest_kind, lost_cause}
-use Rattle.dn_formats.specs.Steps.{FrameStep}
+use Rattle.feed_model.specs.Feed.{AreSteps, IsReading, ending}
+use Rattle.feed_model.specs.Frames.{Frame, IsFrame, IsFrameFront, FrameRest, NoRest, CutFrame, frames_text, rest_kind, lost_cause}
+use Rattle.feed_model.specs.Steps.{FrameStep}
 use Rattle.base.specs.declared.ids.RouterId.{RouterId}
 use Rattle.dn_model.specs.declared.topology.Topology.{Topology}
-use Rattle.dn_formats.specs.declared.told.FeedTold.{FeedTold}
-use Rattle.dn_formats.specs.declared.told.FeedEnd.{FeedEnd}
-use Rattle.dn_formats.specs.declared.told.FeedEnd.TheVariants as ends
-use Rattle.dn_formats.proofs.FeedLemmas.{lost_ending}
-use Rattle.dn_formats.proofs.FramesLemmas.{front-not_frame, front-not_lost, lost-not_frame, lost-stays}
+use Rattle.feed_model.specs.declared.feed_told.FeedTold.{FeedTold}
+use Rattle.feed_model.specs.declared.feed_told.FeedEnd.{FeedEnd}
+use Rattle.feed_model.specs.declared.feed_told.FeedEnd.TheVariants as ends
+use Rattle.feed_model.proofs.FeedLemmas.{lost_ending}
+use Rattle.feed_model.proofs.FramesLemmas.{front-not_frame, front-not_lost, lost-not_frame, lost-stays}
 use Rattle.route_feed.specs.FeedReader.{Reader, told_so_far, told_at_end}
 use Rattle.route_feed.specs.Intake.{Inflow}
 

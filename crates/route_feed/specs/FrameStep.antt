@@ -1,14 +1,14 @@
 -- What an answer of a feed's reader says of one frame.
 use Rattle.std.specs.Prelude.{◌≡◌, ℕ, ◌+◌, ◌*◌, ◌≤◌, ◌++◌, length, Option, None, Some, Result, Ok, Err}
-use Rattle.dn_formats.specs.Feed.{IsStep, Gathered, with_message}
-use Rattle.dn_formats.specs.Frames.{Frame, IsFrame, frame_text}
-use Rattle.dn_formats.specs.Steps.{FrameStep, Accepted, Refused}
+use Rattle.feed_model.specs.Feed.{IsStep, Gathered, with_message}
+use Rattle.feed_model.specs.Frames.{Frame, IsFrame, frame_text}
+use Rattle.feed_model.specs.Steps.{FrameStep, Accepted, Refused}
 use Rattle.base.specs.declared.ids.RouterId.{RouterId}
 use Rattle.base.specs.declared.memory.OutOfMemory.{OutOfMemory}
 use Rattle.dn_model.specs.declared.topology.Topology.{Topology}
-use Rattle.dn_formats.specs.declared.told.FeedTold.{FeedTold}
-use Rattle.dn_formats.specs.declared.payload.Item.{Item}
-use Rattle.dn_formats.specs.declared.payload.Refused.{Refused as Refusal}
+use Rattle.feed_model.specs.declared.feed_told.FeedTold.{FeedTold}
+use Rattle.feed_model.specs.declared.payload.Item.{Item}
+use Rattle.feed_model.specs.declared.payload.Refused.{Refused as Refusal}
 use Rattle.route_feed.specs.FeedReader.{told_after}
 use Rattle.route_feed.specs.Intake.{Inflow}
 use Rattle.route_feed.specs.declared.feed_step.FeedStep.{FeedStep}

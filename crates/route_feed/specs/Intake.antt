@@ -2,10 +2,10 @@
 use Rattle.std.specs.Prelude.{◌≡◌, ℕ, ◌+◌, ◌≤◌, ◌<◌, List, [], ◌++◌, length, Option, None, Some, Result, Ok, Err}
 use Rattle.dn_io.specs.Faults.{Rose}
 use Rattle.dn_io.specs.Told.{with_front, NothingLeft}
-use Rattle.dn_formats.specs.Frames.{BeginsFrame, IsFrameFront, rest_kind, lost_cause, NoRest, CutFrame}
+use Rattle.feed_model.specs.Frames.{BeginsFrame, IsFrameFront, rest_kind, lost_cause, NoRest, CutFrame}
 use Rattle.base.specs.declared.memory.OutOfMemory.{OutOfMemory}
-use Rattle.dn_formats.specs.declared.told.FeedEnd.{FeedEnd}
-use Rattle.dn_formats.specs.declared.told.FeedEnd.TheVariants.{End, CutShort, Lost, TooLong, Full, Faulted}
+use Rattle.feed_model.specs.declared.feed_told.FeedEnd.{FeedEnd}
+use Rattle.feed_model.specs.declared.feed_told.FeedEnd.TheVariants.{End, CutShort, Lost, TooLong, Full, Faulted}
 use Rattle.route_feed.specs.declared.intake.Got.{Got}
 use Rattle.route_feed.specs.declared.intake.Got.TheVariants as got
 use Rattle.route_feed.specs.declared.intake.Progress.{Progress}

@@ -2,8 +2,8 @@
 
 ghost use Rattle.std.specs.Prelude.{◌≡◌, ℕ, ◌+◌, ◌<◌, ◌≤◌, ◌^◌, List, [], ◌++◌, length, Option, None, Some, IfOk, IsOkAnd, OnErr, false};
 ghost use Rattle.dn_io.specs.Told.{with_front};
-ghost use Rattle.dn_formats.specs.Frames.{IsFrameFront};
-ghost use Rattle.dn_formats.specs.Steps.{FrameStep};
+ghost use Rattle.feed_model.specs.Frames.{IsFrameFront};
+ghost use Rattle.feed_model.specs.Steps.{FrameStep};
 ghost use Rattle.dn_model.specs.declared.topology.Topology.{Topology};
 ghost use Rattle.route_feed.specs.FeedReader.{Reader, IsAt, IsOutcome, FaultsAt, told_then, told_so_far, end_of, IsReadersEnd, Advances, AreOpsOf};
 
@@ -11,9 +11,9 @@ use crate::feed_step::FeedStep;
 use crate::frame_step::hand_out;
 use crate::intake::Intake;
 use crate::workspace::Workspace;
-use dn_formats::{FeedEnd, FeedTold};
 use dn_io::Source;
 use dn_model::{List, Op, OutOfMemory, RouterId, Topology};
+use feed_model::{FeedEnd, FeedTold};
 use std::alloc::Global;
 use std::marker::Model;
 

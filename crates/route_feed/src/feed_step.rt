@@ -8,7 +8,7 @@ pub enum FeedStep {
     /// The next frame is accepted: its updates, in order, and how many messages it passed over.
     Ops(List<Op>, u32),
     /// The next frame is refused: where it begins in the feed, where its first refused message begins in its payload,
-    /// and the cause, a number of `dn_formats::refusal`. None of its updates is handed out.
+    /// and the cause, a number of the module `frame_cause` of `feed_model`. None of its updates is handed out.
     Refused { offset: u64, at: u32, cause: u8 },
     /// Nothing is left of the feed.
     End,

@@ -1,9 +1,9 @@
 //! What one frame of a feed comes to.
 
 ghost use Rattle.std.specs.Prelude.{◌≡◌, ◌+◌, ◌<◌, ◌≤◌, ◌^◌, [], All, Some, IfOk, OnOk, OnErr, length};
-ghost use Rattle.dn_formats.specs.Feed.{step_of};
-ghost use Rattle.dn_formats.specs.Frames.{BeginsFrame};
-ghost use Rattle.dn_formats.specs.Payload.{payload_of, IsSayable};
+ghost use Rattle.feed_model.specs.Feed.{step_of};
+ghost use Rattle.feed_model.specs.Frames.{BeginsFrame};
+ghost use Rattle.feed_model.specs.Payload.{payload_of, IsSayable};
 ghost use Rattle.route_feed.specs.FeedReader.{told_after, AreOpsOf, IsFeedOp};
 ghost use Rattle.route_feed.specs.FrameStep.{ComesTo, frame_step, IsTaken, count, IsOfFrame, HandsTo};
 
@@ -12,10 +12,10 @@ use crate::intake::Intake;
 use crate::port_hints::PortHints;
 use crate::route_op::op_of;
 use crate::workspace::Workspace;
-use dn_formats::frame_cause::{FRAME_TYPE, UNKNOWN_INTERFACE};
-use dn_formats::{FeedTold, Item, ItemKind, Refused, RefusedFrame};
 use dn_io::Source;
 use dn_model::{List, Op, OutOfMemory, RouterId, Topology};
+use feed_model::frame_cause::{FRAME_TYPE, UNKNOWN_INTERFACE};
+use feed_model::{FeedTold, Item, ItemKind, Refused, RefusedFrame};
 use fpm_frame::Next;
 use rt_netlink::{NextMessage, next_message};
 use std::alloc::Global;
@@ -32,7 +32,7 @@ struct Gathered {
 }
 
 impl Model for Gathered {
-    ghost use Rattle.dn_formats.specs.Feed.{Gathered as GatheredIs};
+    ghost use Rattle.feed_model.specs.Feed.{Gathered as GatheredIs};
 
     ghost Value = { GatheredIs };
 

@@ -2,14 +2,14 @@
 
 ghost use Rattle.std.specs.Prelude.{◌≡◌, ℕ, ◌+◌, ◌<◌, ◌≤◌, ◌^◌, ◌++◌, [], length, OnOk, OnErr, IsTrue, ◌↔◌};
 ghost use Rattle.dn_io.specs.Told.{with_front, NothingLeft};
-ghost use Rattle.dn_formats.specs.Frames.{BeginsFrame, IsFrameFront};
+ghost use Rattle.feed_model.specs.Frames.{BeginsFrame, IsFrameFront};
 ghost use Rattle.fpm_frame.specs.Answers.{AnswersNext};
 ghost use Rattle.fpm_frame.specs.Held.{PassesFrame};
 ghost use Rattle.route_feed.specs.Intake.{taken, Keeps, GetsTo, Leads, LeadsTo, FillsTo, Grows, LeadsToEnd};
 
-use dn_formats::FeedEnd;
 use dn_io::Source;
 use dn_model::OutOfMemory;
+use feed_model::FeedEnd;
 use fpm_frame::{Cutter, Finish, Next};
 use std::alloc::Global;
 use std::marker::Model;

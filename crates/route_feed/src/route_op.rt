@@ -3,13 +3,13 @@
 ghost use Rattle.std.specs.Prelude.{◌≡◌, IfSome, unwrap_or};
 ghost use Rattle.dn_model.specs.Entry.{IsTargetOf};
 ghost use Rattle.dn_model.specs.Lookup.{IsPortWithin};
-ghost use Rattle.dn_formats.specs.Message.{target_at, set_op_of, set_op_by, op_of};
+ghost use Rattle.feed_model.specs.Message.{target_at, set_op_of, set_op_by, op_of};
 ghost use Rattle.dn_model.specs.declared.topology.Topology.{Topology as TopologyIs};
 ghost use Rattle.route_feed.specs.FeedReader.{IsFeedOp};
 
 use crate::port_hints::{PortHints, port_hinted};
-use dn_formats::{RawRoute, RouteKind};
 use dn_model::{DropKind, Op, Port, RouterId, Target, Topology};
+use feed_model::{RawRoute, RouteKind};
 
 /// What a unicast route does at a port, which is the router's interface of this number.
 fn target_at(port: Port, via: bool, index: u32) -> Target

@@ -6,7 +6,7 @@ use Rattle.std.specs.Int.RustNames.{bit_and}
 use Rattle.std.proofs.lemmas.Bool.Decides.{nat_tests}
 use Rattle.std.proofs.lemmas.Nat.{and_mask}
 use Rattle.std.proofs.lemmas.Slice.{between_is}
-use Rattle.dn_formats.specs.Attributes.{Attribute, Holds, BadLength, padded, attribute_length, attribute_type, has_bad_length, first_attribute, followed_by, attributes_after, attributes_of, is_bad}
+use Rattle.feed_model.specs.Attributes.{Attribute, Holds, BadLength, padded, attribute_length, attribute_type, has_bad_length, first_attribute, followed_by, attributes_after, attributes_of, is_bad}
 use Rattle.rt_netlink.specs.Gathered.{kept_with, kept_after}
 use Rattle.rt_netlink.specs.declared.attributes.RouteAttributes.{RouteAttributes}
 

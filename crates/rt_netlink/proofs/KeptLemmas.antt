@@ -2,7 +2,7 @@
 use Rattle.std.proofs.Common.{◌≡◌, ℕ, Bool, true, false, List, [], ◌∷◌, refl, ap, sym, ◌∙◌, Option, None, Some}
 use Rattle.std.specs.Prelude.{◌||◌, ◌==◌, if◌then◌else◌, fold, option_and_then}
 use Rattle.std.specs.List.{list_any}
-use Rattle.dn_formats.specs.Attributes.{Attribute, Holds, BadLength, is_bad, later, has, address_in, number_in, rta_dst, rta_oif, rta_gateway, rta_priority, rta_multipath, rta_table, rta_via, rta_newdst, rta_encap_type, rta_encap, rta_nh_id}
+use Rattle.feed_model.specs.Attributes.{Attribute, Holds, BadLength, is_bad, later, has, address_in, number_in, rta_dst, rta_oif, rta_gateway, rta_priority, rta_multipath, rta_table, rta_via, rta_newdst, rta_encap_type, rta_encap, rta_nh_id}
 use Rattle.rt_netlink.specs.Gathered.{kept_with, kept_after, nothing_kept, Keeps, KeepsAll}
 use Rattle.rt_netlink.specs.declared.attributes.RouteAttributes.{RouteAttributes}
 

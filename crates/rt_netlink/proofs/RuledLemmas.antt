@@ -1,7 +1,7 @@
 -- The table of what is refused and what is skipped, part after part.
 use Rattle.std.proofs.Common.{◌≡◌, ℕ, Bool, true, false, List, [], ◌∷◌, ◌++◌, refl, ◌∙◌, Option, None, Some}
 use Rattle.std.specs.Prelude.{if◌then◌else◌}
-use Rattle.dn_formats.specs.Payload.{Row, Ruling, first_ruling, ruling_of, header_rows, route_rows}
+use Rattle.feed_model.specs.Payload.{Row, Ruling, first_ruling, ruling_of, header_rows, route_rows}
 
 -- a row that holds of the first part decides
 first-some : (xs ys : List Row) (m : List ℕ) (r : Ruling) → first_ruling xs m ≡ Some r → first_ruling (xs ++ ys) m ≡ Some r

@@ -4,12 +4,12 @@ use Rattle.std.specs.Prelude.{◌||◌, nat_lt, if◌then◌else◌, Ok, Err}
 use Rattle.std.proofs.lemmas.Bool.{cases_lt}
 use Rattle.std.proofs.lemmas.Bool.Decides.{nat_tests}
 use Rattle.std.proofs.lemmas.List.{length-drop, drop_all, append-nil, append_assoc}
-use Rattle.dn_formats.specs.Attributes.{padded}
-use Rattle.dn_formats.specs.Payload.{Ruling, Refuses, ruling_of, item_of, said_by, message_said, message_length, said, said_after, before, nothing_more}
-use Rattle.dn_formats.specs.declared.payload.Item.{Item}
-use Rattle.dn_formats.specs.declared.payload.ItemKind.{ItemKind}
-use Rattle.dn_formats.specs.declared.payload.Payload.{Payload}
-use Rattle.dn_formats.specs.declared.payload.Refused.{Refused}
+use Rattle.feed_model.specs.Attributes.{padded}
+use Rattle.feed_model.specs.Payload.{Ruling, Refuses, ruling_of, item_of, said_by, message_said, message_length, said, said_after, before, nothing_more}
+use Rattle.feed_model.specs.declared.payload.Item.{Item}
+use Rattle.feed_model.specs.declared.payload.ItemKind.{ItemKind}
+use Rattle.feed_model.specs.declared.payload.Payload.{Payload}
+use Rattle.feed_model.specs.declared.payload.Refused.{Refused}
 use Rattle.rt_netlink.specs.Read.{with_items, said_from}
 
 -- a message that isn't refused is all there

@@ -7,9 +7,9 @@ use Rattle.std.proofs.lemmas.Bool.Decides.{nat_tests}
 use Rattle.std.proofs.lemmas.List.{append_assoc, append-nil}
 use Rattle.std.proofs.lemmas.Grind.{fold-append}
 use Rattle.std.proofs.lemmas.Nat.{from_le_bytes-to_le_bytes_4, from_be_bytes-to_be_bytes_4}
-use Rattle.dn_formats.specs.Attributes.{Attribute, Holds, attributes_of, is_bad, is_of, has, later, last_of, number_in, address_in, has_four_bytes}
-use Rattle.dn_formats.specs.Message.{attribute, destination_text, gateway_text, number_text, wide_table, attributes_text, NumberFits}
-use Rattle.dn_formats.specs.declared.raw_route.RawRoute.{RawRoute}
+use Rattle.feed_model.specs.Attributes.{Attribute, Holds, attributes_of, is_bad, is_of, has, later, last_of, number_in, address_in, has_four_bytes}
+use Rattle.feed_model.specs.Message.{attribute, destination_text, gateway_text, number_text, wide_table, attributes_text, NumberFits}
+use Rattle.feed_model.specs.declared.raw_route.RawRoute.{RawRoute}
 use Rattle.rt_netlink.proofs.AttributesLemmas.{attributes-step, attributes-short}
 
 -- ---- the attributes that are written

@@ -5,15 +5,15 @@ use Rattle.std.specs.List.{list_any}
 use Rattle.std.proofs.lemmas.Bool.Decides.{nat_tests}
 use Rattle.std.proofs.lemmas.List.{take_all, drop_all}
 use Rattle.std.proofs.lemmas.Nat.{from_le_bytes-to_le_bytes_4}
-use Rattle.dn_formats.specs.Attributes.{padded, attributes_of, has, number_of, address_of, is_bad, number_in, address_in, rta_dst, rta_oif, rta_gateway, rta_priority, rta_multipath, rta_table, rta_via, rta_newdst, rta_encap_type, rta_encap, rta_nh_id}
+use Rattle.feed_model.specs.Attributes.{padded, attributes_of, has, number_of, address_of, is_bad, number_in, address_in, rta_dst, rta_oif, rta_gateway, rta_priority, rta_multipath, rta_table, rta_via, rta_newdst, rta_encap_type, rta_encap, rta_nh_id}
 use Rattle.base.specs.Cidr.{Cidr}
-use Rattle.dn_formats.specs.Message.{header_text, route_part, narrow_table, wide_table, attributes_text, message_text, kind_number, NumberFits}
-use Rattle.dn_formats.specs.Payload.{message_length, is_set, is_deletion, family, prefix_length, source_length, service_type, table_byte, table_by, table_of, is_read, route_type, attributes, destination, prefix_of, interface, kind_of, route_of, message_rows, Row, first_ruling, ruling_of, item_of, said_by, message_said, payload_of, said, said_after, nothing_more, CanBeSaid, HasParts}
-use Rattle.dn_formats.specs.declared.payload.ItemKind.TheVariants.{Route}
-use Rattle.dn_formats.specs.declared.payload.Payload.{Payload}
-use Rattle.dn_formats.specs.declared.raw_route.RouteKind.{RouteKind}
-use Rattle.dn_formats.specs.declared.raw_route.RouteKind.TheVariants.{Unicast, Local, Blackhole, Unreachable, Prohibit}
-use Rattle.dn_formats.specs.declared.raw_route.RawRoute.{RawRoute}
+use Rattle.feed_model.specs.Message.{header_text, route_part, narrow_table, wide_table, attributes_text, message_text, kind_number, NumberFits}
+use Rattle.feed_model.specs.Payload.{message_length, is_set, is_deletion, family, prefix_length, source_length, service_type, table_byte, table_by, table_of, is_read, route_type, attributes, destination, prefix_of, interface, kind_of, route_of, message_rows, Row, first_ruling, ruling_of, item_of, said_by, message_said, payload_of, said, said_after, nothing_more, CanBeSaid, HasParts}
+use Rattle.feed_model.specs.declared.payload.ItemKind.TheVariants.{Route}
+use Rattle.feed_model.specs.declared.payload.Payload.{Payload}
+use Rattle.feed_model.specs.declared.raw_route.RouteKind.{RouteKind}
+use Rattle.feed_model.specs.declared.raw_route.RouteKind.TheVariants.{Unicast, Local, Blackhole, Unreachable, Prohibit}
+use Rattle.feed_model.specs.declared.raw_route.RawRoute.{RawRoute}
 use Rattle.rt_netlink.proofs.SaidLemmas.{said-step, said-end}
 use Rattle.rt_netlink.proofs.WrittenAttributes.{pieces_of, destination_payload, gateway_payload, number_payload, attributes-written, destination-last, interface-last, metric-last, table-last, has-none, has-gateway, none-bad, number-read, address-read}
 

@@ -1,7 +1,7 @@
 -- What is kept of a route message's attributes while they are read one after another.
 use Rattle.std.specs.Prelude.{◌≡◌, ℕ, ◌<◌, ◌==◌, Bool, true, false, ◌||◌, if◌then◌else◌, List, [], ◌∷◌, length, drop, Option, None, Some}
 use Rattle.std.specs.List.{list_any}
-use Rattle.dn_formats.specs.Attributes.{Attribute, Holds, BadLength, padded, attribute_length, first_attribute, has, number_of, address_of, number_in, address_in, is_bad, rta_dst, rta_oif, rta_gateway, rta_priority, rta_multipath, rta_table, rta_via, rta_newdst, rta_encap_type, rta_encap, rta_nh_id}
+use Rattle.feed_model.specs.Attributes.{Attribute, Holds, BadLength, padded, attribute_length, first_attribute, has, number_of, address_of, number_in, address_in, is_bad, rta_dst, rta_oif, rta_gateway, rta_priority, rta_multipath, rta_table, rta_via, rta_newdst, rta_encap_type, rta_encap, rta_nh_id}
 use Rattle.rt_netlink.specs.declared.attributes.RouteAttributes.{RouteAttributes}
 use Rattle.rt_netlink.specs.declared.attributes.AttributeText.{AttributeText}
 

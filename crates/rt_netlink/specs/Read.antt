@@ -1,8 +1,8 @@
 -- What is known of a message while it is read.
 use Rattle.std.specs.Prelude.{◌≡◌, ℕ, ◌<◌, ◌≤◌, ◌-◌, ◌++◌, not, List, [], length, Some}
-use Rattle.dn_formats.specs.Payload.{message_length, is_set, said_after, before, nothing_more, IsSayable}
-use Rattle.dn_formats.specs.declared.payload.Item.{Item}
-use Rattle.dn_formats.specs.declared.payload.Payload.{Payload}
+use Rattle.feed_model.specs.Payload.{message_length, is_set, said_after, before, nothing_more, IsSayable}
+use Rattle.feed_model.specs.declared.payload.Item.{Item}
+use Rattle.feed_model.specs.declared.payload.Payload.{Payload}
 use Rattle.rt_netlink.specs.declared.message.Header.{Header}
 use Rattle.rt_netlink.specs.declared.message.MessageKind.{MessageKind}
 use Rattle.rt_netlink.specs.declared.message.MessageKind.TheVariants.{Route}

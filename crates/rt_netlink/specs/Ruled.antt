@@ -1,6 +1,6 @@
 -- What is answered of a message while it is read, by the table of what is refused and what is skipped.
 use Rattle.std.specs.Prelude.{◌≡◌, ℕ, List, None, Some, Result, Ok, Err}
-use Rattle.dn_formats.specs.Payload.{Row, Ruling, Refuses, Skips, first_ruling, ruling_of}
+use Rattle.feed_model.specs.Payload.{Row, Ruling, Refuses, Skips, first_ruling, ruling_of}
 use Rattle.rt_netlink.specs.declared.ruling.Ruling.{Ruling as Answer}
 use Rattle.rt_netlink.specs.declared.ruling.Ruling.TheVariants as answer
 

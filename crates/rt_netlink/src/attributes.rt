@@ -1,7 +1,7 @@
 //! The attributes of a route message: struct rtattr of rtnetlink(7).
 
 ghost use Rattle.std.specs.Prelude.{◌≡◌, ◌≤◌, ◌<◌, length, not, MatchOption, None};
-ghost use Rattle.dn_formats.specs.Attributes.{attributes_of, is_bad, Holds};
+ghost use Rattle.feed_model.specs.Attributes.{attributes_of, is_bad, Holds};
 ghost use Rattle.rt_netlink.specs.Gathered.{IsFront, nothing_kept, kept_with, kept_after, KeepsAll};
 
 use crate::numbers::{address_in, after_padding, number_in, short_at};

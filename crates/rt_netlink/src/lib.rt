@@ -12,6 +12,6 @@ mod route_message;
 mod ruling;
 mod write;
 
-pub use dn_formats::{Item, ItemKind, MAIN_TABLE, Payload, RawRoute, Refused, RouteKind, Skip};
+pub use feed_model::{Item, ItemKind, MAIN_TABLE, Payload, RawRoute, Refused, RouteKind, Skip};
 pub use read::{NextMessage, next_message, read_payload};
 pub use write::write_route;

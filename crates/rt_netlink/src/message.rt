@@ -3,15 +3,15 @@
 //! The functions are given the bytes from where the message begins to the payload's end.
 
 ghost use Rattle.std.specs.Prelude.{◌≡◌, ◌≤◌, length, IfOk};
-ghost use Rattle.dn_formats.specs.Payload.{IsSayable, item_of, header_rows};
+ghost use Rattle.feed_model.specs.Payload.{IsSayable, item_of, header_rows};
 ghost use Rattle.rt_netlink.specs.Ruled.{Rules, RulesWhole};
 ghost use Rattle.rt_netlink.specs.Read.{IsHeader};
 
 use crate::numbers::{number_at, short_at};
 use crate::route_message::read_route;
 use crate::ruling::Ruling;
-use dn_formats::frame_cause::BAD_LENGTH;
-use dn_formats::{ItemKind, Skip};
+use feed_model::frame_cause::BAD_LENGTH;
+use feed_model::{ItemKind, Skip};
 
 /// How long struct nlmsghdr is.
 const HEADER_LENGTH: usize = 16;

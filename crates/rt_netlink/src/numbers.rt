@@ -2,7 +2,7 @@
 
 ghost use Rattle.std.specs.Prelude.{◌≡◌, ◌≤◌, ◌+◌, length, drop};
 ghost use Rattle.std.specs.Int.{w16, w32, from_le_bytes, from_be_bytes, to_le_bytes, to_be_bytes};
-ghost use Rattle.dn_formats.specs.Attributes.{padded, number_in, address_in};
+ghost use Rattle.feed_model.specs.Attributes.{padded, number_in, address_in};
 
 use byteorder::{BigEndian, ByteOrder, LittleEndian};
 

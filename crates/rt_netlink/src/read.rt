@@ -1,15 +1,15 @@
 //! The payload of a frame, message by message.
 
 ghost use Rattle.std.specs.Prelude.{◌≡◌, ℕ, ◌≤◌, length, drop, IfOk, All};
-ghost use Rattle.dn_formats.specs.Attributes.{padded};
-ghost use Rattle.dn_formats.specs.Payload.{IsPayload, IsSayable, message_length, message_said};
+ghost use Rattle.feed_model.specs.Attributes.{padded};
+ghost use Rattle.feed_model.specs.Payload.{IsPayload, IsSayable, message_length, message_said};
 ghost use Rattle.rt_netlink.specs.Read.{TellsNext};
 
 use crate::message::read_message;
 use crate::numbers::{after_padding, number_at};
 use crate::ruling::Ruling;
-use dn_formats::{Item, ItemKind, Payload, Refused};
 use dn_model::{List, OutOfMemory};
+use feed_model::{Item, ItemKind, Payload, Refused};
 use std::alloc::Global;
 
 /// What comes next in a payload.
@@ -17,7 +17,7 @@ use std::alloc::Global;
 pub enum NextMessage<'a> {
     /// A message: what it says, and what is left of the payload after it.
     Says(ItemKind, &'a [u8]),
-    /// A message that is refused, by this cause of the module `frame_cause` of `dn_formats`.
+    /// A message that is refused, by this cause of the module `frame_cause` of `feed_model`.
     Refused(u8),
     /// No message: the payload has ended.
     End,

@@ -4,20 +4,20 @@
 
 ghost use Rattle.std.specs.Prelude.{◌≡◌, ◌≤◌, ◌^◌, ◌-◌, ◌%◌, ◌==◌, ◌++◌, length, not, true, false, None, Some, IfOk, IsSome};
 ghost use Rattle.base.specs.Cidr.{IsCidr};
-ghost use Rattle.dn_formats.specs.Payload.{CanBeSaid, IsTable, is_set, is_read, table_of, kind_of, attributes, prefix_of, route_set, route_of, part_rows, prefix_rows, hop_rows, route_rows};
-ghost use Rattle.dn_formats.specs.declared.raw_route.RouteKind.TheVariants.{Unicast};
+ghost use Rattle.feed_model.specs.Payload.{CanBeSaid, IsTable, is_set, is_read, table_of, kind_of, attributes, prefix_of, route_set, route_of, part_rows, prefix_rows, hop_rows, route_rows};
+ghost use Rattle.feed_model.specs.declared.raw_route.RouteKind.TheVariants.{Unicast};
 ghost use Rattle.rt_netlink.specs.Gathered.{Keeps, KeepsAll};
 ghost use Rattle.rt_netlink.specs.Ruled.{Rules};
 ghost use Rattle.rt_netlink.specs.Read.{IsWhole};
 
 use crate::attributes::{RouteAttributes, read_attributes};
 use crate::ruling::Ruling;
-use dn_formats::frame_cause::{
+use dn_model::Prefix;
+use feed_model::frame_cause::{
     BAD_ATTR, BAD_PREFIX_LENGTH, ENCAP, HOST_BITS, MULTIPATH, NEXT_HOP_ID, NO_DESTINATION,
     NO_INTERFACE, ROUTE_TYPE, SHORT, SOURCE_OR_TOS,
 };
-use dn_formats::{MAIN_TABLE, RawRoute, RouteKind, Skip};
-use dn_model::Prefix;
+use feed_model::{MAIN_TABLE, RawRoute, RouteKind, Skip};
 
 /// How long struct nlmsghdr is with struct rtmsg after it.
 const ROUTE_LENGTH: usize = 28;

@@ -1,13 +1,13 @@
 //! The message of a route.
 
 ghost use Rattle.std.specs.Prelude.{◌≡◌, ◌+◌, ◌<◌, ◌≤◌, ◌++◌, ◌∷◌, ℕ, List, [], None, true, length, IfOk, OnOk};
-ghost use Rattle.dn_formats.specs.Message.{message_text, header_text, route_part, attribute, destination_text, gateway_text, number_text, attributes_text, kind_number, narrow_table, wide_table};
-ghost use Rattle.dn_formats.specs.Payload.{IsPayload, CanBeSaid, is_read};
-ghost use Rattle.dn_formats.specs.declared.payload.ItemKind.TheVariants.{Route};
+ghost use Rattle.feed_model.specs.Message.{message_text, header_text, route_part, attribute, destination_text, gateway_text, number_text, attributes_text, kind_number, narrow_table, wide_table};
+ghost use Rattle.feed_model.specs.Payload.{IsPayload, CanBeSaid, is_read};
+ghost use Rattle.feed_model.specs.declared.payload.ItemKind.TheVariants.{Route};
 
 use crate::numbers::{address_bytes, number_bytes};
-use dn_formats::{RawRoute, RouteKind};
 use dn_model::{OutOfMemory, Prefix};
+use feed_model::{RawRoute, RouteKind};
 use std::alloc::Global;
 
 /// RTA_DST: the first address of the prefix.

@@ -1,8 +1,8 @@
 -- The line of a refused frame, added piece by piece.
 use Rattle.std.proofs.Common.{◌≡◌, ℕ, List, ◌++◌, codes, decimal, ap, ◌∙◌, append_assoc}
-use Rattle.dn_formats.specs.FrameCauses.{cause_text}
+use Rattle.feed_model.specs.FrameCauses.{cause_text}
 use Rattle.dn_formats.specs.Report.{refused_line}
-use Rattle.dn_formats.specs.declared.told.RefusedFrame.{RefusedFrame}
+use Rattle.feed_model.specs.declared.feed_told.RefusedFrame.{RefusedFrame}
 
 regroup : (o a b c d e f g h i : List ℕ) → (((((o ++ (a ++ b)) ++ (c ++ d)) ++ (e ++ f)) ++ g) ++ h) ++ i ≡ o ++ ((((((((a ++ b) ++ c) ++ d) ++ e) ++ f) ++ g) ++ h) ++ i)
 regroup o a b c d e f g h i = simp append_assoc

@@ -3,8 +3,8 @@
 //! The writers `put_..` add their text at the end of `out`, which has room for it, and don't fail.
 
 ghost use Rattle.std.specs.Prelude.{◌≡◌, ◌+◌, ◌≤◌, ◌++◌, ◌∷◌, [], codes, decimal, length, vec_len, vec_capacity};
-ghost use Rattle.dn_formats.specs.Report.{op_text, link_state_text, entry_text, entry_line};
-ghost use Rattle.dn_formats.specs.Texts.{line, prefix_text, drop_text, target_text};
+ghost use Rattle.dn_formats.specs.Report.{op_text, entry_text, entry_line};
+ghost use Rattle.dn_formats.specs.Texts.{line, link_state_text, prefix_text, drop_text, target_text};
 ghost use Rattle.dn_model.specs.declared.entry.Entry.TheVariants.{Route, Link};
 ghost use Rattle.dn_model.specs.declared.entry.Op.TheVariants.{Set, SetBy, Clear, Object};
 

@@ -4,7 +4,7 @@
 //! text may have been added.
 
 ghost use Rattle.std.specs.Prelude.{◌≡◌, ◌++◌, ◌∷◌, [], OnOk, IfOk, codes, decimal};
-ghost use Rattle.dn_formats.specs.Causes.{name_of_cause};
+ghost use Rattle.feed_model.specs.Causes.{name_of_cause};
 ghost use Rattle.dn_formats.specs.Report.{topology_part_text, cause_words, topology_fault_words, script_fault_words, part_words, error_words, error_text};
 ghost use Rattle.dn_formats.specs.ScriptCauses.{script_causes};
 ghost use Rattle.dn_formats.specs.Texts.{line};

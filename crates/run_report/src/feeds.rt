@@ -5,15 +5,14 @@
 
 ghost use Rattle.std.specs.Prelude.{◌≡◌, ◌++◌, ◌∷◌, [], OnOk, codes, decimal, length};
 ghost use Rattle.std.specs.List.{flat_map};
-ghost use Rattle.dn_formats.specs.Causes.{name_of_cause};
-ghost use Rattle.dn_formats.specs.FrameCauses.{cause_text, frame_causes};
+ghost use Rattle.feed_model.specs.Causes.{name_of_cause};
+ghost use Rattle.feed_model.specs.FrameCauses.{cause_text, frame_causes};
 ghost use Rattle.dn_formats.specs.Report.{end_text, refused_line, feed_line, feed_lines};
 ghost use Rattle.dn_formats.specs.Texts.{line};
 
-use dn_formats::{
-    FeedEnd, FeedTold, RefusedFrame, frame_cause, push_bytes, push_labelled, push_router,
-};
+use dn_formats::{push_bytes, push_labelled, push_router};
 use dn_model::{OutOfMemory, Topology};
+use feed_model::{FeedEnd, FeedTold, RefusedFrame, frame_cause};
 
 /// Adds the name of a cause for which a frame is refused or a feed is lost.
 fn push_frame_cause(out: &mut Vec<u8>, cause: u8) -> Result<(), OutOfMemory>

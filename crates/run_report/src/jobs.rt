@@ -13,7 +13,7 @@ use dn_formats::{JobTold, Told, push_bytes, push_labelled};
 use dn_model::{OutOfMemory, Topology};
 use query_lang::push_told;
 
-/// Adds what is told of all queries of a job.
+/// Adds what is told of all queries and link lines of a job.
 fn push_all_told(out: &mut Vec<u8>, t: &Topology, told: &[Told]) -> Result<(), OutOfMemory>
     ensures { OnOk result (out.new.items ≡ out.old.items ++ flat_map (told_lines t.now) told.now) }
 {
@@ -23,7 +23,7 @@ fn push_all_told(out: &mut Vec<u8>, t: &Topology, told: &[Told]) -> Result<(), O
     Ok(())
 }
 
-/// Adds a job's line, and what is told of its queries.
+/// Adds a job's line, and what is told of its queries and link lines.
 fn push_job(out: &mut Vec<u8>, t: &Topology, job: &JobTold) -> Result<(), OutOfMemory>
     ensures { OnOk result (out.new.items ≡ out.old.items ++ job_lines t.now job.now) }
 {

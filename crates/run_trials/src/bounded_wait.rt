@@ -33,4 +33,14 @@ impl BoundedWait {
         }
         self.ran_out.store(true);
     }
+
+    /// Waits until another job was somewhere so often, for a bounded number of turns.
+    pub(crate) fn hold_until(&self, count: &AtomicCell<u32>, least: u32) {
+        for _turn in 0..MOST_TURNS {
+            if least <= count.load() {
+                return;
+            }
+        }
+        self.ran_out.store(true);
+    }
 }

@@ -10,9 +10,10 @@ ghost use Rattle.feed_threads.specs.AllJobs.{AreNumberedApart};
 ghost use Rattle.feed_threads.specs.Jobs.{AreApart, IsFresh};
 
 use crate::whole_run::set_frame;
-use dn_formats::{Asked, FeedEnd, Line, Outcome, Script, Told};
+use dn_formats::{Asked, Line, Outcome, Script, Told};
 use dn_io::{MemSource, NoGate, Source};
 use dn_model::{Ask, Entry, List, Name, Op, Posted, Prefix, Query, RouterId, Target, Topology};
+use feed_model::FeedEnd;
 use feed_threads::{Job, JobDone, JobList, run_history};
 use route_feed::FeedReader;
 use std::alloc::Global;
@@ -54,7 +55,7 @@ fn feed_bytes(rt: &impl Abort, alloc: Global, count: u8) -> Vec<u8> {
 }
 
 /// The reader of a feed with so many updates.
-fn reader(
+pub(crate) fn reader(
     rt: &impl Abort,
     alloc: Global,
     topology: &Topology,
@@ -110,14 +111,15 @@ fn script(rt: &impl Abort, alloc: Global) -> Script {
 }
 
 /// A job of these readers.
-fn job(
+pub(crate) fn job(
     rt: &impl Abort,
     alloc: Global,
     number: u32,
     script: Option<Script>,
     readers: Vec<FeedReader<MemSource>>,
 ) -> Job<MemSource>
-    ensures { result.feeds ≡ readers.items }
+    ensures number { result.number ≡ number }
+    ensures feeds { result.feeds ≡ readers.items }
 {
     match Job::new(alloc, number, script, readers) {
         Ok(job) => job,
@@ -126,7 +128,11 @@ fn job(
 }
 
 /// These jobs.
-fn job_list(rt: &impl Abort, alloc: Global, jobs: Vec<Job<MemSource>>) -> JobList<MemSource>
+pub(crate) fn job_list(
+    rt: &impl Abort,
+    alloc: Global,
+    jobs: Vec<Job<MemSource>>,
+) -> JobList<MemSource>
     ensures { result ≡ jobs.items }
 {
     match JobList::new(alloc, jobs) {
@@ -143,7 +149,8 @@ fn job_of_two(
     script: Script,
     readers: [FeedReader<MemSource>; 2],
 ) -> Job<MemSource>
-    ensures { result.feeds ≡ readers }
+    ensures number { result.number ≡ number }
+    ensures feeds { result.feeds ≡ readers }
 {
     let readers = Vec::from_array(alloc, readers).expect(rt, "memory");
     job(rt, alloc, number, Some(script), readers)
@@ -156,7 +163,8 @@ fn job_of_one(
     number: u32,
     reader: FeedReader<MemSource>,
 ) -> Job<MemSource>
-    ensures { result.feeds ≡ reader ∷ [] }
+    ensures number { result.number ≡ number }
+    ensures feeds { result.feeds ≡ reader ∷ [] }
 {
     let readers = Vec::from_array(alloc, [reader]).expect(rt, "memory");
     job(rt, alloc, number, None, readers)
@@ -202,7 +210,7 @@ fn store(rt: &impl Abort, alloc: Global, topology: &Arc<Topology, Global>, limit
 }
 
 /// The store of these jobs, which had this limit, and what the jobs came to.
-fn run_over<R: Abort + Threads + Wait + Sync>(
+pub(crate) fn run_over<R: Abort + Threads + Wait + Sync>(
     rt: &R,
     alloc: Global,
     limit: u32,
@@ -248,14 +256,20 @@ fn compare_order(rt: &impl Abort, alloc: Global, store: &Store, feeds: &[u32], w
 }
 
 /// There are so many jobs, and the one at this place has the next number and wanted no memory.
-fn compare_job(rt: &impl Abort, dones: &[JobDone<MemSource>], count: usize, at: usize) {
+pub(crate) fn compare_job(rt: &impl Abort, dones: &[JobDone<MemSource>], count: usize, at: usize) {
     assert!(rt; at < count && dones.len() == count, "job {at} of {count}");
     assert_eq!(rt; dones[at].number as usize, at + 1);
     assert!(rt; !dones[at].wanted_memory, "job {at}");
 }
 
 /// A job's feed came back with so many updates and this end.
-fn compare_end(rt: &impl Abort, done: &JobDone<MemSource>, at: usize, updates: u64, end: FeedEnd) {
+pub(crate) fn compare_end(
+    rt: &impl Abort,
+    done: &JobDone<MemSource>,
+    at: usize,
+    updates: u64,
+    end: FeedEnd,
+) {
     assert!(rt; at < done.feeds.len(), "feed {at}");
     let told = &done.feeds[at].1;
     assert_eq!(rt; told.updates, updates, "feed {at}");
@@ -264,13 +278,25 @@ fn compare_end(rt: &impl Abort, done: &JobDone<MemSource>, at: usize, updates: u
 
 /// A query was answered after at least `least` and at most `most` entries.
 fn compare_pin(rt: &impl Abort, told: &Told, least: u32, most: u32) {
-    let Outcome::Answered { number, .. } = told.outcome else {
+    let Told::Asked {
+        outcome: Outcome::Answered { number, .. },
+        ..
+    } = *told
+    else {
         panic!(rt; "an answer");
     };
     assert!(rt;
         least <= number && number <= most,
         "{least} to {most}: {number}"
     );
+}
+
+/// A query has an unknown name.
+fn is_of_unknown_name(told: &Told) -> bool {
+    match told {
+        Told::Asked { outcome, .. } => matches!(outcome, Outcome::Unknown(_)),
+        Told::Linked { .. } => false,
+    }
 }
 
 /// Three queries were told: two with a pin, at which the job had two and three of its six entries while another made up
@@ -281,7 +307,7 @@ fn compare_told(rt: &impl Abort, tolds: &[Told]) {
     };
     compare_pin(rt, first, 2, 6);
     compare_pin(rt, second, 3, 7);
-    assert!(rt; matches!(third.outcome, Outcome::Unknown(_)));
+    assert!(rt; is_of_unknown_name(third));
 }
 
 #[test]

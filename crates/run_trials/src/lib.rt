@@ -9,6 +9,12 @@ mod held_gate;
 #[cfg(test)]
 mod history_tests;
 #[cfg(test)]
+mod link_full_tests;
+#[cfg(test)]
+mod link_tests;
+#[cfg(test)]
+mod link_turn_tests;
+#[cfg(test)]
 mod made_tests;
 #[cfg(test)]
 mod read_gate;
@@ -16,6 +22,8 @@ mod read_gate;
 mod run_tests;
 #[cfg(test)]
 mod script_tests;
+#[cfg(test)]
+mod shown_gate;
 #[cfg(test)]
 mod slow_gate;
 #[cfg(test)]

@@ -4,6 +4,7 @@ ghost use Rattle.std.specs.Prelude.{◌≤◌, All};
 
 use crate::held_gate::HeldGate;
 use crate::read_gate::ReadGate;
+use crate::shown_gate::ShownGate;
 use crate::whole_run::{RING, WholeRun, add_file, compare, file, run_parts, set_frame};
 use dn_io::{Gate, MemFile};
 use dn_run::Status;
@@ -96,4 +97,33 @@ fn a_reader_pins_what_is_shown(rt: HostRuntime) {
     let run = run_scripts(&rt, alloc, &parts, scripts, &gate);
     assert!(rt; !gate.wait.ran_out(), "a job waited in vain");
     compare(&rt, &run, Status::Done, SHOWN_LATE);
+}
+
+const SHOWN_LINKS: &str = "history 2
+1 job 2 down b
+2 job 2 up b
+job 1
+line 1 at 0 path r1 10.1.2.3
+hops r1
+end noroute
+line 2 at 0 delta
+none
+line 3 at 1 delta
+none
+job 2
+line 1 at 1 down b
+line 2 at 2 up b
+done
+";
+
+/// A job of links alone shows each entry to a job that reads alone before it makes the next one.
+#[test]
+fn a_reader_pins_each_link_line_that_is_shown(rt: HostRuntime) {
+    let alloc = rt.alloc();
+    let scripts = ["path r1 10.1.2.3\ndelta\ndelta\n", "down b\nup b\n"];
+    let parts = ["@s1", "@s2"];
+    let gate = ShownGate::new();
+    let run = run_scripts(&rt, alloc, &parts, scripts, &gate);
+    assert!(rt; !gate.wait.ran_out(), "a job waited in vain");
+    compare(&rt, &run, Status::Done, SHOWN_LINKS);
 }

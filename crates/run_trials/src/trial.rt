@@ -3,9 +3,9 @@
 ghost use Rattle.std.specs.Prelude.{◌≤◌, All};
 ghost use Rattle.dn_model.specs.Entry.{IsEntryOf, IsTargetOf};
 
-use crate::whole_run::{add_file, file, file_by, frame_of, text, words_with};
+use crate::whole_run::{add, add_file, file, file_by, frame_of, text, words_with};
 use dn_io::MemFile;
-use dn_model::{Entry, Op, Port, Prefix, RouterId, Target, Topology, port};
+use dn_model::{Entry, LinkId, Op, Port, Prefix, RouterId, Target, Topology, port};
 use std::alloc::{AllocError, Global};
 use std::process::Abort;
 
@@ -27,12 +27,6 @@ fn drawn(seed: u32, first: u32, second: u32) -> u32 {
     let mixed = seed.wrapping_mul(31).wrapping_add(first);
     let mixed = mixed.wrapping_mul(0x9E37_79B1).wrapping_add(second);
     mixed.wrapping_mul(0x85EB_CA6B) >> 16
-}
-
-/// Adds to a text.
-fn add(rt: &impl Abort, text: &mut String, more: Result<String, AllocError>) {
-    let more = more.expect(rt, "memory");
-    text.push_str(more.as_str()).expect(rt, "memory");
 }
 
 /// The text of the ring: link `li` goes from interface 2 of `mi` to interface 3 of the next router, and each router has
@@ -94,7 +88,7 @@ fn prefix(number: u32) -> Prefix {
 }
 
 /// The update of a feed that comes after so many others of it.
-pub(crate) fn entry(rt: &impl Abort, topology: &Topology, seed: u32, feed: u32, nth: u32) -> Entry
+fn entry(rt: &impl Abort, topology: &Topology, seed: u32, feed: u32, nth: u32) -> Entry
     ensures { IsEntryOf topology.now result }
 {
     assert!(rt; 0 < feed && feed <= topology.router_count());
@@ -111,35 +105,76 @@ pub(crate) fn entry(rt: &impl Abort, topology: &Topology, seed: u32, feed: u32, 
     }
 }
 
-/// How many of these are this feed's.
-pub(crate) fn count_of(order: &[u32], feed: u32) -> usize {
-    order.iter().filter(|other| **other == feed).count()
+/// Where an entry of a history comes from: from the feed of this number, or from a line of a job that says that the link
+/// of this number goes down or comes up.
+#[derive(Clone, Copy, Debug, PartialEq, Eq)]
+pub(crate) enum Origin {
+    Feed(u32),
+    Link { job: u32, link: u16, down: bool },
 }
 
-/// The updates of feeds in this order.
+/// Whether an entry comes from this feed.
+fn is_of_feed(origin: Origin, feed: u32) -> bool {
+    match origin {
+        Origin::Feed(other) => other == feed,
+        Origin::Link { .. } => false,
+    }
+}
+
+/// How many of these are this feed's.
+pub(crate) fn count_of(order: &[Origin], feed: u32) -> usize {
+    order
+        .iter()
+        .filter(|origin| is_of_feed(**origin, feed))
+        .count()
+}
+
+/// The entry that comes from there, after these.
+fn entry_from(
+    rt: &impl Abort,
+    topology: &Topology,
+    seed: u32,
+    past: &[Origin],
+    origin: Origin,
+) -> Entry
+    ensures { IsEntryOf topology.now result }
+{
+    match origin {
+        Origin::Feed(feed) => {
+            let nth = (count_of(past, feed) % 64) as u32;
+            entry(rt, topology, seed, feed, nth)
+        }
+        Origin::Link { job, link, down } => {
+            assert!(rt; usize::from(link) < topology.links.len());
+            let link = LinkId(link);
+            Entry::Link { job, link, down }
+        }
+    }
+}
+
+/// The entries that come from there, in this order.
 pub(crate) fn entries(
     rt: &impl Abort,
     alloc: Global,
     topology: &Topology,
     seed: u32,
-    order: &[u32],
+    order: &[Origin],
 ) -> Vec<Entry>
     ensures { All (IsEntryOf topology.now) result.items }
 {
     let mut made = Vec::new(alloc);
     for at in 0..order.len() {
-        let nth = (count_of(&order[..at], order[at]) % 64) as u32;
-        let entry = entry(rt, topology, seed, order[at], nth);
+        let entry = entry_from(rt, topology, seed, &order[..at], order[at]);
         made.push(entry).expect(rt, "memory");
     }
     made
 }
 
-/// A query line's text.
-fn query_text(alloc: Global, chance: u32) -> Result<String, AllocError> {
+/// The text of a line that takes no frames: a query, or one of four links goes down or comes up.
+fn plain_text(alloc: Global, chance: u32) -> Result<String, AllocError> {
     let one = chance % 8;
     let two = chance / 8 % 8;
-    match chance / 64 % 8 {
+    match chance / 64 % 10 {
         0 => format!(in alloc; "path m{one} 10.{}.0.1\n", two % 3),
         1 => format!(in alloc; "reach m{one} m{two}\n"),
         2 => String::from_str(alloc, "loops\n"),
@@ -147,11 +182,13 @@ fn query_text(alloc: Global, chance: u32) -> Result<String, AllocError> {
         4 => format!(in alloc; "without l{two} reach m{one} m{two}\n"),
         5 => String::from_str(alloc, "delta\n"),
         6 => format!(in alloc; "uses l{one}\n"),
+        7 => format!(in alloc; "down l{}\n", one % 4),
+        8 => format!(in alloc; "up l{}\n", one % 4),
         _ => format!(in alloc; "waypoint m{one} m{two} m{}\n", chance / 512 % 8),
     }
 }
 
-/// A line's text: a query, or, for a script with feeds, perhaps one that takes one to three frames of one of them.
+/// A line's text, which, for a script with feeds, perhaps takes one to three frames of one of them.
 fn line_text(alloc: Global, taken: &[u32], chance: u32) -> Result<String, AllocError> {
     let place = (chance / 2) as usize % taken.len().max(1);
     match taken.get(place) {
@@ -159,7 +196,7 @@ fn line_text(alloc: Global, taken: &[u32], chance: u32) -> Result<String, AllocE
             let router = feed.saturating_sub(1);
             format!(in alloc; "take m{router} {}\n", 1 + chance / 8 % 3)
         }
-        _ => query_text(alloc, chance / 2),
+        _ => plain_text(alloc, chance / 2),
     }
 }
 

@@ -1,15 +1,16 @@
 //! Trials of jobs side by side: whole runs of eight jobs, held at a gate for a while that looks drawn. Which order of
-//! the updates and which positions a run chose is read from its report; the rest of the report then has to be what the
+//! the entries and which positions a run chose is read from its report; the rest of the report then has to be what the
 //! plain evaluator of `dn_model` says, and order and positions what the lines of the jobs allow.
 
 use crate::slow_gate::SlowGate;
 use crate::trial::{
-    FEEDS, TAKEN, UNTAKEN, UPDATES, count_of, entries, files, ring_text, script_text, words,
+    FEEDS, Origin, TAKEN, UNTAKEN, UPDATES, count_of, entries, files, ring_text, script_text, words,
 };
-use crate::whole_run::{WholeRun, run_into, whole_sink};
-use dn_formats::{FeedEnd, FeedTold, JobTold, Line, Outcome, Script, Told};
-use dn_model::{Answer, Entry, List, Posted, Query, RouterId, Topology, plain_answer};
+use crate::whole_run::{WholeRun, number_of, run_into, whole_sink};
+use dn_formats::{JobTold, Line, LinkOutcome, Outcome, Script, Told};
+use dn_model::{Answer, Entry, List, Name, Posted, Query, RouterId, Topology, plain_answer};
 use dn_run::Status;
+use feed_model::{FeedEnd, FeedTold};
 use query_lang::read_script;
 use run_report::Report;
 use std::alloc::{AllocError, Global};
@@ -28,19 +29,20 @@ fn run_trial<R: Abort + Threads + Wait + Sync>(rt: &R, alloc: Global, seed: u32)
     run_into(rt, alloc, words, files, whole_sink(alloc), &gate)
 }
 
-/// The number that a word is, or 0.
-fn number_of(word: Option<&str>) -> u32 {
-    match word {
-        Some(word) => word.parse::<u32>().unwrap_or(0),
-        None => 0,
+/// The number in the name of a link, `l0` to `l7`.
+fn link_number(name: &[u8]) -> u16 {
+    match name {
+        [b'l', digit] => u16::from(digit.wrapping_sub(b'0')),
+        _ => 0,
     }
 }
 
-/// What a run chose: for each entry of the history its feed, and the position of each query, one job after another.
+/// What a run chose: for each entry of the history where it comes from, and the position of each line that has one, one
+/// job after another.
 #[derive(Drop)]
 struct Chosen {
-    order: Vec<u32>,
-    pins: Vec<u32>,
+    order: Vec<Origin>,
+    positions: Vec<u32>,
 }
 
 impl Chosen {
@@ -52,10 +54,18 @@ impl Chosen {
         let third = words.next();
         let fourth = words.next();
         if second == Some("feed") {
-            self.order.push(number_of(third))?;
+            self.order.push(Origin::Feed(number_of(third)))?;
+        }
+        if second == Some("job") {
+            let link = words.next().unwrap_or("");
+            self.order.push(Origin::Link {
+                job: number_of(third),
+                link: link_number(link.as_bytes()),
+                down: fourth == Some("down"),
+            })?;
         }
         if first == Some("line") && third == Some("at") {
-            self.pins.push(number_of(fourth))?;
+            self.positions.push(number_of(fourth))?;
         }
         Ok(())
     }
@@ -65,7 +75,7 @@ impl Chosen {
 fn choice_of(alloc: Global, report: &[u8]) -> Result<Chosen, AllocError> {
     let mut chosen = Chosen {
         order: Vec::new(alloc),
-        pins: Vec::new(alloc),
+        positions: Vec::new(alloc),
     };
     let Ok(report) = str::from_utf8(report) else {
         return Ok(chosen);
@@ -112,7 +122,7 @@ struct Trial {
 }
 
 impl Trial {
-    /// The plain evaluator's answer after the first so many updates.
+    /// The plain evaluator's answer after the first so many entries.
     fn plain(&self, rt: &impl Abort, alloc: Global, pin: u32, query: &Query) -> Answer {
         let order = self.chosen.order.as_slice();
         assert!(rt; pin as usize <= order.len());
@@ -126,7 +136,7 @@ impl Trial {
     /// What is due of a query at this position.
     fn told(&self, rt: &impl Abort, alloc: Global, pin: u32, line: u32, query: &Query) -> Told {
         let answer = self.plain(rt, alloc, pin, query);
-        Told {
+        Told::Asked {
             line,
             query: query.copy(alloc).expect(rt, "memory"),
             outcome: Outcome::Answered {
@@ -136,15 +146,29 @@ impl Trial {
         }
     }
 
-    /// What is due of a script's queries, whose positions come after the first so many.
+    /// The position at this place.
+    fn position(&self, rt: &impl Abort, at: usize) -> u32 {
+        let position = self.chosen.positions.get(at);
+        position.copied().expect(rt, "a position")
+    }
+
+    /// What is due of a script's lines, whose positions come after the first so many.
     fn tolds(&self, rt: &impl Abort, alloc: Global, script: &Script, from: usize) -> List<Told> {
         let mut tolds = List::new(alloc);
         for line in script.lines.as_slice() {
-            if let Line::Ask { line, query } = line {
-                let at = from.saturating_add(tolds.len());
-                let pin = self.chosen.pins.get(at).copied().expect(rt, "a position");
-                let told = self.told(rt, alloc, pin, *line, query.get());
-                tolds.push(told).expect(rt, "memory");
+            let at = from.saturating_add(tolds.len());
+            match line {
+                Line::Take { .. } => {}
+                Line::Ask { line, query } => {
+                    let pin = self.position(rt, at);
+                    let told = self.told(rt, alloc, pin, *line, query.get());
+                    tolds.push(told).expect(rt, "memory");
+                }
+                Line::Link { line, link, down } => {
+                    let outcome = LinkOutcome::At(self.position(rt, at));
+                    let told = linked(rt, alloc, *line, (link, *down), outcome);
+                    tolds.push(told).expect(rt, "memory");
+                }
             }
         }
         tolds
@@ -161,7 +185,7 @@ impl Trial {
             jobs.push(JobTold { number, told }).expect(rt, "memory");
             number = number.saturating_add(1);
         }
-        assert_eq!(rt; from, self.chosen.pins.len());
+        assert_eq!(rt; from, self.chosen.positions.len());
         for _feed in UNTAKEN {
             let told = List::new(alloc);
             jobs.push(JobTold { number, told }).expect(rt, "memory");
@@ -179,6 +203,23 @@ impl Trial {
             post(rt, alloc, &mut history, *entry);
         }
         history
+    }
+}
+
+/// What is told of a line of a link.
+fn linked(
+    rt: &impl Abort,
+    alloc: Global,
+    line: u32,
+    says: (&Name, bool),
+    outcome: LinkOutcome,
+) -> Told {
+    let (name, down) = says;
+    Told::Linked {
+        line,
+        link: name.copy(alloc).expect(rt, "memory"),
+        down,
+        outcome,
     }
 }
 
@@ -219,88 +260,139 @@ fn compare_report(rt: &impl Abort, alloc: Global, trial: &Trial, jobs: &[JobTold
 }
 
 /// A script's job takes at most so many further frames of a feed.
-fn take(own: &mut Vec<u32>, feed: u32, count: u32) -> Result<(), AllocError> {
+fn take(own: &mut Vec<Origin>, feed: u32, count: u32) -> Result<(), AllocError> {
     for _frame in 0..count {
         if count_of(own.as_slice(), feed) < UPDATES as usize {
-            own.push(feed)?;
+            own.push(Origin::Feed(feed))?;
         }
     }
     Ok(())
 }
 
-/// The entries of these feeds, in the history's order.
-fn among(alloc: Global, order: &[u32], taken: &[u32]) -> Result<Vec<u32>, AllocError> {
-    let mut among = Vec::new(alloc);
-    for feed in order {
-        if taken.contains(feed) {
-            among.push(*feed)?;
+/// The position of the line at this place.
+fn position_of(rt: &impl Abort, tolds: &[Told], at: usize) -> usize {
+    assert!(rt; at < tolds.len(), "line {at}");
+    match &tolds[at] {
+        Told::Asked {
+            outcome: Outcome::Answered { number, .. },
+            ..
+        } => *number as usize,
+        Told::Linked {
+            outcome: LinkOutcome::At(position),
+            ..
+        } => *position as usize,
+        _ => panic!(rt; "a position"),
+    }
+}
+
+/// A script's job over a history whose entries come from there: its number, and the feeds that the script takes.
+#[derive(Clone, Copy)]
+struct Doer<'a> {
+    order: &'a [Origin],
+    number: u32,
+    taken: &'a [u32],
+}
+
+impl<'a> Doer<'a> {
+    /// Whether an entry is the job's own.
+    fn is_own(&self, origin: Origin) -> bool {
+        match origin {
+            Origin::Feed(feed) => self.taken.contains(&feed),
+            Origin::Link { job, .. } => job == self.number,
         }
     }
-    Ok(among)
-}
 
-/// The position of a query is at least the one before, and holds just these entries of the feeds that its script takes.
-fn compare_pin(
-    rt: &impl Abort,
-    alloc: Global,
-    order: &[u32],
-    taken: &[u32],
-    pins: [usize; 2],
-    own: &[u32],
-) {
-    let [before, pin] = pins;
-    assert!(rt; before <= pin && pin <= order.len(), "{pin} after {before}");
-    let among = among(alloc, &order[..pin], taken).expect(rt, "memory");
-    assert_eq!(rt; among.as_slice(), own, "feeds {taken:?} at {pin}");
-}
+    /// The job's own among these entries, in order.
+    fn among(&self, alloc: Global, order: &[Origin]) -> Result<Vec<Origin>, AllocError> {
+        let mut among = Vec::new(alloc);
+        for origin in order {
+            if self.is_own(*origin) {
+                among.push(*origin)?;
+            }
+        }
+        Ok(among)
+    }
 
-/// The position of the query at this place.
-fn pin_of(rt: &impl Abort, tolds: &[Told], at: usize) -> usize {
-    assert!(rt; at < tolds.len(), "query {at}");
-    let Outcome::Answered { number, .. } = tolds[at].outcome else {
-        panic!(rt; "an answer");
-    };
-    number as usize
-}
+    /// The second position isn't before the first one, and holds just these of the job's own entries.
+    fn compare_position(
+        &self,
+        rt: &impl Abort,
+        alloc: Global,
+        positions: [usize; 2],
+        own: &[Origin],
+    ) {
+        let [before, position] = positions;
+        let order = self.order;
+        assert!(rt;
+            before <= position && position <= order.len(),
+            "{position} after {before}"
+        );
+        let among = self.among(alloc, &order[..position]).expect(rt, "memory");
+        assert_eq!(rt; among.as_slice(), own, "job {} at {position}", self.number);
+    }
 
-/// A script's job takes its feeds' updates by its lines, and then the rest of each feed, in the order in which the
-/// lines first take it: so they stand in the history, and at each query its position holds what the lines before took.
-fn compare_job(
-    rt: &impl Abort,
-    alloc: Global,
-    order: &[u32],
-    taken: &[u32],
-    script: &Script,
-    tolds: &[Told],
-) {
-    let mut own = Vec::new(alloc);
-    let mut asked = 0usize;
-    let mut before = 0usize;
-    for line in script.lines.as_slice() {
-        match line {
-            Line::Take { router, count, .. } => {
+    /// The entry of a line that says that a link goes down or comes up.
+    fn turn(&self, link: &Name, down: bool) -> Origin {
+        Origin::Link {
+            job: self.number,
+            link: link_number(link.as_bytes()),
+            down,
+        }
+    }
+
+    /// The entry at the second position comes from there, and the first one is before it.
+    fn compare_entry(&self, rt: &impl Abort, positions: [usize; 2], origin: Origin) {
+        let [before, position] = positions;
+        let order = self.order;
+        assert!(rt;
+            before < position && position <= order.len(),
+            "{position} after {before}"
+        );
+        assert_eq!(rt; order[position - 1], origin, "at {position}");
+    }
+
+    /// A line that takes no frames has the second position, after the first one and these entries of the job. Adds the
+    /// line's own entry to these.
+    fn compare_line(
+        &self,
+        rt: &impl Abort,
+        alloc: Global,
+        line: &Line,
+        positions: [usize; 2],
+        own: &mut Vec<Origin>,
+    ) {
+        if let Line::Link { link, down, .. } = line {
+            let origin = self.turn(link, *down);
+            self.compare_entry(rt, positions, origin);
+            own.push(origin).expect(rt, "memory");
+        }
+        self.compare_position(rt, alloc, positions, own.as_slice());
+    }
+
+    /// A script's job takes its feeds' updates and turns links by its lines, and then takes the rest of each feed, in
+    /// the order in which the lines first take it: so its entries stand in the history, and at each query its position
+    /// holds what the lines before gave, as does that of a line of a link with the line's own entry at its end.
+    fn compare_job(&self, rt: &impl Abort, alloc: Global, script: &Script, tolds: &[Told]) {
+        let mut own = Vec::new(alloc);
+        let mut told = 0usize;
+        let mut before = 0usize;
+        for line in script.lines.as_slice() {
+            if let Line::Take { router, count, .. } = line {
                 let count = count.unwrap_or(UPDATES).min(UPDATES);
                 take(&mut own, u32::from(router.0) + 1, count).expect(rt, "memory");
-            }
-            Line::Ask { .. } => {
-                let pin = pin_of(rt, tolds, asked);
-                compare_pin(rt, alloc, order, taken, [before, pin], own.as_slice());
-                asked = asked.saturating_add(1);
-                before = pin;
+            } else {
+                let position = position_of(rt, tolds, told);
+                self.compare_line(rt, alloc, line, [before, position], &mut own);
+                told = told.saturating_add(1);
+                before = position;
             }
         }
+        for feed in self.taken {
+            take(&mut own, *feed, UPDATES).expect(rt, "memory");
+        }
+        let end = self.order.len();
+        self.compare_position(rt, alloc, [before, end], own.as_slice());
     }
-    for feed in taken {
-        take(&mut own, *feed, UPDATES).expect(rt, "memory");
-    }
-    compare_pin(
-        rt,
-        alloc,
-        order,
-        taken,
-        [before, order.len()],
-        own.as_slice(),
-    );
 }
 
 /// The trial of a seed whose run wrote this report.
@@ -324,9 +416,14 @@ fn compare_jobs(
 ) {
     let order = trial.chosen.order.as_slice();
     assert!(rt; scripts.len() == TAKEN.len() && TAKEN.len() <= jobs.len());
-    for number in 0..TAKEN.len() {
-        let tolds = jobs[number].told.as_slice();
-        compare_job(rt, alloc, order, TAKEN[number], &scripts[number], tolds);
+    for place in 0..TAKEN.len() {
+        let job = &jobs[place];
+        let doer = Doer {
+            order,
+            number: job.number,
+            taken: TAKEN[place],
+        };
+        doer.compare_job(rt, alloc, &scripts[place], job.told.as_slice());
     }
 }
 

@@ -4,7 +4,7 @@ ghost use Rattle.std.specs.Prelude.{◌≡◌, ◌≤◌, All};
 
 use dn_io::{Gate, MemFile, MemSink, MemWorld};
 use dn_run::{Status, run};
-use std::alloc::Global;
+use std::alloc::{AllocError, Global};
 use std::process::Abort;
 use std::sync::Wait;
 use std::thread::Threads;
@@ -61,6 +61,20 @@ pub(crate) fn texts(rt: &impl Abort, alloc: Global, words: &[&str]) -> Vec<Strin
         texts.push(text(rt, alloc, word)).expect(rt, "memory");
     }
     texts
+}
+
+/// Adds to a text.
+pub(crate) fn add(rt: &impl Abort, text: &mut String, more: Result<String, AllocError>) {
+    let more = more.expect(rt, "memory");
+    text.push_str(more.as_str()).expect(rt, "memory");
+}
+
+/// The number that a word is, or 0.
+pub(crate) fn number_of(word: Option<&str>) -> u32 {
+    match word {
+        Some(word) => word.parse::<u32>().unwrap_or(0),
+        None => 0,
+    }
 }
 
 /// A file that gives `step` bytes at a time, of which these reads fail.

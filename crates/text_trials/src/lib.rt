@@ -3,6 +3,8 @@
 #![tactic(auto)]
 
 #[cfg(test)]
+mod link_tests;
+#[cfg(test)]
 mod long_line_tests;
 #[cfg(test)]
 mod print_tests;
@@ -17,4 +19,8 @@ mod script_tests;
 #[cfg(test)]
 mod topology_tests;
 #[cfg(test)]
+mod triangle;
+#[cfg(test)]
 mod two_routers;
+#[cfg(test)]
+mod writing_tests;

@@ -2,9 +2,10 @@
 
 ghost use Rattle.std.specs.Prelude.{◌≤◌};
 
-use dn_formats::{FeedTold, JobTold};
+use dn_formats::JobTold;
 use dn_io::{Failed, MemSink};
 use dn_model::{Posted, Topology};
+use feed_model::FeedTold;
 use run_report::Report;
 use std::alloc::Global;
 use std::process::Abort;

@@ -28,7 +28,7 @@ fn compare_told(rt: &impl Abort, alloc: Global, told: &Told, want: &str) {
 /// What is told of `path r1 10.1.2.3` in line 2.
 fn compare_path(rt: &impl Abort, alloc: Global, outcome: Outcome, want: &str) {
     let ask = Ask::Path(name(rt, alloc, b"r1"), 0x0a01_0203);
-    let told = Told {
+    let told = Told::Asked {
         line: 2,
         query: Query::of(alloc, ask),
         outcome,
@@ -68,7 +68,7 @@ fn prints_an_unknown_name(rt: HostRuntime) {
 /// What is told of `delta` in line 3, answered with these changes.
 fn compare_delta(rt: &impl Abort, alloc: Global, changes: &[Change], want: &str) {
     let changes = Vec::from_slice(alloc, changes).expect(rt, "memory");
-    let told = Told {
+    let told = Told::Asked {
         line: 3,
         query: Query::of(alloc, Ask::Delta),
         outcome: Outcome::Answered {
@@ -98,7 +98,7 @@ fn prints_changes(rt: HostRuntime) {
 
 /// A query in line 4, answered over seven entries.
 fn compare_answer(rt: &impl Abort, alloc: Global, ask: Ask, answer: Answer, want: &str) {
-    let told = Told {
+    let told = Told::Asked {
         line: 4,
         query: Query::of(alloc, ask),
         outcome: Outcome::Answered { number: 7, answer },
@@ -248,7 +248,7 @@ fn compare_unknown(
 ) {
     let text = b"without x,y waypoint p q r";
     let script = read_script(alloc, text, network, &[], &[]).expect(rt, "a script");
-    let told = Told {
+    let told = Told::Asked {
         line: 1,
         query: query_of(rt, alloc, script.lines.as_slice()),
         outcome: Outcome::Unknown(unknown),
@@ -272,7 +272,7 @@ fn prints_each_unknown_name(rt: HostRuntime) {
 /// A line is read as the query of these words, parted by one space.
 fn compare_read(rt: &impl Abort, alloc: Global, network: &Topology, line: &str, want: &str) {
     let query = read_query(alloc, line.as_bytes()).expect(rt, "memory");
-    let told = Told {
+    let told = Told::Asked {
         line: 1,
         query: query.expect(rt, "a query"),
         outcome: Outcome::Unknown(Unknown::Router(1)),
@@ -311,6 +311,8 @@ fn reads_no_query(rt: HostRuntime) {
     compare_unread(&rt, alloc, "");
     compare_unread(&rt, alloc, "# loops");
     compare_unread(&rt, alloc, "take r1 all");
+    compare_unread(&rt, alloc, "down a");
+    compare_unread(&rt, alloc, "up a");
     compare_unread(&rt, alloc, "reach r1");
     compare_unread(&rt, alloc, "loops r1");
     compare_unread(&rt, alloc, "uses A");

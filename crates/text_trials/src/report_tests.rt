@@ -1,67 +1,21 @@
-//! The printed report, byte for byte, and writing it to a sink that takes parts and fails.
+//! The printed report, byte for byte.
 
 ghost use Rattle.std.specs.Prelude.{IsTrue};
 ghost use Rattle.base.specs.Name.{is_name_text};
 
-use crate::printed::{printed, report_of, sink_by};
-use dn_formats::frame_cause::{BAD_FRAME_LENGTH, BAD_VERSION};
-use dn_formats::{FeedEnd, FeedTold, JobTold, Outcome, RefusedFrame, Told};
-use dn_io::Failed;
+use crate::triangle::{
+    FIRST, SECOND, THIRD, clear_ten, compare_report, history, link_entry, update,
+};
+use dn_formats::{JobTold, Outcome, Told};
 use dn_model::{
     Answer, Ask, Change, DropKind, Entry, LinkId, List, Name, Op, PathEnd, Posted, Prefix, Query,
-    RouterId, Run, Target, Topology, Unknown,
+    RouterId, Run, Target, Unknown,
 };
-use run_report::Report;
+use feed_model::frame_cause::{BAD_FRAME_LENGTH, BAD_VERSION};
+use feed_model::{FeedEnd, FeedTold, RefusedFrame};
 use std::alloc::Global;
 use std::process::Abort;
-use topology::read_topology;
 use version_pages::Pages;
-
-const FIRST: RouterId = RouterId(0);
-
-const SECOND: RouterId = RouterId(1);
-
-const THIRD: RouterId = RouterId(2);
-
-const TRIANGLE: &str = "routers = [\"r1\", \"r2\", \"r3\"]
-[[link]]
-name = \"a\"
-ends = [\"r1:2\", \"r2:2\"]
-[[link]]
-name = \"b\"
-ends = [\"r2:3\", \"r3:2\"]
-[[link]]
-name = \"c\"
-ends = [\"r3:3\", \"r1:3\"]
-[[edge]]
-at = \"r1:1\"
-[[edge]]
-at = \"r2:1\"
-[[edge]]
-at = \"r3:1\"
-";
-
-/// Three routers in a triangle.
-fn triangle(rt: &impl Abort, alloc: Global) -> Topology {
-    read_topology(alloc, TRIANGLE.as_bytes())
-        .ok()
-        .expect(rt, "a topology")
-}
-
-/// The report of these is this text.
-fn compare_report(
-    rt: &impl Abort,
-    alloc: Global,
-    feeds: &[FeedTold],
-    history: &Pages<Posted>,
-    jobs: &[JobTold],
-    want: &str,
-) {
-    let topology = triangle(rt, alloc);
-    let report = report_of(rt, alloc, topology, feeds, history, jobs);
-    let sink = printed(rt, alloc, report);
-    assert_eq!(rt; sink.written(), want.as_bytes(), "{want}");
-}
 
 /// What is told of a feed of r1 that ended, with no frame refused.
 fn ended_feed(alloc: Global) -> FeedTold {
@@ -75,15 +29,6 @@ fn ended_feed(alloc: Global) -> FeedTold {
     }
 }
 
-/// An update of r1's feed.
-fn update(op: Op) -> Entry {
-    Entry::Route {
-        router: FIRST,
-        feed_no: 1,
-        op,
-    }
-}
-
 /// The update that sets 10.0.0.0/8 with metric 20 to a target.
 fn set_ten(target: Target) -> Entry {
     update(Op::Set {
@@ -91,19 +36,6 @@ fn set_ten(target: Target) -> Entry {
         metric: 20,
         target,
     })
-}
-
-/// A history of these entries.
-fn history(rt: &impl Abort, alloc: Global, entries: &[Entry]) -> Pages<Posted> {
-    let mut history = Pages::new();
-    for entry in entries {
-        let posted = Posted {
-            seat: 0,
-            entry: *entry,
-        };
-        history.push(alloc, posted).expect(rt, "memory");
-    }
-    history
 }
 
 /// The query for the walk of 10.1.2.3 from a router.
@@ -117,7 +49,7 @@ fn path_query(rt: &impl Abort, alloc: Global, router: &[u8]) -> Query
 /// What is told of that query for r1, answered from one entry by these hops and this end.
 fn told_path(rt: &impl Abort, alloc: Global, line: u32, hops: &[RouterId], end: PathEnd) -> Told {
     let hops = List::from_vec(Vec::from_slice(alloc, hops).expect(rt, "memory"));
-    Told {
+    Told::Asked {
         line,
         query: path_query(rt, alloc, b"r1"),
         outcome: Outcome::Answered {
@@ -247,14 +179,6 @@ fn prints_feeds_in_order(rt: HostRuntime) {
     compare_report(&rt, alloc, &feeds, &Pages::new(), &[], REFUSED);
 }
 
-/// The update that clears 10.0.0.0/8, of one metric or of all.
-fn clear_ten(metric: Option<u32>) -> Entry {
-    update(Op::Clear {
-        prefix: Prefix::new(0x0a00_0000, 8),
-        metric,
-    })
-}
-
 /// A history with each target and both kinds of Clear.
 fn all_ops(rt: &impl Abort, alloc: Global) -> Pages<Posted> {
     history(
@@ -285,7 +209,7 @@ fn unknown_link(rt: &impl Abort, alloc: Global) -> Told {
     without.push(known).expect(rt, "memory");
     without.push(unknown).expect(rt, "memory");
     let ask = Ask::Path(router, 0xffff_ffff);
-    Told {
+    Told::Asked {
         line: 2,
         query: Query::new(without, ask),
         outcome: Outcome::Unknown(Unknown::Link(2)),
@@ -304,7 +228,7 @@ fn delta_told(rt: &impl Abort, alloc: Global) -> Told {
         after: Target::NoRoute,
     }];
     let changes = Vec::from_slice(alloc, &changes).expect(rt, "memory");
-    Told {
+    Told::Asked {
         line: 5,
         query: Query::of(alloc, Ask::Delta),
         outcome: Outcome::Answered {
@@ -316,7 +240,7 @@ fn delta_told(rt: &impl Abort, alloc: Global) -> Told {
 
 /// What is told of a query whose router, r9, is unknown.
 fn unknown_router(rt: &impl Abort, alloc: Global) -> Told {
-    Told {
+    Told::Asked {
         line: 1,
         query: path_query(rt, alloc, b"r9"),
         outcome: Outcome::Unknown(Unknown::Router(1)),
@@ -401,15 +325,6 @@ fn object_ops() -> [Entry; 3] {
     ]
 }
 
-/// Link b goes down or comes up, by a line of job 2.
-fn link_entry(down: bool) -> Entry {
-    Entry::Link {
-        job: 2,
-        link: LinkId(1),
-        down,
-    }
-}
-
 const OBJECTS_AND_LINKS: &str = "history 5
 1 feed 1 r1 object 7 to r2 by a
 2 feed 1 r1 set 10.0.0.0/8 metric 20 by object 7
@@ -426,95 +341,4 @@ fn prints_objects_and_links(rt: HostRuntime) {
     let entries = [set, by, gone, link_entry(true), link_entry(false)];
     let history = history(&rt, alloc, &entries);
     compare_report(&rt, alloc, &[], &history, &[], OBJECTS_AND_LINKS);
-}
-
-/// A history of so many equal updates.
-fn long_history(rt: &impl Abort, alloc: Global, count: u32) -> Pages<Posted> {
-    let mut history = Pages::new();
-    for _ in 0..count {
-        let posted = Posted {
-            seat: 0,
-            entry: clear_ten(None),
-        };
-        history.push(alloc, posted).expect(rt, "memory");
-    }
-    history
-}
-
-/// The lines are `history 100001`, `I feed 1 r1 clear 10.0.0.0/8` and `done`: 28 bytes for each entry besides its number,
-/// and 488,901 digits of numbers.
-#[test]
-fn prints_a_long_history(rt: HostRuntime) {
-    let alloc = rt.alloc();
-    let history = long_history(&rt, alloc, 100_001);
-    let report = report_of(&rt, alloc, triangle(&rt, alloc), &[], &history, &[]);
-    let sink = printed(&rt, alloc, report);
-    assert_eq!(rt; sink.written().len(), 3_288_949);
-}
-
-/// The report of a history of so many equal updates, made line by line.
-fn long_report(rt: &impl Abort, alloc: Global, count: u32) -> String {
-    let mut want = format!(in alloc; "history {count}\n").expect(rt, "memory");
-    for number in 0..count {
-        let line = format!(in alloc; "{} feed 1 r1 clear 10.0.0.0/8\n", u64::from(number) + 1);
-        let line = line.expect(rt, "memory");
-        want.push_str(line.as_str()).expect(rt, "memory");
-    }
-    want.push_str("done\n").expect(rt, "memory");
-    want
-}
-
-/// The lines of the history are more than are written at once.
-#[test]
-fn writes_a_long_history_byte_by_byte(rt: HostRuntime) {
-    let alloc = rt.alloc();
-    let history = long_history(&rt, alloc, 5_000);
-    let report = report_of(&rt, alloc, triangle(&rt, alloc), &[], &history, &[]);
-    let mut sink = sink_by(&rt, alloc, 1, &[]);
-    assert!(rt; report.write(&mut sink).is_ok());
-    let want = long_report(&rt, alloc, 5_000);
-    assert!(rt; sink.written() == want.as_bytes());
-    assert_eq!(rt; sink.faults(), 0);
-}
-
-/// A write in the middle of the history fails: what was written is a front of the report.
-#[test]
-fn stops_in_the_history(rt: HostRuntime) {
-    let alloc = rt.alloc();
-    let history = long_history(&rt, alloc, 5_000);
-    let report = report_of(&rt, alloc, triangle(&rt, alloc), &[], &history, &[]);
-    let mut sink = sink_by(&rt, alloc, 1_000, &[100]);
-    assert!(rt; matches!(report.write(&mut sink), Err(Failed)));
-    let want = long_report(&rt, alloc, 5_000);
-    assert!(rt; sink.written().len() > 66_000);
-    assert!(rt; want.as_bytes().starts_with(sink.written()));
-    assert_eq!(rt; sink.faults(), 1);
-}
-
-/// This text in place of a report.
-fn text_report(rt: &impl Abort, alloc: Global, text: &str) -> Report {
-    Report::of_text(Vec::from_slice(alloc, text.as_bytes()).expect(rt, "memory"))
-}
-
-#[test]
-fn writes_all_by_parts(rt: HostRuntime) {
-    let alloc = rt.alloc();
-    let mut sink = sink_by(&rt, alloc, 16, &[]);
-    assert!(rt; text_report(&rt, alloc, ONE_PATH).write(&mut sink).is_ok());
-    assert!(rt; sink.written() == ONE_PATH.as_bytes());
-    assert_eq!(rt; sink.faults(), 0);
-}
-
-#[test]
-fn stops_at_a_failed_write(rt: HostRuntime) {
-    let alloc = rt.alloc();
-    let mut sink = sink_by(&rt, alloc, 16, &[2]);
-    assert!(rt;
-        matches!(
-            text_report(&rt, alloc, ONE_PATH).write(&mut sink),
-            Err(Failed)
-        )
-    );
-    assert!(rt; sink.written() == b"feed 1 r1 update".as_slice());
-    assert_eq!(rt; sink.faults(), 1);
 }

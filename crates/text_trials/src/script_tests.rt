@@ -28,8 +28,9 @@ fn scripts_are_send_and_sync(rt: HostRuntime) {
     assert_eq!(rt; script.lines.as_slice().len(), 2);
 }
 
-/// A script has up to 65,536 lines, most of which take frames, so none of them has room for a query.
-const _: () = prove!(size_of::<Line>() <= 24);
+/// A script has up to 65,536 lines, most of which take frames, so none of them has room for a query. A link line has its
+/// name's place and length.
+const _: () = prove!(size_of::<Line>() <= 40);
 
 /// Every kind of query, among lines that take and lines that are passed over.
 const EACH_QUERY: &str = "take r1 2

@@ -28,7 +28,7 @@ from_feeds-ruling-requires-clause-ready g t c κs within = record {
   few_jobs =
       few-pushed (scripts_of c.args.opening.work.scripts.items) c.args.opening.work.readers.items c.push_reserved.new.self.items c.new-reader.result c.in-Some.router c.args.opening.routers.now c.in-Some.others.now
       c.requires.ready.few_jobs c.in-Some.ensures.1 c.push_reserved.ensures.items (rw c.new-reader.ensures.start refl);
-  apart_scripts = c.requires.ready.apart_scripts;
+  fit_scripts = c.requires.ready.fit_scripts;
 }
 
 pub from_feeds-ruling-requires-clause-room : goal.from_feeds-ruling-requires-clause-room

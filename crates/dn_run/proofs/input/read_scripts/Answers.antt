@@ -6,6 +6,7 @@ use Rattle.dn_run.specs.Jobs.{scripts_of}
 use Rattle.dn_run.specs.PartsRead.{script_texts}
 use Rattle.dn_run.specs.Stops.{ScriptsEnd, ScriptsGoOn}
 use Rattle.dn_run.specs.declared.stop.Stop.{Stop}
+use Rattle.dn_run.proofs.ApartLemmas.{fit-none}
 use Rattle.dn_run.proofs.PartsLemmas.{part_here}
 use Rattle.dn_run.proofs.StopLemmas.{at-exit, scripts-end, scripts-memory, scripts-on, scripts-start}
 use Rattle.dn_run.proofs.input.read_scripts.Goals as goal
@@ -16,14 +17,14 @@ loop-part-init g c = record {
       (scripts_of scripts) (map script_texts c.args.parts.now)) (sym c.new.ensures.items)
       (scripts-start (g.W.World.files c.args.world.now) c.args.topology.now c.args.routers.now (g.W.World.calls c.args.world.now) (map script_texts c.args.parts.now));
   taken = λ r. rw (c.new.ensures.items, c.new-2.ensures.items) refl;
-  apart = rw c.new.ensures.items tt;
+  fit = rw c.new.ensures.items fit-none;
   len = rw c.new.ensures.items refl;
   few = omega arith;
   same_files = refl;
 }
 
-pub add-requires-clause-clear : goal.add-requires-clause-clear
-add-requires-clause-clear g c = rw c.as_slice.ensures.value at c.in_ok-script.ensures.clear
+pub add-requires-clause-follows : goal.add-requires-clause-follows
+add-requires-clause-follows g c = rw c.as_slice.ensures.value at c.in_ok-script.ensures.follows
 
 pub loop-part-preserved : goal.loop-part-preserved
 loop-part-preserved g c =
@@ -38,7 +39,7 @@ loop-part-preserved g c =
           (map script_texts c.args.parts.now) (drop (c.loop-part.part-index + 1) (map script_texts c.args.parts.now)) (script_texts c.part-item.result) (scripts_of c.loop-part.read.scripts.items) c.in_ok-script.script.lines
           so c.loop-part.invariant.taken on);
       taken = c.in_ok-add.ensures.taken;
-      apart = c.in_ok-add.ensures.apart;
+      fit = c.in_ok-add.ensures.fit;
       len = (let before = c.loop-part.invariant.len in let added = c.in_ok-add.ensures.len in omega (arith, before, added));
       few = (let before = c.loop-part.invariant.few in let more = c.in_ok-script.ensures.few in omega (arith, before, more));
       same_files = c.read_part.ensures.same_files ∙ c.loop-part.invariant.same_files;

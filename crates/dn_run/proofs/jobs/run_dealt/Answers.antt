@@ -57,7 +57,8 @@ returns-in-Ok-clause-ran g c =
     if-ok c.run_list.result.0 (λ made. ListRan (arc_value c.args.work.topology.now) g.S.Source.left g.S.Source.faults g.S.Source.place c.in-Ok.list c.run_list.result.1.items made.0 made.1.items)
     (λ made. RanAs (arc_value c.args.work.topology.now) g.S.Source.left g.S.Source.faults c.args.work.readers.items c.run_list.result.1.items made.0 (scripts_of c.args.work.scripts.items) made.1.items)
     (λ made is. ran-of (arc_value c.args.work.topology.now) g.S.Source.left g.S.Source.faults g.S.Source.place (scripts_of c.args.work.scripts.items) c.args.work.readers.items c.run_list.result.1.items made.0 made.1.items
-    c.requires.ready.are_open.numbered c.requires.ready.apart_scripts (all-few g.S.Source.faults c.args.work c.requires.ready) c.requires.ready.are_open.fresh
+    c.requires.ready.are_open.numbered c.requires.ready.fit_scripts (all-few g.S.Source.faults c.args.work c.requires.ready)
+    (few-tasks (scripts_of c.args.work.scripts.items) c.args.work.readers.items (all-few-jobs g.S.Source.faults c.args.work c.requires.ready)) c.requires.ready.are_open.fresh
     (subst (λ (list : List (Task g.row.S.Denot)). ListRan (arc_value c.args.work.topology.now) g.S.Source.left g.S.Source.faults g.S.Source.place list c.run_list.result.1.items made.0 made.1.items) c.in-Ok.ensures.jobs is))
     c.run_list.ensures.ran
 

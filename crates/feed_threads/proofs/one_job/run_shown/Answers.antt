@@ -16,11 +16,11 @@ give_back-requires-clause-room g c κs within =
 pub returns-clause-ran : goal.returns-clause-ran
 returns-clause-ran g c =
     job-ran c.new-desk.result c.args.site.now g.S.Source.left g.S.Source.faults g.S.Source.place c.args.job c.job.inside.number (lines_of c.job.inside.script) c.job.inside.feeds.items c.new-desk.ensures c.job.view_is c.job.invariant.0 c.requires.job.1
-    c.do_all-ended.result c.is_err.result (record { seat = c.args.seat; shown = c.args.shown; feeds = c.job.inside.feeds.items; told = c.new-told.result }) c.do_all-ended.new.self
-    c.work.inside.seat c.work.inside.shown c.work.inside.feeds.items c.work.inside.told c.lines_of_script-lines.result.now c.give_back.result
-    c.work.view_is refl c.new-told.ensures c.lines_of_script-lines.ensures c.is_err.ensures.value c.give_back.ensures c.do_all-ended.ensures.works c.do_all-ended.ensures.front
+    c.do_all-ended.result c.is_err.result (record { number = c.job.inside.number; seat = c.args.seat; shown = c.args.shown; feeds = c.job.inside.feeds.items; told = c.new-told.result }) c.do_all-ended.new.self
+    c.work.inside.number c.work.inside.seat c.work.inside.shown c.work.inside.feeds.items c.work.inside.told c.lines_of_script-lines.result.now c.give_back.result
+    c.work.view_is refl refl c.new-told.ensures c.lines_of_script-lines.ensures c.is_err.ensures.value c.give_back.ensures c.do_all-ended.ensures.works c.do_all-ended.ensures.front
 
 pub returns-clause-shows : goal.returns-clause-shows
 returns-clause-shows g c =
     job-shows c.new-desk.result c.args.site.now g.S.Source.left g.S.Source.faults g.S.Source.place c.args.job c.job.inside.number (lines_of c.job.inside.script) c.job.inside.feeds.items c.new-desk.ensures c.job.view_is c.job.invariant.0 c.requires.job.1
-    c.do_all-ended.result (record { seat = c.args.seat; shown = c.args.shown; feeds = c.job.inside.feeds.items; told = c.new-told.result }) c.do_all-ended.new.self c.work.inside.seat c.work.inside.shown c.work.inside.feeds.items c.work.inside.told _ c.work.view_is c.do_all-ended.ensures.works
+    c.do_all-ended.result (record { number = c.job.inside.number; seat = c.args.seat; shown = c.args.shown; feeds = c.job.inside.feeds.items; told = c.new-told.result }) c.do_all-ended.new.self c.work.inside.number c.work.inside.seat c.work.inside.shown c.work.inside.feeds.items c.work.inside.told _ c.work.view_is c.do_all-ended.ensures.works

@@ -1,18 +1,18 @@
-use Rattle.std.proofs.Common.{◌≡◌, ◌<◌, ◌+◌, ◌++◌, ◌∷◌, [], length, take, rules, arith}
+use Rattle.std.proofs.Common.{◌≡◌, ◌<◌, ◌+◌, ◌++◌, ◌∷◌, ◌∙◌, [], ap, length, not, take, rules, arith}
 use Rattle.std.proofs.lemmas.Grind.{common_steps}
 use Rattle.feed_threads.proofs.SeatLemmas.{saw-more, own-more, first-refused, on-err}
 use Rattle.feed_threads.proofs.take.post_all.Goals as goal
 
-pub returns-then-not-branch-clause-saw : goal.returns-then-not-branch-clause-saw
-returns-then-not-branch-clause-saw g c = saw-more _ _ _ c.loop-taken.invariant.saw c.post.ensures.saw
+pub returns-then-is_none-clause-saw : goal.returns-then-is_none-clause-saw
+returns-then-is_none-clause-saw g c = saw-more _ _ _ c.loop-taken.invariant.saw c.post.ensures.saw
 
 pub loop-taken-preserved : goal.loop-taken-preserved
 loop-taken-preserved g c =
     let more : take (c.loop-taken.taken + 1) c.args.ops.now ≡ take c.loop-taken.taken c.args.ops.now ++ c.index-ops-taken.result ∷ [] = first_of (search rules, grind (arith, common_steps)) in
     record {
       saw = saw-more _ _ _ c.loop-taken.invariant.saw c.post.ensures.saw;
-      own = own-more c.args.seat.now c.loop-taken.seat c.post.new.seat c.args.feed_no c.args.router _ _ c.index-ops-taken.result c.in_ok-post.field-0
-          c.loop-taken.invariant.saw c.if-not-branch.false more c.loop-taken.invariant.own c.in_ok-post.ensures.own;
+      own = own-more c.args.seat.now c.loop-taken.seat c.post.new.seat c.args.feed_no c.args.router _ _ c.index-ops-taken.result _
+          c.loop-taken.invariant.saw (c.is_none.ensures ∙ ap not c.if-is_none.false) more c.loop-taken.invariant.own c.in_ok-post.ensures.own;
     }
 
 pub returns-in_err-post-clause-saw : goal.returns-in_err-post-clause-saw

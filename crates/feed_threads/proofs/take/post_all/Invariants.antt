@@ -1,5 +1,5 @@
 use Rattle.std.proofs.Common.{◌≡◌, ◌++◌, take}
-use Rattle.dn_formats.specs.Steps.{entries_by}
+use Rattle.feed_model.specs.Steps.{entries_by}
 use Rattle.feed_threads.specs.Seats.{own_of, SawMore}
 use Rattle.feed_threads.proofs.take.post_all.Given as goal
 

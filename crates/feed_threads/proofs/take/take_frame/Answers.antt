@@ -1,5 +1,5 @@
 use Rattle.std.proofs.Common.{◌∙◌, ap, sym}
-use Rattle.dn_formats.specs.Steps.{updates}
+use Rattle.feed_model.specs.Steps.{updates}
 use Rattle.route_feed.specs.declared.feed_step.FeedStep.{FeedStep}
 use Rattle.feed_threads.specs.Feeds.{handed_out}
 use Rattle.feed_threads.proofs.SeatLemmas.{saw-none}

@@ -1,9 +1,9 @@
 -- The lengths that the header says and that are there.
 use Rattle.std.proofs.Common.{◌≡◌, ◌-◌, ◌+◌, ◌*◌, ℕ, List, [], ◌∷◌, ◌++◌, take, drop, refl, arith}
 use Rattle.std.specs.Int.{w16, from_be_bytes}
-use Rattle.dn_formats.specs.Frames.{Frame, frame_text, IsFrame}
+use Rattle.feed_model.specs.Frames.{Frame, frame_text, IsFrame}
 use Rattle.fpm_frame.specs.Answers.{HoldsFrame}
-use Rattle.dn_formats.proofs.FramesLemmas.{cut_frame, whole_frame}
+use Rattle.feed_model.proofs.FramesLemmas.{cut_frame, whole_frame}
 use Rattle.fpm_frame.proofs.cutter.framed.Goals as goal
 
 holds_by : (kind high low : ℕ) (bytes : List ℕ) →

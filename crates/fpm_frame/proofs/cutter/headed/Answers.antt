@@ -1,6 +1,6 @@
 -- Fewer than four bytes with the right version are the front of a frame.
 use Rattle.std.proofs.Common.{arith}
-use Rattle.dn_formats.proofs.FramesLemmas.{cut_header}
+use Rattle.feed_model.proofs.FramesLemmas.{cut_header}
 use Rattle.fpm_frame.proofs.cutter.headed.Goals as goal
 
 pub returns-in_default : goal.returns-in_default

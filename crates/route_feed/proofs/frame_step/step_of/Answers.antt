@@ -1,6 +1,6 @@
 -- The payload of the frame decides.
 use Rattle.std.proofs.Common.{refl, []}
-use Rattle.dn_formats.specs.Payload.{payload_of}
+use Rattle.feed_model.specs.Payload.{payload_of}
 use Rattle.route_feed.proofs.HandsLemmas.{says-ok}
 use Rattle.route_feed.proofs.frame_step.step_of.Goals as goal
 

@@ -1,6 +1,6 @@
 use Rattle.std.proofs.Common.{◌≡◌, ◌+◌, ◌≤◌, [], All, length}
-use Rattle.dn_formats.specs.Feed.{gathered, nothing_gathered}
-use Rattle.dn_formats.specs.Payload.{payload_of}
+use Rattle.feed_model.specs.Feed.{gathered, nothing_gathered}
+use Rattle.feed_model.specs.Payload.{payload_of}
 use Rattle.rt_netlink.specs.Read.{said_from}
 use Rattle.route_feed.specs.FeedReader.{IsFeedOp}
 use Rattle.route_feed.specs.FrameStep.{count}

@@ -1,7 +1,7 @@
 use Rattle.std.proofs.Common.{arith, length, drop, refl}
 use Rattle.std.proofs.lemmas.List.{length-drop}
 use Rattle.std.proofs.lemmas.Slice.{between_to_end}
-use Rattle.dn_formats.specs.Attributes.{padded}
+use Rattle.feed_model.specs.Attributes.{padded}
 use Rattle.rt_netlink.proofs.AttributesLemmas.{first-good}
 use Rattle.rt_netlink.proofs.attributes.front.Goals as goal
 

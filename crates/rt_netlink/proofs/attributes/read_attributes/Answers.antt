@@ -1,5 +1,5 @@
 use Rattle.std.proofs.Common.{arith, ◌∙◌, None, Some, sym}
-use Rattle.dn_formats.specs.Attributes.{attributes_of}
+use Rattle.feed_model.specs.Attributes.{attributes_of}
 use Rattle.rt_netlink.proofs.AttributesLemmas.{kept-all}
 use Rattle.rt_netlink.proofs.KeptLemmas.{keeps_all}
 use Rattle.rt_netlink.proofs.attributes.read_attributes.Goals as goal

@@ -1,5 +1,5 @@
 use Rattle.std.proofs.Common.{◌≡◌, length}
-use Rattle.dn_formats.specs.Attributes.{attributes_of}
+use Rattle.feed_model.specs.Attributes.{attributes_of}
 use Rattle.rt_netlink.specs.Gathered.{nothing_kept, kept_after}
 use Rattle.rt_netlink.proofs.attributes.read_attributes.Given as goal
 

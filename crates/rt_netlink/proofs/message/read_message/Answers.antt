@@ -1,7 +1,7 @@
 use Rattle.std.proofs.Common.{None, Some, ap}
 use Rattle.std.proofs.lemmas.Result.{err_from_is_err_and}
 use Rattle.rt_netlink.proofs.RuledLemmas.{ruled_by_header, ruled_by_route}
-use Rattle.dn_formats.specs.declared.payload.ItemKind.TheVariants.{Route}
+use Rattle.feed_model.specs.declared.payload.ItemKind.TheVariants.{Route}
 use Rattle.rt_netlink.specs.Ruled.{answered}
 use Rattle.rt_netlink.proofs.message.read_message.Goals as goal
 

@@ -1,6 +1,6 @@
 use Rattle.std.proofs.Common.{◌∙◌, arith, length}
 use Rattle.std.proofs.lemmas.List.Elements.{All-push}
-use Rattle.dn_formats.specs.Payload.{IsSayable}
+use Rattle.feed_model.specs.Payload.{IsSayable}
 use Rattle.rt_netlink.specs.Read.{said_from}
 use Rattle.rt_netlink.proofs.SaidLemmas.{item_told}
 use Rattle.rt_netlink.proofs.read.read_payload.Goals as goal

@@ -1,5 +1,5 @@
 use Rattle.std.proofs.Common.{All, ◌≡◌, ◌≤◌, length}
-use Rattle.dn_formats.specs.Payload.{payload_of, IsSayable}
+use Rattle.feed_model.specs.Payload.{payload_of, IsSayable}
 use Rattle.rt_netlink.specs.Read.{with_items, said_from}
 use Rattle.rt_netlink.proofs.read.read_payload.Given as goal
 

@@ -1,5 +1,5 @@
 use Rattle.std.proofs.Common.{rules, ◌≡◌, arith}
-use Rattle.dn_formats.specs.Message.{message_text}
+use Rattle.feed_model.specs.Message.{message_text}
 use Rattle.rt_netlink.proofs.WrittenRoute.{route_said}
 use Rattle.rt_netlink.proofs.write.write_route.Goals as goal
 

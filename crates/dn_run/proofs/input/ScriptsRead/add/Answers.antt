@@ -1,6 +1,6 @@
-use Rattle.dn_run.proofs.ApartLemmas.{apart-added}
+use Rattle.dn_run.proofs.ApartLemmas.{fit-added}
 use Rattle.dn_run.proofs.TakenLemmas.{scripts-push}
 use Rattle.dn_run.proofs.input.ScriptsRead.add.Goals as goal
 
-pub returns-clause-apart : goal.returns-clause-apart
-returns-clause-apart c = apart-added _ _ _ _ c.requires.taken c.requires.apart c.requires.clear (scripts-push _ _ c.args.script c.in_ok-push.ensures.items)
+pub returns-clause-fit : goal.returns-clause-fit
+returns-clause-fit c = fit-added _ _ _ _ c.requires.taken c.requires.fit c.requires.follows (scripts-push _ _ c.args.script c.in_ok-push.ensures.items)

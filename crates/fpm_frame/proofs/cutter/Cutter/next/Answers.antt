@@ -1,6 +1,6 @@
 -- The answer to the bytes held is determined by them.
 use Rattle.std.proofs.Common.{◌↔◌, subst, ℕ, List}
-use Rattle.dn_formats.specs.Frames.{BeginsFrame, IsFrameFront}
+use Rattle.feed_model.specs.Frames.{BeginsFrame, IsFrameFront}
 use Rattle.fpm_frame.specs.Answers.{IsFrameThere, IsMoreWanted, IsFramingLost, LosesFraming}
 use Rattle.fpm_frame.proofs.Exact.{exact-frame, exact-more, exact-lost}
 use Rattle.fpm_frame.proofs.cutter.Cutter.next.Goals as goal

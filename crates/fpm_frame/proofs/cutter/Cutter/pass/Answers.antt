@@ -1,6 +1,6 @@
 -- The start moves by the frame's length, so what is held begins after the frame.
 use Rattle.std.proofs.Common.{◌≡◌, ◌+◌, ℕ, ◌++◌, List, drop, length, length-append, arith, ap, ap₂, sym, ◌∙◌, drop-drop, drop_at}
-use Rattle.dn_formats.specs.Frames.{frame_text, BeginsFrame}
+use Rattle.feed_model.specs.Frames.{frame_text, BeginsFrame}
 use Rattle.fpm_frame.specs.Held.{Held, PassesFrame}
 use Rattle.fpm_frame.proofs.cutter.Cutter.pass.Goals as goal
 

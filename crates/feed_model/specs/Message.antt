@@ -14,10 +14,10 @@ use Rattle.base.specs.declared.target.Target.TheVariants.{Exit, OnLink, To}
 use Rattle.base.specs.declared.target.DropKind.TheVariants as drop
 use Rattle.dn_model.specs.declared.entry.Op.{Op}
 use Rattle.dn_model.specs.declared.entry.Op.TheVariants.{Set, Clear, Object, NoObject}
-use Rattle.dn_formats.specs.declared.raw_route.RouteKind.{RouteKind}
-use Rattle.dn_formats.specs.declared.raw_route.RouteKind.TheVariants.{Unicast, Local, Blackhole, Unreachable, Prohibit}
-use Rattle.dn_formats.specs.declared.raw_route.RawRoute.{RawRoute}
-use Rattle.dn_formats.specs.declared.raw_object.RawObject.{RawObject}
+use Rattle.feed_model.specs.declared.raw_route.RouteKind.{RouteKind}
+use Rattle.feed_model.specs.declared.raw_route.RouteKind.TheVariants.{Unicast, Local, Blackhole, Unreachable, Prohibit}
+use Rattle.feed_model.specs.declared.raw_route.RawRoute.{RawRoute}
+use Rattle.feed_model.specs.declared.raw_object.RawObject.{RawObject}
 
 -- RTN_UNICAST, RTN_LOCAL, RTN_BLACKHOLE, RTN_UNREACHABLE, RTN_PROHIBIT
 abbrev pub kind_number : RouteKind → ℕ

@@ -5,8 +5,8 @@
 //! Source: the project's own profile of rtnetlink(7) as FRR's forwarding plane manager module speaks it.
 
 ghost use Rattle.std.specs.Prelude.{◌≡◌};
-ghost use Rattle.dn_formats.specs.Causes.{name_of_cause};
-ghost use Rattle.dn_formats.specs.FrameCauses.{frame_causes};
+ghost use Rattle.feed_model.specs.Causes.{name_of_cause};
+ghost use Rattle.feed_model.specs.FrameCauses.{frame_causes};
 
 /// A message's length is below that of its header or past the payload, or the payload ends inside a header.
 pub const BAD_LENGTH: u8 = 1;

@@ -1,13 +1,13 @@
 -- What frames come to, one after another: the steps of one more frame, and that the steps are determined.
 use Rattle.std.proofs.Common.{◌≡◌, ℕ, ◌+◌, Bool, List, [], ◌∷◌, ◌++◌, length, take, None, Some, refl, ap, sym, ◌∙◌, subst, arith, length-append, add-zero, inl, inr}
-use Rattle.dn_formats.specs.Feed.{AreSteps, IsStep, step_of, IsReading, IsFaultedReading, IsKept, ending}
-use Rattle.dn_formats.specs.Frames.{Frame, FrameRest, NoRest, CutFrame, BadVersion, BadFrameLength, frame_text, frames_text, lost_cause}
-use Rattle.dn_formats.specs.Steps.{FrameStep}
+use Rattle.feed_model.specs.Feed.{AreSteps, IsStep, step_of, IsReading, IsFaultedReading, IsKept, ending}
+use Rattle.feed_model.specs.Frames.{Frame, FrameRest, NoRest, CutFrame, BadVersion, BadFrameLength, frame_text, frames_text, lost_cause}
+use Rattle.feed_model.specs.Steps.{FrameStep}
 use Rattle.base.specs.declared.ids.RouterId.{RouterId}
 use Rattle.dn_model.specs.declared.topology.Topology.{Topology}
-use Rattle.dn_formats.specs.declared.told.FeedEnd.{FeedEnd}
-use Rattle.dn_formats.specs.declared.told.FeedEnd.TheVariants.{Lost}
-use Rattle.dn_formats.proofs.FramesLemmas.{Frames-same}
+use Rattle.feed_model.specs.declared.feed_told.FeedEnd.{FeedEnd}
+use Rattle.feed_model.specs.declared.feed_told.FeedEnd.TheVariants.{Lost}
+use Rattle.feed_model.proofs.FramesLemmas.{Frames-same}
 
 next_offset : (o : ℕ) (f : Frame) (fs : List Frame) → o + length (frames_text (f ∷ fs)) ≡ o + length (frame_text f) + length (frames_text fs)
 next_offset o f fs = omega (arith, length-append (frame_text f) (frames_text fs))

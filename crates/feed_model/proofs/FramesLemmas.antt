@@ -6,7 +6,7 @@ use Rattle.std.proofs.lemmas.Nat.{from_be_bytes-to_be_bytes_2}
 use Rattle.std.proofs.lemmas.Bool.{le-ltb}
 use Rattle.std.proofs.lemmas.List.{take_at, drop_at, length-append, append-nil, length-take-le, length-replicate, take-append-drop}
 use Rattle.std.proofs.lemmas.List.Elements.{All-append, All-head, All-tail}
-use Rattle.dn_formats.specs.Frames.{Frame, frame_text, IsFrame, BeginsFrame, IsFrameFront, FrameRest, NoRest, CutFrame, BadVersion, BadFrameLength, rest_after_version, rest_kind, lost_cause, frames_text, Frames}
+use Rattle.feed_model.specs.Frames.{Frame, frame_text, IsFrame, BeginsFrame, IsFrameFront, FrameRest, NoRest, CutFrame, BadVersion, BadFrameLength, rest_after_version, rest_kind, lost_cause, frames_text, Frames}
 
 -- a length fits two bytes, which give it back
 length_of_text : (f : Frame) → IsFrame f → from_be_bytes w16 (to_be_bytes w16 (4 + length f.payload)) ≡ 4 + length f.payload

@@ -1,21 +1,21 @@
 -- What a router's feed says: its frames one by one, and how it ends. A feed is a stream of frames of FRR's forwarding
 -- plane manager (fpm/fpm.h), and a frame of kind 1 holds messages of rtnetlink(7).
 use Rattle.std.specs.Prelude.{◌≡◌, ◌≢◌, ◌⊎◌, ℕ, ◌+◌, Bool, nat_lt, List, [], ◌∷◌, ◌++◌, length, take, Option, None, Some, Result, Ok, Err, if◌then◌else◌}
-use Rattle.dn_formats.specs.Frames.{Frame, Frames, FrameRest, NoRest, CutFrame, BadVersion, BadFrameLength, frame_text, frames_text, rest_kind}
-use Rattle.dn_formats.specs.Message.{op_of, object_of}
-use Rattle.dn_formats.specs.Payload.{IsPayload}
-use Rattle.dn_formats.specs.Steps.{FrameStep, Accepted, Refused}
+use Rattle.feed_model.specs.Frames.{Frame, Frames, FrameRest, NoRest, CutFrame, BadVersion, BadFrameLength, frame_text, frames_text, rest_kind}
+use Rattle.feed_model.specs.Message.{op_of, object_of}
+use Rattle.feed_model.specs.Payload.{IsPayload}
+use Rattle.feed_model.specs.Steps.{FrameStep, Accepted, Refused}
 use Rattle.base.specs.declared.ids.RouterId.{RouterId}
 use Rattle.dn_model.specs.declared.entry.Op.{Op}
-use Rattle.dn_formats.specs.declared.payload.Item.{Item}
-use Rattle.dn_formats.specs.declared.payload.ItemKind.{ItemKind}
-use Rattle.dn_formats.specs.declared.payload.ItemKind.TheVariants.{Route, Object, Skipped}
-use Rattle.dn_formats.specs.declared.payload.Payload.{Payload}
-use Rattle.dn_formats.specs.declared.payload.Refused.{Refused as Refusal}
-use Rattle.dn_formats.specs.FrameCauses.{unknown_interface, frame_type, bad_version, bad_frame_length}
+use Rattle.feed_model.specs.declared.payload.Item.{Item}
+use Rattle.feed_model.specs.declared.payload.ItemKind.{ItemKind}
+use Rattle.feed_model.specs.declared.payload.ItemKind.TheVariants.{Route, Object, Skipped}
+use Rattle.feed_model.specs.declared.payload.Payload.{Payload}
+use Rattle.feed_model.specs.declared.payload.Refused.{Refused as Refusal}
+use Rattle.feed_model.specs.FrameCauses.{unknown_interface, frame_type, bad_version, bad_frame_length}
 use Rattle.dn_model.specs.declared.topology.Topology.{Topology}
-use Rattle.dn_formats.specs.declared.told.FeedEnd.{FeedEnd}
-use Rattle.dn_formats.specs.declared.told.FeedEnd.TheVariants.{End, CutShort, Lost, TooLong}
+use Rattle.feed_model.specs.declared.feed_told.FeedEnd.{FeedEnd}
+use Rattle.feed_model.specs.declared.feed_told.FeedEnd.TheVariants.{End, CutShort, Lost, TooLong}
 
 -- ---- what the messages of a payload are to this router
 

@@ -2,7 +2,7 @@
 use Rattle.std.specs.Prelude.{◌≡◌, ℕ, ◌+◌, ◌<◌, ◌≤◌, ◌==◌, nat_lt, if◌then◌else◌, List, [], ◌∷◌, ◌++◌, length, All, Option, Some, None}
 use Rattle.std.specs.List.{flat_map}
 use Rattle.std.specs.Int.{w16, to_be_bytes, from_be_bytes}
-use Rattle.dn_formats.specs.FrameCauses.{bad_version, bad_frame_length}
+use Rattle.feed_model.specs.FrameCauses.{bad_version, bad_frame_length}
 
 -- a frame: the kind of its payload (0 none, 1 netlink, 2 protobuf), and the payload
 pub record Frame : Type 0 where

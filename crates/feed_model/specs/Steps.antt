@@ -5,9 +5,9 @@ use Rattle.base.specs.declared.ids.RouterId.{RouterId}
 use Rattle.dn_model.specs.declared.entry.Op.{Op}
 use Rattle.dn_model.specs.declared.entry.Entry.{Entry}
 use Rattle.dn_model.specs.declared.entry.Entry.TheVariants.{Route}
-use Rattle.dn_formats.specs.declared.told.RefusedFrame.{RefusedFrame}
-use Rattle.dn_formats.specs.declared.told.FeedEnd.{FeedEnd}
-use Rattle.dn_formats.specs.declared.told.FeedTold.{FeedTold}
+use Rattle.feed_model.specs.declared.feed_told.RefusedFrame.{RefusedFrame}
+use Rattle.feed_model.specs.declared.feed_told.FeedEnd.{FeedEnd}
+use Rattle.feed_model.specs.declared.feed_told.FeedTold.{FeedTold}
 
 -- Accepted: the updates of the frame and how many messages it passed over. Refused: where it begins in the feed,
 -- where its refused message begins in its payload, and the cause.

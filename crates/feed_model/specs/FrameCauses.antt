@@ -1,6 +1,6 @@
 -- The causes for which a frame is refused or a feed is lost: their numbers, and the names that are printed.
 use Rattle.std.specs.Prelude.{ℕ, List, [], ◌∷◌, codes}
-use Rattle.dn_formats.specs.Causes.{name_of_cause}
+use Rattle.feed_model.specs.Causes.{name_of_cause}
 
 abbrev pub bad_length : ℕ
 bad_length = 1

@@ -3,16 +3,16 @@
 use Rattle.std.proofs.Common.{◌≡◌, ℕ, zero, suc, ◌+◌, ◌-◌, ◌*◌, ◌≤◌, Bool, true, false, nat_lt, Option, None, Some, List, [], ◌∷◌, ◌++◌, length, length-append, refl, sym, subst, arith, inl, inr}
 use Rattle.std.specs.Prelude.{◌||◌, if◌then◌else◌, Result, Ok, Err}
 use Rattle.std.proofs.lemmas.Bool.{ltb-false}
-use Rattle.dn_formats.specs.Attributes.{padded}
-use Rattle.dn_formats.specs.Feed.{Gathered, nothing_gathered, with_update, unless_refused, gathered, step_by, IsStep}
-use Rattle.dn_formats.specs.Frames.{Frame}
-use Rattle.dn_formats.specs.Message.{op_of}
-use Rattle.dn_formats.specs.Payload.{Ruling, Refuses, Skips, said_by, message_said, item_of, said, said_after, ruling_of, nothing_more, message_length, route_of}
-use Rattle.dn_formats.specs.Steps.{Accepted}
+use Rattle.feed_model.specs.Attributes.{padded}
+use Rattle.feed_model.specs.Feed.{Gathered, nothing_gathered, with_update, unless_refused, gathered, step_by, IsStep}
+use Rattle.feed_model.specs.Frames.{Frame}
+use Rattle.feed_model.specs.Message.{op_of}
+use Rattle.feed_model.specs.Payload.{Ruling, Refuses, Skips, said_by, message_said, item_of, said, said_after, ruling_of, nothing_more, message_length, route_of}
+use Rattle.feed_model.specs.Steps.{Accepted}
 use Rattle.dn_model.specs.declared.entry.Op.{Op}
 use Rattle.base.specs.declared.ids.RouterId.{RouterId}
-use Rattle.dn_formats.specs.declared.payload.Payload.{Payload}
-use Rattle.dn_formats.specs.declared.payload.Refused.{Refused as Refusal}
+use Rattle.feed_model.specs.declared.payload.Payload.{Payload}
+use Rattle.feed_model.specs.declared.payload.Refused.{Refused as Refusal}
 use Rattle.dn_model.specs.declared.topology.Topology.{Topology}
 
 -- where no row holds, the first doesn't

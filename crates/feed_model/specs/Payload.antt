@@ -6,18 +6,18 @@ use Rattle.std.specs.Prelude.{◌≡◌, ℕ, zero, suc, ◌+◌, ◌-◌, ◌%�
 use Rattle.std.specs.List.{list_any}
 use Rattle.std.specs.Int.{w16, w32, from_le_bytes}
 use Rattle.base.specs.Cidr.{Cidr, IsCidr}
-use Rattle.dn_formats.specs.Attributes.{Attribute, padded, attributes_of, has, number_of, address_of, is_bad, rta_dst, rta_oif, rta_gateway, rta_priority, rta_multipath, rta_table, rta_via, rta_newdst, rta_encap_type, rta_encap, rta_nh_id}
-use Rattle.dn_formats.specs.Message.{NumberFits}
-use Rattle.dn_formats.specs.FrameCauses as causes
-use Rattle.dn_formats.specs.declared.payload.Payload.{Payload}
-use Rattle.dn_formats.specs.declared.payload.Item.{Item}
-use Rattle.dn_formats.specs.declared.payload.ItemKind.{ItemKind}
-use Rattle.dn_formats.specs.declared.payload.ItemKind.TheVariants.{Route, Object, Skipped}
-use Rattle.dn_formats.specs.declared.payload.Skip.{Skip}
-use Rattle.dn_formats.specs.declared.payload.Skip.TheVariants.{OtherType, OtherFamily, OtherTable}
-use Rattle.dn_formats.specs.declared.raw_route.RouteKind.{RouteKind}
-use Rattle.dn_formats.specs.declared.raw_route.RouteKind.TheVariants.{Unicast, Local, Blackhole, Unreachable, Prohibit}
-use Rattle.dn_formats.specs.declared.raw_route.RawRoute.{RawRoute}
+use Rattle.feed_model.specs.Attributes.{Attribute, padded, attributes_of, has, number_of, address_of, is_bad, rta_dst, rta_oif, rta_gateway, rta_priority, rta_multipath, rta_table, rta_via, rta_newdst, rta_encap_type, rta_encap, rta_nh_id}
+use Rattle.feed_model.specs.Message.{NumberFits}
+use Rattle.feed_model.specs.FrameCauses as causes
+use Rattle.feed_model.specs.declared.payload.Payload.{Payload}
+use Rattle.feed_model.specs.declared.payload.Item.{Item}
+use Rattle.feed_model.specs.declared.payload.ItemKind.{ItemKind}
+use Rattle.feed_model.specs.declared.payload.ItemKind.TheVariants.{Route, Object, Skipped}
+use Rattle.feed_model.specs.declared.payload.Skip.{Skip}
+use Rattle.feed_model.specs.declared.payload.Skip.TheVariants.{OtherType, OtherFamily, OtherTable}
+use Rattle.feed_model.specs.declared.raw_route.RouteKind.{RouteKind}
+use Rattle.feed_model.specs.declared.raw_route.RouteKind.TheVariants.{Unicast, Local, Blackhole, Unreachable, Prohibit}
+use Rattle.feed_model.specs.declared.raw_route.RawRoute.{RawRoute}
 
 -- ---- the fields of the message that begins at the front of these bytes, which go on to the payload's end
 

@@ -1,5 +1,0 @@
-use Rattle.dn_formats.proofs.FeedLemmas.{faulted_once}
-use Rattle.dn_formats.proofs.laws.failed_feeds_have_one_reading.Goals as goal
-
-pub returns : goal.returns
-returns c = faulted_once

@@ -1,0 +1,3 @@
+pub mod FeedLemmas
+pub mod FramesLemmas
+pub mod RoomLemmas

@@ -18,6 +18,8 @@ Usage: bench/bounds.py PROGRAM PEER [ROW[:INPUT]..] [--old PROGRAM] [--copies PR
     reach             a query that follows addresses, with and without a link down, over the peer, by instructions
     holes             `blackholes`, and `loops` with a link down, the same
     copies            updates with a copy of what stands after every hundredth, eight of them held, over without
+    links             a link that a million atoms use goes down or comes up, over a `blackholes` of the same rows
+    links-ms          the same in milliseconds, where an update takes a microsecond
     wide              1,024 routers of which 64 have feeds, 10^5 prefixes, over the older program
     metrics           an update of a prefix that has up to 40,000 metrics, over one of a prefix that has up to 5,000
     cycles            an update of a router on 4,000 kept cycles, over one on 1,000
@@ -27,6 +29,7 @@ It prints a table, and ends with 0 where all that was measured holds, and else w
 fails, it ends at once. Inputs are made by code, by seed; they take up to 2 GB in the folder for temporary files.
 """
 
+import math
 import os
 import signal
 import sys
@@ -37,6 +40,7 @@ from typing import NamedTuple
 import bgp
 import inputs
 import jobs
+import links
 from program import flag, option
 from ring import write_network
 from turns import (ALONE, ITSELF, OLD, PEER, Bench, Case, Programs, each, head, line_of, power, quotient, shown,
@@ -129,6 +133,14 @@ def with_copies(bench, one, run):
     return bench.cost(bench.programs.copies, run) / bench.cost(one, run)
 
 
+def a_link(of):
+    """A number of what it takes that a link goes down or comes up."""
+    def cost(bench, one):
+        times = links.measure(bench.input(links.write_input, links.COUNT), links.COUNT, 1, one)
+        return of(times) if min(times) > 0 else math.nan
+    return lambda bench: [Case(f"{links.COUNT} prefixes", lambda one: cost(bench, one), ALONE)]
+
+
 def metrics(bench):
     def of(one):
         few, many = (bench.input(inputs.with_metrics, count) for count in METRICS)
@@ -172,12 +184,15 @@ ROWS = {
     "reach": Row(1.5, asked(QUERIES["reach"]), 1),
     "holes": Row(2.6, asked(QUERIES["holes"]), 1),
     "copies": Row(3, whole(all_files(FEW), with_copies, ALONE)),
+    "links": Row(links.MOST_RATIO, a_link(lambda times: times.ratio)),
+    "links-ms": Row(links.MOST_MS, a_link(lambda times: times.scaled)),
     "wide": Row(0.5, whole({"100,000 prefixes": (inputs.of_wide, FEW)}, over=OLD)),
     "metrics": Row(2, metrics),
     "cycles": Row(1.5, cycles),
     "loops": Row(1.5, loops),
 }
 NEEDED = {"copies": "copies", "wide": "old"}  # which other program a row needs
+IN_SECONDS = "beside", "links", "links-ms"  # whose instructions say nothing
 
 
 def measure(bench, word):
@@ -195,7 +210,7 @@ def measure(bench, word):
 
 def measure_case(bench, name, case):
     row = ROWS[name]
-    ratios = bench.ratios(case, 1 if bench.is_counted and name != "beside" else row.rounds)
+    ratios = bench.ratios(case, 1 if bench.is_counted and name not in IN_SECONDS else row.rounds)
     print(shown(line_of(name, case.name, row.bound, ratios)), flush=True)
     return verdict(ratios.product, row.bound) == "yes"
 

@@ -24,9 +24,10 @@ def answer_panel(network: Network, report: Brief, line: str, unfed: set[str]) ->
     lines = [text if (run := read_run(text)) is None else run_text(run) for text in answer.lines]
     more = [f"and {len(lines) - MOST_LINES} lines more"] if len(lines) > MOST_LINES else []
     panel = Panel(f"{answer.query} at {answer.position} of {report.length}", lines[:MOST_LINES] + more, unfed=unfed)
+    panel.down = set(report.downs_at(answer.position))
     words = answer.query.split()
     if words[0] == "without":
-        panel.down, words = set(words[1].split(",")), words[2:]
+        panel.down, words = panel.down | set(words[1].split(",")), words[2:]
     shower = SHOWERS.get(words[0])
     if shower is not None:
         shower(panel, report, answer, words)

@@ -11,13 +11,16 @@ import sys
 from collections.abc import Iterable, Iterator
 from functools import cached_property
 
+from evaluator import downs_after
 from progress import Teller
-from report import (HISTORY_OF_TEXT, NAME, PREFIX, TARGET_TEXT, Entry, Feed, Report, ReportError, address_text,
-                    end_of_history, parse_answers, parse_report, read_entry)
+from report import (HISTORY_OF_TEXT, NAME, PREFIX, TARGET_TEXT, Entry, Feed, HistoryEntry, LinkEntry, Report, ReportError,
+                    address_text, end_of_history, parse_answers, parse_report, read_entry)
 
-# An entry, with its feed and router.
-FORM = re.compile(rf"^\d+ (feed \d+ {NAME}) (?:set {PREFIX} metric \d+ (?:to {NAME} by {NAME}|{TARGET_TEXT})"
-                  rf"|clear {PREFIX}(?: metric \d+)?)\n".encode(), re.MULTILINE)
+# An entry, with its feed and router, which an entry of a link hasn't.
+FORM = re.compile(rf"^\d+ (?:(feed \d+ {NAME}) (?:set {PREFIX} metric \d+ (?:to {NAME} by {NAME}|{TARGET_TEXT})"
+                  rf"|clear {PREFIX}(?: metric \d+)?)|job [1-9]\d* (?:down|up) {NAME})\n".encode(), re.MULTILINE)
+# Of an entry of a link: what stands after its position. No other entry has it.
+OF_LINK = re.compile(rf" (job \d+ (?:down|up) {NAME})\n".encode())
 # Of an entry of this form that leads on: its router, the next one and the link.
 LEADS_ON = re.compile(rb" feed \d+ (\S+ set )\S+ metric \d+ (to [^\n]+)\n")
 LINES_AT_ONCE = 1 << 16
@@ -26,7 +29,7 @@ MOST_NEAR = 1 << 16
 
 
 class Brief:
-    """A report: its feeds and answers, and its history as text."""
+    """A report: its feeds and what is told of its jobs, and its history as text."""
 
     def __init__(self, path: str, text: bytes) -> None:
         self.path = path
@@ -47,7 +50,7 @@ class Brief:
 
     def _check_history(self) -> None:
         """That each line is an entry at its position, of a router's feed. Where one isn't, the strict reader says which."""
-        routers = {f"feed {feed.number} {feed.router}".encode() for feed in self.feeds}
+        routers = {b""} | {f"feed {feed.number} {feed.router}".encode() for feed in self.feeds}
         teller = Teller(self.path, len(self.text))
         count = 0
         at = self.begin
@@ -56,7 +59,7 @@ class Brief:
             stop = self._line_end(at)
             lines = self.text[at:stop].splitlines()
             formed = FORM.findall(self.text, at, stop)
-            numbered = all(map(bytes.startswith, lines, map(b"%d feed ".__mod__, range(count + 1, count + len(lines) + 1))))
+            numbered = all(map(bytes.startswith, lines, map(b"%d ".__mod__, range(count + 1, count + len(lines) + 1))))
             if len(formed) != len(lines) or not numbered or not routers.issuperset(formed):
                 parse_report(self.path, self.text)
                 raise ReportError(self.path, 1, "its history isn't one")
@@ -83,9 +86,21 @@ class Brief:
         return self.report.feed_of(router)
 
     @cached_property
-    def entries(self) -> list[Entry]:
+    def entries(self) -> list[HistoryEntry]:
         """All entries, taken apart."""
         return parse_report(self.path, self.text).entries
+
+    @cached_property
+    def link_entries(self) -> list[LinkEntry]:
+        """The entries by which links go down and come up."""
+        found = OF_LINK.finditer(self.text, self.begin, self.end)
+        begins = ((match, self.text.rfind(b"\n", 0, match.start()) + 1) for match in found)
+        return [read_entry(int(self.text[begin:match.start()]), match[1].decode("ascii")) for match, begin in begins]
+
+    def downs_at(self, position: int) -> dict[str, int]:
+        """The links that are down after so many entries, each with the entry by which it went down."""
+        before = [entry for entry in self.link_entries if entry.position <= position]
+        return downs_after(before, len(before))
 
     @cached_property
     def ways_on(self) -> set[tuple[str, str, str]]:
@@ -99,12 +114,12 @@ class Brief:
         return {feed.router for feed in self.feeds} | {far for _near, far, _link in self.ways_on}
 
     def entries_about(self, address: int) -> list[Entry]:
-        """The entries of prefixes that cover an address."""
+        """The updates of prefixes that cover an address."""
         bases = (f"{address_text(address >> (32 - length) << (32 - length))}/{length}" for length in range(33))
         return list(self._entries(bases))
 
     def entries_of(self, router: str, prefixes: Iterable[str] = ()) -> Iterator[Entry]:
-        """A router's entries, of these prefixes or of all."""
+        """A router's updates, of these prefixes or of all."""
         return self._entries(prefixes, router)
 
     def _entries(self, prefixes: Iterable[str], router: str = NAME) -> Iterator[Entry]:

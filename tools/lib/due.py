@@ -2,8 +2,9 @@
 
 Where the words, the topology or a script are refused, the text is one error line. Otherwise it is a report, in which
 the feeds' lines are known, and the history and the answers are not: jobs run side by side. So a report is judged. Its
-history is a shuffle of the feeds' updates, each job's own in the order in which the job takes them; each position fits
-what its job had taken; and each answer is the one that the plain evaluator gives over the entries that it names.
+history is a shuffle of the feeds' updates and the scripts' link lines, each job's own in the order of its lines; each
+position fits what its job had taken, down and up; and each answer is the one that the plain evaluator gives over the
+entries that it names.
 
 The rules are those of docs/FORMATS.md. Nothing here is shared with the program, and nothing is proved.
 """
@@ -18,11 +19,14 @@ from dataclasses import dataclass, field
 from frames import SETTABLE_TYPES, UNICAST, Feed, Route, Skipped, decode
 from network import Network, read_topology
 from queries import answer_lines, unknown_name
-from report import Answer, Entry, Report, ReportError, parse_report
-from run_words import FeedPart, Refused, RunWords, check_jobs, check_routers, read_words
+from report import Answer, HistoryEntry, LinkLine, Report, ReportError, link_words, parse_report
+from run_words import FeedPart, RunWords, read_words
+from script import LINK_VERBS
 
 # The exit status of each error line, by the words that follow `error`.
 STATUSES = {"words": 2, "part": 2, "jobs": 2, "topology": 3, "script": 4, "read": 5}
+# The entries that a history has at most. No run has as many: links go down and come up no more there.
+LONGEST_HISTORY = 2 ** 32 - 1
 
 
 @dataclass(frozen=True)
@@ -47,19 +51,21 @@ class FeedDue:
 
 @dataclass(frozen=True)
 class Asked:
-    """A query line of a script, its number, and how many of its job's updates were taken before it."""
+    """A line of a script of which something is told: its number, its words, and how many entries of its job come before it.
+    `is_link` is whether it takes a link down or up, which makes an entry where the topology has the link."""
 
     line: int
     query: str
-    taken: int
+    before: int
+    is_link: bool = False
 
 
 @dataclass
 class Job:
-    """What a job does: its updates in order, each with its feed's number, and its queries."""
+    """What a job does: its entries in order, as the history prints them after their positions, and what it is asked."""
 
-    updates: list[str] = field(default_factory=list)
-    queries: list[Asked] = field(default_factory=list)
+    entries: list[str] = field(default_factory=list)
+    asked: list[Asked] = field(default_factory=list)
 
 
 def faults_of(words: Sequence[str], folder: str, ended: Ended, refusal: str | None) -> list[str]:
@@ -84,8 +90,8 @@ def refusal_faults(refusal: str, ended: Ended) -> list[str]:
     return wrong
 
 
-def report_faults(words: Sequence[str], folder: str, ended: Ended) -> list[str]:
-    """What is wrong with a run that has to print a report."""
+def report_faults(words: Sequence[str], folder: str, ended: Ended, limit: int = LONGEST_HISTORY) -> list[str]:
+    """What is wrong with a run that has to print a report, whose history may have so many entries."""
     try:
         report = parse_report("report", ended.text)
     except ReportError as error:
@@ -95,13 +101,13 @@ def report_faults(words: Sequence[str], folder: str, ended: Ended) -> list[str]:
     said = read_words(list(words))
     network = read_topology(os.path.join(folder, said.topology))
     feeds = [feed_due(network, folder, number, part) for number, part in enumerate(said.feeds, 1)]
-    jobs = jobs_due(said, folder, feeds)
+    jobs = jobs_due(network, said, folder, feeds)
     status = status_due(feeds)
     if ended.status != status:
         wrong.append(f"status {ended.status}, due {status}")
     wrong += feed_faults(report, feeds)
-    wrong += history_faults(report, jobs)
-    return wrong or list(answers_faults(network, report, jobs))
+    wrong += history_faults(report, jobs, len(report.entries) == limit)
+    return wrong or list(told_faults(network, report, jobs))
 
 
 def status_due(feeds: Sequence[FeedDue]) -> int:
@@ -154,31 +160,35 @@ def target(network: Network, router: str, route: Route) -> str:
     return f"{'exit' if is_exit else 'onlink'} {route.interface}"
 
 
-def jobs_due(said: RunWords, folder: str, feeds: Sequence[FeedDue]) -> list[Job]:
+def jobs_due(network: Network, said: RunWords, folder: str, feeds: Sequence[FeedDue]) -> list[Job]:
     """The jobs of a run in order: the scripts', and then one for each feed that no script takes."""
     frames = {part.router: list(feed.frames) for part, feed in zip(said.feeds, feeds)}
+    links = {link.name for link in network.links}
     jobs = []
-    for script in said.scripts:
+    for number, script in enumerate(said.scripts, 1):
         with open(os.path.join(folder, script.file), "rb") as file:
-            jobs.append(script_job(file.read(), frames))
+            jobs.append(script_job(number, file.read(), frames, links))
     return jobs + [Job([update for frame in rest for update in frame]) for rest in frames.values()]
 
 
-def script_job(text: bytes, frames: dict[str, list[list[str]]]) -> Job:
-    """What a script does: its lines in order, and then the rest of each feed that they name. What it takes is taken
-    away from `frames`, its feeds included."""
+def script_job(number: int, text: bytes, frames: dict[str, list[list[str]]], links: set[str]) -> Job:
+    """What the script of a job of this number does: its lines in order, and then the rest of each feed that they name. What
+    it takes is taken away from `frames`, its feeds included."""
     job = Job()
     named: dict[str, list[list[str]]] = {}
-    for number, words in script_lines(text):
+    for line, words in script_lines(text):
         if words[0] != "take":
-            job.queries.append(Asked(number, " ".join(words), len(job.updates)))
+            is_link = words[0] in LINK_VERBS
+            job.asked.append(Asked(line, " ".join(words), len(job.entries), is_link))
+            if is_link and words[1] in links:
+                job.entries.append(f"job {number} {link_words(words[0] == 'down', words[1])}")
             continue
         rest = named.setdefault(words[1], frames[words[1]])
         count = len(rest) if words[2] == "all" else int(words[2])
-        job.updates += [update for frame in rest[:count] for update in frame]
+        job.entries += [update for frame in rest[:count] for update in frame]
         del rest[:count]
     for router, rest in named.items():
-        job.updates += [update for frame in rest for update in frame]
+        job.entries += [update for frame in rest for update in frame]
         del frames[router]
     return job
 
@@ -196,66 +206,74 @@ def feed_faults(report: Report, feeds: Sequence[FeedDue]) -> Iterator[str]:
     yield from first_difference("feeds", came, [line for feed in feeds for line in feed.lines])
 
 
-def history_faults(report: Report, jobs: Sequence[Job]) -> Iterator[str]:
-    """That the history is a shuffle of the jobs' updates. No two jobs have a feed in common, so the entries of a job
-    are those of its feeds."""
-    due = {update: job for job, one in enumerate(jobs) for update in one.updates}
+def history_faults(report: Report, jobs: Sequence[Job], is_full: bool) -> Iterator[str]:
+    """That the history is a shuffle of the jobs' entries; where it is full, of the first ones of each. No two jobs have a
+    feed in common, and a link's entry names its job, so the entries of a job are those that its lines give."""
+    due = {entry: job for job, one in enumerate(jobs) for entry in one.entries}
     came: list[list[str]] = [[] for _ in jobs]
     for entry in report.entries:
-        text = entry_text(entry)
-        if text not in due:
-            yield f"history {entry.position}: {text} is no update of a feed"
+        if entry.words not in due:
+            yield f"history {entry.position}: {entry.words} is no update of a feed, and no link line of a script"
             return
-        came[due[text]].append(text)
-    for number, (one, updates) in enumerate(zip(jobs, came), 1):
-        yield from first_difference(f"the history of job {number}", updates, one.updates)
+        came[due[entry.words]].append(entry.words)
+    for number, (one, entries) in enumerate(zip(jobs, came), 1):
+        wanted = one.entries[:len(entries)] if is_full else one.entries
+        yield from first_difference(f"the history of job {number}", entries, wanted)
 
 
-def entry_text(entry: Entry) -> str:
-    return f"feed {entry.feed} {entry.router} {entry}"
-
-
-def answers_faults(network: Network, report: Report, jobs: Sequence[Job]) -> Iterator[str]:
-    """What is wrong with the answers under a history that is right."""
+def told_faults(network: Network, report: Report, jobs: Sequence[Job]) -> Iterator[str]:
+    """What is wrong with what is told of the jobs under a history that is right."""
     if len(report.jobs) != len(jobs):
         yield f"{len(report.jobs)} jobs, due {len(jobs)}"
         return
-    due = {update: number for number, job in enumerate(jobs, 1) for update in job.updates}
+    due = {entry: number for number, job in enumerate(jobs, 1) for entry in job.entries}
     places: dict[int, list[int]] = {number: [] for number in range(1, len(jobs) + 1)}
     for entry in report.entries:
-        places[due[entry_text(entry)]].append(entry.position)
+        places[due[entry.words]].append(entry.position)
     for number, job in enumerate(jobs, 1):
-        answers = [answer for answer in report.answers if answer.job == number]
-        came = [f"line {answer.line} {answer.query}" for answer in answers]
-        wrong = list(first_difference(f"the queries of job {number}", came,
-                                      [f"line {asked.line} {asked.query}" for asked in job.queries]))
+        told = [one for one in report.told if one.job == number]
+        came = [f"line {one.line} {one.query}" for one in told]
+        wrong = list(first_difference(f"the lines of job {number}", came,
+                                      [f"line {asked.line} {asked.query}" for asked in job.asked]))
         yield from wrong
         if not wrong:
-            yield from job_faults(network, report.entries, places[number], list(zip(job.queries, answers)))
+            yield from job_faults(network, report.entries, places[number], list(zip(job.asked, told)))
 
 
-def job_faults(network: Network, entries: Sequence[Entry], places: Sequence[int],
-               answered: Sequence[tuple[Asked, Answer]]) -> Iterator[str]:
-    """What is wrong with the answers of a job, whose updates stand at these places of the history."""
+def job_faults(network: Network, entries: Sequence[HistoryEntry], places: Sequence[int],
+               told: Sequence[tuple[Asked, Answer | LinkLine]]) -> Iterator[str]:
+    """What is wrong with what is told of a job, whose entries stand at these places of the history."""
     last = 0
-    for asked, answer in answered:
-        where = f"job {answer.job} line {asked.line}, {asked.query}"
+    for asked, one in told:
+        where = f"job {one.job} line {asked.line}, {asked.query}"
         unknown = unknown_name(network, asked.query.split(" "))
         if unknown is not None:
-            if answer.position is not None:
+            if one.position is not None:
                 yield f"{where}: a position, and {unknown}"
-            yield from first_difference(where, answer.lines, [unknown])
-            continue
-        if answer.position is None:
+            yield from first_difference(where, one.lines, [unknown])
+        elif asked.is_link:
+            yield from link_faults(where, one, places[asked.before:asked.before + 1])
+        elif one.position is None:
             yield f"{where}: no position"
-            continue
-        least = max(last, places[asked.taken - 1] if asked.taken else 0)
-        most = places[asked.taken] - 1 if asked.taken < len(places) else len(entries)
-        if not least <= answer.position <= most:
-            yield f"{where}: at {answer.position}, due from {least} to {most}"
-            continue
-        last = answer.position
-        yield from first_difference(where, answer.lines, answer_lines(network, entries, last, asked.query))
+        else:
+            before, after = places[:asked.before], places[asked.before:]
+            least, most = max([last, *before[-1:]]), after[0] - 1 if after else len(entries)
+            if not least <= one.position <= most:
+                yield f"{where}: at {one.position}, due from {least} to {most}"
+                continue
+            last = one.position
+            yield from first_difference(where, one.lines, answer_lines(network, entries, last, asked.query))
+
+
+def link_faults(where: str, one: Answer | LinkLine, place: Sequence[int]) -> Iterator[str]:
+    """What is wrong with what is told of a link that goes down or comes up. Its entry stands at this place; where it has
+    none the history was full. That it stands behind all that its job was told before is seen at the queries: they stand
+    before the next entry of their job."""
+    if not isinstance(one, LinkLine):
+        yield f"{where}: an answer"
+    elif one.is_full == bool(place) or [one.position] != [*place, None][:1]:
+        came = "full" if one.is_full else f"at {one.position}"
+        yield f"{where}: {came}, due {f'at {place[0]}' if place else 'full'}"
 
 
 def first_difference(what: str, came: Sequence[str], due: Sequence[str]) -> Iterator[str]:

@@ -9,9 +9,9 @@ from __future__ import annotations
 
 from bisect import bisect_left, bisect_right
 from dataclasses import dataclass, field
-from typing import Iterable, Iterator, Sequence
+from typing import Container, Iterable, Iterator, Sequence
 
-from report import NO_ROUTE, Entry, Prefix, Target
+from report import NO_ROUTE, Entry, HistoryEntry, LinkEntry, Prefix, Target
 
 LAST_ADDRESS = 2**32 - 1
 # The bits of an address that a prefix of each length fixes, from the longest on.
@@ -64,16 +64,20 @@ class Table:
         return NO_ROUTE if route is None else route.target
 
 
+def shown(target: Target, down: Container[str]) -> Target:
+    """What becomes of an address where these links are down: a target over one of them is no way on."""
+    if target.router is None or target.link not in down:
+        return target
+    return Target(f"linkdown {target.link}", None, target.link)
+
+
 @dataclass(frozen=True)
 class Hop:
-    """A router of a way, and the route that it has for the address, if any."""
+    """A router of a way, the route that it has for the address, if any, and what it does with it."""
 
     router: str
     route: Route | None
-
-    @property
-    def target(self) -> Target:
-        return NO_ROUTE if self.route is None else self.route.target
+    target: Target
 
 
 @dataclass
@@ -99,58 +103,93 @@ class Change:
     after: Target
 
 
-def tables_after(entries: Sequence[Entry], position: int) -> dict[str, Table]:
+def tables_after(entries: Sequence[HistoryEntry], position: int) -> dict[str, Table]:
     """The table of each router that the first entries, up to the position, speak of."""
     tables: dict[str, Table] = {}
     for entry in entries[:position]:
-        tables.setdefault(entry.router, Table()).apply(entry)
+        if isinstance(entry, Entry):
+            tables.setdefault(entry.router, Table()).apply(entry)
     return tables
 
 
-def way(tables: dict[str, Table], router: str, address: int, most_hops: int | None = None) -> Way:
-    """The way of an address from a router.
+def downs_after(entries: Sequence[HistoryEntry], position: int) -> dict[str, int]:
+    """The links that are down after the first entries, up to the position, each with the entry by which it went down."""
+    down: dict[str, int] = {}
+    for entry in entries[:position]:
+        if isinstance(entry, LinkEntry) and entry.is_down:
+            down.setdefault(entry.link, entry.position)
+        elif isinstance(entry, LinkEntry):
+            down.pop(entry.link, None)
+    return down
+
+
+def way(tables: dict[str, Table], router: str, address: int, most_hops: int | None = None,
+        down: Container[str] = ()) -> Way:
+    """The way of an address from a router, with these links down.
 
     A router does the same with an address each time, so a router that is met again means a loop. The program goes on
     until it has made as many hops as there are routers; `most_hops` is that number, for the list that it prints.
     Without it the list ends where a router is met again.
     """
-    hops = [_hop(tables, router, address)]
+    hops = [_hop(tables, router, address, down)]
     met = {router}
     while hops[-1].target.router is not None:
         following = hops[-1].target.router
         if most_hops is not None and len(hops) > most_hops:
             return Way(hops, True)
-        hops.append(_hop(tables, following, address))
+        hops.append(_hop(tables, following, address, down))
         if most_hops is None and following in met:
             return Way(hops, True)
         met.add(following)
     return Way(hops, most_hops is not None and len(hops) > most_hops)
 
 
-def _hop(tables: dict[str, Table], router: str, address: int) -> Hop:
+def _hop(tables: dict[str, Table], router: str, address: int, down: Container[str]) -> Hop:
     table = tables.get(router)
-    return Hop(router, None if table is None else table.best(address))
+    route = None if table is None else table.best(address)
+    return Hop(router, route, NO_ROUTE if route is None else shown(route.target, down))
 
 
-def changes(entries: Sequence[Entry], first: int, last: int, routers: Iterable[str]) -> Iterator[Change]:
-    """What differs between the tables after `first` entries and those after `last`, for these routers in this order.
+@dataclass(frozen=True)
+class _Side:
+    """A router's table at a moment, and the links that are down then."""
+
+    table: Table
+    down: frozenset[str]
+
+    def target(self, address: int) -> Target:
+        return shown(self.table.target(address), self.down)
+
+    def over(self, links: frozenset[str]) -> set[Prefix]:
+        """The prefixes that have a route over one of these links."""
+        return {prefix for prefix, metrics in self.table.by_prefix.items()
+                if any(route.target.router is not None and route.target.link in links for route in metrics.values())}
+
+
+def changes(entries: Sequence[HistoryEntry], first: int, last: int, routers: Iterable[str]) -> Iterator[Change]:
+    """What differs between the moment after `first` entries and that after `last`, for these routers in this order.
 
     Runs that touch and have the same two targets are one.
     """
     before, after = tables_after(entries, first), tables_after(entries, last)
+    was_down, is_down = (frozenset(downs_after(entries, position)) for position in (first, last))
     touched: dict[str, set[Prefix]] = {}
     for entry in entries[first:last]:
-        touched.setdefault(entry.router, set()).add(entry.prefix)
+        if isinstance(entry, Entry):
+            touched.setdefault(entry.router, set()).add(entry.prefix)
     for router in routers:
-        if router in touched:
-            old = before.get(router, Table())
-            yield from _joined(_differences(router, old, after.get(router, Table()), touched[router]))
+        old, new = _Side(before.get(router, Table()), was_down), _Side(after.get(router, Table()), is_down)
+        named = touched.get(router, set()) | old.over(was_down ^ is_down) | new.over(was_down ^ is_down)
+        if named:
+            yield from _joined(_differences(router, old, new, named))
 
 
-def _differences(router: str, old: Table, new: Table, touched: set[Prefix]) -> Iterator[Change]:
+def _differences(router: str, old: _Side, new: _Side, touched: set[Prefix]) -> Iterator[Change]:
     """Piece by piece. Between two neighbouring ends of prefixes all addresses are treated alike, and only addresses
-    of a prefix that an entry named can be treated otherwise than before."""
-    begins = {begin for table in (old, new) for prefix in table.by_prefix for begin in (prefix.base, prefix.last + 1)}
+    of a prefix that an entry named, or that has a route over a link that went down or came up, can be treated otherwise
+    than before."""
+    begins = {begin for side in (old, new) for prefix in side.table.by_prefix
+              for begin in (prefix.base, prefix.last + 1)}
     begins.update(begin for prefix in touched for begin in (prefix.base, prefix.last + 1))
     ordered = sorted(begins)
     for prefix in _outermost(touched):

@@ -12,32 +12,33 @@ from collections.abc import Callable, Iterable, Iterator, Sequence
 from dataclasses import dataclass, field
 from functools import cached_property
 
-from evaluator import LAST_ADDRESS, NO_ROUTE, Table, changes, tables_after
+from evaluator import LAST_ADDRESS, NO_ROUTE, Table, changes, downs_after, shown, tables_after
 from network import Network
-from report import Entry, Target, address_text, read_address
+from report import HistoryEntry, Target, address_text, read_address
 
 Run = tuple[int, int]
 
 # The causes of a hole, in the order in which they are told; links that are down come after them.
 CAUSES = ("noroute", "dropped blackhole", "dropped unreachable", "dropped prohibit")
 
-# Which words of a query are names, and of what.
+# Which words of a query, or of a line that takes a link down or up, are names, and of what.
 NAMES = {"path": ("router",), "reach": ("router", "router"), "uses": ("link",), "loops": (), "delta": (),
-         "blackholes": ("router",), "waypoint": ("router", "router", "router")}
+         "blackholes": ("router",), "waypoint": ("router", "router", "router"), "down": ("link",), "up": ("link",)}
 
 
 @dataclass
 class Snapshot:
-    """A network after the first entries of a history, with these links down."""
+    """A network after the first entries of a history, with these links down beside those that the entries took down."""
 
     network: Network
-    entries: Sequence[Entry]
+    entries: Sequence[HistoryEntry]
     position: int
     down: frozenset[str] = frozenset()
     tables: dict[str, Table] = field(init=False)
 
     def __post_init__(self) -> None:
         self.tables = tables_after(self.entries, self.position)
+        self.down = self.down | frozenset(downs_after(self.entries, self.position))
 
     @cached_property
     def pieces(self) -> list[Run]:
@@ -50,10 +51,7 @@ class Snapshot:
     def following(self, router: str, address: int) -> Target:
         """What a router does with an address, a route over a link that is down being no way on."""
         table = self.tables.get(router)
-        target = NO_ROUTE if table is None else table.target(address)
-        if target.router is not None and target.link in self.down:
-            return Target(f"linkdown {target.link}", None, target.link)
-        return target
+        return shown(NO_ROUTE if table is None else table.target(address), self.down)
 
     def walk(self, router: str, address: int) -> tuple[list[str], Target | None]:
         """The routers of a way and its end; None is a loop: as many hops as the topology has routers."""
@@ -94,7 +92,7 @@ def run_lines(runs: list[Run]) -> list[str]:
 
 
 def unknown_name(network: Network, words: list[str]) -> str | None:
-    """The line that tells the first unknown name of a query, from the left; None where all are known."""
+    """The line that tells the first unknown name of a query or link line, from the left; None where all are known."""
     routers, links = set(network.routers), {link.name for link in network.links}
     names: list[tuple[str, str]] = []
     if words[0] == "without":
@@ -106,7 +104,7 @@ def unknown_name(network: Network, words: list[str]) -> str | None:
     return None
 
 
-def answer_lines(network: Network, entries: Sequence[Entry], position: int, query: str) -> list[str]:
+def answer_lines(network: Network, entries: Sequence[HistoryEntry], position: int, query: str) -> list[str]:
     """The lines of the answer to a query whose names are all known."""
     words = query.split(" ")
     down: frozenset[str] = frozenset()

@@ -21,11 +21,14 @@ END = r"end|cutshort \d+|lost \d+ (?:BadVersion|BadFrameLength)|toolong|full|rea
 FEED_LINE = re.compile(rf"feed (\d+) ({NAME}) updates (\d+) skipped (\d+) refused (\d+) ({END})", re.ASCII)
 REFUSED_LINE = re.compile(r"refused offset (\d+) message (\d+) cause (\d+) ([A-Za-z]+)", re.ASCII)
 HISTORY_LINE = re.compile(r"history (\d+)", re.ASCII)
+LINK_ENTRY_LINE = re.compile(rf"(\d+) job ([1-9]\d*) (down|up) ({NAME})", re.ASCII)
 ENTRY_LINE = re.compile(
     rf"(\d+) feed (\d+) ({NAME}) (?:set ({PREFIX}) metric (\d+) (.+)|clear ({PREFIX})(?: metric (\d+))?)", re.ASCII
 )
 HISTORY_OF_TEXT = re.compile(rb"^history (\d+)\n", re.MULTILINE)
 JOB_LINE = re.compile(r"job (\d+)", re.ASCII)
+# What is printed of a `down` or `up` line; of what else is printed of a line of a script.
+LINK_LINE = re.compile(rf"line (\d+)(?: at ([1-9]\d*)| (full))? (down|up) ({NAME})", re.ASCII)
 ANSWERED_LINE = re.compile(r"line (\d+) at (\d+) (.+)", re.ASCII)
 UNKNOWN_LINE = re.compile(r"line (\d+) ([a-z].*)", re.ASCII)
 OCTET = r"(0|[1-9][0-9]{0,2})"
@@ -108,6 +111,37 @@ class Entry(NamedTuple):
             return f"set {self.prefix} metric {self.metric} {self.target}"
         return f"clear {self.prefix}" + ("" if self.metric is None else f" metric {self.metric}")
 
+    @property
+    def words(self) -> str:
+        """The entry as the history prints it after its position."""
+        return f"feed {self.feed} {self.router} {self}"
+
+
+class LinkEntry(NamedTuple):
+    """An entry of the history by which a link goes down or comes up; a job's line of a script made it."""
+
+    position: int
+    job: int
+    link: str
+    is_down: bool
+
+    def __str__(self) -> str:
+        """What happens to the link, as scripts and reports say it."""
+        return link_words(self.is_down, self.link)
+
+    @property
+    def words(self) -> str:
+        """The entry as the history prints it after its position."""
+        return f"job {self.job} {self}"
+
+
+# What a history has: updates of routers, and links that go down and come up.
+HistoryEntry = Entry | LinkEntry
+
+
+def link_words(is_down: bool, link: str) -> str:
+    return f"{'down' if is_down else 'up'} {link}"
+
 
 @dataclass(frozen=True)
 class Refused:
@@ -157,15 +191,49 @@ class Answer:
 
 
 @dataclass
+class LinkLine:
+    """What is printed of a `down` or `up` line of a script: the position of its entry, None where the topology doesn't have
+    the link, which `lines` then says, or where the history was full."""
+
+    job: int
+    line: int
+    link: str
+    is_down: bool
+    position: int | None
+    is_full: bool = False
+    lines: list[str] = field(default_factory=list)
+
+    @property
+    def query(self) -> str:
+        """The words of the script's line."""
+        return link_words(self.is_down, self.link)
+
+    def printed_lines(self) -> list[str]:
+        """The lines that tell of it in a report."""
+        place = " full" if self.is_full else "" if self.position is None else f" at {self.position}"
+        return [f"line {self.line}{place} {self.query}", *self.lines]
+
+
+@dataclass
 class Report:
     """A whole report; `length` is that of its history, also where the entries weren't read."""
 
     path: str
     feeds: list[Feed] = field(default_factory=list)
-    entries: list[Entry] = field(default_factory=list)
+    entries: list[HistoryEntry] = field(default_factory=list)
     jobs: list[int] = field(default_factory=list)
-    answers: list[Answer] = field(default_factory=list)
+    told: list[Answer | LinkLine] = field(default_factory=list)
     length: int = 0
+
+    @property
+    def answers(self) -> list[Answer]:
+        """What is told of queries."""
+        return [one for one in self.told if isinstance(one, Answer)]
+
+    @property
+    def link_lines(self) -> list[LinkLine]:
+        """What is told of links that were to go down or come up."""
+        return [one for one in self.told if isinstance(one, LinkLine)]
 
     def feed_of(self, router: str) -> Feed | None:
         """The router's feed; a router has at most one in a run."""
@@ -175,16 +243,17 @@ class Report:
         """All its lines, as they have to be printed."""
         lines = [line for feed in self.feeds for line in feed.printed_lines()]
         lines.append(f"history {len(self.entries)}")
-        lines += [f"{entry.position} feed {entry.feed} {entry.router} {entry}" for entry in self.entries]
+        lines += [f"{entry.position} {entry.words}" for entry in self.entries]
         for job in self.jobs:
             lines.append(f"job {job}")
-            lines += [line for answer in self.answers if answer.job == job for line in answer.printed_lines()]
+            lines += [line for one in self.told if one.job == job for line in one.printed_lines()]
         return [*lines, "done"]
 
     def names(self) -> set[str]:
         """The routers that the report names: those with a feed, and those that some route leads to."""
         named = {feed.router for feed in self.feeds}
-        named.update(entry.target.router for entry in self.entries if entry.target and entry.target.router)
+        named.update(entry.target.router for entry in self.entries
+                     if isinstance(entry, Entry) and entry.target and entry.target.router)
         return named
 
 
@@ -227,8 +296,11 @@ _kept_prefix = lru_cache(maxsize=2**20)(read_prefix)
 _kept_target = lru_cache(maxsize=2**16)(read_target)
 
 
-def read_entry(position: int, text: str) -> Entry:
-    """The entry at a position, from its words after the position: `feed K ROUTER OP`."""
+def read_entry(position: int, text: str) -> HistoryEntry:
+    """The entry at a position, from its words after the position: `feed K ROUTER OP`, or `job J down LINK`."""
+    link = LINK_ENTRY_LINE.fullmatch(f"{position} {text}")
+    if link is not None:
+        return LinkEntry(position, int(link[2]), link[4], link[3] == "down")
     match = ENTRY_LINE.fullmatch(f"{position} {text}")
     metric = match[5] or match[8]
     return Entry(position, int(match[2]), match[3], _kept_prefix(match[4] or match[7]),
@@ -338,9 +410,12 @@ class _Reader:
                 teller.tell(position)
         teller.end()
 
-    def entry(self, position: int, routers: dict[int, str]) -> Entry:
-        match = ENTRY_LINE.fullmatch(self.take())
-        if match is None or int(match[1]) != position:
+    def entry(self, position: int, routers: dict[int, str]) -> HistoryEntry:
+        line = self.take()
+        match = ENTRY_LINE.fullmatch(line)
+        if match is None:
+            return self.link_entry(position, line)
+        if int(match[1]) != position:
             raise self.wrong(f"this isn't entry {position} of the history")
         feed, router = int(match[2]), match[3]
         if routers.get(feed) != router:
@@ -349,6 +424,12 @@ class _Reader:
             metric = None if match[8] is None else int(match[8])
             return Entry(position, feed, router, self.prefix(match[7]), metric, None)
         return Entry(position, feed, router, self.prefix(match[4]), int(match[5]), self.target(match[6]))
+
+    def link_entry(self, position: int, line: str) -> LinkEntry:
+        match = LINK_ENTRY_LINE.fullmatch(line)
+        if match is None or int(match[1]) != position:
+            raise self.wrong(f"this isn't entry {position} of the history")
+        return LinkEntry(position, int(match[2]), match[4], match[3] == "down")
 
     def prefix(self, text: str) -> Prefix:
         prefix = _kept(self.prefixes, text, read_prefix)
@@ -367,29 +448,39 @@ class _Reader:
         if self.take() != f"job {job}":
             raise self.wrong(f"this isn't the line of job {job}")
         report.jobs.append(job)
-        while self.is_query(self.peek()):
-            report.answers.append(self.answer(job, report.length))
+        while self.is_told(self.peek()):
+            report.told.append(self.told(job, report.length))
 
-    def answer(self, job: int, longest: int) -> Answer:
+    def told(self, job: int, longest: int) -> Answer | LinkLine:
         line = self.take()
+        match = LINK_LINE.fullmatch(line)
+        one = self.answer(job, line) if match is None else LinkLine(
+            job, int(match[1]), match[5], match[4] == "down", None if match[2] is None else int(match[2]),
+            match[3] is not None)
+        if one.position is not None and one.position > longest:
+            raise self.wrong(f"the history has {longest} entries, so none of it stands at {one.position}")
+        one.lines.extend(self.answer_lines())
+        if isinstance(one, LinkLine):
+            is_known = one.position is not None or one.is_full
+            if one.lines != ([] if is_known else [f"unknown link {one.link}"]):
+                raise self.wrong(f"below {one.printed_lines()[0]!r} stands another line than there has to be")
+        return one
+
+    @staticmethod
+    def answer(job: int, line: str) -> Answer:
         match = ANSWERED_LINE.fullmatch(line)
         if match is not None:
-            answer = Answer(job, int(match[1]), int(match[2]), match[3])
-        else:
-            match = UNKNOWN_LINE.fullmatch(line)
-            answer = Answer(job, int(match[1]), None, match[2])
-        if answer.position is not None and answer.position > longest:
-            raise self.wrong(f"the history has {longest} entries, so no answer stands at {answer.position}")
-        answer.lines.extend(self.answer_lines())
-        return answer
+            return Answer(job, int(match[1]), int(match[2]), match[3])
+        match = UNKNOWN_LINE.fullmatch(line)
+        return Answer(job, int(match[1]), None, match[2])
 
     def answer_lines(self) -> Iterator[str]:
-        """The lines up to the next query, job or the end. No line of an answer looks like one of these."""
-        while not (self.is_query(self.peek()) or JOB_LINE.fullmatch(self.peek()) or self.peek() == "done"):
+        """The lines up to the next line of a script, job or the end. No line of an answer looks like one of these."""
+        while not (self.is_told(self.peek()) or JOB_LINE.fullmatch(self.peek()) or self.peek() == "done"):
             yield self.take()
 
     @staticmethod
-    def is_query(line: str) -> bool:
+    def is_told(line: str) -> bool:
         return ANSWERED_LINE.fullmatch(line) is not None or UNKNOWN_LINE.fullmatch(line) is not None
 
 

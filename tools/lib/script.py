@@ -1,7 +1,6 @@
 """A script, judged as the program judges it, and why a line of it is refused.
 
-The rules are those of docs/FORMATS.md, section Scripts. `ANSWERED` and `HAS_WITHOUT` say which queries the program of
-this repository answers: the others are known here too, so that a line that comes too early is told apart from a slip.
+The rules are those of docs/FORMATS.md, section Scripts.
 """
 
 from __future__ import annotations
@@ -25,8 +24,7 @@ QUERIES = {
     "path": ("ROUTER", "ADDRESS"), "reach": ("ROUTER", "ROUTER"), "uses": ("LINK",), "loops": (),
     "blackholes": ("ROUTER",), "waypoint": ("ROUTER", "ROUTER", "ROUTER"), "delta": (),
 }
-ANSWERED = tuple(QUERIES)
-HAS_WITHOUT = True
+LINK_VERBS = ("down", "up")
 
 
 class ScriptFault(Exception):
@@ -78,6 +76,9 @@ def _read_line(number: int, line: bytes, feeds: Feeds) -> str | None:
     try:
         if len(line) > LONGEST_LINE:
             raise BadLine(f"a line has at most {LONGEST_LINE} bytes, and this one has {len(line)}")
+        if words[0] in LINK_VERBS:
+            _check_link_line(words)
+            return None
         if words[0] != "take":
             _check_query(words)
             return None
@@ -107,11 +108,17 @@ def _is_count(word: str) -> bool:
     return re.fullmatch(r"[1-9][0-9]{0,9}", word) is not None and int(word) <= MOST_FRAMES
 
 
+def _check_link_line(words: list[str]) -> None:
+    if len(words) != 2:
+        raise BadLine(f"{words[0]} wants LINK after it, and here stand {len(words) - 1} words")
+    _check_operand("LINK", words[1])
+
+
 def _check_query(words: list[str]) -> None:
-    if words[0] == "without" and HAS_WITHOUT:
+    if words[0] == "without":
         words = _after_without(words)
     verb, operands = words[0], words[1:]
-    if verb not in ANSWERED:
+    if verb not in QUERIES:
         raise BadLine(_unknown_verb(verb))
     wanted = QUERIES[verb]
     if len(operands) != len(wanted):
@@ -132,9 +139,7 @@ def _after_without(words: list[str]) -> list[str]:
 
 
 def _unknown_verb(verb: str) -> str:
-    if verb in QUERIES or verb == "without":
-        return f"{verb} is a query that this version doesn't answer yet: it answers {', '.join(ANSWERED)}"
-    known = ["take", *ANSWERED] + (["without"] if HAS_WITHOUT else [])
+    known = ["take", *LINK_VERBS, *QUERIES, "without"]
     close = get_close_matches(verb, known, 1)
     hint = f" (did you mean {close[0]}?)" if close else ""
     return f"a line begins with {', '.join(known)} or #, and not with {verb[:40]!r}{hint}"

@@ -8,7 +8,7 @@ from collections.abc import Iterator
 from dataclasses import asdict
 
 from cidr import Run, read_run, runs_as_prefixes
-from report import Answer, Feed, Prefix, Report, read_address
+from report import Answer, Feed, LinkLine, Prefix, Report, read_address
 
 CYCLE = re.compile(r"cycle (.+) least (\S+) addresses (\d+)")
 # The comment by which `moments --print-script` says the time of the lines below it.
@@ -32,8 +32,8 @@ def times_of(scripts: list[str]) -> Times:
     return times
 
 
-def time_of(answer: Answer, times: Times) -> str:
-    """The time of an answer's line, to be put behind its position; nothing where none is known."""
+def time_of(answer: Answer | LinkLine, times: Times) -> str:
+    """The time of a line of a script, to be put behind its position; nothing where none is known."""
     time = times.get((answer.job, answer.line))
     return "" if time is None else f" ({time})"
 
@@ -47,7 +47,21 @@ def summary(report: Report, times: Times) -> Iterator[str]:
     told = [times[answer.job, answer.line] for answer in report.answers if (answer.job, answer.line) in times]
     if told:
         yield f"times: from {told[0]} to {told[-1]}"
+    yield from link_summary(report, times)
     yield from (f"{kind}: {line}" for kind in kinds for line in kind_lines(report, kind, times))
+
+
+def link_summary(report: Report, times: Times) -> Iterator[str]:
+    """How often links went down and came up by lines of scripts, which of them last, and the lines that did nothing."""
+    done = sorted((one for one in report.link_lines if one.position is not None), key=lambda one: one.position)
+    if done:
+        counts = Counter(one.query.split()[0] for one in done)
+        left = sorted(name for name, is_down in {one.link: one.is_down for one in done}.items() if is_down)
+        yield f"links: {counts['down']} down, {counts['up']} up; down at the end: {', '.join(left) or 'none'}"
+    for one in report.link_lines:
+        if one.position is None:
+            why = "the history is full" if one.is_full else one.lines[0]
+            yield f"links: job {one.job} line {one.line}{time_of(one, times)} {one.query} did nothing: {why}"
 
 
 def feed_line(feed: Feed) -> str:
@@ -100,7 +114,7 @@ def is_trouble(kind: str, answer: Answer) -> bool:
     return kind in ("loops", "waypoint") and answer.lines != ["none"]
 
 
-def answer_lines(answer: Answer, own: list[Prefix], names: dict[tuple[str, int], str], times: Times) -> Iterator[str]:
+def answer_lines(answer: Answer | LinkLine, own: list[Prefix], names: dict[tuple[str, int], str], times: Times) -> Iterator[str]:
     """An answer with its runs as prefixes, or how much they have of one's own, and with the names of interfaces."""
     yield answer.printed_lines()[0] + time_of(answer, times)
     held: list[Run] = []
@@ -124,8 +138,13 @@ def as_data(report: Report, times: Times) -> dict[str, object]:
     return {"entries": report.length, "feeds": [
         {"router": feed.router, "updates": feed.updates, "skipped": feed.skipped, "end": feed.end,
          "refused": [{"offset": one.offset, "message": one.message, "cause": one.cause} for one in feed.refused]}
-        for feed in report.feeds], "answers": [asdict(answer) | ({"time": times[answer.job, answer.line]} if (answer.job, answer.line) in times else {})
-                                           for answer in report.answers]}
+        for feed in report.feeds], "answers": [with_time(one, times) for one in report.answers],
+        "links": [with_time(one, times) for one in report.link_lines]}
+
+
+def with_time(one: Answer | LinkLine, times: Times) -> dict[str, object]:
+    time = times.get((one.job, one.line))
+    return asdict(one) | ({} if time is None else {"time": time})
 
 
 def cycle_line(line: str, own: list[Prefix]) -> str:

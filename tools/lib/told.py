@@ -18,21 +18,23 @@ from report import address_text, read_address
 
 @dataclass
 class Moment:
-    """A report up to a position of its history, and the tables there as far as they have routes for one address."""
+    """A report up to a position of its history: the tables there as far as they have routes for one address, and the links
+    that are down, each with the entry by which it went down."""
 
     report: Brief
     position: int
     address: int
     tables: dict[str, Table]
+    down: dict[str, int]
 
     @staticmethod
     def of(report: Brief, word: str, address: int) -> Moment:
         position = read_position(report, word)
         entries = [entry for entry in report.entries_about(address) if entry.position <= position]
-        return Moment(report, position, address, tables_after(entries, len(entries)))
+        return Moment(report, position, address, tables_after(entries, len(entries)), report.downs_at(position))
 
     def way(self, router: str) -> Way:
-        return way(self.tables, router, self.address)
+        return way(self.tables, router, self.address, down=self.down)
 
     def why_no_route(self, router: str) -> str:
         """Which of the meanings of `noroute` this one has."""
@@ -55,8 +57,8 @@ class Moment:
 
 
 def check_fits(report: Brief, network: Network, path: str) -> None:
-    """That a topology, read from `path`, may be the one of the report's run: it has its routers, and each route over
-    a link goes to the link's far end."""
+    """That a topology, read from `path`, may be the one of the report's run: it has its routers and links, and each route
+    over a link goes to the link's far end."""
     links = {link.name: link for link in network.links}
     for router in [feed.router for feed in report.feeds]:
         if router not in network.routers:
@@ -66,6 +68,9 @@ def check_fits(report: Brief, network: Network, path: str) -> None:
         if link is None or {router, far} != {end[0] for end in link.ends}:
             raise ToolError(f"{path}: it has no link {name} from {router} to {far}, by which"
                             f" {report.path} has routes: another run's?")
+    for entry in report.link_entries:
+        if entry.link not in links:
+            raise ToolError(f"{path}: it has no link {entry.link}, of which {report.path} says {entry}: another run's?")
 
 
 def ends_from(link: Link, router: str) -> tuple[str, str]:
@@ -91,10 +96,13 @@ def read_address_word(word: str) -> int:
     return address
 
 
-def decided_by(hop: Hop) -> str:
-    """The route that decided a hop, and the entry that set it."""
+def decided_by(moment: Moment, hop: Hop) -> str:
+    """The route that decided a hop, and the entry that set it; where its link is down, the entry that took it down too."""
     route = hop.route
-    return f"{route.prefix} metric {route.metric} {route.target} (entry {route.position})"
+    words = f"{route.prefix} metric {route.metric} {route.target} (entry {route.position})"
+    if hop.target == route.target:
+        return words
+    return f"{words}, and {hop.target.link} is down (entry {moment.down[hop.target.link]})"
 
 
 def beside(moment: Moment, hop: Hop) -> Iterator[str]:

@@ -189,8 +189,8 @@ class Turns(unittest.TestCase):
         self.assertEqual(len(bench.inputs), 2)
 
 
-class Script(InputCase):
-    """The script over programs that print one line."""
+class ScriptCase(InputCase):
+    """The script over programs that print one line, or others."""
 
     def program(self, name: str, line: str, status: int = 0) -> str:
         path = os.path.join(self.folder, name)
@@ -211,6 +211,8 @@ class Script(InputCase):
                 status = end.code
         return status, [line for line in out.getvalue().splitlines() if line.startswith("| ")]
 
+
+class Script(ScriptCase):
     def test_a_table_of_the_rows_that_are_asked_for(self) -> None:
         ours, peer = self.program("ours", "done"), self.program("peer", "done")
         status, table = self.run_script(ours, peer, "make-5", "memory-5", "--rounds", "1", "--old", peer)
@@ -242,6 +244,33 @@ class Script(InputCase):
     def test_words_that_it_does_not_know(self) -> None:
         for given in ((), ("ours",), ("ours", "peer", "nothing")):
             self.assertEqual(self.run_script(*given)[0], bounds.__doc__)
+
+
+class Links(ScriptCase):
+    """`links.py` over the plain evaluator, which is no program to be measured: its report has to be the one that is due."""
+
+    def run_links(self, product: str) -> subprocess.CompletedProcess[str]:
+        words = [sys.executable, os.path.join(BENCH, "links.py"), "--product", product, "1", "64"]
+        return subprocess.run(words, capture_output=True, text=True)
+
+    def test_the_report_is_compared(self) -> None:
+        ran = self.run_links(plain_program(self.addCleanup))
+        self.assertNotIn("a wrong report", ran.stderr)
+        self.assertTrue(ran.stderr.startswith("links.py: so few prefixes") or "down or up: " in ran.stdout, ran)
+        ran = self.run_links(self.program("ours", "done"))
+        self.assertEqual((ran.returncode, ran.stdout), (1, ""))
+        self.assertIn("bench: a wrong report, status 0", ran.stderr)
+
+    def test_its_rows_run_the_product_alone(self) -> None:
+        with mock.patch.object(bounds.links, "COUNT", 64):
+            _, table = self.run_script(plain_program(self.addCleanup), "no-peer", "links", "links-ms", "--rounds", "1")
+        self.assertEqual([line.split(" | ")[:3] for line in table[1:]],
+                         [["| links", "64 prefixes", "1"], ["| links-ms", "64 prefixes", "20"]])
+
+    def test_what_is_held_to(self) -> None:
+        times = bounds.links.Times(update=2e-6, link=0.03, scan=0.04)
+        self.assertAlmostEqual(times.scaled, 15)
+        self.assertAlmostEqual(times.ratio, 0.75)
 
 
 if __name__ == "__main__":

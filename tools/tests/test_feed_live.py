@@ -93,14 +93,16 @@ class Steps(unittest.TestCase):
     def test_outputs_that_the_document_shows(self) -> None:
         document = read(os.path.join(TOP, "docs", "FIRST-ANSWER.md")).decode()
         swapped = tool("check", "topology.toml", "r1=r2.1.fpm", "r2=r1.1.fpm", "r3=r3.1.fpm", folder=LIVE).lines()[:3]
-        frames = tool("frames", "r1.1.fpm", folder=LIVE).lines()[12:20]
-        for shown in (text("topology.toml"), text("script"), "\n".join(swapped), "\n".join(frames)):
+        frames = tool("frames", "r1.1.fpm", folder=LIVE).lines()[17:19]
+        script = "\n".join(text("script").splitlines()[:13])
+        for shown in (text("topology.toml"), f"```\n{script}\n```", "\n".join(swapped), "\n".join(frames)):
             self.assertIn(shown, document)
 
     def test_answers_over_time_that_the_document_shows(self) -> None:
         document = read(os.path.join(TOP, "docs", "FIRST-ANSWER.md")).decode()
         plain = plain_program(self.addCleanup)
-        for words in ((), ("--settled", "--ask", "path r1 10.2.0.9")):
+        path = ("--ask", "path r1 10.2.0.9")
+        for words in ((), ("--settled", *path), ("--link-states", *path, "--from", "12:54:45", "--to", "12:54:46")):
             with mock.patch.dict(os.environ, DELTANET=plain):
                 ran = tool("moments", "topology.toml", *FEEDS, *words, folder=LIVE)
             self.assertIn(f"```\n{ran.out}```", document)

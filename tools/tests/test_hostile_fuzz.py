@@ -25,9 +25,10 @@ GROWTHS = load_tool("dev/refuse-growths")
 # The tools have put their folder of modules on the path.
 import run_words  # noqa: E402
 from chance import frame, frames_of, made_case, spoiled_feed  # noqa: E402
-from due import Ended, faults_of, feed_due, jobs_due, status_due  # noqa: E402
+from due import Ended, faults_of  # noqa: E402
 from network import read_topology  # noqa: E402
-from queries import answer_lines, unknown_name  # noqa: E402
+from plain_report import report_of  # noqa: E402
+from queries import answer_lines  # noqa: E402
 from report import parse_report  # noqa: E402
 from trials import GROUPS, ONE_ROUTE, RING, Trial, set_route  # noqa: E402
 
@@ -41,25 +42,11 @@ STORED = (
 )
 
 
-def plain_report(words: list[str], folder: str) -> Ended:
-    """A right report: the jobs one after the other."""
+def plain_report(words: list[str], folder: str, chance: random.Random | None = None) -> Ended:
+    """A right report: the jobs one after the other, or mixed by chance."""
     said = run_words.read_words(words)
-    network = read_topology(os.path.join(folder, said.topology))
-    feeds = [feed_due(network, folder, number, part) for number, part in enumerate(said.feeds, 1)]
-    jobs = jobs_due(said, folder, feeds)
-    history = [update for job in jobs for update in job.updates]
-    lines = [line for feed in feeds for line in feed.lines] + [f"history {len(history)}"]
-    lines += [f"{place} {update}" for place, update in enumerate(history, 1)]
-    entries = parse_report("made", "\n".join([*lines, "done\n"]).encode()).entries
-    first = 0
-    for number, job in enumerate(jobs, 1):
-        lines.append(f"job {number}")
-        for asked in job.queries:
-            unknown, position = unknown_name(network, asked.query.split(" ")), first + asked.taken
-            lines.append(f"line {asked.line} {'' if unknown else f'at {position} '}{asked.query}")
-            lines += [unknown] if unknown else answer_lines(network, entries, position, asked.query)
-        first += len(job.updates)
-    return Ended(status_due(feeds), "\n".join([*lines, "done\n"]).encode())
+    status, lines = report_of(read_topology(os.path.join(folder, said.topology)), said, folder, chance)
+    return Ended(status, "".join(f"{line}\n" for line in lines).encode())
 
 
 def changed(source: random.Random, text: bytes) -> bytes:

@@ -13,7 +13,6 @@ import sys
 import tempfile
 import unittest
 from pathlib import Path
-from unittest import mock
 
 TOOLS = Path(__file__).resolve().parent.parent
 FIRST_PATH = TOOLS.parent / "examples" / "first-path"
@@ -236,19 +235,17 @@ class ErrorLines(unittest.TestCase):
                 self.check(words, fault and f"error script 2 {fault}", place, rule)
 
     def test_further_queries(self) -> None:
-        """Lines of queries that the program may come to answer: as they are judged once they are named as answered."""
         taken = (b"reach r1 r2", b"uses a", b"loops", b"blackholes r9", b"waypoint r1 r2 r3",
                  b"without a path r1 0.0.0.0", b"without a,b reach r1 r2")
         refused = (b"reach r1", b"uses A", b"loops r1", b"waypoint r1 r2", b"without a delta", b"without", b"without a",
                    b"without a without b loops", b"without a, loops", b"without a take r1 all", b"with a loops")
         feeds = script.Feeds(["r1"], set())
-        with mock.patch.multiple(script, ANSWERED=tuple(script.QUERIES), HAS_WITHOUT=True):
-            for line in taken:
+        for line in taken:
+            script.read_script(line, feeds)
+        for line in refused:
+            with self.assertRaises(script.ScriptFault, msg=line) as caught:
                 script.read_script(line, feeds)
-            for line in refused:
-                with self.assertRaises(script.ScriptFault, msg=line) as caught:
-                    script.read_script(line, feeds)
-                self.assertEqual("BadLine", caught.exception.cause)
+            self.assertEqual("BadLine", caught.exception.cause)
 
     def test_words_that_are_not_text(self) -> None:
         self.assertEqual("error words", self.why(["run", "topology.toml", b"r1=\xff"])[0])

@@ -178,7 +178,9 @@ def made_scripts(source: Random, draft: Draft, most: int) -> list[bytes]:
 def made_script(source: Random, network: Network, takes: list[str]) -> bytes:
     lines = []
     for _ in range(source.randrange(MOST_LINES)):
-        if takes and source.random() < 0.5:
+        if source.random() < 0.25:
+            lines.append(f"{source.choice(('down', 'down', 'up'))} {made_link(source, network)}")
+        elif takes and source.random() < 0.5:
             lines.append(f"take {source.choice(takes)} {source.choice((1, 1, 2, 3, 7, 'all', 2 ** 32 - 1))}")
         else:
             lines.append(made_query(source, network))
@@ -192,7 +194,7 @@ def made_query(source: Random, network: Network) -> str:
         return "r99" if source.random() < 0.02 else source.choice(network.routers)
 
     def link() -> str:
-        return "l99" if not network.links or source.random() < 0.02 else source.choice(network.links).name
+        return made_link(source, network)
 
     address = source.choice(BASES) + source.choice((0, 1, 127, 128, 255, 256, 65_535, 2 ** 24))
     query = source.choice((
@@ -201,6 +203,11 @@ def made_query(source: Random, network: Network) -> str:
     if query == "delta" or source.random() < 0.6:
         return query
     return f"without {','.join(link() for _ in range(source.randint(1, 3)))} {query}"
+
+
+def made_link(source: Random, network: Network) -> str:
+    """The name of a link, now and then of one that isn't there."""
+    return "l99" if not network.links or source.random() < 0.02 else source.choice(network.links).name
 
 
 # ---- what spoils

@@ -7,3 +7,4 @@ pub mod Meeting
 pub mod Meets
 pub mod Placed
 pub mod SpanCuts
+mod SpanRuns

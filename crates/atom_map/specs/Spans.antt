@@ -3,6 +3,7 @@
 use Rattle.std.specs.Prelude.{ℕ, Bool, true, false, List, [], ◌∷◌, length, ◌≡◌, ◌+◌, ◌<◌, ◌≤◌, ◌^◌, ◌==◌, slice_index_or, if◌then◌else◌}
 use Rattle.std.specs.List.{list_any}
 use Rattle.base.specs.Rows.{is_within, CoverFrom}
+use Rattle.base.specs.declared.run.Run.{Run}
 
 -- the addresses from `low` up to, and without, `past`
 pub record Span : Type 0 where
@@ -70,6 +71,22 @@ pub record IsSpanAt (spans : List Span) (place a low : ℕ) : Type 0 where
   pub is : (d : Span) → low ≡ (slice_index_or spans place d).low
   pub from : low ≤ a
   pub to : (d : Span) → a < (slice_index_or spans place d).past
+
+-- these are the runs of addresses of so many spans side by side, from the one at a place on
+abbrev pub AreRunsOf : List Span → ℕ → ℕ → List Run → Type 0
+AreRunsOf spans from count runs = (k : ℕ) (d : Run) (s : Span) → k < count
+    → ((slice_index_or runs k d).lo ≡ (slice_index_or spans (from + k) s).low)
+    × ((slice_index_or runs k d).hi + 1 ≡ (slice_index_or spans (from + k) s).past)
+
+-- so they are, as addresses follow one another in a page: each ends where the next begins
+abbrev pub AreRunsIn : List ℕ → ℕ → List Run → Type 0
+AreRunsIn page count runs = (k : ℕ) (d : Run) (e : ℕ) → k < count
+    → ((slice_index_or runs k d).lo ≡ slice_index_or page k e)
+    × ((slice_index_or runs k d).hi + 1 ≡ slice_index_or page (k + 1) e)
+
+-- addresses ascend
+abbrev pub DoRise : List ℕ → Type 0
+DoRise page = (k : ℕ) (e : ℕ) → k + 1 < length page → slice_index_or page k e < slice_index_or page (k + 1) e
 
 -- Of some addresses that ascend, which begin so many spans, this is the last one that isn't above an address `a`: what
 -- follows it is, where there is something.

@@ -1,10 +1,10 @@
 //! The boundaries of atoms alone.
 
-ghost use Rattle.std.specs.Prelude.{◌≡◌, ◌<◌, ℕ, IfOk, IfSome, OnErr, length, slice_index_or};
-ghost use Rattle.atom_map.specs.Spans.{Span, AreSpans, IsCut, IsLastBegun, IsSpanAt, IsSpanPlace, one_span, spans_of};
+ghost use Rattle.std.specs.Prelude.{◌≡◌, ◌+◌, ◌<◌, ◌≤◌, ◌^◌, ℕ, IfOk, IfSome, OnErr, length, slice_index_or};
+ghost use Rattle.atom_map.specs.Spans.{Span, AreRunsIn, AreRunsOf, AreSpans, DoRise, IsCut, IsLastBegun, IsSpanAt, IsSpanPlace, one_span, spans_of};
 
 use crate::guide::Guide;
-use base::OutOfMemory;
+use base::{OutOfMemory, Run};
 use std::alloc::Global;
 use std::marker::Model;
 use version_pages::{Pages, count_below_from};
@@ -151,6 +151,26 @@ impl Bounds {
         }
     }
 
+    /// The runs of the addresses of atoms side by side, from the one at a place on, put into `out` from its front: as many
+    /// as are seen to end in that one's page and there is room for, one at least. It answers how many.
+    pub fn runs(&self, i: u64, out: &mut [Run]) -> usize
+        requires place { i < length self.now }
+        requires room { 0 < length out.old }
+        ensures some { 0 < result }
+        ensures within { result ≤ length out.new }
+        ensures inside { i + result ≤ length self.now }
+        ensures room { length out.new ≡ length out.old }
+        ensures runs { AreRunsOf self.now i result out.new }
+    {
+        let count = runs_at_hand(&self.lows, i, out);
+        if count > 0 {
+            return count;
+        }
+        let (low, past) = self.bounds(i);
+        out[0] = run_between(low, past);
+        1
+    }
+
     /// The same atoms again. The two share what later cuts don't change.
     pub fn copy(&self) -> Result<Bounds, OutOfMemory>
         ensures { IfOk result (λ bounds. bounds ≡ self.now) }
@@ -196,6 +216,49 @@ fn bounds_at_hand(lows: &Pages<u32>, i: u64) -> Option<(u64, u64)>
         [low, next, ..] => Some((u64::from(*low), u64::from(*next))),
         _ => None,
     }
+}
+
+/// The run of the addresses from `low` up to, and without, `past`.
+fn run_between(low: u64, past: u64) -> Run
+    requires some { low < past }
+    requires bound { past ≤ 2 ^ 32 }
+    ensures lo { result.lo ≡ low }
+    ensures hi { result.hi + 1 ≡ past }
+{
+    Run {
+        lo: low as u32,
+        hi: (past - 1) as u32,
+    }
+}
+
+/// The runs between addresses that ascend, put into `out` from its front: as many as there are and there is room for. It
+/// answers how many.
+fn runs_in(page: &[u32], out: &mut [Run]) -> usize
+    requires { DoRise page.now }
+    ensures within { result ≤ length out.new }
+    ensures inside { 0 < result → result < length page.now }
+    ensures room { length out.new ≡ length out.old }
+    ensures runs { AreRunsIn page.now result out.new }
+{
+    let count = out.len().min(page.len().saturating_sub(1));
+    let mut k = 0;
+    'runs: while k < count {
+        out[k] = run_between(u64::from(page[k]), u64::from(page[k + 1]));
+        k += 1;
+    }
+    count
+}
+
+/// The runs of the addresses of atoms side by side, from the one at a place on, put into `out` from its front: as many as
+/// are seen to end in that one's page and there is room for. It answers how many.
+fn runs_at_hand(lows: &Pages<u32>, i: u64, out: &mut [Run]) -> usize
+    requires { AreSpans (spans_of lows.now) }
+    ensures within { result ≤ length out.new }
+    ensures inside { 0 < result → i + result ≤ length (spans_of lows.now) }
+    ensures room { length out.new ≡ length out.old }
+    ensures runs { AreRunsOf (spans_of lows.now) i result out.new }
+{
+    runs_in(lows.run_from(i), out)
 }
 
 /// Which of the atoms that begin in a page has an address: the last that doesn't begin above it. `left` is how many begin in

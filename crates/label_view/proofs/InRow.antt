@@ -1,6 +1,7 @@
 -- Rows by place: what they show at their addresses, and runs that are gathered while they go by.
-use Rattle.std.proofs.Common.{◌≡◌, ℕ, zero, suc, ◌+◌, ◌-◌, ◌<◌, ◌≤◌, ◌^◌, ◌∙◌, ◌||◌, ⊎_elim, Bool, true, false, Option, List, [], ◌∷◌, length, get_or, refl, ap, sym, subst, arith}
+use Rattle.std.proofs.Common.{◌≡◌, ℕ, zero, suc, ◌+◌, ◌-◌, ◌<◌, ◌≤◌, ◌^◌, ◌∙◌, ◌||◌, ⊎_elim, Bool, true, false, Option, List, [], ◌∷◌, length, get_or, slice_set, refl, ap, sym, subst, arith}
 use Rattle.std.specs.List.{list_any}
+use Rattle.std.proofs.lemmas.List.{get_or-set_same}
 use Rattle.std.proofs.lemmas.Bool.{cases_lt, or_from, or_right}
 use Rattle.base.specs.Forwarding.{AreForwarding, row_low, row_past, does, target_in_row, target_of}
 use Rattle.base.specs.Rows.{CoverFrom, is_within}
@@ -14,7 +15,7 @@ use Rattle.base.specs.declared.target.Target.{Target}
 use Rattle.base.specs.declared.target.Target.TheVariants.{To}
 use Rattle.base.proofs.Covers.{holder-at, high-at, ordered-at, within-above, within-below, within-yes}
 use Rattle.label_view.specs.Gathered.{Gathered}
-use Rattle.label_view.specs.Places.{begin_of, IsInRow, IsInRows, AreGatheredTo}
+use Rattle.label_view.specs.Places.{begin_of, AreRunsFrom, IsInRow, IsInRows, AreGatheredTo}
 use Rattle.label_view.proofs.Found.{each-at}
 
 -- any row
@@ -231,3 +232,31 @@ pub gathered-all : (rows : List ForwardingRow) (i : ℕ) (g : Gathered) (runs : 
 gathered-all rows i g runs test l h is apart =
     let end : begin_of rows i ≡ 2 ^ 32 = begin-end rows i l in
     record { apart = apart; exact = λ a b. ap (list_any (holds a)) is ∙ h.exact a (omega arith) }
+
+-- ---- the runs of rows
+
+-- by their bounds
+pub runs-are : (n : ℕ) (rows : List ForwardingRow) (i count : ℕ) (runs : List Run) → AreForwarding n rows → i + count ≤ length rows → ((k : ℕ) (d : Run) (r : ForwardingRow) → k < count → ((get_or runs k d).lo ≡ (get_or rows (i + k) r).low) × ((get_or runs k d).hi + 1 ≡ (get_or rows (i + k) r).past)) → AreRunsFrom rows i count runs
+runs-are n rows i count runs form l h k d m =
+    let inside : i + k < length rows = omega arith in
+    let is = h k d some_row m in
+    let begin : begin_of rows (i + k) ≡ (get_or rows (i + k) some_row).low = begin-at rows (i + k) some_row inside in
+    let next : begin_of rows (suc (i + k)) ≡ (get_or rows (i + k) some_row).past = begin-next 0 rows (i + k) some_row form.cover inside in
+    let P : ℕ → Type 0 = λ j. (get_or runs k d).hi + 1 ≡ begin_of rows j in
+    let after : suc (i + k) ≡ i + k + 1 = omega arith in
+    (is.0 ∙ sym begin, subst P after (is.1 ∙ sym next))
+
+-- of one row
+pub one-run : (n : ℕ) (rows : List ForwardingRow) (i low past : ℕ) (runs : List Run) (run : Run) → AreForwarding n rows → i < length rows → 0 < length runs → ((d : ForwardingRow) → low ≡ (get_or rows i d).low) → ((d : ForwardingRow) → past ≡ (get_or rows i d).past) → run.lo ≡ low → run.hi ≡ past - 1 → AreRunsFrom rows i 1 (slice_set runs 0 run)
+one-run n rows i low past runs run form l some begin end lo hi zero d m =
+    let first : low ≡ begin_of rows i = begin-is rows i low l (begin some_row) in
+    let next : begin_of rows (suc i) ≡ (get_or rows i some_row).past = begin-next 0 rows i some_row form.cover l in
+    let order : low < past = row-order n rows i low past form l (begin some_row) (end some_row) in
+    let is : get_or (slice_set runs 0 run) 0 d ≡ run = get_or-set_same runs 0 run d some in
+    let P : ℕ → Type 0 = λ k. run.lo ≡ begin_of rows k in
+    let Q : ℕ → Type 0 = λ k. run.hi + 1 ≡ begin_of rows k in
+    let from : run.lo ≡ begin_of rows (i + 0) = subst P (omega arith) (lo ∙ first) in
+    let after : run.hi + 1 ≡ begin_of rows (suc i) = omega (arith, hi, order, next, end some_row) in
+    let to : run.hi + 1 ≡ begin_of rows (i + 0 + 1) = subst Q (omega arith) after in
+    (ap (λ (r : Run). r.lo) is ∙ from, ap (λ (r : Run). r.hi + 1) is ∙ to)
+one-run n rows i low past runs run form l some begin end lo hi (suc k) d m = absurd (omega arith)

@@ -133,7 +133,7 @@ impl RunList {
 }
 
 /// The run of the addresses from `low` up to, and without, `past`.
-fn run_of(low: u64, past: u64) -> Run
+pub(crate) fn run_of(low: u64, past: u64) -> Run
     requires some { low < past }
     requires bound { past ≤ 2 ^ 32 }
     ensures lo { result.lo ≡ low }

@@ -4,8 +4,10 @@ ghost use Rattle.std.specs.Prelude.{◌≡◌, ℕ, ◌+◌, ◌<◌, ◌≤◌,
 ghost use Rattle.base.specs.Forwarding.{AreForwarding, target_of};
 ghost use Rattle.base.specs.declared.forwarding_row.ForwardingRow.{ForwardingRow};
 ghost use Rattle.base.specs.declared.target.Target.{Target as TargetIs};
+ghost use Rattle.label_view.specs.Places.{AreRunsFrom};
 
-use base::{RouterId, Target};
+use crate::runs::run_of;
+use base::{RouterId, Run, Target};
 
 /// What all routers do with all addresses: rows in order, which cover the addresses from 0 to 2^32 once, each with what
 /// every router does with its addresses. A row is named by its place in that list, from 0. No call takes memory.
@@ -31,6 +33,23 @@ pub trait LabelView {
         requires { i < length (rows self.now) }
         ensures low { (d : ForwardingRow) → result.0 ≡ (slice_index_or (rows self.now) i d).low }
         ensures past { (d : ForwardingRow) → result.1 ≡ (slice_index_or (rows self.now) i d).past };
+
+    /// The runs of the addresses of rows side by side, from the one at a place on, put into `out` from its front: as many
+    /// as the view has together there and `out` has room for, one at least. It answers how many.
+    fn runs(&self, i: u64, out: &mut [Run]) -> usize
+        requires place { i < length (rows self.now) }
+        requires room { 0 < length out.old }
+        ensures some { 0 < result }
+        ensures within { result ≤ length out.new }
+        ensures inside { i + result ≤ length (rows self.now) }
+        ensures room { length out.new ≡ length out.old }
+        ensures runs { AreRunsFrom (rows self.now) i result out.new }
+    {
+        let _rows = self.atoms();
+        let (low, past) = self.bounds(i);
+        out[0] = run_of(low, past);
+        1
+    }
 
     /// The place of the row that has an address.
     fn atom_of(&self, a: u32) -> u64

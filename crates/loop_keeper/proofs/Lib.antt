@@ -8,6 +8,7 @@ pub mod Leaving
 pub mod Looking
 pub mod Meeting
 pub mod Putting
+pub mod ReadAhead
 pub mod RowCycles
 pub mod Segments
 pub mod Starting

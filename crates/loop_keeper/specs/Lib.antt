@@ -1,3 +1,4 @@
+pub mod Ahead
 pub mod Answer
 pub mod Edits
 pub mod Finding

@@ -98,9 +98,11 @@ impl KeptLoops {
     }
 
     /// Keeps the loops of a network through an update, from what it did before it to what the rows of the view say,
-    /// where `delta` is what changed. It works in place, and looks only at rows that meet a run of the delta, at each
-    /// once: from the router of the change from hop to hop, or at all routers where runs of several meet. The first row
-    /// is asked for near a place: any place does. After `OutOfMemory` what is kept is of neither.
+    /// where `delta` is what changed. It works in place, and follows only rows that meet a run of the delta, each
+    /// once: from the router of the change from hop to hop, or at all routers where runs of several meet. Where changes of
+    /// one router lie close together, what the router that they go on to does is read up to 16 rows at a time, of which no
+    /// steps are counted: a row in which it goes on to nobody is not followed. The first row is asked for near a place:
+    /// any place does. After `OutOfMemory` what is kept is of neither.
     pub fn advance<V: LabelView, L: Ledger>(
         &mut self,
         alloc: Global,

@@ -1,7 +1,8 @@
 //! The loops of a network, kept from update to update (as in Delta-net, NSDI 2017): for segments of addresses
-//! the cycles that they go round. After an update only the rows that meet what changed are looked at.
+//! the cycles that they go round. After an update only the rows that meet what changed are followed.
 #![tactic(auto)]
 
+mod ahead;
 mod answer;
 mod changed;
 mod editing;

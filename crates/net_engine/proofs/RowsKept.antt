@@ -1,9 +1,9 @@
 -- The rows that a version keeps, by place; that with the links that are down they are the version's; and which routers go on
 -- over a link in them.
-use Rattle.std.proofs.Common.{◌≡◌, ℕ, suc, ◌<◌, ◌≤◌, ◌∙◌, ◌==◌, ⊎_elim, Bool, true, false, cond, Option, None, Some, List, [], ◌∷◌, length, get_or, drop, map, refl, ap, sym, subst, arith}
+use Rattle.std.proofs.Common.{◌≡◌, ℕ, suc, ◌+◌, ◌<◌, ◌≤◌, ◌∙◌, ◌==◌, ⊎_elim, Bool, true, false, cond, Option, None, Some, List, [], ◌∷◌, length, get_or, drop, map, refl, ap, sym, subst, arith}
 use Rattle.std.proofs.lemmas.Bool.{both_ways, cases_Bool, cases_lt, eq-eqb, ne_eqb}
 use Rattle.std.proofs.lemmas.List.{get_or_past}
-use Rattle.atom_map.specs.Spans.{Span}
+use Rattle.atom_map.specs.Spans.{Span, AreRunsOf}
 use Rattle.base.specs.Delta.{TellsChange, change_at}
 use Rattle.base.specs.Forwarding.{AreForwarding, does, forwarding_at, row_low, row_past, target_in_row}
 use Rattle.base.specs.Links.{without}
@@ -13,9 +13,12 @@ use Rattle.base.specs.declared.change.Change.{Change}
 use Rattle.base.specs.declared.forwarding_row.ForwardingRow.{ForwardingRow}
 use Rattle.base.specs.declared.ids.LinkId.{LinkId}
 use Rattle.base.specs.declared.ids.RouterId.{RouterId}
+use Rattle.base.specs.declared.run.Run.{Run}
 use Rattle.base.specs.declared.target.Target.{Target}
 use Rattle.base.specs.declared.target.Target.TheVariants.{NoRoute, Dropped, Local, Exit, OnLink, To, LinkDown}
 use Rattle.base.proofs.Covers.{holder-first, holder-rest}
+use Rattle.label_view.specs.Places.{AreRunsFrom}
+use Rattle.label_view.proofs.InRow.{runs-are}
 use Rattle.target_rows.specs.Labels.{Labels, target_at as target_at_place, targets_of}
 use Rattle.target_rows.specs.Over.{MarksOver}
 use Rattle.what_if.specs.Restricted.{row_without, rows_without}
@@ -52,6 +55,12 @@ place-within routers atoms labels now i is l = subst (λ n. i < n) (count-kept r
 pub row-kept : (P : ForwardingRow → Type 0) (routers : ℕ) (atoms : List Span) (labels : Labels) (now : View) (i : ℕ) (d : ForwardingRow) → view_of routers atoms labels ≡ now → i < length atoms → P (row_with (get_or atoms i some-row) (targets_of labels i)) → P (get_or now.rows i d)
 row-kept P routers atoms labels now i d is l h =
     subst P (sym (row-at_place atoms labels.rows i some-row d l) ∙ ap (λ (v : View). get_or v.rows i d) is) h
+
+-- the runs of atoms side by side are those of rows
+pub runs-kept : (routers : ℕ) (atoms : List Span) (labels : Labels) (now : View) (i count : ℕ) (runs : List Run) → view_of routers atoms labels ≡ now → AreForwarding now.routers now.rows → i + count ≤ length atoms → AreRunsOf atoms i count runs → AreRunsFrom now.rows i count runs
+runs-kept routers atoms labels now i count runs is form inside h =
+    runs-are now.routers now.rows i count runs form (subst (λ n. i + count ≤ n) (count-kept routers atoms labels now is) inside)
+    (λ k d r l. row-kept (λ (row : ForwardingRow). ((get_or runs k d).lo ≡ row.low) × ((get_or runs k d).hi + 1 ≡ row.past)) routers atoms labels now (i + k) r is (omega arith) (h k d some-row l))
 
 -- ---- a version's rows
 

@@ -5,9 +5,11 @@ use Rattle.base.specs.Links.{without}
 use Rattle.base.specs.declared.forwarding_row.ForwardingRow.{ForwardingRow}
 use Rattle.base.specs.declared.ids.LinkId.{LinkId}
 use Rattle.base.specs.declared.ids.RouterId.{RouterId}
+use Rattle.base.specs.declared.run.Run.{Run}
 use Rattle.base.specs.declared.target.Target.{Target}
+use Rattle.label_view.specs.Places.{AreRunsFrom}
 use Rattle.what_if.specs.Restricted.{Restricted, rows_without}
-use Rattle.what_if.proofs.Lowered.{column-of, low-at, past-at, same-form, same-length, target-at, targets-of}
+use Rattle.what_if.proofs.Lowered.{column-of, low-at, past-at, runs-of, same-form, same-length, target-at, targets-of}
 use Rattle.net_engine.specs.Shown.{View}
 
 -- the view that the fields make
@@ -33,6 +35,9 @@ module _ (kept now : View) (down : List LinkId) (is : view_with kept down ≡ no
 
   pub past-shown : (i : ℕ) (d : ForwardingRow) → i < length kept.rows → (get_or kept.rows i d).past ≡ (get_or now.rows i d).past
   past-shown i d l = sym (past-at down kept.rows i d l) ∙ ap (λ (v : View). (get_or v.rows i d).past) is
+
+  pub runs-shown : (i count : ℕ) (runs : List Run) → AreRunsFrom kept.rows i count runs → AreRunsFrom now.rows i count runs
+  runs-shown i count runs h = subst (λ (v : View). AreRunsFrom v.rows i count runs) is (runs-of down kept.rows i count runs h)
 
   -- and targets are with the links down
   pub target-shown : (i : ℕ) (r : RouterId) (t shown : Target) → i < length kept.rows → ((d : ForwardingRow) → t ≡ target_of (get_or kept.rows i d) r) → shown ≡ without down t → (d : ForwardingRow) → shown ≡ target_of (get_or now.rows i d) r

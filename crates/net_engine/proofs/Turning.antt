@@ -11,13 +11,14 @@ use Rattle.base.specs.declared.change.Change.{Change}
 use Rattle.base.specs.declared.forwarding_row.ForwardingRow.{ForwardingRow}
 use Rattle.base.specs.declared.ids.LinkId.{LinkId}
 use Rattle.base.specs.declared.ids.RouterId.{RouterId}
+use Rattle.base.specs.declared.run.Run.{Run}
 use Rattle.base.specs.declared.target.Target.{Target}
 use Rattle.base.specs.declared.target.Target.TheVariants.{NoRoute}
 use Rattle.base.proofs.Covers.{holder-first, holder-rest, within-above, within-below}
 use Rattle.label_view.specs.Columns.{AreOfColumn}
-use Rattle.label_view.specs.Places.{IsInRow, IsInRows, begin_of}
-use Rattle.label_view.proofs.InRow.{begin-after, begin-before, begin-is, row-among, row-bound, some_row, target-is}
-use Rattle.net_engine.specs.LinkTurn.{AreMarked, IsToldTo, IsTurnDelta, IsTurnTold}
+use Rattle.label_view.specs.Places.{AreRunsFrom, IsInRow, IsInRows, begin_of}
+use Rattle.label_view.proofs.InRow.{begin-before, row-among, target-is}
+use Rattle.net_engine.specs.LinkTurn.{AreMarked, IsStretch, IsToldTo, IsTurnDelta, IsTurnTold}
 use Rattle.net_engine.specs.Walked.{IsTold}
 
 same-router : (q r : RouterId) → q.0 ≡ r.0 → q ≡ r
@@ -98,21 +99,6 @@ module _ (n : ℕ) (rows : List ForwardingRow) (before after : List LinkId) (old
   pub rows-free : (lo : ℕ) (a : ℕ) → lo ≡ begin_of rows i → lo ≤ a → change_at old r a ≡ None
   rows-free lo a low l = h.ahead r a refl (omega arith)
 
--- ---- the run of rows side by side
-
-pub record IsRunOf (rows : List ForwardingRow) (i j low past : ℕ) : Type 0 where
-  pub lo : low ≡ begin_of rows i
-  pub hi : past ≡ begin_of rows j
-  pub some : low < past
-  pub bound : past ≤ 2 ^ 32
-
-pub run-of : (n : ℕ) (rows : List ForwardingRow) (i j low past : ℕ) → AreForwarding n rows → i < j → j ≤ length rows → ((d : ForwardingRow) → low ≡ (get_or rows i d).low) → ((d : ForwardingRow) → past ≡ (get_or rows (j - 1) d).past) → IsRunOf rows i j low past
-run-of n rows i j low past form some inside begin end =
-    let lo : low ≡ begin_of rows i = begin-is rows i low (omega arith) (begin some_row) in
-    let hi : past ≡ begin_of rows j = begin-after n rows j past form (omega arith) inside (end some_row) in
-    let order : begin_of rows i < begin_of rows j = begin-before n rows i j form some inside in
-    record { lo = lo; hi = hi; some = omega arith; bound = row-bound n rows (j - 1) past form (omega arith) (end some_row) }
-
 -- ---- rows of a column
 
 pub column-same : (n : ℕ) (rows : List ForwardingRow) (r : RouterId) (from : ℕ) (targets : List Target) (k past : ℕ) → AreForwarding n rows → from + length targets ≤ length rows → AreOfColumn rows r from targets → k < past → past ≤ length targets → ((j : ℕ) (d : Target) → k ≤ j → j < past → get_or targets j d ≡ get_or targets k d) →
@@ -128,6 +114,22 @@ column-same n rows r from targets k past form inside column l end same t is a wi
     target-is n rows (from + (at.0 - from)) a r t form (omega arith)
     (λ d. is NoRoute ∙ sym (same (at.0 - from) NoRoute (omega arith) (omega arith)) ∙ column (at.0 - from) d NoRoute (omega arith))
     (subst Q place at.1.2)
+
+-- so they are a stretch, with their runs
+pub stretch-of : (n : ℕ) (rows : List ForwardingRow) (r : RouterId) (from : ℕ) (targets : List Target) (runs : List Run) (k past : ℕ) (first last : Run) (t : Target) → AreForwarding n rows → from + length targets ≤ length rows → AreOfColumn rows r from targets → AreRunsFrom rows from (length targets) runs → k < past → past ≤ length targets → ((j : ℕ) (d : Target) → k ≤ j → j < past → get_or targets j d ≡ get_or targets k d) →
+    ((d : Target) → t ≡ get_or targets k d) → first ≡ get_or runs k first → last ≡ get_or runs (past - 1) last → IsStretch rows (record { router = r; rows = record { from = from + k; past = from + past }; run = record { lo = first.lo; hi = last.hi }; target = t })
+stretch-of n rows r from targets runs k past first last t form inside column are l end same is begins ends =
+    let begin = are k first (omega arith) in
+    let after = are (past - 1) last (omega arith) in
+    let place : from + (past - 1) + 1 ≡ from + past = omega arith in
+    let P : ℕ → Type 0 = λ m. (get_or runs (past - 1) last).hi + 1 ≡ begin_of rows m in
+    record {
+      some = omega arith;
+      inside = omega arith;
+      lo = ap (λ (run : Run). run.lo) begins ∙ begin.0;
+      hi = ap (λ (run : Run). run.hi + 1) ends ∙ subst P place after.1;
+      same = λ a within. column-same n rows r from targets k past form inside column l end same t is a within;
+    }
 
 -- ---- all rows
 

@@ -1,5 +1,5 @@
 -- What is told where other links are down than before: router by router, from address to address.
-use Rattle.std.specs.Prelude.{ℕ, Bool, false, List, None, slice_index_or, ◌≡◌, ◌<◌, ◌≤◌, ◌^◌}
+use Rattle.std.specs.Prelude.{ℕ, Bool, false, List, None, length, slice_index_or, ◌≡◌, ◌+◌, ◌<◌, ◌≤◌, ◌^◌}
 use Rattle.base.specs.Delta.{AreChanges, IsDelta, TellsChange, change_at}
 use Rattle.base.specs.Forwarding.{does}
 use Rattle.base.specs.Walk.{with_down}
@@ -8,6 +8,8 @@ use Rattle.base.specs.declared.forwarding_row.ForwardingRow.{ForwardingRow}
 use Rattle.base.specs.declared.ids.LinkId.{LinkId}
 use Rattle.base.specs.declared.ids.RouterId.{RouterId}
 use Rattle.base.specs.declared.target.Target.{Target}
+use Rattle.label_view.specs.Places.{IsInRows, begin_of}
+use Rattle.net_engine.specs.declared.link_turn.Stretch.{Stretch}
 
 -- It is told where what the routers before one do differs between two moments, and what that one does with the addresses
 -- below `x`, and nothing else.
@@ -32,3 +34,11 @@ IsTurnDelta before after rows changes = IsDelta (with_down before (does rows)) (
 abbrev pub AreMarked : List LinkId → List LinkId → List ForwardingRow → List Bool → Type 0
 AreMarked before after rows marks = (r : RouterId) (a : ℕ) → slice_index_or marks r.0 false ≡ false
     → with_down before (does rows) r a ≡ with_down after (does rows) r a
+
+-- a router does one and the same with the addresses of rows side by side
+pub record IsStretch (rows : List ForwardingRow) (stretch : Stretch) : Type 0 where
+  pub some : stretch.rows.from < stretch.rows.past
+  pub inside : stretch.rows.past ≤ length rows
+  pub lo : stretch.run.lo ≡ begin_of rows stretch.rows.from
+  pub hi : stretch.run.hi + 1 ≡ begin_of rows stretch.rows.past
+  pub same : (a : ℕ) → IsInRows rows stretch.rows.from stretch.rows.past a → does rows stretch.router a ≡ stretch.target

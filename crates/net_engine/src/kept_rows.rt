@@ -6,7 +6,7 @@ ghost use Rattle.base.specs.declared.forwarding_row.ForwardingRow.{ForwardingRow
 ghost use Rattle.net_engine.specs.Paired.{AreLabelled, rows_with};
 
 use atom_map::Bounds;
-use dn_model::{OutOfMemory, RouterId, Target};
+use dn_model::{OutOfMemory, RouterId, Run, Target};
 use label_view::LabelView;
 use std::marker::Model;
 use target_rows::TargetRows;
@@ -77,6 +77,10 @@ impl LabelView for KeptRows {
 
     fn bounds(&self, i: u64) -> (u64, u64) {
         self.atoms.bounds(i)
+    }
+
+    fn runs(&self, i: u64, out: &mut [Run]) -> usize {
+        self.atoms.runs(i, out)
     }
 
     fn atom_of(&self, a: u32) -> u64 {

@@ -1,11 +1,11 @@
 //! What is shown otherwise once a link has gone down or come up.
 
 ghost use Rattle.std.specs.Prelude.{◌≡◌, ℕ, false, ◌+◌, ◌<◌, ◌≤◌, ◌^◌, IfOk, OnOk, length, slice_index_or};
-ghost use Rattle.base.specs.Forwarding.{AreForwarding, does};
+ghost use Rattle.base.specs.Forwarding.{AreForwarding};
 ghost use Rattle.base.specs.declared.target.Target.{Target as TargetIs};
 ghost use Rattle.label_view.specs.Columns.{AreOfColumn};
-ghost use Rattle.label_view.specs.Places.{IsInRows, begin_of};
-ghost use Rattle.net_engine.specs.LinkTurn.{AreMarked, IsTurnDelta, IsTurnTold};
+ghost use Rattle.label_view.specs.Places.{AreRunsFrom, begin_of};
+ghost use Rattle.net_engine.specs.LinkTurn.{AreMarked, IsStretch, IsTurnDelta, IsTurnTold};
 
 use crate::link_set::LinkSet;
 use crate::told::tell;
@@ -21,6 +21,17 @@ use step_count::Steps;
 pub struct Turn<'a> {
     pub before: &'a LinkSet,
     pub after: &'a LinkSet,
+}
+
+/// Rows side by side with whose addresses a router does one and the same.
+#[derive(Clone, Copy)]
+struct Stretch {
+    router: RouterId,
+    rows: Rows,
+    /// Their addresses.
+    run: Run,
+    /// What the router does with them while all links are up.
+    target: Target,
 }
 
 /// Up to which place, from one on, a router does one and the same with the rows of a column.
@@ -39,62 +50,30 @@ fn same_past(targets: &[Target], k: usize) -> usize
     past
 }
 
-/// The run of the addresses from `low` up to, and without, `past`.
-fn run_between(low: u64, past: u64) -> Run
-    requires some { low < past }
-    requires bound { past ≤ 2 ^ 32 }
-    ensures lo { result.lo ≡ low }
-    ensures hi { result.hi + 1 ≡ past }
-{
-    Run {
-        lo: low as u32,
-        hi: (past - 1) as u32,
-    }
-}
-
-/// The run of the addresses of rows side by side.
-fn run_of<V: LabelView>(view: &V, rows: Rows) -> Run
-    requires form { AreForwarding (V.width view.now) (V.rows view.now) }
-    requires some { rows.from < rows.past }
-    requires inside { rows.past ≤ length (V.rows view.now) }
-    ensures lo { result.lo ≡ begin_of (V.rows view.now) rows.from }
-    ensures hi { result.hi + 1 ≡ begin_of (V.rows view.now) rows.past }
-{
-    let (low, _) = view.bounds(rows.from);
-    let (_, past) = view.bounds(rows.past - 1);
-    run_between(low, past)
-}
-
-/// Tells what the turn changes of rows side by side, with whose addresses a router does one and the same.
-fn tell_rows<V: LabelView>(
+/// Tells what the turn changes of a stretch of rows.
+fn tell_stretch<V: LabelView>(
     delta: &mut Delta,
     view: &V,
-    router: RouterId,
-    rows: Rows,
-    target: Target,
+    stretch: Stretch,
     turn: &Turn<'_>,
 ) -> Result<(), OutOfMemory>
     requires form { AreForwarding (V.width view.now) (V.rows view.now) }
-    requires some { rows.from < rows.past }
-    requires inside { rows.past ≤ length (V.rows view.now) }
-    requires same { (a : ℕ) → IsInRows (V.rows view.now) rows.from rows.past a →
-        does (V.rows view.now) router a ≡ target }
-    requires told { IsTurnTold turn.now.before.now turn.now.after.now (V.rows view.now) delta.old router.0
-        (begin_of (V.rows view.now) rows.from) }
-    ensures { OnOk result (IsTurnTold turn.now.before.now turn.now.after.now (V.rows view.now) delta.new router.0
-        (begin_of (V.rows view.now) rows.past)) }
+    requires stretch { IsStretch (V.rows view.now) stretch }
+    requires told { IsTurnTold turn.now.before.now turn.now.after.now (V.rows view.now) delta.old stretch.router.0
+        (begin_of (V.rows view.now) stretch.rows.from) }
+    ensures { OnOk result (IsTurnTold turn.now.before.now turn.now.after.now (V.rows view.now) delta.new
+        stretch.router.0 (begin_of (V.rows view.now) stretch.rows.past)) }
 {
-    let before = turn.before.shown(target);
-    let after = turn.after.shown(target);
+    let before = turn.before.shown(stretch.target);
+    let after = turn.after.shown(stretch.target);
     if before == after {
         return Ok(());
     }
-    let run = run_of(view, rows);
     tell(
         delta,
         Change {
-            router,
-            run,
+            router: stretch.router,
+            run: stretch.run,
             before,
             after,
         },
@@ -102,11 +81,12 @@ fn tell_rows<V: LabelView>(
 }
 
 /// Tells what the turn changes of the rows of a column from a place on with which its router does one and the same. It
-/// answers up to which place it is done.
+/// answers up to which place it is done. The rows' runs are given.
 fn tell_some<V: LabelView>(
     delta: &mut Delta,
     view: &V,
     column: &Column<'_>,
+    runs: &[Run],
     k: usize,
     turn: &Turn<'_>,
 ) -> Result<usize, OutOfMemory>
@@ -115,6 +95,8 @@ fn tell_some<V: LabelView>(
     requires inside { column.now.from + length column.now.targets.now ≤ length (V.rows view.now) }
     requires fits { column.now.from + length column.now.targets.now < 2 ^ 64 }
     requires column { AreOfColumn (V.rows view.now) column.now.router column.now.from column.now.targets.now }
+    requires runs { length column.now.targets.now ≤ length runs.now }
+    requires are { AreRunsFrom (V.rows view.now) column.now.from (length column.now.targets.now) runs.now }
     requires told { IsTurnTold turn.now.before.now turn.now.after.now (V.rows view.now) delta.old column.now.router.0
         (begin_of (V.rows view.now) (column.now.from + k)) }
     ensures some { IfOk result (λ past. k < past) }
@@ -123,25 +105,36 @@ fn tell_some<V: LabelView>(
         column.now.router.0 (begin_of (V.rows view.now) (column.now.from + past))) }
 {
     let past = same_past(column.targets, k);
-    let rows = Rows {
-        from: column.from + k as u64,
-        past: column.from + past as u64,
+    let stretch = Stretch {
+        router: column.router,
+        rows: Rows {
+            from: column.from + k as u64,
+            past: column.from + past as u64,
+        },
+        run: Run {
+            lo: runs[k].lo,
+            hi: runs[past - 1].hi,
+        },
+        target: column.targets[k],
     };
-    tell_rows(delta, view, column.router, rows, column.targets[k], turn)?;
+    tell_stretch(delta, view, stretch, turn)?;
     Ok(past)
 }
 
-/// Tells what the turn changes of the rows of a column.
+/// Tells what the turn changes of the rows of a column, whose runs are given.
 fn tell_column<V: LabelView>(
     delta: &mut Delta,
     view: &V,
     column: &Column<'_>,
+    runs: &[Run],
     turn: &Turn<'_>,
 ) -> Result<(), OutOfMemory>
     requires form { AreForwarding (V.width view.now) (V.rows view.now) }
     requires inside { column.now.from + length column.now.targets.now ≤ length (V.rows view.now) }
     requires fits { column.now.from + length column.now.targets.now < 2 ^ 64 }
     requires column { AreOfColumn (V.rows view.now) column.now.router column.now.from column.now.targets.now }
+    requires runs { length column.now.targets.now ≤ length runs.now }
+    requires are { AreRunsFrom (V.rows view.now) column.now.from (length column.now.targets.now) runs.now }
     requires told { IsTurnTold turn.now.before.now turn.now.after.now (V.rows view.now) delta.old column.now.router.0
         (begin_of (V.rows view.now) column.now.from) }
     ensures { OnOk result (IsTurnTold turn.now.before.now turn.now.after.now (V.rows view.now) delta.new
@@ -149,7 +142,7 @@ fn tell_column<V: LabelView>(
 {
     let mut k = 0;
     'rows: while k < column.targets.len() {
-        k = tell_some(delta, view, column, k, turn)?;
+        k = tell_some(delta, view, column, runs, k, turn)?;
     }
     Ok(())
 }
@@ -166,17 +159,19 @@ fn tell_router<V: LabelView>(
     ensures { OnOk result (IsTurnTold turn.now.before.now turn.now.after.now (V.rows view.now) delta.new
         (router.0 + 1) 0) }
 {
+    let mut runs = [Run { lo: 0, hi: 0 }; PAGE];
     let mut page = [Target::NoRoute; PAGE];
     let rows = view.atoms();
     let mut from = 0;
     'pages: while from < rows {
-        let count = view.column(router, from, &mut page);
+        let some = view.runs(from, &mut runs);
+        let count = view.column(router, from, &mut page[..some]);
         let column = Column {
             router,
             from,
             targets: &page[..count],
         };
-        tell_column(delta, view, &column, turn)?;
+        tell_column(delta, view, &column, &runs, turn)?;
         from += count as u64;
     }
     Ok(())

@@ -7,7 +7,7 @@ ghost use Rattle.what_if.specs.Restricted.{rows_without};
 
 use crate::kept_rows::KeptRows;
 use crate::link_set::LinkSet;
-use dn_model::{OutOfMemory, RouterId, Target};
+use dn_model::{OutOfMemory, RouterId, Run, Target};
 use label_view::LabelView;
 use std::marker::Model;
 
@@ -64,6 +64,10 @@ impl LabelView for Shown {
 
     fn bounds(&self, i: u64) -> (u64, u64) {
         self.kept.bounds(i)
+    }
+
+    fn runs(&self, i: u64, out: &mut [Run]) -> usize {
+        self.kept.runs(i, out)
     }
 
     fn atom_of(&self, a: u32) -> u64 {

@@ -46,7 +46,12 @@ fn update<L: Ledger>(
     version.advance(alloc, entry, &mut steps)
 }
 
-/// Keeps loops through an entry to a version, by its delta, which may be of several routers. Nobody reads the count of steps, which takes no bytes.
+/// From how many changes on loops are kept by what the version shows, which gives many rows at a time. It is made for that, so
+/// that few changes are looked at in the version itself.
+const MANY: usize = 64;
+
+/// Keeps loops through an entry to a version, by its delta, which may be of several routers. Nobody reads the count of
+/// steps, which takes no bytes.
 fn keep<L: Ledger>(
     alloc: Global,
     loops: &mut KeptLoops,
@@ -62,7 +67,11 @@ fn keep<L: Ledger>(
         → AreKept (does (forwarding_of version.now)) loops.new) }
 {
     let mut steps = Steps::<L>::new(blank);
-    loops.advance(alloc, version, delta, version.near(), &mut steps)
+    if delta.changes().len() < MANY {
+        return loops.advance(alloc, version, delta, version.near(), &mut steps);
+    }
+    let shown = version.shown()?;
+    loops.advance(alloc, &shown, delta, version.near(), &mut steps)
 }
 
 /// Before any update: no router has a route, and no address goes round.

@@ -10,9 +10,10 @@ use Rattle.base.specs.Walk.{with_down}
 use Rattle.base.specs.declared.forwarding_row.ForwardingRow.{ForwardingRow}
 use Rattle.base.specs.declared.ids.LinkId.{LinkId}
 use Rattle.base.specs.declared.ids.RouterId.{RouterId}
+use Rattle.base.specs.declared.run.Run.{Run}
 use Rattle.base.specs.declared.target.Target.{Target}
 use Rattle.base.specs.declared.target.Target.TheVariants.{NoRoute, Dropped, Local, Exit, OnLink, To, LinkDown}
-use Rattle.label_view.specs.Places.{begin_of}
+use Rattle.label_view.specs.Places.{AreRunsFrom, begin_of}
 use Rattle.what_if.specs.Restricted.{Restricted, row_without, rows_without}
 
 -- ---- bounds
@@ -25,6 +26,12 @@ pub same-begin : (links : List LinkId) (rows : List ForwardingRow) (i : ℕ) →
 same-begin links [] i = refl
 same-begin links (row ∷ rows) zero = refl
 same-begin links (row ∷ rows) (suc i) = same-begin links rows i
+
+-- so rows side by side have the same runs
+pub runs-of : (links : List LinkId) (rows : List ForwardingRow) (i count : ℕ) (runs : List Run) → AreRunsFrom rows i count runs → AreRunsFrom (rows_without links rows) i count runs
+runs-of links rows i count runs h k d l =
+    let is = h k d l in
+    (is.0 ∙ sym (same-begin links rows (i + k)), is.1 ∙ sym (same-begin links rows (i + k + 1)))
 
 inside-of : (links : List LinkId) (rows : List ForwardingRow) (i : ℕ) → i < length (rows_without links rows) → i < length rows
 inside-of links rows i l = (let P : ℕ → Type 0 = λ n. i < n in subst P (same-length links rows) l)
@@ -113,6 +120,10 @@ past-of {X} rows w view links i past e l is =
     let P : Restricted X → Type 0 = λ v. i < length (rows_without v.links (rows v.view)) → (d : ForwardingRow) → past ≡ (get_or (rows_without v.links (rows v.view)) i d).past in
     let at : P (record { view = view; links = links }) = λ k d. is d ∙ sym (past-at links (rows view) i d (inside-of links (rows view) i k)) in
     subst P e at l
+
+pub runs-seen : {X : Type 0} (rows : X → List ForwardingRow) (w : Restricted X) (view : X) (links : List LinkId) (i count : ℕ) (runs : List Run) → record { view = view; links = links } ≡ w → AreRunsFrom (rows view) i count runs → AreRunsFrom (rows_without w.links (rows w.view)) i count runs
+runs-seen {X} rows w view links i count runs e h =
+    subst (λ (v : Restricted X). AreRunsFrom (rows_without v.links (rows v.view)) i count runs) e (runs-of links (rows view) i count runs h)
 
 pub from-of : {X : Type 0} (rows : X → List ForwardingRow) (w : Restricted X) (view : X) (links : List LinkId) (i a : ℕ) → record { view = view; links = links } ≡ w → i < length (rows view) → ((d : ForwardingRow) → (get_or (rows view) i d).low ≤ a) → (d : ForwardingRow) → (get_or (rows_without w.links (rows w.view)) i d).low ≤ a
 from-of {X} rows w view links i a e l is =

@@ -8,7 +8,7 @@ ghost use Rattle.label_view.specs.Places.{begin_of};
 ghost use Rattle.what_if.specs.Restricted.{rows_without};
 
 use crate::links::{take_links_down, with_links_down};
-use base::{LinkId, RouterId, Target};
+use base::{LinkId, RouterId, Run, Target};
 use label_view::LabelView;
 use std::marker::Model;
 
@@ -57,6 +57,10 @@ impl<'a, V: LabelView> LabelView for Without<'a, V> {
 
     fn bounds(&self, i: u64) -> (u64, u64) {
         self.view.bounds(i)
+    }
+
+    fn runs(&self, i: u64, out: &mut [Run]) -> usize {
+        self.view.runs(i, out)
     }
 
     fn atom_of(&self, a: u32) -> u64 {

@@ -1,4 +1,4 @@
-use Rattle.std.proofs.Common.{◌≡◌, ◌+◌, ◌<◌, ◌≤◌, ◌∙◌, length, get_or, ap, sym, arith}
+use Rattle.std.proofs.Common.{◌≡◌, ◌+◌, ◌<◌, ◌∙◌, length, get_or, ap, sym, arith}
 use Rattle.atom_map.proofs.Bounded.{low-of, page-inside, page-read, past-there}
 use Rattle.atom_map.proofs.bounds.bounds_at_hand.Goals as goal
 

@@ -17,6 +17,7 @@ no_change = record { router = record { 0 = 0 }; run = record { lo = 0; hi = 0 };
 pub loop-change-init : goal.loop-change-init
 loop-change-init g c = record {
   reach = λ k d f l. reach-none (g.V.LabelView.rows c.args.view.now) (slice_index_or c.args.changes.now k d).run.lo;
+  ahead = c.none.ensures (g.V.LabelView.width c.args.view.now) (g.V.LabelView.rows c.args.view.now);
   found = λ tell. more-none (does (g.V.LabelView.rows c.args.view.now)) c.args.search.now.found.items;
   last = λ tell k d f l p. absurd (omega arith);
   inside = λ h. h;
@@ -29,7 +30,10 @@ find_along-requires-clause-change g c =
     each-change c.args.changes.now c.loop-change.change-index no_change c.requires.form inside
 
 pub find_along-requires-clause-reach : goal.find_along-requires-clause-reach
-find_along-requires-clause-reach g c = c.loop-change.invariant.reach c.loop-change.change-index no_change (omega arith) (omega arith)
+find_along-requires-clause-reach g c = record {
+  reached = c.loop-change.invariant.reach c.loop-change.change-index no_change (omega arith) (omega arith);
+  ahead = c.loop-change.invariant.ahead;
+}
 
 pub returns-in_err-find_along-clause-cost : goal.returns-in_err-find_along-clause-cost
 returns-in_err-find_along-clause-cost g c =
@@ -44,7 +48,8 @@ loop-change-preserved g c =
       reach = λ k d f l.
           let P : Change → Type 0 = λ v. v.run.hi < (slice_index_or c.args.changes.now k d).run.lo in
           let rise : (slice_index_or c.args.changes.now c.loop-change.change-index no_change).run.hi < (slice_index_or c.args.changes.now k d).run.lo = subst P (sym (get_or_default c.args.changes.now c.loop-change.change-index no_change d inside)) (c.requires.turn.rise c.loop-change.change-index k d (omega arith) l) in
-          reach-later (g.V.LabelView.rows c.args.view.now) c.find_along.new.reach.past (slice_index_or c.args.changes.now c.loop-change.change-index no_change).run.hi (slice_index_or c.args.changes.now k d).run.lo (omega arith) c.find_along.ensures.reach;
+          reach-later (g.V.LabelView.rows c.args.view.now) c.find_along.new.reach.past (slice_index_or c.args.changes.now c.loop-change.change-index no_change).run.hi (slice_index_or c.args.changes.now k d).run.lo (omega arith) c.find_along.ensures.reach.reached;
+      ahead = c.find_along.ensures.reach.ahead;
       found = λ tell.
           let on : FindsOn (g.V.LabelView.rows c.args.view.now) (slice_index_or c.args.changes.now c.loop-change.change-index no_change) c.find_along.new.reach.past c.loop-change.search.found.items c.find_along.new.search.found.items = c.in_ok-find_along.ensures.found (tell c.loop-change.change-index no_change inside) (c.loop-change.invariant.last tell c.loop-change.change-index no_change (omega arith) inside) in
           more-next (does (g.V.LabelView.rows c.args.view.now)) c.args.changes.now c.loop-change.change-index no_change c.args.search.now.found.items c.loop-change.search.found.items c.find_along.new.search.found.items inside (c.loop-change.invariant.found tell) on.more;

@@ -4,6 +4,7 @@ ghost use Rattle.std.specs.Prelude.{◌≡◌, ◌≤◌, []};
 ghost use Rattle.delta_graph.specs.Pushed.{IsPushed};
 
 use crate::network::{FIRST, crosses};
+use crate::same::same_list;
 use base::{Change, RouterId, Run, Target};
 use delta_graph::Delta;
 use std::alloc::Global;
@@ -39,21 +40,23 @@ fn one_change(rt: &impl Abort, alloc: Global, change: Change) -> Delta
 
 #[test]
 fn touching_changes_with_the_same_targets_are_one(rt: HostRuntime) {
+    let alloc = rt.alloc();
     let first = change(0, 0, 9);
     let second = change(0, 10, 19);
-    let mut delta = one_change(&rt, rt.alloc(), second);
+    let mut delta = one_change(&rt, alloc, second);
     delta.push(first).expect(&rt, "memory");
-    assert_eq!(rt; delta.changes(), &[change(0, 0, 19)][..]);
-    let runs = delta.runs_of(rt.alloc(), FIRST).expect(&rt, "memory");
-    assert_eq!(rt; runs.as_slice(), &[Run { lo: 0, hi: 19 }][..]);
+    same_list(&rt, delta.changes(), &[change(0, 0, 19)][..]);
+    let runs = delta.runs_of(alloc, FIRST).expect(&rt, "memory");
+    same_list(&rt, runs.as_slice(), &[Run { lo: 0, hi: 19 }][..]);
 }
 
 #[test]
 fn changes_stand_by_router_and_then_by_address(rt: HostRuntime) {
+    let alloc = rt.alloc();
     let low = change(0, 7, 9);
     let high = change(1, 5, 5);
-    let mut delta = one_change(&rt, rt.alloc(), high);
-    let other = one_change(&rt, rt.alloc(), low);
-    delta.merge(rt.alloc(), &other).expect(&rt, "memory");
-    assert_eq!(rt; delta.changes(), &[low, high][..]);
+    let mut delta = one_change(&rt, alloc, high);
+    let other = one_change(&rt, alloc, low);
+    delta.merge(alloc, &other).expect(&rt, "memory");
+    same_list(&rt, delta.changes(), &[low, high][..]);
 }

@@ -3,9 +3,9 @@
 ghost use Rattle.std.specs.Prelude.{◌≡◌, ◌<◌};
 
 use crate::network::{
-    FIRST, LAST, PAST, SECOND, THIRD, TO_FIRST, TO_SECOND, TO_THIRD, crosses, row,
+    FIRST, LAST, PAST, SECOND, THIRD, TO_FIRST, TO_SECOND, TO_THIRD, crosses, push_row,
 };
-use crate::same::compare_cycle;
+use crate::same::{compare_cycle, same};
 use base::{Change, LinkId, List, RouterId, Run, Target};
 use delta_graph::Delta;
 use label_view::{LabelView, ListView};
@@ -25,12 +25,23 @@ fn view(rt: &impl Abort, alloc: Global, low: RouterId, middle: RouterId) -> List
     let to_low = Target::To(low, LinkId(0));
     let to_middle = Target::To(middle, LinkId(0));
     let mut rows = List::new(alloc);
-    rows.push(row(rt, alloc, 0, 10, &[TO_SECOND, TO_THIRD, to_low][..]))
-        .expect(rt, "memory");
-    rows.push(row(rt, alloc, 10, 30, &[TO_SECOND, TO_THIRD, to_middle][..]))
-        .expect(rt, "memory");
-    rows.push(row(rt, alloc, 30, PAST, &[TO_SECOND, TO_THIRD, TO_FIRST][..]))
-        .expect(rt, "memory");
+    push_row(rt, alloc, &mut rows, 0, 10, &[TO_SECOND, TO_THIRD, to_low]);
+    push_row(
+        rt,
+        alloc,
+        &mut rows,
+        10,
+        30,
+        &[TO_SECOND, TO_THIRD, to_middle],
+    );
+    push_row(
+        rt,
+        alloc,
+        &mut rows,
+        30,
+        PAST,
+        &[TO_SECOND, TO_THIRD, TO_FIRST],
+    );
     ListView::new(3, rows)
 }
 
@@ -79,7 +90,7 @@ fn third_turns_back(rt: &impl Abort, alloc: Global) -> Delta {
 /// So many cycles are kept.
 pub(crate) fn compare_count(rt: &impl Abort, alloc: Global, loops: &KeptLoops, count: usize) {
     let cycles = loops.answer(alloc).expect(rt, "memory");
-    assert_eq!(rt; cycles.len(), count);
+    same(rt, &cycles.len(), &count);
 }
 
 /// The cycle at a place of the answer is of these routers, with this least address and so many addresses.

@@ -1,6 +1,6 @@
 //! Small networks, row by row, and what several tests ask of a view.
 
-ghost use Rattle.std.specs.Prelude.{◌≡◌};
+ghost use Rattle.std.specs.Prelude.{◌≡◌, ◌++◌, ◌∷◌, []};
 
 use base::{ForwardingRow, LinkId, List, RouterId, Target};
 use label_view::{LabelView, ListView};
@@ -90,16 +90,35 @@ pub(crate) fn row(
     }
 }
 
+/// One more row stands behind others.
+pub(crate) fn push_row(
+    rt: &impl Abort,
+    alloc: Global,
+    rows: &mut List<ForwardingRow>,
+    low: u64,
+    past: u64,
+    targets: &[Target],
+)
+    ensures { rows.new ≡ rows.old ++ record { low = low; past = past; targets = targets.now } ∷ [] }
+{
+    let row = row(rt, alloc, low, past, targets);
+    rows.push(row).expect(rt, "memory");
+}
+
 /// Up to 9 r1 sends all to r2, from 10 to 19 r2 sends it back, and from 20 on r1 has no route.
 pub(crate) fn there_and_back(rt: &impl Abort, alloc: Global) -> ListView
     ensures { result.routers ≡ 2 }
 {
     let mut rows = List::new(alloc);
-    rows.push(row(rt, alloc, 0, 10, &[TO_SECOND, Target::Local][..]))
-        .expect(rt, "memory");
-    rows.push(row(rt, alloc, 10, 20, &[TO_SECOND, TO_FIRST][..]))
-        .expect(rt, "memory");
-    rows.push(row(rt, alloc, 20, PAST, &[Target::NoRoute, Target::Local][..]))
-        .expect(rt, "memory");
+    push_row(rt, alloc, &mut rows, 0, 10, &[TO_SECOND, Target::Local]);
+    push_row(rt, alloc, &mut rows, 10, 20, &[TO_SECOND, TO_FIRST]);
+    push_row(
+        rt,
+        alloc,
+        &mut rows,
+        20,
+        PAST,
+        &[Target::NoRoute, Target::Local],
+    );
     ListView::new(2, rows)
 }

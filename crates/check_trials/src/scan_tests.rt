@@ -6,7 +6,7 @@ ghost use Rattle.base.specs.Forwarding.{IsForwarding};
 
 use crate::network::{FIRST, LAST, PAST, SECOND, TO_FIRST, TO_SECOND, row};
 use crate::one_thread::{holes_alone, loops_alone, reach_alone};
-use crate::same::{compare_cycle, compare_cycles, compare_hole, compare_holes};
+use crate::same::{compare_cycle, compare_cycles, compare_hole, compare_holes, same, same_list};
 use base::{DropKind, ForwardingRow, List, RouterId, Run, Target};
 use label_view::ListView;
 use std::alloc::Global;
@@ -51,9 +51,9 @@ fn compare_reach(rt: &(impl Threads + Abort + Sync), alloc: Global, view: &ListV
     requires { view.now.routers ≡ 2 }
 {
     let alone = reach_alone(rt, alloc, view, FIRST, SECOND);
-    assert_eq!(rt; alone.as_slice(), &[want][..]);
+    same_list(rt, alone.as_slice(), &[want][..]);
     let whole = par_scan::reach(rt, alloc, view, FIRST, SECOND).expect(rt, "memory");
-    assert_eq!(rt; whole.as_slice(), alone.as_slice());
+    same_list(rt, whole.as_slice(), alone.as_slice());
 }
 
 /// By threads and by one alone there are so many holes of r1's walks. The last one, at r2, has the addresses of the
@@ -67,7 +67,7 @@ fn compare_blackholes(
     requires { view.now.routers ≡ 2 }
 {
     let alone = holes_alone(rt, alloc, view, FIRST);
-    assert_eq!(rt; alone.len(), count);
+    same(rt, &alone.len(), &count);
     let refused = [Run { lo: 0, hi: 5119 }];
     let place = count.saturating_sub(1);
     compare_hole(rt, alone.as_slice(), place, SECOND, REFUSED, &refused[..]);
@@ -83,7 +83,7 @@ fn compare_loops(
     addresses: u64,
 ) {
     let alone = loops_alone(rt, alloc, view);
-    assert_eq!(rt; alone.len(), 1);
+    same(rt, &alone.len(), &1);
     compare_cycle(
         rt,
         alone.as_slice(),
@@ -98,24 +98,27 @@ fn compare_loops(
 
 #[test]
 fn runs_that_touch_where_ranges_meet_are_one(rt: HostRuntime) {
-    let view = long(&rt, rt.alloc(), 1024);
-    compare_reach(&rt, rt.alloc(), &view, Run { lo: 0, hi: 10_239 });
-    let even = long(&rt, rt.alloc(), 1023);
-    compare_reach(&rt, rt.alloc(), &even, Run { lo: 0, hi: LAST });
+    let alloc = rt.alloc();
+    let view = long(&rt, alloc, 1024);
+    compare_reach(&rt, alloc, &view, Run { lo: 0, hi: 10_239 });
+    let even = long(&rt, alloc, 1023);
+    compare_reach(&rt, alloc, &even, Run { lo: 0, hi: LAST });
 }
 
 #[test]
 fn holes_of_two_ranges_are_told_once(rt: HostRuntime) {
-    let view = long(&rt, rt.alloc(), 1024);
-    compare_blackholes(&rt, rt.alloc(), &view, 2);
-    let even = long(&rt, rt.alloc(), 1023);
-    compare_blackholes(&rt, rt.alloc(), &even, 1);
+    let alloc = rt.alloc();
+    let view = long(&rt, alloc, 1024);
+    compare_blackholes(&rt, alloc, &view, 2);
+    let even = long(&rt, alloc, 1023);
+    compare_blackholes(&rt, alloc, &even, 1);
 }
 
 #[test]
 fn cycles_of_two_ranges_are_told_once(rt: HostRuntime) {
-    let view = long(&rt, rt.alloc(), 1024);
-    compare_loops(&rt, rt.alloc(), &view, 5120);
-    let even = long(&rt, rt.alloc(), 1023);
-    compare_loops(&rt, rt.alloc(), &even, PAST - 5120);
+    let alloc = rt.alloc();
+    let view = long(&rt, alloc, 1024);
+    compare_loops(&rt, alloc, &view, 5120);
+    let even = long(&rt, alloc, 1023);
+    compare_loops(&rt, alloc, &even, PAST - 5120);
 }

@@ -7,7 +7,7 @@ ghost use Rattle.delta_graph.specs.Pushed.{IsPushed};
 use crate::counted::Counted;
 use crate::keeper_tests::{compare, compare_count};
 use crate::network::{
-    FIRST, FOURTH, PAST, SECOND, THIRD, TO_FIRST, TO_FOURTH, TO_SECOND, TO_THIRD, row,
+    FIRST, FOURTH, PAST, SECOND, THIRD, TO_FIRST, TO_FOURTH, TO_SECOND, TO_THIRD, push_row,
 };
 use base::{Change, List, RouterId, Run, Target};
 use delta_graph::Delta;
@@ -24,46 +24,67 @@ const NONE: Target = Target::NoRoute;
 /// Up to 9 the first and the second router send to each other, and from 10 on neither has a route.
 fn a_pair(rt: &impl Abort, alloc: Global) -> Counted {
     let mut rows = List::new(alloc);
-    rows.push(row(rt, alloc, 0, 10, &[TO_SECOND, TO_FIRST, TO_FIRST][..]))
-        .expect(rt, "memory");
-    rows.push(row(rt, alloc, 10, PAST, &[NONE, NONE, TO_FIRST][..]))
-        .expect(rt, "memory");
+    push_row(
+        rt,
+        alloc,
+        &mut rows,
+        0,
+        10,
+        &[TO_SECOND, TO_FIRST, TO_FIRST],
+    );
+    push_row(rt, alloc, &mut rows, 10, PAST, &[NONE, NONE, TO_FIRST]);
     Counted::new(ListView::new(3, rows))
 }
 
 /// Up to 9 the second and the third router send to each other.
 fn another_pair(rt: &impl Abort, alloc: Global) -> Counted {
     let mut rows = List::new(alloc);
-    rows.push(row(rt, alloc, 0, 10, &[TO_SECOND, TO_THIRD, TO_SECOND][..]))
-        .expect(rt, "memory");
-    rows.push(row(rt, alloc, 10, PAST, &[NONE, NONE, TO_FIRST][..]))
-        .expect(rt, "memory");
+    push_row(
+        rt,
+        alloc,
+        &mut rows,
+        0,
+        10,
+        &[TO_SECOND, TO_THIRD, TO_SECOND],
+    );
+    push_row(rt, alloc, &mut rows, 10, PAST, &[NONE, NONE, TO_FIRST]);
     Counted::new(ListView::new(3, rows))
 }
 
 /// Up to 9 the three routers send round.
 fn a_round(rt: &impl Abort, alloc: Global) -> Counted {
     let mut rows = List::new(alloc);
-    rows.push(row(rt, alloc, 0, 10, &[TO_SECOND, TO_THIRD, TO_FIRST][..]))
-        .expect(rt, "memory");
-    rows.push(row(rt, alloc, 10, PAST, &[NONE, TO_THIRD, TO_FIRST][..]))
-        .expect(rt, "memory");
+    push_row(
+        rt,
+        alloc,
+        &mut rows,
+        0,
+        10,
+        &[TO_SECOND, TO_THIRD, TO_FIRST],
+    );
+    push_row(rt, alloc, &mut rows, 10, PAST, &[NONE, TO_THIRD, TO_FIRST]);
     Counted::new(ListView::new(3, rows))
 }
 
 /// Up to 9 the first and the second router send to each other, and so do the third and the fourth.
 fn two_pairs(rt: &impl Abort, alloc: Global) -> Counted {
     let mut rows = List::new(alloc);
-    rows.push(row(
+    push_row(
         rt,
         alloc,
+        &mut rows,
         0,
         10,
-        &[TO_SECOND, TO_FIRST, TO_FOURTH, TO_THIRD][..],
-    ))
-    .expect(rt, "memory");
-    rows.push(row(rt, alloc, 10, PAST, &[NONE, TO_FIRST, NONE, TO_THIRD][..]))
-        .expect(rt, "memory");
+        &[TO_SECOND, TO_FIRST, TO_FOURTH, TO_THIRD],
+    );
+    push_row(
+        rt,
+        alloc,
+        &mut rows,
+        10,
+        PAST,
+        &[NONE, TO_FIRST, NONE, TO_THIRD],
+    );
     Counted::new(ListView::new(4, rows))
 }
 
@@ -71,18 +92,19 @@ fn two_pairs(rt: &impl Abort, alloc: Global) -> Counted {
 /// 39. The third sends to the second from 20 to 49.
 fn steps_of_three(rt: &impl Abort, alloc: Global) -> Counted {
     let mut rows = List::new(alloc);
-    rows.push(row(rt, alloc, 0, 10, &[TO_SECOND, TO_FIRST, NONE][..]))
-        .expect(rt, "memory");
-    rows.push(row(rt, alloc, 10, 20, &[TO_SECOND, TO_THIRD, NONE][..]))
-        .expect(rt, "memory");
-    rows.push(row(rt, alloc, 20, 30, &[TO_SECOND, TO_THIRD, TO_SECOND][..]))
-        .expect(rt, "memory");
-    rows.push(row(rt, alloc, 30, 40, &[NONE, TO_THIRD, TO_SECOND][..]))
-        .expect(rt, "memory");
-    rows.push(row(rt, alloc, 40, 50, &[NONE, NONE, TO_SECOND][..]))
-        .expect(rt, "memory");
-    rows.push(row(rt, alloc, 50, PAST, &[NONE, NONE, NONE][..]))
-        .expect(rt, "memory");
+    push_row(rt, alloc, &mut rows, 0, 10, &[TO_SECOND, TO_FIRST, NONE]);
+    push_row(rt, alloc, &mut rows, 10, 20, &[TO_SECOND, TO_THIRD, NONE]);
+    push_row(
+        rt,
+        alloc,
+        &mut rows,
+        20,
+        30,
+        &[TO_SECOND, TO_THIRD, TO_SECOND],
+    );
+    push_row(rt, alloc, &mut rows, 30, 40, &[NONE, TO_THIRD, TO_SECOND]);
+    push_row(rt, alloc, &mut rows, 40, 50, &[NONE, NONE, TO_SECOND]);
+    push_row(rt, alloc, &mut rows, 50, PAST, &[NONE, NONE, NONE]);
     Counted::new(ListView::new(3, rows))
 }
 

@@ -4,6 +4,7 @@ ghost use Rattle.std.specs.Prelude.{◌≡◌, ◌<◌};
 
 use crate::network::{FIRST, LAST, SECOND, there_and_back};
 use crate::one_thread::{path_alone, reach_alone, uses_alone};
+use crate::same::{same, same_list};
 use base::{LinkId, PathEnd, RouterId, Run, Target};
 use label_view::ListView;
 use std::alloc::Global;
@@ -21,8 +22,8 @@ fn compare_path(
     requires { view.now.routers ≡ 2 }
 {
     let (hops, last) = path_alone(rt, alloc, view, FIRST, address);
-    assert_eq!(rt; hops.as_slice(), want);
-    assert_eq!(rt; last, end);
+    same_list(rt, hops.as_slice(), want);
+    same(rt, &last, &end);
 }
 
 /// These addresses come from a router to another.
@@ -38,32 +39,35 @@ fn compare_reach(
     requires router { first.0 < 2 }
 {
     let runs = reach_alone(rt, alloc, view, first, to);
-    assert_eq!(rt; runs.as_slice(), &[run][..]);
+    same_list(rt, runs.as_slice(), &[run][..]);
 }
 
 #[test]
 fn a_walk_ends_or_goes_round(rt: HostRuntime) {
-    let view = there_and_back(&rt, rt.alloc());
+    let alloc = rt.alloc();
+    let view = there_and_back(&rt, alloc);
     let ends = PathEnd::At(Target::Local);
-    compare_path(&rt, rt.alloc(), &view, 5, &[FIRST, SECOND][..], ends);
+    compare_path(&rt, alloc, &view, 5, &[FIRST, SECOND][..], ends);
     let round = [FIRST, SECOND, FIRST];
-    compare_path(&rt, rt.alloc(), &view, 15, &round[..], PathEnd::Loop);
+    compare_path(&rt, alloc, &view, 15, &round[..], PathEnd::Loop);
 }
 
 #[test]
 fn touching_rows_that_come_to_a_router_are_one_run(rt: HostRuntime) {
-    let view = there_and_back(&rt, rt.alloc());
+    let alloc = rt.alloc();
+    let view = there_and_back(&rt, alloc);
     let (low, back) = (Run { lo: 0, hi: 19 }, Run { lo: 10, hi: 19 });
-    compare_reach(&rt, rt.alloc(), &view, FIRST, SECOND, low);
-    compare_reach(&rt, rt.alloc(), &view, SECOND, FIRST, back);
+    compare_reach(&rt, alloc, &view, FIRST, SECOND, low);
+    compare_reach(&rt, alloc, &view, SECOND, FIRST, back);
     let all = Run { lo: 0, hi: LAST };
-    compare_reach(&rt, rt.alloc(), &view, FIRST, FIRST, all);
+    compare_reach(&rt, alloc, &view, FIRST, FIRST, all);
 }
 
 #[test]
 fn each_end_uses_a_link_for_itself(rt: HostRuntime) {
-    let view = there_and_back(&rt, rt.alloc());
-    let (first, second) = uses_alone(&rt, rt.alloc(), &view, FIRST, SECOND, LinkId(0));
-    assert_eq!(rt; first.as_slice(), &[Run { lo: 0, hi: 19 }][..]);
-    assert_eq!(rt; second.as_slice(), &[Run { lo: 10, hi: 19 }][..]);
+    let alloc = rt.alloc();
+    let view = there_and_back(&rt, alloc);
+    let (first, second) = uses_alone(&rt, alloc, &view, FIRST, SECOND, LinkId(0));
+    same_list(&rt, first.as_slice(), &[Run { lo: 0, hi: 19 }][..]);
+    same_list(&rt, second.as_slice(), &[Run { lo: 10, hi: 19 }][..]);
 }

@@ -4,6 +4,7 @@ ghost use Rattle.std.specs.Prelude.{◌≡◌};
 
 use crate::network::{FIRST, LAST, SECOND, there_and_back};
 use crate::one_thread::waypoint_alone;
+use crate::same::same_list;
 use base::{RouterId, Run};
 use label_view::ListView;
 use std::alloc::Global;
@@ -21,21 +22,23 @@ fn compare(
     requires { view.now.routers ≡ 2 }
 {
     let runs = waypoint_alone(rt, alloc, view, FIRST, to, through);
-    assert_eq!(rt; runs.as_slice(), want);
+    same_list(rt, runs.as_slice(), want);
 }
 
 #[test]
 fn a_waypoint_counts_up_to_the_arrival(rt: HostRuntime) {
-    let view = there_and_back(&rt, rt.alloc());
+    let alloc = rt.alloc();
+    let view = there_and_back(&rt, alloc);
     let missed = [Run { lo: 0, hi: 19 }];
-    compare(&rt, rt.alloc(), &view, SECOND, RouterId(9), &missed[..]);
+    compare(&rt, alloc, &view, SECOND, RouterId(9), &missed[..]);
     let after = [Run { lo: 0, hi: LAST }];
-    compare(&rt, rt.alloc(), &view, FIRST, SECOND, &after[..]);
+    compare(&rt, alloc, &view, FIRST, SECOND, &after[..]);
 }
 
 #[test]
 fn either_end_as_waypoint_is_met_by_all(rt: HostRuntime) {
-    let view = there_and_back(&rt, rt.alloc());
-    compare(&rt, rt.alloc(), &view, SECOND, SECOND, &[][..]);
-    compare(&rt, rt.alloc(), &view, SECOND, FIRST, &[][..]);
+    let alloc = rt.alloc();
+    let view = there_and_back(&rt, alloc);
+    compare(&rt, alloc, &view, SECOND, SECOND, &[][..]);
+    compare(&rt, alloc, &view, SECOND, FIRST, &[][..]);
 }

@@ -1,6 +1,7 @@
 //! A view of two routers with links down.
 
-use crate::network::{FIRST, LAST, PAST, SECOND, crosses, is_column, is_row, row, target_at};
+use crate::network::{FIRST, LAST, PAST, SECOND, crosses, is_column, is_row, push_row, target_at};
+use crate::same::{holds, same};
 use base::{LinkId, List, Target};
 use label_view::{LabelView, ListView};
 use std::alloc::Global;
@@ -15,10 +16,8 @@ const OVER_FOUR: Target = Target::To(FIRST, LinkId(4));
 fn pair(rt: &impl Abort, alloc: Global) -> ListView {
     let high = [Target::NoRoute, Target::LinkDown(LinkId(4))];
     let mut rows = List::new(alloc);
-    rows.push(row(rt, alloc, 0, 10, &[OVER_THREE, OVER_FOUR][..]))
-        .expect(rt, "memory");
-    rows.push(row(rt, alloc, 10, PAST, &high[..]))
-        .expect(rt, "memory");
+    push_row(rt, alloc, &mut rows, 0, 10, &[OVER_THREE, OVER_FOUR]);
+    push_row(rt, alloc, &mut rows, 10, PAST, &high);
     ListView::new(2, rows)
 }
 
@@ -28,14 +27,15 @@ fn only_what_went_over_a_link_that_is_down_changes(rt: HostRuntime) {
     let down = [LinkId(3), LinkId(3), LinkId(9)];
     let without = Without::new(&view, &down[..]);
     crosses(&without);
-    assert_eq!(rt; without.atoms(), 2);
-    assert_eq!(rt; without.bounds(without.atom_of(LAST)), (10, PAST));
-    assert_eq!(rt;
-        target_at(&without, FIRST, 9),
-        Some(Target::LinkDown(LinkId(3)))
+    same(&rt, &without.atoms(), &2);
+    same(&rt, &without.bounds(without.atom_of(LAST)), &(10, PAST));
+    same(
+        &rt,
+        &target_at(&without, FIRST, 9),
+        &Some(Target::LinkDown(LinkId(3))),
     );
-    assert_eq!(rt; target_at(&without, SECOND, 9), Some(OVER_FOUR));
-    assert_eq!(rt; target_at(&without, FIRST, 10), Some(Target::NoRoute));
+    same(&rt, &target_at(&without, SECOND, 9), &Some(OVER_FOUR));
+    same(&rt, &target_at(&without, FIRST, 10), &Some(Target::NoRoute));
 }
 
 #[test]
@@ -45,11 +45,11 @@ fn columns_and_rows_are_read_with_the_links_down(rt: HostRuntime) {
     let without = Without::new(&view, &down[..]);
     let mut room = [Target::Exit(0); 2];
     for i in 0..2u64 {
-        assert!(rt; is_column(&without, FIRST, i));
-        assert!(rt; is_column(&without, SECOND, i));
-        assert!(rt; is_row(&without, i, &mut room[..]));
+        holds(&rt, is_column(&without, FIRST, i));
+        holds(&rt, is_column(&without, SECOND, i));
+        holds(&rt, is_row(&without, i, &mut room[..]));
     }
-    assert!(rt; is_row(&without, 0, &mut room[..]));
-    assert_eq!(rt; room[0], Target::LinkDown(LinkId(3)));
-    assert_eq!(rt; room[1], OVER_FOUR);
+    holds(&rt, is_row(&without, 0, &mut room[..]));
+    same(&rt, &room[0], &Target::LinkDown(LinkId(3)));
+    same(&rt, &room[1], &OVER_FOUR);
 }

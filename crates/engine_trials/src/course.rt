@@ -1,6 +1,6 @@
 //! A history with the version that stands for it.
 
-ghost use Rattle.std.specs.Prelude.{◌≡◌, ◌<◌, ◌++◌, ◌∷◌, [], List, IfOk, None, length};
+ghost use Rattle.std.specs.Prelude.{◌≡◌, ◌<◌, ◌++◌, ◌∷◌, [], List, IfOk, IsTrue, None, length};
 ghost use Rattle.std.specs.Arc.{arc_value};
 ghost use Rattle.dn_model.specs.Answer.{IsAnswer};
 ghost use Rattle.dn_model.specs.Entry.{IsEntryOf};
@@ -10,11 +10,13 @@ ghost use Rattle.net_engine.specs.Version.{KeptStandsFor};
 ghost use Rattle.dn_model.specs.declared.entry.Entry.{Entry as EntryIs};
 ghost use Rattle.engine_trials.specs.Past.{more};
 
+use crate::ring::ring;
 use delta_graph::Delta;
 use dn_model::{Answer, Change, Entry, OutOfMemory, Query, Topology, plain_answer};
 use net_engine::Version;
 use std::alloc::Global;
 use std::marker::{Brand, Model};
+use std::process::Abort;
 use std::sync::Arc;
 use std::sync::ledger::{Blank, Ledger};
 use step_count::Steps;
@@ -122,6 +124,13 @@ impl Course {
         &self.topology
     }
 
+    /// Whether the network has each name of a query.
+    pub fn knows(&self, query: &Query) -> bool
+        ensures { IsTrue result → unknown_of self.now.topology query.now ≡ None }
+    {
+        query.unknown(&self.topology).is_none()
+    }
+
     /// The version that stands for the history.
     pub fn version(&self) -> &Version {
         &self.version
@@ -218,4 +227,11 @@ impl Course {
         let plain = plain_answer(alloc, topology, self.entries.as_slice(), query)?;
         Ok((shown, plain))
     }
+}
+
+/// The history of a ring of so many routers, before any update.
+pub fn course_of_ring(rt: &impl Abort, alloc: Global, routers: u16) -> Course {
+    let topology = ring(alloc, routers).expect(rt, "a network");
+    assert!(rt; topology.router_count() > 0);
+    Course::new(alloc, topology).expect(rt, "memory")
 }

@@ -5,6 +5,8 @@
 #![tactic(auto)]
 
 #[cfg(test)]
+mod block;
+#[cfg(test)]
 mod course;
 #[cfg(test)]
 mod draw;

@@ -94,23 +94,40 @@ fn met(rt: &impl Abort, alloc: Global, trials: &[Trial]) -> Result<Found, Fail> 
     Ok(all)
 }
 
+/// So much was met and more.
+fn assert_above(rt: &impl Abort, found: &Found, count: u64, bound: u64) {
+    assert!(rt; count > bound, "{count} is not above {bound}: {found:?}");
+}
+
+/// All of these were met.
+fn assert_some(rt: &impl Abort, found: &Found, counts: &[u64]) {
+    for count in counts {
+        assert_above(rt, found, *count, 0);
+    }
+}
+
 /// What the trials are to meet came about: the seeds are such that it does.
 fn assert_met(rt: &impl Abort, found: &Found) {
-    assert!(rt; found.cycles > 0, "{found:?}");
-    assert!(rt; found.links_down > 0, "{found:?}");
-    assert!(rt; found.drops > 0, "{found:?}");
-    assert!(rt; found.path_down > 0, "{found:?}");
-    assert!(rt; found.uses_down > 0, "{found:?}");
-    assert!(rt; found.reach_down > 0, "{found:?}");
-    assert!(rt; found.waypoint_down > 0, "{found:?}");
-    assert!(rt; found.holes_down > 0, "{found:?}");
-    assert!(rt; found.loops_down > 0, "{found:?}");
-    assert!(rt; found.clears > 0, "{found:?}");
-    assert!(rt; found.replaced > 0, "{found:?}");
-    assert!(rt; found.equal_lengths > 0, "{found:?}");
-    assert!(rt; found.metrics > 0, "{found:?}");
-    assert!(rt; found.both_ends > 0, "{found:?}");
-    assert!(rt; found.beside_held > 0, "{found:?}");
+    let answers = [found.cycles, found.links_down, found.drops];
+    let down = [
+        found.path_down,
+        found.uses_down,
+        found.reach_down,
+        found.waypoint_down,
+        found.holes_down,
+        found.loops_down,
+    ];
+    let updates = [
+        found.clears,
+        found.replaced,
+        found.equal_lengths,
+        found.metrics,
+        found.both_ends,
+        found.beside_held,
+    ];
+    assert_some(rt, found, &answers);
+    assert_some(rt, found, &down);
+    assert_some(rt, found, &updates);
 }
 
 #[test]
@@ -127,7 +144,7 @@ fn networks_of_one_to_three_routers(rt: HostRuntime) -> Result<(), Fail> {
     ];
     let found = met(&rt, rt.alloc(), &trials)?;
     assert_met(&rt, &found);
-    assert!(rt; found.two_down > 0, "{found:?}");
+    assert_above(&rt, &found, found.two_down, 0);
     Ok(())
 }
 
@@ -143,7 +160,7 @@ fn networks_of_four_to_six_routers(rt: HostRuntime) -> Result<(), Fail> {
     ];
     let found = met(&rt, rt.alloc(), &trials)?;
     assert_met(&rt, &found);
-    assert!(rt; found.two_down > 0, "{found:?}");
+    assert_above(&rt, &found, found.two_down, 0);
     Ok(())
 }
 
@@ -160,6 +177,26 @@ fn networks_of_seven_to_thirty_three_routers(rt: HostRuntime) -> Result<(), Fail
     let found = met(&rt, rt.alloc(), &trials)?;
     assert_met(&rt, &found);
     Ok(())
+}
+
+/// A version of more than 600 atoms was met, with what is asked of paths in it.
+fn assert_paths(rt: &impl Abort, found: &Found) {
+    let counts = [
+        found.links_down,
+        found.clears,
+        found.replaced,
+        found.alone,
+        found.beside_held,
+    ];
+    assert_above(rt, found, found.atoms, 600);
+    assert_some(rt, found, &counts);
+}
+
+/// A version of more than 512 atoms was met, and answers of several runs.
+fn assert_sets(rt: &impl Abort, found: &Found) {
+    assert_above(rt, found, found.atoms, 512);
+    assert_above(rt, found, found.uses_runs, 4);
+    assert_above(rt, found, found.reach_runs, 4);
 }
 
 /// Pages hold 64 elements, and chunks 512 atoms. Paths are asked of a version of more than 600 atoms, and one question
@@ -190,16 +227,9 @@ fn atoms_of_many_pages_and_chunks(rt: HostRuntime) -> Result<(), Fail> {
         ..paths
     };
     let found = met(&rt, rt.alloc(), &[paths])?;
-    assert!(rt; found.atoms > 600, "{found:?}");
-    assert!(rt; found.links_down > 0, "{found:?}");
-    assert!(rt; found.clears > 0, "{found:?}");
-    assert!(rt; found.replaced > 0, "{found:?}");
-    assert!(rt; found.alone > 0, "{found:?}");
-    assert!(rt; found.beside_held > 0, "{found:?}");
+    assert_paths(&rt, &found);
     let found = met(&rt, rt.alloc(), &[sets])?;
-    assert!(rt; found.atoms > 512, "{found:?}");
-    assert!(rt; found.uses_runs > 4, "{found:?}");
-    assert!(rt; found.reach_runs > 4, "{found:?}");
+    assert_sets(&rt, &found);
     Ok(())
 }
 
@@ -226,7 +256,7 @@ fn a_network_of_sixty_four_routers(rt: HostRuntime) -> Result<(), Fail> {
     };
     let found = met(&rt, rt.alloc(), &[all_kinds, paths])?;
     assert_met(&rt, &found);
-    assert!(rt; found.atoms > 20, "{found:?}");
+    assert_above(&rt, &found, found.atoms, 20);
     Ok(())
 }
 
@@ -242,7 +272,6 @@ fn links_that_go_down_and_come_up(rt: HostRuntime) -> Result<(), Fail> {
     ];
     let found = met(&rt, rt.alloc(), &trials)?;
     assert_met(&rt, &found);
-    assert!(rt; found.turned > 0, "{found:?}");
-    assert!(rt; found.unturned > 0, "{found:?}");
+    assert_some(&rt, &found, &[found.turned, found.unturned]);
     Ok(())
 }

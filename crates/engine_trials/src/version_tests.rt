@@ -5,12 +5,10 @@ ghost use Rattle.dn_model.specs.Entry.{IsEntryOf};
 ghost use Rattle.net_engine.specs.Followed.{IsFollowed};
 ghost use Rattle.dn_model.specs.declared.topology.Topology.{Topology as TopologyIs};
 
-use crate::course::Course;
-use crate::ring::ring;
+use crate::block::{Block, prefix_of, run_of};
+use crate::course::{Course, course_of_ring};
 use delta_graph::Delta;
-use dn_model::{
-    Change, Entry, Op, Prefix, Route, RouterId, Run, Target, Topology, plain_routes, plain_target,
-};
+use dn_model::{Change, Entry, Op, Route, RouterId, Target, Topology, plain_routes, plain_target};
 use label_view::LabelView;
 use net_engine::Version;
 use std::alloc::Global;
@@ -21,33 +19,13 @@ const FIRST: RouterId = RouterId(0);
 
 const SECOND: RouterId = RouterId(1);
 
-/// 10.0.0.0/8.
-fn ten() -> Prefix {
-    Prefix::new(0x0A00_0000, 8)
-}
-
-/// An update of a router: without an interface where packets leave it clears.
+/// An update of a router.
 #[derive(Clone, Copy)]
-struct Update {
-    prefix: Prefix,
-    metric: Option<u32>,
-    exit: Option<u32>,
-}
-
-fn set(prefix: Prefix, metric: u32, exit: u32) -> Update {
-    Update {
-        prefix,
-        metric: Some(metric),
-        exit: Some(exit),
-    }
-}
-
-fn clear(prefix: Prefix, metric: Option<u32>) -> Update {
-    Update {
-        prefix,
-        metric,
-        exit: None,
-    }
+enum Update {
+    /// A route of a block is set by a metric, out of an interface.
+    Set(Block, u32, u32),
+    /// The routes of a block are cleared; of a metric alone, where there is one.
+    Clear(Block, Option<u32>),
 }
 
 /// An update of this router.
@@ -55,52 +33,46 @@ fn entry_at(router: RouterId, update: Update) -> Entry
     ensures own { (t : TopologyIs) → router.0 < length t.routers → IsEntryOf t result }
     ensures followed { IsFollowed result }
 {
-    let prefix = update.prefix;
-    let op = match update.exit {
-        Some(exit) => Op::Set {
-            prefix,
-            metric: update.metric.unwrap_or(0),
-            target: Target::Exit(exit),
+    match update {
+        Update::Set(block, metric, exit) => Entry::Route {
+            router,
+            feed_no: 1,
+            op: Op::Set {
+                prefix: prefix_of(block),
+                metric,
+                target: Target::Exit(exit),
+            },
         },
-        None => Op::Clear {
-            prefix,
-            metric: update.metric,
+        Update::Clear(block, metric) => Entry::Route {
+            router,
+            feed_no: 1,
+            op: Op::Clear {
+                prefix: prefix_of(block),
+                metric,
+            },
         },
-    };
-    Entry::Route {
-        router,
-        feed_no: 1,
-        op,
     }
 }
 
 /// Nested prefixes, both ends of the addresses, equal lengths beside each other, clearings of nothing, and settings of
 /// what is done already.
-fn updates() -> [Update; 15] {
-    let all = Prefix::new(0, 0);
-    let low = Prefix::new(0, 8);
-    let high = Prefix::new(0x8000_0000, 1);
-    let last = Prefix::new(0xFFFF_FFFF, 32);
-    let ten_one = Prefix::new(0x0A01_0000, 16);
-    let eleven = Prefix::new(0x0B00_0000, 8);
-    [
-        clear(ten(), None),
-        set(ten(), 20, 2),
-        set(ten(), 5, 3),
-        set(ten_one, 9, 4),
-        set(ten(), 5, 3),
-        set(all, 0, 1),
-        set(high, 7, 5),
-        set(last, 1, 6),
-        set(low, 1, 1),
-        clear(ten(), Some(5)),
-        clear(ten_one, Some(8)),
-        set(eleven, 20, 2),
-        clear(all, None),
-        clear(ten(), None),
-        clear(last, Some(1)),
-    ]
-}
+const UPDATES: [Update; 15] = [
+    Update::Clear(Block::Ten, None),
+    Update::Set(Block::Ten, 20, 2),
+    Update::Set(Block::Ten, 5, 3),
+    Update::Set(Block::TenOne, 9, 4),
+    Update::Set(Block::Ten, 5, 3),
+    Update::Set(Block::All, 0, 1),
+    Update::Set(Block::High, 7, 5),
+    Update::Set(Block::Last, 1, 6),
+    Update::Set(Block::Low, 1, 1),
+    Update::Clear(Block::Ten, Some(5)),
+    Update::Clear(Block::TenOne, Some(8)),
+    Update::Set(Block::Eleven, 20, 2),
+    Update::Clear(Block::All, None),
+    Update::Clear(Block::Ten, None),
+    Update::Clear(Block::Last, Some(1)),
+];
 
 /// Addresses at the ends of those prefixes, and beside them.
 const ADDRESSES: [u32; 16] = [
@@ -121,13 +93,6 @@ const ADDRESSES: [u32; 16] = [
     0xFFFF_FFFE,
     0xFFFF_FFFF,
 ];
-
-/// The history of a network of so many routers, before any update.
-fn new_course(rt: &impl Abort, alloc: Global, routers: u16) -> Course {
-    let topology = ring(alloc, routers).expect(rt, "a network");
-    assert!(rt; topology.router_count() > 0);
-    Course::new(alloc, topology).expect(rt, "memory")
-}
 
 /// An update of one of a network's routers.
 fn entry_in(rt: &impl Abort, topology: &Topology, router: RouterId, update: Update) -> Entry
@@ -236,23 +201,14 @@ fn compare_told(rt: &impl Abort, old: &Version, new: &Version, changes: &[Change
 
 /// A version has so many routers and atoms.
 fn compare_counts(rt: &impl Abort, version: &Version, routers: u32, atoms: u64) {
-    assert_eq!(rt; version.routers(), routers);
-    assert_eq!(rt; version.atoms(), atoms);
+    let counts = (version.routers(), version.atoms());
+    assert_eq!(rt; counts, (routers, atoms));
 }
 
 /// An address lies in the atom at this place, which has these bounds.
 fn compare_atom(rt: &impl Abort, version: &Version, a: u32, place: u64, bounds: (u64, u64)) {
     let found = version.atom_of(a);
-    assert_eq!(rt; found, place);
-    assert_eq!(rt; version.bounds(found), bounds);
-}
-
-#[test]
-fn a_new_network_has_one_atom_of_all_addresses(rt: HostRuntime) {
-    let course = new_course(&rt, rt.alloc(), 2);
-    compare_counts(&rt, course.version(), 2, 1);
-    compare_atom(&rt, course.version(), 5, 0, (0, 0x1_0000_0000));
-    assert_eq!(rt; by_rows(&rt, course.version(), SECOND, 5), Target::NoRoute);
+    assert_eq!(rt; (found, version.bounds(found)), (place, bounds));
 }
 
 /// Atoms begin at 0.0.0.0, 10.0.0.0 and 11.0.0.0.
@@ -263,15 +219,80 @@ fn compare_three_atoms(rt: &impl Abort, version: &Version) {
     compare_atom(rt, version, 0x0B00_0000, 2, (0x0B00_0000, 0x1_0000_0000));
 }
 
+/// One move of a history.
+#[derive(Clone, Copy)]
+enum Move {
+    /// An update of a router comes, and the version is made in the place of the one before it.
+    Make(RouterId, Update),
+    /// The version has so many routers and atoms.
+    Counts(u32, u64),
+    /// The version's atoms begin at 0.0.0.0, 10.0.0.0 and 11.0.0.0.
+    ThreeAtoms,
+    /// The version is the one after the updates so far, all of the first router.
+    Plain,
+    /// A router does this with an address.
+    Does(RouterId, u32, Target),
+}
+
+/// A history's version is as this move says; one that makes an update says nothing.
+fn compare_said(rt: &impl Abort, alloc: Global, course: &Course, said: Move) {
+    match said {
+        Move::Make(_, _) => {}
+        Move::Counts(routers, atoms) => compare_counts(rt, course.version(), routers, atoms),
+        Move::ThreeAtoms => compare_three_atoms(rt, course.version()),
+        Move::Plain => compare_course(rt, alloc, course),
+        Move::Does(router, a, target) => {
+            assert_eq!(rt; by_rows(rt, course.version(), router, a), target);
+        }
+    }
+}
+
+/// The history after a move.
+fn moved(rt: &impl Abort, alloc: Global, course: Course, next: Move) -> Course {
+    if let Move::Make(router, update) = next {
+        return advance(rt, alloc, course, router, update);
+    }
+    compare_said(rt, alloc, &course, next);
+    course
+}
+
+/// The history after these moves.
+fn follow(rt: &impl Abort, alloc: Global, course: Course, moves: &[Move]) -> Course {
+    let mut course = course;
+    for next in moves {
+        course = moved(rt, alloc, course, *next);
+    }
+    course
+}
+
+/// The history of so many routers, after these moves.
+fn course_after(rt: &impl Abort, alloc: Global, routers: u16, moves: &[Move]) -> Course {
+    follow(rt, alloc, course_of_ring(rt, alloc, routers), moves)
+}
+
+/// A copy of a history.
+fn copy_of(rt: &impl Abort, alloc: Global, course: &Course) -> Course {
+    course.copy(alloc).expect(rt, "memory")
+}
+
+#[test]
+fn a_new_network_has_one_atom_of_all_addresses(rt: HostRuntime) {
+    let moves = [Move::Counts(2, 1), Move::Does(SECOND, 5, Target::NoRoute)];
+    let course = course_after(&rt, rt.alloc(), 2, &moves);
+    compare_atom(&rt, course.version(), 5, 0, (0, 0x1_0000_0000));
+}
+
 /// The ends of a prefix that is set again, with another metric and of another router, are no further cuts.
 #[test]
 fn a_cut_is_made_once(rt: HostRuntime) {
-    let course = new_course(&rt, rt.alloc(), 2);
-    let course = advance(&rt, rt.alloc(), course, FIRST, set(ten(), 20, 2));
-    compare_three_atoms(&rt, course.version());
-    let course = advance(&rt, rt.alloc(), course, FIRST, set(ten(), 5, 3));
-    let course = advance(&rt, rt.alloc(), course, SECOND, set(ten(), 20, 2));
-    let copy = course.copy(rt.alloc()).expect(&rt, "memory");
+    let moves = [
+        Move::Make(FIRST, Update::Set(Block::Ten, 20, 2)),
+        Move::ThreeAtoms,
+        Move::Make(FIRST, Update::Set(Block::Ten, 5, 3)),
+        Move::Make(SECOND, Update::Set(Block::Ten, 20, 2)),
+    ];
+    let course = course_after(&rt, rt.alloc(), 2, &moves);
+    let copy = copy_of(&rt, rt.alloc(), &course);
     compare_three_atoms(&rt, course.version());
     compare_three_atoms(&rt, copy.version());
 }
@@ -279,66 +300,68 @@ fn a_cut_is_made_once(rt: HostRuntime) {
 /// No router has a route of the prefix any more when it is set again, and then one has when another router sets it.
 #[test]
 fn a_prefix_that_was_cleared_is_set_again(rt: HostRuntime) {
-    let course = new_course(&rt, rt.alloc(), 2);
-    let course = advance(&rt, rt.alloc(), course, FIRST, set(ten(), 5, 3));
-    let course = advance(&rt, rt.alloc(), course, FIRST, clear(ten(), None));
-    compare_counts(&rt, course.version(), 2, 3);
-    let course = advance(&rt, rt.alloc(), course, FIRST, set(ten(), 20, 2));
-    compare_three_atoms(&rt, course.version());
-    compare_course(&rt, rt.alloc(), &course);
-    let course = advance(&rt, rt.alloc(), course, SECOND, set(ten(), 5, 4));
-    compare_counts(&rt, course.version(), 2, 3);
-    assert_eq!(rt;
-        by_rows(&rt, course.version(), SECOND, 0x0A00_0000),
-        Target::Exit(4)
-    );
+    let moves = [
+        Move::Make(FIRST, Update::Set(Block::Ten, 5, 3)),
+        Move::Make(FIRST, Update::Clear(Block::Ten, None)),
+        Move::Counts(2, 3),
+        Move::Make(FIRST, Update::Set(Block::Ten, 20, 2)),
+        Move::ThreeAtoms,
+        Move::Plain,
+        Move::Make(SECOND, Update::Set(Block::Ten, 5, 4)),
+        Move::Counts(2, 3),
+        Move::Does(SECOND, 0x0A00_0000, Target::Exit(4)),
+    ];
+    course_after(&rt, rt.alloc(), 2, &moves);
+}
+
+/// The first router leaves by another interface than before in the addresses of 10.0.0.0/8.
+fn compare_better(rt: &impl Abort, changes: &[Change]) {
+    let change = Change {
+        router: FIRST,
+        run: run_of(Block::Ten),
+        before: Target::Exit(2),
+        after: Target::Exit(3),
+    };
+    assert_eq!(rt; changes, &[change][..]);
 }
 
 #[test]
 fn of_two_metrics_the_lesser_wins(rt: HostRuntime) {
-    let course = new_course(&rt, rt.alloc(), 3);
-    let course = advance(&rt, rt.alloc(), course, FIRST, set(ten(), 20, 2));
-    let (course, better) = advance_and_tell(&rt, rt.alloc(), course, FIRST, set(ten(), 5, 3));
-    let change = Change {
-        router: FIRST,
-        run: Run {
-            lo: 0x0A00_0000,
-            hi: 0x0AFF_FFFF,
-        },
-        before: Target::Exit(2),
-        after: Target::Exit(3),
-    };
-    assert_eq!(rt; better.changes(), &[change][..]);
+    let moves = [Move::Make(FIRST, Update::Set(Block::Ten, 20, 2))];
+    let course = course_after(&rt, rt.alloc(), 3, &moves);
+    let better = Update::Set(Block::Ten, 5, 3);
+    let (course, delta) = advance_and_tell(&rt, rt.alloc(), course, FIRST, better);
+    compare_better(&rt, delta.changes());
     compare_counts(&rt, course.version(), 3, 3);
-    let copy = course.copy(rt.alloc()).expect(&rt, "memory");
-    compare_atom(
-        &rt,
-        copy.version(),
-        0x0A00_0000,
-        1,
-        (0x0A00_0000, 0x0B00_0000),
-    );
+    let copy = copy_of(&rt, rt.alloc(), &course);
+    let bounds = (0x0A00_0000, 0x0B00_0000);
+    compare_atom(&rt, copy.version(), 0x0A00_0000, 1, bounds);
 }
 
 /// An update within 10.0.0.0/8.
-fn inside_ten() -> Update {
-    set(Prefix::new(0x0A01_0000, 16), 9, 4)
-}
+const INSIDE_TEN: Update = Update::Set(Block::TenOne, 9, 4);
 
 /// A copy has no guide of its own. It stands as it is while the version goes on, which searches from where it was.
 #[test]
 fn a_copy_that_is_held_keeps_its_answers(rt: HostRuntime) {
-    let around = set(Prefix::new(0, 0), 0, 1);
-    let course = new_course(&rt, rt.alloc(), 3);
-    let course = advance(&rt, rt.alloc(), course, FIRST, set(ten(), 20, 2));
-    let course = advance(&rt, rt.alloc(), course, FIRST, inside_ten());
-    let held = course.copy(rt.alloc()).expect(&rt, "memory");
-    let course = advance(&rt, rt.alloc(), course, FIRST, around);
-    let course = advance(&rt, rt.alloc(), course, FIRST, clear(ten(), None));
-    compare_course(&rt, rt.alloc(), &held);
-    compare_course(&rt, rt.alloc(), &course);
-    let held = advance(&rt, rt.alloc(), held, FIRST, clear(ten(), None));
-    compare_after_one(&rt, rt.alloc(), &held, inside_ten());
+    let before = [
+        Move::Make(FIRST, Update::Set(Block::Ten, 20, 2)),
+        Move::Make(FIRST, INSIDE_TEN),
+    ];
+    let after = [
+        Move::Make(FIRST, Update::Set(Block::All, 0, 1)),
+        Move::Make(FIRST, Update::Clear(Block::Ten, None)),
+        Move::Plain,
+    ];
+    let cleared = [
+        Move::Plain,
+        Move::Make(FIRST, Update::Clear(Block::Ten, None)),
+    ];
+    let course = course_after(&rt, rt.alloc(), 3, &before);
+    let held = copy_of(&rt, rt.alloc(), &course);
+    follow(&rt, rt.alloc(), course, &after);
+    let held = follow(&rt, rt.alloc(), held, &cleared);
+    compare_after_one(&rt, rt.alloc(), &held, INSIDE_TEN);
 }
 
 /// The history with an update more. The version before it, the one after it and what is told are compared.
@@ -352,8 +375,8 @@ fn step(rt: &impl Abort, alloc: Global, old: Course, update: Update) -> Course {
 
 #[test]
 fn as_the_plain_evaluator(rt: HostRuntime) {
-    let mut course = new_course(&rt, rt.alloc(), 3);
-    for update in updates() {
+    let mut course = course_of_ring(&rt, rt.alloc(), 3);
+    for update in UPDATES {
         course = step(&rt, rt.alloc(), course, update);
     }
 }
@@ -374,33 +397,43 @@ fn compare_exits(rt: &impl Abort, version: &Version, a: u32, want: [Option<u32>;
     }
 }
 
-/// The history of six routers, after each has set a route of its own for one prefix.
-fn with_own_routes(rt: &impl Abort, alloc: Global) -> Course {
-    let mut course = new_course(rt, alloc, 6);
-    for k in 0..6u16 {
-        let own = set(ten(), 20, u32::from(k) + 1);
-        course = advance(rt, alloc, course, RouterId(k), own);
-    }
-    course
+/// The interfaces where packets leave six routers, of which each has a route of its own, and the fifth one inside.
+fn compare_before(rt: &impl Abort, version: &Version) {
+    let all = [Some(1), Some(2), Some(3), Some(4), Some(5), Some(6)];
+    let within = [Some(1), Some(2), Some(3), Some(4), Some(50), Some(6)];
+    compare_exits(rt, version, 0x0A00_0000, all);
+    compare_exits(rt, version, 0x0A01_0000, within);
+    compare_exits(rt, version, 0x0B00_0000, [None; 6]);
+}
+
+/// The same after the sixth has a better route, and the second none.
+fn compare_later(rt: &impl Abort, version: &Version) {
+    let all = [Some(1), None, Some(3), Some(4), Some(5), Some(60)];
+    let within = [Some(1), None, Some(3), Some(4), Some(50), Some(60)];
+    compare_exits(rt, version, 0x0A00_0000, all);
+    compare_exits(rt, version, 0x0A01_0000, within);
 }
 
 /// The first four routers stand side by side, and so do the last two. Each has a route of its own for one prefix, and
 /// the fifth alone has one inside. An update of one leaves the others' answers, and a copy's, as they are.
 #[test]
 fn each_router_keeps_its_own_routes(rt: HostRuntime) {
-    let course = with_own_routes(&rt, rt.alloc());
-    let inside = set(Prefix::new(0x0A01_0000, 16), 9, 50);
-    let course = advance(&rt, rt.alloc(), course, RouterId(4), inside);
-    let held = course.copy(rt.alloc()).expect(&rt, "memory");
-    let course = advance(&rt, rt.alloc(), course, RouterId(5), set(ten(), 5, 60));
-    let course = advance(&rt, rt.alloc(), course, SECOND, clear(ten(), None));
-    let all = [Some(1), Some(2), Some(3), Some(4), Some(5), Some(6)];
-    let within = [Some(1), Some(2), Some(3), Some(4), Some(50), Some(6)];
-    compare_exits(&rt, held.version(), 0x0A00_0000, all);
-    compare_exits(&rt, held.version(), 0x0A01_0000, within);
-    compare_exits(&rt, held.version(), 0x0B00_0000, [None; 6]);
-    let all = [Some(1), None, Some(3), Some(4), Some(5), Some(60)];
-    let within = [Some(1), None, Some(3), Some(4), Some(50), Some(60)];
-    compare_exits(&rt, course.version(), 0x0A00_0000, all);
-    compare_exits(&rt, course.version(), 0x0A01_0000, within);
+    let own = [
+        Move::Make(FIRST, Update::Set(Block::Ten, 20, 1)),
+        Move::Make(SECOND, Update::Set(Block::Ten, 20, 2)),
+        Move::Make(RouterId(2), Update::Set(Block::Ten, 20, 3)),
+        Move::Make(RouterId(3), Update::Set(Block::Ten, 20, 4)),
+        Move::Make(RouterId(4), Update::Set(Block::Ten, 20, 5)),
+        Move::Make(RouterId(5), Update::Set(Block::Ten, 20, 6)),
+        Move::Make(RouterId(4), Update::Set(Block::TenOne, 9, 50)),
+    ];
+    let others = [
+        Move::Make(RouterId(5), Update::Set(Block::Ten, 5, 60)),
+        Move::Make(SECOND, Update::Clear(Block::Ten, None)),
+    ];
+    let course = course_after(&rt, rt.alloc(), 6, &own);
+    let held = copy_of(&rt, rt.alloc(), &course);
+    let course = follow(&rt, rt.alloc(), course, &others);
+    compare_before(&rt, held.version());
+    compare_later(&rt, course.version());
 }

@@ -44,11 +44,18 @@ three_links =
 abbrev pub three : Replace → Parts
 three first = record { routers = three_names; tables = three_tables first; links = three_links; edges = [] }
 
+-- the same and a VRF of the first one
+abbrev pub four_names : List (List ℕ)
+four_names = three_names ++ codes "v1" ∷ []
+
+-- the same and the VRF's table
+abbrev pub four_tables : Replace → List RouterTable
+four_tables first = three_tables first ++ table_of 0 10 Key ∷ []
+
+-- the same and a link from the VRF to the second router
+abbrev pub four_links : List TopoLink
+four_links = three_links ++ link_of (codes "d") (end_at 3 5) (end_at 1 5) ∷ []
+
 -- the three of them, and a VRF of the first one with a link of its own to the second
 abbrev pub three_and_vrf : Replace → Parts
-three_and_vrf first = record {
-  routers = three_names ++ codes "v1" ∷ [];
-  tables = three_tables first ++ table_of 0 10 Key ∷ [];
-  links = three_links ++ link_of (codes "d") (end_at 3 5) (end_at 1 5) ∷ [];
-  edges = [];
-}
+three_and_vrf first = record { routers = four_names; tables = four_tables first; links = four_links; edges = [] }

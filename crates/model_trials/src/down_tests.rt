@@ -2,6 +2,7 @@
 
 use crate::network::{SECOND_TO_THIRD, TO_SECOND, answer, link_entry, name_of, set, ten};
 use crate::plain_delta_tests::{change, compare_delta};
+use crate::same::{same, same_list};
 use dn_model::{Answer, Ask, Entry, LinkId, Run, Target, plain_downs};
 use std::alloc::Global;
 use std::process::Abort;
@@ -33,31 +34,33 @@ fn runs_of(answer: &Answer) -> Option<&[Run]> {
 fn compare_reach(rt: &impl Abort, alloc: Global, entries: &[Entry], want: &[Run]) {
     let question = Ask::Reach(name_of(rt, alloc, b"r1"), name_of(rt, alloc, b"r3"));
     let answer = answer(rt, alloc, entries, question);
-    assert_eq!(rt; runs_of(&answer), Some(want));
+    same(rt, &runs_of(&answer), &Some(want));
 }
 
 /// These links are down.
 fn compare_downs(rt: &impl Abort, alloc: Global, entries: &[Entry], want: &[LinkId]) {
     let downs = plain_downs(alloc, entries).expect(rt, "memory");
-    assert_eq!(rt; downs.as_slice(), want);
+    same_list(rt, downs.as_slice(), want);
 }
 
 #[test]
 fn a_link_goes_down_and_comes_up(rt: HostRuntime) {
+    let alloc = rt.alloc();
     let history = history();
     let ten = [Run { lo: LO, hi: HI }];
     let gone = Target::LinkDown(LinkId(2));
     let down = [change(1, LO, HI, SECOND_TO_THIRD, gone)];
     let up = [change(1, LO, HI, gone, SECOND_TO_THIRD)];
-    compare_reach(&rt, rt.alloc(), &history[..3], &ten);
-    compare_reach(&rt, rt.alloc(), &history[..4], &[]);
-    compare_reach(&rt, rt.alloc(), &history, &ten);
-    compare_delta(&rt, rt.alloc(), &history[..4], &down);
-    compare_delta(&rt, rt.alloc(), &history, &up);
+    compare_reach(&rt, alloc, &history[..3], &ten);
+    compare_reach(&rt, alloc, &history[..4], &[]);
+    compare_reach(&rt, alloc, &history, &ten);
+    compare_delta(&rt, alloc, &history[..4], &down);
+    compare_delta(&rt, alloc, &history, &up);
 }
 
 #[test]
 fn a_link_is_as_the_last_entry_says(rt: HostRuntime) {
+    let alloc = rt.alloc();
     let b = LinkId(2);
     let twice = [
         link_entry(2, true),
@@ -65,20 +68,21 @@ fn a_link_is_as_the_last_entry_says(rt: HostRuntime) {
         link_entry(2, false),
         link_entry(2, false),
     ];
-    compare_downs(&rt, rt.alloc(), &twice[..1], &[b]);
-    compare_downs(&rt, rt.alloc(), &twice[..2], &[b]);
-    compare_downs(&rt, rt.alloc(), &twice[..3], &[]);
-    compare_downs(&rt, rt.alloc(), &twice, &[]);
+    compare_downs(&rt, alloc, &twice[..1], &[b]);
+    compare_downs(&rt, alloc, &twice[..2], &[b]);
+    compare_downs(&rt, alloc, &twice[..3], &[]);
+    compare_downs(&rt, alloc, &twice, &[]);
     let two = [
         link_entry(0, true),
         link_entry(2, true),
         link_entry(0, true),
     ];
-    compare_downs(&rt, rt.alloc(), &two, &[b, LinkId(0)]);
+    compare_downs(&rt, alloc, &two, &[b, LinkId(0)]);
 }
 
 #[test]
 fn a_link_that_is_down_twice_over_comes_up_at_once(rt: HostRuntime) {
+    let alloc = rt.alloc();
     let entries = [
         set(1, ten(), 20, SECOND_TO_THIRD),
         link_entry(2, true),
@@ -86,6 +90,6 @@ fn a_link_that_is_down_twice_over_comes_up_at_once(rt: HostRuntime) {
         link_entry(2, false),
     ];
     let up = [change(1, LO, HI, Target::LinkDown(LinkId(2)), SECOND_TO_THIRD)];
-    compare_delta(&rt, rt.alloc(), &entries[..3], &[]);
-    compare_delta(&rt, rt.alloc(), &entries, &up);
+    compare_delta(&rt, alloc, &entries[..3], &[]);
+    compare_delta(&rt, alloc, &entries, &up);
 }

@@ -19,6 +19,8 @@ mod plain_tests;
 #[cfg(test)]
 mod replace_tests;
 #[cfg(test)]
+mod same;
+#[cfg(test)]
 mod topologies;
 #[cfg(test)]
 mod vrf_tests;

@@ -4,7 +4,7 @@ ghost use Rattle.std.specs.Prelude.{◌≡◌, IsTrue, All};
 ghost use Rattle.dn_model.specs.Tables.{device_of};
 ghost use Rattle.dn_model.specs.Entry.{IsTargetOf, IsOpOf, IsEntryOf};
 
-use crate::topologies::three;
+use crate::topologies::{three, three_and_vrf};
 use dn_model::{
     Answer, Ask, Entry, LinkId, Name, Op, Prefix, Query, Replace, RouterId, Target, Topology,
     device_of, is_name, plain_answer,
@@ -95,7 +95,17 @@ fn are_entries_of(t: &Topology, entries: &[Entry]) -> bool
 
 /// The network: three routers, of which none replaces routes by prefix.
 pub fn network(rt: &impl Abort, alloc: Global) -> Topology {
-    three(alloc, Replace::Key).expect(rt, "memory")
+    network_by(rt, alloc, Replace::Key)
+}
+
+/// The network; how r1 replaces routes.
+pub fn network_by(rt: &impl Abort, alloc: Global, first: Replace) -> Topology {
+    three(alloc, first).expect(rt, "memory")
+}
+
+/// The network with a VRF of r1; how r1 replaces routes.
+pub fn network_with_vrf(rt: &impl Abort, alloc: Global, first: Replace) -> Topology {
+    three_and_vrf(alloc, first).expect(rt, "memory")
 }
 
 /// An update of a router.

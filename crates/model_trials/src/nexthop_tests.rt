@@ -1,7 +1,9 @@
 //! Next-hop objects and their users.
 
-use crate::network::{TO_SECOND, TO_THIRD, clear, no_object, object, set, set_by, ten, ten_one};
-use crate::topologies::three_and_vrf;
+use crate::network::{
+    TO_SECOND, TO_THIRD, clear, network_with_vrf, no_object, object, set, set_by, ten, ten_one,
+};
+use crate::same::{holds, same, same_list};
 use dn_model::{
     Entry, Prefix, Replace, RouterId, Target, Topology, Way, plain_objects, plain_routes,
     plain_target,
@@ -34,40 +36,71 @@ fn remove(objects: &mut Objects, id: u32, user: User) {
     objects.remove_user(FIRST, id, router, prefix, metric);
 }
 
+/// Sets an object of a device.
+fn put(rt: &impl Abort, objects: &mut Objects, device: RouterId, id: u32, target: Target) {
+    objects.put(device, id, target).expect(rt, "memory");
+}
+
+/// An object, by its device and its number, has this target.
+fn compare_target(
+    rt: &impl Abort,
+    objects: &Objects,
+    object: (RouterId, u32),
+    want: Option<Target>,
+) {
+    let (device, id) = object;
+    same(rt, &objects.find(device, id), &want);
+}
+
+/// Takes an object of the first device out. It answers whether it was there.
+fn take_out(objects: &mut Objects, id: u32) -> bool {
+    objects.take_out(FIRST, id)
+}
+
+fn copied(rt: &impl Abort, objects: &Objects) -> Objects {
+    objects.copy().expect(rt, "memory")
+}
+
+/// An object of the first device has so many users.
+fn compare_count(rt: &impl Abort, objects: &Objects, id: u32, want: usize) {
+    let users = objects.users(FIRST, id).expect(rt, "memory");
+    same(rt, &users.len(), &want);
+}
+
 /// A value crosses to another thread, and several share it.
 fn crosses<T: Send + Sync>(_value: &T) {}
 
 /// An object of the first device has these users.
 fn compare_users(rt: &impl Abort, objects: &Objects, id: u32, want: &[User]) {
     let users = objects.users(FIRST, id).expect(rt, "memory");
-    assert_eq!(rt; users.as_slice(), want);
+    same_list(rt, users.as_slice(), want);
 }
 
 #[test]
 fn each_device_has_its_own_ids(rt: HostRuntime) {
     let mut objects = Objects::new(rt.alloc());
-    assert_eq!(&rt; objects.find(FIRST, 7), None);
-    objects.put(FIRST, 7, TO_SECOND).expect(&rt, "memory");
-    objects.put(SECOND, 7, Target::Local).expect(&rt, "memory");
-    objects.put(FIRST, 8, TO_THIRD).expect(&rt, "memory");
-    assert_eq!(&rt; objects.find(FIRST, 7), Some(TO_SECOND));
-    assert_eq!(&rt; objects.find(SECOND, 7), Some(Target::Local));
-    assert_eq!(&rt; objects.find(FIRST, 8), Some(TO_THIRD));
-    assert_eq!(&rt; objects.find(SECOND, 8), None);
-    assert!(&rt; objects.take_out(FIRST, 7));
-    assert!(&rt; !objects.take_out(FIRST, 7));
-    assert_eq!(&rt; objects.find(FIRST, 7), None);
-    assert_eq!(&rt; objects.find(SECOND, 7), Some(Target::Local));
-    assert_eq!(&rt; objects.find(FIRST, 8), Some(TO_THIRD));
+    compare_target(&rt, &objects, (FIRST, 7), None);
+    put(&rt, &mut objects, FIRST, 7, TO_SECOND);
+    put(&rt, &mut objects, SECOND, 7, Target::Local);
+    put(&rt, &mut objects, FIRST, 8, TO_THIRD);
+    compare_target(&rt, &objects, (FIRST, 7), Some(TO_SECOND));
+    compare_target(&rt, &objects, (SECOND, 7), Some(Target::Local));
+    compare_target(&rt, &objects, (FIRST, 8), Some(TO_THIRD));
+    compare_target(&rt, &objects, (SECOND, 8), None);
+    holds(&rt, take_out(&mut objects, 7));
+    holds(&rt, !take_out(&mut objects, 7));
+    compare_target(&rt, &objects, (FIRST, 7), None);
+    compare_target(&rt, &objects, (SECOND, 7), Some(Target::Local));
+    compare_target(&rt, &objects, (FIRST, 8), Some(TO_THIRD));
 }
 
 #[test]
 fn an_id_that_is_put_again_keeps_its_users(rt: HostRuntime) {
     let mut objects = Objects::new(rt.alloc());
-    objects.put(FIRST, 7, TO_SECOND).expect(&rt, "memory");
+    put(&rt, &mut objects, FIRST, 7, TO_SECOND);
     add(&rt, &mut objects, 7, (FIRST, ten(), 20));
-    objects.put(FIRST, 7, TO_THIRD).expect(&rt, "memory");
-    assert_eq!(&rt; objects.find(FIRST, 7), Some(TO_THIRD));
+    put(&rt, &mut objects, FIRST, 7, TO_THIRD);
+    compare_target(&rt, &objects, (FIRST, 7), Some(TO_THIRD));
     compare_users(&rt, &objects, 7, &[(FIRST, ten(), 20)]);
     crosses(&objects);
 }
@@ -75,7 +108,7 @@ fn an_id_that_is_put_again_keeps_its_users(rt: HostRuntime) {
 #[test]
 fn a_user_that_is_added_twice_stands_once(rt: HostRuntime) {
     let mut objects = Objects::new(rt.alloc());
-    objects.put(FIRST, 7, TO_SECOND).expect(&rt, "memory");
+    put(&rt, &mut objects, FIRST, 7, TO_SECOND);
     add(&rt, &mut objects, 7, (VRF, ten(), 20));
     add(&rt, &mut objects, 7, (FIRST, ten_one(), 20));
     add(&rt, &mut objects, 7, (VRF, ten(), 20));
@@ -88,11 +121,11 @@ fn a_user_that_is_added_twice_stands_once(rt: HostRuntime) {
 fn users_of_ids_that_are_not_there_are_kept(rt: HostRuntime) {
     let mut objects = Objects::new(rt.alloc());
     add(&rt, &mut objects, 7, (FIRST, ten(), 20));
-    assert_eq!(&rt; objects.find(FIRST, 7), None);
+    compare_target(&rt, &objects, (FIRST, 7), None);
     compare_users(&rt, &objects, 7, &[(FIRST, ten(), 20)]);
-    objects.put(FIRST, 7, TO_SECOND).expect(&rt, "memory");
+    put(&rt, &mut objects, FIRST, 7, TO_SECOND);
     compare_users(&rt, &objects, 7, &[(FIRST, ten(), 20)]);
-    assert!(&rt; objects.take_out(FIRST, 7));
+    holds(&rt, take_out(&mut objects, 7));
     compare_users(&rt, &objects, 7, &[(FIRST, ten(), 20)]);
     compare_users(&rt, &objects, 8, &[]);
 }
@@ -115,35 +148,45 @@ fn one_of_three_metrics_is_removed(rt: HostRuntime) {
 #[test]
 fn a_copy_is_one_of_its_own(rt: HostRuntime) {
     let mut objects = Objects::new(rt.alloc());
-    objects.put(FIRST, 7, TO_SECOND).expect(&rt, "memory");
+    put(&rt, &mut objects, FIRST, 7, TO_SECOND);
     add(&rt, &mut objects, 7, (FIRST, ten(), 20));
-    let copy = objects.copy().expect(&rt, "memory");
-    assert!(&rt; objects.take_out(FIRST, 7));
+    let copy = copied(&rt, &objects);
+    holds(&rt, take_out(&mut objects, 7));
     remove(&mut objects, 7, (FIRST, ten(), 20));
     add(&rt, &mut objects, 7, (FIRST, ten_one(), 20));
-    assert_eq!(&rt; copy.find(FIRST, 7), Some(TO_SECOND));
+    compare_target(&rt, &copy, (FIRST, 7), Some(TO_SECOND));
     compare_users(&rt, &copy, 7, &[(FIRST, ten(), 20)]);
+}
+
+/// The first users of an object are the first device's routes of 10.0.0.0/8, by metrics from 0 on.
+fn compare_metrics(rt: &impl Abort, objects: &Objects, id: u32) {
+    let users = objects.users(FIRST, id).expect(rt, "memory");
+    let metrics = 0..1_000_u32;
+    for (user, metric) in users.as_slice().iter().zip(metrics) {
+        same(rt, user, &(FIRST, ten(), metric));
+    }
+}
+
+/// Adds a thousand routes to the users of each of three objects.
+fn add_thousand(rt: &impl Abort, objects: &mut Objects) {
+    for i in 0..1_000_u32 {
+        add(rt, objects, 7, (FIRST, ten(), 999 - i));
+        add(rt, objects, 6, (FIRST, ten(), i));
+        add(rt, objects, 8, (FIRST, ten(), i));
+    }
 }
 
 #[test]
 fn an_object_of_a_thousand_routes(rt: HostRuntime) {
     let mut objects = Objects::new(rt.alloc());
-    for i in 0..1_000_u32 {
-        add(&rt, &mut objects, 7, (FIRST, ten(), 999 - i));
-        add(&rt, &mut objects, 6, (FIRST, ten(), i));
-        add(&rt, &mut objects, 8, (FIRST, ten(), i));
-    }
-    let users = objects.users(FIRST, 7).expect(&rt, "memory");
-    assert_eq!(&rt; users.len(), 1_000);
-    let metrics = 0..1_000_u32;
-    for (user, metric) in users.as_slice().iter().zip(metrics) {
-        assert_eq!(&rt; *user, (FIRST, ten(), metric));
-    }
+    add_thousand(&rt, &mut objects);
+    compare_count(&rt, &objects, 7, 1_000);
+    compare_metrics(&rt, &objects, 7);
     for i in 0..999_u32 {
         remove(&mut objects, 7, (FIRST, ten(), i));
     }
     compare_users(&rt, &objects, 7, &[(FIRST, ten(), 999)]);
-    assert_eq!(&rt; objects.users(FIRST, 8).expect(&rt, "memory").len(), 1_000);
+    compare_count(&rt, &objects, 8, 1_000);
 }
 
 /// What a router does with 10.1.2.3 after these entries.
@@ -161,15 +204,16 @@ fn target_after(
 
 /// Both histories do the same with 10.1.2.3, at the first device and at its VRF.
 fn compare_histories(rt: &impl Abort, alloc: Global, entries: &[Entry], flat: &[Entry]) {
-    let t = three_and_vrf(alloc, Replace::Key).expect(rt, "memory");
+    let t = network_with_vrf(rt, alloc, Replace::Key);
     for router in [FIRST, VRF] {
         let want = target_after(rt, alloc, &t, flat, router);
-        assert_eq!(rt; target_after(rt, alloc, &t, entries, router), want);
+        same(rt, &target_after(rt, alloc, &t, entries, router), &want);
     }
 }
 
 #[test]
 fn a_history_without_objects_does_the_same(rt: HostRuntime) {
+    let alloc = rt.alloc();
     let entries = [
         object(0, 7, TO_SECOND),
         set_by(0, ten(), 20, 7),
@@ -187,11 +231,11 @@ fn a_history_without_objects_does_the_same(rt: HostRuntime) {
         clear(0, ten(), Some(20)),
         clear(3, ten_one(), Some(5)),
     ];
-    compare_histories(&rt, rt.alloc(), &entries[..2], &flat[..1]);
-    compare_histories(&rt, rt.alloc(), &entries[..3], &flat[..2]);
-    compare_histories(&rt, rt.alloc(), &entries[..4], &flat[..4]);
-    compare_histories(&rt, rt.alloc(), &entries[..5], &flat[..5]);
-    compare_histories(&rt, rt.alloc(), &entries, &flat);
+    compare_histories(&rt, alloc, &entries[..2], &flat[..1]);
+    compare_histories(&rt, alloc, &entries[..3], &flat[..2]);
+    compare_histories(&rt, alloc, &entries[..4], &flat[..4]);
+    compare_histories(&rt, alloc, &entries[..5], &flat[..5]);
+    compare_histories(&rt, alloc, &entries, &flat);
 }
 
 /// 10.0.0.0/16.
@@ -215,6 +259,34 @@ fn users_come_in_their_order(rt: HostRuntime) {
     compare_users(&rt, &objects, 7, &want);
 }
 
+/// The routes by an object in the table of a router after these entries.
+fn users_at(
+    rt: &impl Abort,
+    alloc: Global,
+    entries: &[Entry],
+    router: RouterId,
+    id: u32,
+) -> Vec<User> {
+    let t = network_with_vrf(rt, alloc, Replace::Prefix);
+    let routes = plain_routes(alloc, &t, entries, router).expect(rt, "memory");
+    let mut users = Vec::new(alloc);
+    for route in routes.as_slice() {
+        if route.way == Way::By(id) {
+            users
+                .push((router, route.prefix, route.metric))
+                .expect(rt, "memory");
+        }
+    }
+    users
+}
+
+/// Each of some routes is one of these users.
+fn are_users(rt: &impl Abort, users: &[User], routes: &[User]) {
+    for route in routes {
+        holds(rt, users.contains(route));
+    }
+}
+
 /// The users of an object are the routes by it in the tables of the first device and of its VRF after these entries.
 fn compare_with_tables(
     rt: &impl Abort,
@@ -223,20 +295,20 @@ fn compare_with_tables(
     objects: &Objects,
     id: u32,
 ) {
-    let t = three_and_vrf(alloc, Replace::Prefix).expect(rt, "memory");
     let users = objects.users(FIRST, id).expect(rt, "memory");
-    let mut by_id = Vec::new(alloc);
-    for router in [FIRST, VRF] {
-        let routes = plain_routes(alloc, &t, entries, router).expect(rt, "memory");
-        for route in routes.as_slice() {
-            if route.way == Way::By(id) {
-                let user = (router, route.prefix, route.metric);
-                assert!(rt; users.as_slice().contains(&user));
-                by_id.push(user).expect(rt, "memory");
-            }
-        }
+    let first = users_at(rt, alloc, entries, FIRST, id);
+    let of_vrf = users_at(rt, alloc, entries, VRF, id);
+    are_users(rt, users.as_slice(), first.as_slice());
+    are_users(rt, users.as_slice(), of_vrf.as_slice());
+    same(rt, &users.len(), &first.len().saturating_add(of_vrf.len()));
+}
+
+/// Takes all routes away from the users of an object.
+fn remove_all(rt: &impl Abort, objects: &mut Objects, id: u32) {
+    let users = objects.users(FIRST, id).expect(rt, "memory");
+    for user in users.as_slice() {
+        remove(objects, id, *user);
     }
-    assert_eq!(rt; users.len(), by_id.len());
 }
 
 #[test]
@@ -265,8 +337,6 @@ fn users_are_the_routes_of_tables(rt: HostRuntime) {
     remove(&mut objects, 8, (FIRST, ten(), 40));
     compare_with_tables(&rt, alloc, &entries[..6], &objects, 7);
     compare_with_tables(&rt, alloc, &entries[..6], &objects, 8);
-    for user in objects.users(FIRST, 7).expect(&rt, "memory").as_slice() {
-        remove(&mut objects, 7, *user);
-    }
+    remove_all(&rt, &mut objects, 7);
     compare_with_tables(&rt, alloc, &entries, &objects, 7);
 }

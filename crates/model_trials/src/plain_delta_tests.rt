@@ -3,6 +3,7 @@
 ghost use Rattle.std.specs.Prelude.{◌≤◌};
 
 use crate::network::{TO_SECOND, TO_THIRD, answer, answer_in, clear, set, ten};
+use crate::same::same;
 use dn_model::{Answer, Ask, Change, Entry, Prefix, Query, RouterId, Run, Target, Topology};
 use std::alloc::Global;
 use std::process::Abort;
@@ -24,13 +25,13 @@ pub fn compare_delta_in(
     want: &[Change],
 ) {
     let answer = answer_in(rt, alloc, t, entries, &Query::of(alloc, Ask::Delta));
-    assert_eq!(rt; changes_of(&answer), Some(want));
+    same(rt, &changes_of(&answer), &Some(want));
 }
 
 /// The last of these updates changed this.
 pub fn compare_delta(rt: &impl Abort, alloc: Global, entries: &[Entry], want: &[Change]) {
     let answer = answer(rt, alloc, entries, Ask::Delta);
-    assert_eq!(rt; changes_of(&answer), Some(want));
+    same(rt, &changes_of(&answer), &Some(want));
 }
 
 /// Where a router does something else.
@@ -47,19 +48,21 @@ pub fn change(router: u16, lo: u32, hi: u32, before: Target, after: Target) -> C
 
 #[test]
 fn all_addresses_and_the_last(rt: HostRuntime) {
+    let alloc = rt.alloc();
     let history = [
         set(0, Prefix::new(0, 0), 20, TO_SECOND),
         set(0, Prefix::new(u32::MAX, 32), 0, Target::Exit(1)),
     ];
     let all = [change(0, 0, u32::MAX, Target::NoRoute, TO_SECOND)];
     let last = [change(0, u32::MAX, u32::MAX, TO_SECOND, Target::Exit(1))];
-    compare_delta(&rt, rt.alloc(), &[], &[]);
-    compare_delta(&rt, rt.alloc(), &history[..1], &all);
-    compare_delta(&rt, rt.alloc(), &history, &last);
+    compare_delta(&rt, alloc, &[], &[]);
+    compare_delta(&rt, alloc, &history[..1], &all);
+    compare_delta(&rt, alloc, &history, &last);
 }
 
 #[test]
 fn all_metrics_cleared(rt: HostRuntime) {
+    let alloc = rt.alloc();
     let ten = ten();
     let (lo, hi) = (0x0A00_0000, 0x0AFF_FFFF);
     let history = [
@@ -70,9 +73,9 @@ fn all_metrics_cleared(rt: HostRuntime) {
     ];
     let second = [change(0, lo, hi, TO_SECOND, TO_THIRD)];
     let third = [change(0, lo, hi, TO_THIRD, Target::NoRoute)];
-    compare_delta(&rt, rt.alloc(), &history[..2], &second);
-    compare_delta(&rt, rt.alloc(), &history[..3], &third);
-    compare_delta(&rt, rt.alloc(), &history, &[]);
+    compare_delta(&rt, alloc, &history[..2], &second);
+    compare_delta(&rt, alloc, &history[..3], &third);
+    compare_delta(&rt, alloc, &history, &[]);
 }
 
 #[test]

@@ -8,6 +8,7 @@ use crate::network::{
     link_entry, name_of, set, ten, ten_one,
 };
 use crate::plain_delta_tests::{change, compare_delta};
+use crate::same::{same, same_list};
 use dn_model::{
     Answer, Ask, Cycle, DropKind, Entry, Hole, LinkId, List, Name, PathEnd, Prefix, Query,
     RouterId, Run, Target,
@@ -37,8 +38,6 @@ const ALL: [Run; 1] = [Run {
     lo: 0,
     hi: u32::MAX,
 }];
-
-const NONE: [Run; 0] = [];
 
 fn ten_nine() -> Prefix {
     Prefix::new(0x0A09_0000, 24)
@@ -85,7 +84,7 @@ pub fn path_of(answer: &Answer) -> Option<(&[RouterId], PathEnd)> {
 fn compare_reach(rt: &impl Abort, alloc: Global, entries: &[Entry], to: &[u8], want: &[Run]) {
     let question = Ask::Reach(name_of(rt, alloc, b"r1"), name_of(rt, alloc, to));
     let answer = answer(rt, alloc, entries, question);
-    assert_eq!(rt; runs_of(&answer), Some(want));
+    same(rt, &runs_of(&answer), &Some(want));
 }
 
 /// These addresses from r1 come to r3 without having met r2.
@@ -96,7 +95,7 @@ fn compare_missing_second(rt: &impl Abort, alloc: Global, entries: &[Entry], wan
         name_of(rt, alloc, b"r2"),
     );
     let answer = answer(rt, alloc, entries, question);
-    assert_eq!(rt; runs_of(&answer), Some(want));
+    same(rt, &runs_of(&answer), &Some(want));
 }
 
 /// Where addresses from r1 vanish.
@@ -129,16 +128,23 @@ fn answer_without_b(rt: &impl Abort, alloc: Global, entries: &[Entry], ask: Ask)
     answer_to(rt, alloc, entries, &query)
 }
 
-/// Which addresses from r1 come to r3 without the link b.
-fn reach_without_b(rt: &impl Abort, alloc: Global, entries: &[Entry]) -> Answer {
+/// These addresses from r1 come to r3 without the link b.
+fn compare_reach_without_b(rt: &impl Abort, alloc: Global, entries: &[Entry], want: &[Run]) {
     let question = Ask::Reach(name_of(rt, alloc, b"r1"), name_of(rt, alloc, b"r3"));
-    answer_without_b(rt, alloc, entries, question)
+    let answer = answer_without_b(rt, alloc, entries, question);
+    same(rt, &runs_of(&answer), &Some(want));
 }
 
-/// Where addresses from r1 vanish without the link b.
-fn holes_without_b(rt: &impl Abort, alloc: Global, entries: &[Entry]) -> Answer {
+/// Where addresses from r1 vanish without the link b, in this order.
+fn compare_holes_without_b(
+    rt: &impl Abort,
+    alloc: Global,
+    entries: &[Entry],
+    want: &[Vanishing<'_>],
+) {
     let question = Ask::Blackholes(name_of(rt, alloc, b"r1"));
-    answer_without_b(rt, alloc, entries, question)
+    let answer = answer_without_b(rt, alloc, entries, question);
+    compare_holes(rt, &answer, want);
 }
 
 /// A cycle of two routers.
@@ -167,16 +173,16 @@ fn cycles_of<'a>(rt: &impl Abort, answer: &'a Answer) -> &'a [Cycle] {
 }
 
 fn compare_cycle(rt: &impl Abort, cycle: &Cycle, want: &Round) {
-    assert_eq!(rt; cycle.routers.as_slice(), &want.routers[..]);
-    assert_eq!(rt; cycle.least, want.least);
-    assert_eq!(rt; cycle.addresses, want.addresses);
+    same_list(rt, cycle.routers.as_slice(), &want.routers[..]);
+    same(rt, &cycle.least, &want.least);
+    same(rt, &cycle.addresses, &want.addresses);
 }
 
 /// The cycles are these, in this order.
 fn compare_loops(rt: &impl Abort, alloc: Global, entries: &[Entry], want: &[Round]) {
     let answer = answer(rt, alloc, entries, Ask::Loops);
     let cycles = cycles_of(rt, &answer);
-    assert_eq!(rt; cycles.len(), want.len());
+    same(rt, &cycles.len(), &want.len());
     for (cycle, round) in cycles.iter().zip(want.iter()) {
         compare_cycle(rt, cycle, round);
     }
@@ -208,15 +214,15 @@ fn holes_of<'a>(rt: &impl Abort, answer: &'a Answer) -> &'a [Hole] {
 }
 
 fn compare_hole(rt: &impl Abort, hole: &Hole, want: &Vanishing<'_>) {
-    assert_eq!(rt; hole.router.0, want.router);
-    assert_eq!(rt; hole.cause, want.cause);
-    assert_eq!(rt; hole.runs.as_slice(), want.runs);
+    same(rt, &hole.router.0, &want.router);
+    same(rt, &hole.cause, &want.cause);
+    same_list(rt, hole.runs.as_slice(), want.runs);
 }
 
 /// The black holes of an answer are these, in this order.
 fn compare_holes(rt: &impl Abort, answer: &Answer, want: &[Vanishing<'_>]) {
     let holes = holes_of(rt, answer);
-    assert_eq!(rt; holes.len(), want.len());
+    same(rt, &holes.len(), &want.len());
     for (hole, vanishing) in holes.iter().zip(want.iter()) {
         compare_hole(rt, hole, vanishing);
     }
@@ -224,32 +230,36 @@ fn compare_holes(rt: &impl Abort, answer: &Answer, want: &[Vanishing<'_>]) {
 
 #[test]
 fn a_path_of_three_routers(rt: HostRuntime) {
-    let question = Ask::Path(name_of(&rt, rt.alloc(), b"r1"), 0x0A00_0000);
-    let answer = answer(&rt, rt.alloc(), &history()[..3], question);
+    let alloc = rt.alloc();
+    let question = Ask::Path(name_of(&rt, alloc, b"r1"), 0x0A00_0000);
+    let answer = answer(&rt, alloc, &history()[..3], question);
     let routers = [RouterId(0), RouterId(1), RouterId(2)];
     let end = PathEnd::At(Target::Exit(1));
-    assert_eq!(rt; path_of(&answer), Some((&routers[..], end)));
+    same(&rt, &path_of(&answer), &Some((&routers[..], end)));
 }
 
 #[test]
 fn reaches_past_two_links(rt: HostRuntime) {
+    let alloc = rt.alloc();
     let history = history();
-    compare_reach(&rt, rt.alloc(), &history[..3], b"r3", &TEN);
-    compare_reach(&rt, rt.alloc(), &history[..5], b"r3", &TEN);
-    compare_reach(&rt, rt.alloc(), &history[..2], b"r2", &TEN);
-    compare_reach(&rt, rt.alloc(), &[], b"r2", &[]);
+    compare_reach(&rt, alloc, &history[..3], b"r3", &TEN);
+    compare_reach(&rt, alloc, &history[..5], b"r3", &TEN);
+    compare_reach(&rt, alloc, &history[..2], b"r2", &TEN);
+    compare_reach(&rt, alloc, &[], b"r2", &[]);
 }
 
 #[test]
 fn a_router_is_reached_from_itself_by_all(rt: HostRuntime) {
-    compare_reach(&rt, rt.alloc(), &[], b"r1", &ALL);
-    compare_reach(&rt, rt.alloc(), &history()[..4], b"r1", &ALL);
+    let alloc = rt.alloc();
+    compare_reach(&rt, alloc, &[], b"r1", &ALL);
+    compare_reach(&rt, alloc, &history()[..4], b"r1", &ALL);
 }
 
 #[test]
 fn what_loops_past_a_router_reaches_it(rt: HostRuntime) {
+    let alloc = rt.alloc();
     let history = history();
-    compare_reach(&rt, rt.alloc(), &history[..4], b"r2", &TEN);
+    compare_reach(&rt, alloc, &history[..4], b"r2", &TEN);
     let around = [
         Run {
             lo: 0x0A00_0000,
@@ -260,27 +270,29 @@ fn what_loops_past_a_router_reaches_it(rt: HostRuntime) {
             hi: 0x0AFF_FFFF,
         },
     ];
-    compare_reach(&rt, rt.alloc(), &history[..4], b"r3", &around);
+    compare_reach(&rt, alloc, &history[..4], b"r3", &around);
 }
 
 #[test]
 fn each_end_of_a_link_uses_it(rt: HostRuntime) {
-    let question = Ask::Uses(name_of(&rt, rt.alloc(), b"a"));
-    let answer = answer(&rt, rt.alloc(), &history()[..4], question);
+    let alloc = rt.alloc();
+    let question = Ask::Uses(name_of(&rt, alloc, b"a"));
+    let answer = answer(&rt, alloc, &history()[..4], question);
     let looping = [Run {
         lo: 0x0A01_0000,
         hi: 0x0A01_FFFF,
     }];
-    assert_eq!(rt; uses_of(&answer), Some((&TEN[..], &looping[..])));
+    same(&rt, &uses_of(&answer), &Some((&TEN[..], &looping[..])));
 }
 
 #[test]
 fn a_loop_ends_when_it_is_cleared(rt: HostRuntime) {
+    let alloc = rt.alloc();
     let history = history();
     let round = [of_first_two(0x0A01_0000, 65536)];
-    compare_loops(&rt, rt.alloc(), &history[..4], &round);
-    compare_loops(&rt, rt.alloc(), &history[..5], &[]);
-    compare_loops(&rt, rt.alloc(), &[], &[]);
+    compare_loops(&rt, alloc, &history[..4], &round);
+    compare_loops(&rt, alloc, &history[..5], &[]);
+    compare_loops(&rt, alloc, &[], &[]);
 }
 
 #[test]
@@ -320,31 +332,30 @@ fn cycles_come_by_least_address(rt: HostRuntime) {
 
 #[test]
 fn addresses_on_a_segment_go_no_further(rt: HostRuntime) {
+    let alloc = rt.alloc();
     let four = Prefix::new(0x0A00_0000, 30);
     let on_link = [
         set(0, four, 0, Target::OnLink(2)),
         set(1, four, 0, Target::OnLink(2)),
     ];
-    compare_loops(&rt, rt.alloc(), &on_link, &[]);
+    compare_loops(&rt, alloc, &on_link, &[]);
     let through = [set(0, four, 0, TO_SECOND), set(1, four, 0, BACK)];
     let round = [of_first_two(0x0A00_0000, 4)];
-    compare_loops(&rt, rt.alloc(), &through, &round);
+    compare_loops(&rt, alloc, &through, &round);
 }
 
 #[test]
 fn a_link_down_is_on_no_way(rt: HostRuntime) {
-    let answer = reach_without_b(&rt, rt.alloc(), &history()[..3]);
-    assert_eq!(rt; runs_of(&answer), Some(&NONE[..]));
+    compare_reach_without_b(&rt, rt.alloc(), &history()[..3], &[]);
 }
 
 #[test]
 fn a_link_down_is_a_hole(rt: HostRuntime) {
-    let answer = holes_without_b(&rt, rt.alloc(), &history()[..3]);
     let want = [
         hole_at(0, Target::NoRoute, &BUT_TEN),
         hole_at(1, Target::LinkDown(LinkId(2)), &TEN),
     ];
-    compare_holes(&rt, &answer, &want);
+    compare_holes_without_b(&rt, rt.alloc(), &history()[..3], &want);
 }
 
 /// What is left of 10.0.0.0/8 beside 10.1.0.0/16.
@@ -375,6 +386,7 @@ fn with_links() -> [Entry; 7] {
 
 #[test]
 fn a_link_taken_as_down_beside_one_that_is(rt: HostRuntime) {
+    let alloc = rt.alloc();
     let entries = with_links();
     let ten_one = [Run {
         lo: 0x0A01_0000,
@@ -389,25 +401,24 @@ fn a_link_taken_as_down_beside_one_that_is(rt: HostRuntime) {
         hole_at(0, Target::LinkDown(LinkId(1)), &ten_one),
         hole_at(1, Target::LinkDown(LinkId(2)), &BUT_TEN_ONE),
     ];
-    compare_holes(&rt, &holes_without_b(&rt, rt.alloc(), &entries[..5]), &one);
-    compare_holes(&rt, &holes_without_b(&rt, rt.alloc(), &entries[..6]), &one);
-    compare_holes(&rt, &holes_without_b(&rt, rt.alloc(), &entries), &two);
+    compare_holes_without_b(&rt, alloc, &entries[..5], &one);
+    compare_holes_without_b(&rt, alloc, &entries[..6], &one);
+    compare_holes_without_b(&rt, alloc, &entries, &two);
 }
 
 #[test]
 fn a_link_that_comes_up_is_taken_as_down(rt: HostRuntime) {
+    let alloc = rt.alloc();
     let entries = with_links();
     let ten_one = [Run {
         lo: 0x0A01_0000,
         hi: 0x0A01_FFFF,
     }];
-    compare_reach(&rt, rt.alloc(), &entries[..5], b"r3", &ten_one);
-    compare_reach(&rt, rt.alloc(), &entries[..6], b"r3", &TEN);
-    compare_reach(&rt, rt.alloc(), &entries, b"r3", &BUT_TEN_ONE);
-    let up = reach_without_b(&rt, rt.alloc(), &entries[..6]);
-    assert_eq!(rt; runs_of(&up), Some(&ten_one[..]));
-    let neither = reach_without_b(&rt, rt.alloc(), &entries);
-    assert_eq!(rt; runs_of(&neither), Some(&NONE[..]));
+    compare_reach(&rt, alloc, &entries[..5], b"r3", &ten_one);
+    compare_reach(&rt, alloc, &entries[..6], b"r3", &TEN);
+    compare_reach(&rt, alloc, &entries, b"r3", &BUT_TEN_ONE);
+    compare_reach_without_b(&rt, alloc, &entries[..6], &ten_one);
+    compare_reach_without_b(&rt, alloc, &entries, &[]);
 }
 
 /// All that addresses from r1 vanish by is that r1 has no route for these.
@@ -419,8 +430,9 @@ fn compare_without_route(rt: &impl Abort, alloc: Global, entries: &[Entry], runs
 
 #[test]
 fn a_walk_that_loops_is_no_hole(rt: HostRuntime) {
-    compare_without_route(&rt, rt.alloc(), &history()[..4], &BUT_TEN);
-    compare_without_route(&rt, rt.alloc(), &[], &ALL);
+    let alloc = rt.alloc();
+    compare_without_route(&rt, alloc, &history()[..4], &BUT_TEN);
+    compare_without_route(&rt, alloc, &[], &ALL);
 }
 
 /// What is left of 10.0.0.0/8 beside 10.1.0.0/16 and 10.9.0.0/24.
@@ -462,23 +474,25 @@ fn holes_come_by_router_then_cause(rt: HostRuntime) {
 
 #[test]
 fn a_waypoint_is_missed_on_the_way_alone(rt: HostRuntime) {
+    let alloc = rt.alloc();
     let history = history();
     let missed = [Run {
         lo: 0x0A09_0000,
         hi: 0x0A09_00FF,
     }];
-    compare_missing_second(&rt, rt.alloc(), &history[..3], &[]);
-    compare_missing_second(&rt, rt.alloc(), &history, &missed);
+    compare_missing_second(&rt, alloc, &history[..3], &[]);
+    compare_missing_second(&rt, alloc, &history, &missed);
     let later = [
         set(0, ten_nine(), 0, TO_THIRD),
         set(2, ten_nine(), 0, THIRD_TO_SECOND),
     ];
-    compare_missing_second(&rt, rt.alloc(), &later, &missed);
+    compare_missing_second(&rt, alloc, &later, &missed);
 }
 
 #[test]
 fn an_empty_history_has_no_change(rt: HostRuntime) {
-    compare_delta(&rt, rt.alloc(), &[], &[]);
+    let alloc = rt.alloc();
+    compare_delta(&rt, alloc, &[], &[]);
     let cleared = [change(1, 0x0A01_0000, 0x0A01_FFFF, BACK, SECOND_TO_THIRD)];
-    compare_delta(&rt, rt.alloc(), &history()[..5], &cleared);
+    compare_delta(&rt, alloc, &history()[..5], &cleared);
 }

@@ -2,6 +2,8 @@
 
 ghost use Rattle.std.specs.Prelude.{◌≡◌, ◌<◌};
 
+use crate::same::same;
+use crate::table_tests::{compare_routes, copied, set, set_alone, ten, ten_one};
 use dn_model::{Prefix, Route, RouterId, TableOp, Target, Way};
 use route_table::{Lane, RouteTable, RouteTables, TableUpdate};
 use std::alloc::Global;
@@ -9,16 +11,6 @@ use std::marker::Brand;
 use std::process::Abort;
 use std::sync::ledger::{Blank, Ledger};
 use step_count::Steps;
-
-/// 10.0.0.0/8.
-fn ten() -> Prefix {
-    Prefix::new(0x0A00_0000, 8)
-}
-
-/// 10.1.0.0/16.
-fn ten_one() -> Prefix {
-    Prefix::new(0x0A01_0000, 16)
-}
 
 fn exit(k: u32) -> Way {
     Way::Straight(Target::Exit(k))
@@ -94,7 +86,7 @@ fn compare_steps<L: Ledger>(rt: &impl Abort, alloc: Global, list: &[Step], blank
                 &mut steps,
             )
             .expect(rt, "memory");
-        assert_eq!(rt; told.after, step.after);
+        same(rt, &told.after, &step.after);
     }
 }
 
@@ -129,18 +121,6 @@ fn the_same_route_put_alone_drops_the_other(rt: HostRuntime) {
     compare_steps::<Brand>(&rt, rt.alloc(), &list, Blank::new(1));
 }
 
-fn set_alone(rt: &impl Abort, alloc: Global, table: &mut RouteTable, prefix: Prefix, metric: u32) {
-    table
-        .set_alone(alloc, prefix, metric, exit(metric))
-        .expect(rt, "memory");
-}
-
-/// All routes of a table are these.
-fn compare_routes(rt: &impl Abort, alloc: Global, table: &RouteTable, want: &[Route]) {
-    let routes = table.routes(alloc).expect(rt, "memory");
-    assert_eq!(rt; routes.as_slice(), want);
-}
-
 fn route(prefix: Prefix, metric: u32) -> Route {
     Route {
         prefix,
@@ -152,18 +132,17 @@ fn route(prefix: Prefix, metric: u32) -> Route {
 /// Those of another prefix stay, and a copy keeps what it had.
 #[test]
 fn a_table_is_left_with_one_route_of_the_prefix(rt: HostRuntime) {
+    let alloc = rt.alloc();
     let mut table = RouteTable::new();
-    set_alone(&rt, rt.alloc(), &mut table, ten(), 5);
-    table
-        .set(rt.alloc(), ten(), 20, exit(20))
-        .expect(&rt, "memory");
-    set_alone(&rt, rt.alloc(), &mut table, ten_one(), 9);
-    let before = table.copy().expect(&rt, "memory");
-    set_alone(&rt, rt.alloc(), &mut table, ten(), 7);
+    set_alone(&rt, alloc, &mut table, route(ten(), 5));
+    set(&rt, alloc, &mut table, route(ten(), 20));
+    set_alone(&rt, alloc, &mut table, route(ten_one(), 9));
+    let before = copied(&rt, &table);
+    set_alone(&rt, alloc, &mut table, route(ten(), 7));
     let left = [route(ten(), 7), route(ten_one(), 9)];
-    compare_routes(&rt, rt.alloc(), &table, &left);
+    compare_routes(&rt, alloc, &table, &left);
     let all = [route(ten(), 5), route(ten(), 20), route(ten_one(), 9)];
-    compare_routes(&rt, rt.alloc(), &before, &all);
-    set_alone(&rt, rt.alloc(), &mut table, ten(), 7);
-    compare_routes(&rt, rt.alloc(), &table, &left);
+    compare_routes(&rt, alloc, &before, &all);
+    set_alone(&rt, alloc, &mut table, route(ten(), 7));
+    compare_routes(&rt, alloc, &table, &left);
 }

@@ -9,6 +9,8 @@ mod atom_tests;
 #[cfg(test)]
 mod bound_tests;
 #[cfg(test)]
+mod code_tests;
+#[cfg(test)]
 mod crossing;
 #[cfg(test)]
 mod draw;
@@ -29,4 +31,12 @@ mod removal_tests;
 #[cfg(test)]
 mod rows_tests;
 #[cfg(test)]
+mod same;
+#[cfg(test)]
 mod table_tests;
+#[cfg(test)]
+mod tables_tests;
+#[cfg(test)]
+mod trial_graph;
+#[cfg(test)]
+mod trial_rows;

@@ -1,17 +1,14 @@
 //! One prefix with thousands of metrics.
 
-use dn_model::{Prefix, Target, Way};
+use crate::same::same;
+use crate::table_tests::{copied, set_alone, ten};
+use dn_model::{Route, Target, Way};
 use route_table::RouteTable;
 use std::alloc::Global;
 use std::process::Abort;
 
 /// How many metrics the prefix comes to have: 0 and those above it.
 const MANY: u32 = 5000;
-
-/// 10.0.0.0/8.
-fn ten() -> Prefix {
-    Prefix::new(0x0A00_0000, 8)
-}
 
 fn set(rt: &impl Abort, alloc: Global, table: &mut RouteTable, metric: u32) {
     table
@@ -45,7 +42,7 @@ fn compare_least(rt: &impl Abort, table: &RouteTable, held: &[bool]) {
         Some(route) => Some(route.metric as usize),
         None => None,
     };
-    assert_eq!(rt; least, held.iter().position(|&is_held| is_held));
+    same(rt, &least, &held.iter().position(|&is_held| is_held));
 }
 
 /// Puts all metrics, in an order of their own.
@@ -75,68 +72,75 @@ fn clear_all(rt: &impl Abort, alloc: Global, table: &mut RouteTable, held: &mut 
 /// The table lists all metrics, in order.
 fn compare_all(rt: &impl Abort, alloc: Global, table: &RouteTable) {
     let routes = table.routes(alloc).expect(rt, "memory");
-    assert_eq!(rt; routes.as_slice().len(), MANY as usize);
+    same(rt, &routes.as_slice().len(), &(MANY as usize));
     let mut metric = 0u32;
     for route in routes.as_slice() {
-        assert_eq!(rt; route.metric, metric);
-        assert_eq!(rt; route.way, Way::Straight(Target::Exit(metric)));
+        same(rt, &route.metric, &metric);
+        same(rt, &route.way, &Way::Straight(Target::Exit(metric)));
         metric = metric.wrapping_add(1);
     }
 }
 
 #[test]
 fn many_metrics_come_in_one_order_and_go_in_another(rt: HostRuntime) {
+    let alloc = rt.alloc();
     let mut table = RouteTable::new();
-    let mut held = no_metrics(&rt, rt.alloc());
-    put_all(&rt, rt.alloc(), &mut table, &mut held);
-    compare_all(&rt, rt.alloc(), &table);
-    clear_all(&rt, rt.alloc(), &mut table, &mut held);
+    let mut held = no_metrics(&rt, alloc);
+    put_all(&rt, alloc, &mut table, &mut held);
+    compare_all(&rt, alloc, &table);
+    clear_all(&rt, alloc, &mut table, &mut held);
     compare_least(&rt, &table, &held);
-    set(&rt, rt.alloc(), &mut table, 7);
+    set(&rt, alloc, &mut table, 7);
     mark(&mut held, 7, true);
     compare_least(&rt, &table, &held);
 }
 
 #[test]
 fn a_copy_keeps_the_metrics_that_go(rt: HostRuntime) {
+    let alloc = rt.alloc();
     let mut table = RouteTable::new();
-    let mut held = no_metrics(&rt, rt.alloc());
-    put_all(&rt, rt.alloc(), &mut table, &mut held);
-    let copy = table.copy().expect(&rt, "memory");
-    clear_all(&rt, rt.alloc(), &mut table, &mut held);
+    let mut held = no_metrics(&rt, alloc);
+    put_all(&rt, alloc, &mut table, &mut held);
+    let copy = copied(&rt, &table);
+    clear_all(&rt, alloc, &mut table, &mut held);
     compare_least(&rt, &table, &held);
-    compare_all(&rt, rt.alloc(), &copy);
+    compare_all(&rt, alloc, &copy);
 }
 
 #[test]
 fn a_route_put_alone_takes_the_place_of_many_metrics(rt: HostRuntime) {
+    let alloc = rt.alloc();
     let mut table = RouteTable::new();
-    let mut held = no_metrics(&rt, rt.alloc());
-    put_all(&rt, rt.alloc(), &mut table, &mut held);
-    let copy = table.copy().expect(&rt, "memory");
+    let mut held = no_metrics(&rt, alloc);
+    put_all(&rt, alloc, &mut table, &mut held);
+    let copy = copied(&rt, &table);
     let alone = Way::Straight(Target::Local);
-    table
-        .set_alone(rt.alloc(), ten(), 4000, alone)
-        .expect(&rt, "memory");
-    let mut held = no_metrics(&rt, rt.alloc());
+    let new = Route {
+        prefix: ten(),
+        metric: 4000,
+        way: alone,
+    };
+    set_alone(&rt, alloc, &mut table, new);
+    let mut held = no_metrics(&rt, alloc);
     mark(&mut held, 4000, true);
     compare_least(&rt, &table, &held);
-    clear(&rt, rt.alloc(), &mut table, Some(3));
+    clear(&rt, alloc, &mut table, Some(3));
     compare_least(&rt, &table, &held);
-    clear(&rt, rt.alloc(), &mut table, Some(4000));
+    clear(&rt, alloc, &mut table, Some(4000));
     mark(&mut held, 4000, false);
     compare_least(&rt, &table, &held);
-    compare_all(&rt, rt.alloc(), &copy);
+    compare_all(&rt, alloc, &copy);
 }
 
 #[test]
 fn a_clearing_without_a_metric_takes_many(rt: HostRuntime) {
+    let alloc = rt.alloc();
     let mut table = RouteTable::new();
-    let mut held = no_metrics(&rt, rt.alloc());
-    put_all(&rt, rt.alloc(), &mut table, &mut held);
-    let copy = table.copy().expect(&rt, "memory");
-    clear(&rt, rt.alloc(), &mut table, None);
-    let held = no_metrics(&rt, rt.alloc());
+    let mut held = no_metrics(&rt, alloc);
+    put_all(&rt, alloc, &mut table, &mut held);
+    let copy = copied(&rt, &table);
+    clear(&rt, alloc, &mut table, None);
+    let held = no_metrics(&rt, alloc);
     compare_least(&rt, &table, &held);
-    compare_all(&rt, rt.alloc(), &copy);
+    compare_all(&rt, alloc, &copy);
 }

@@ -1,6 +1,7 @@
 //! A small set of rules, whose answers were worked out by hand.
 
 use crate::crossing::crosses;
+use crate::same::{holds, same};
 use dn_model::{Target, Way};
 use owner_tree::{Owners, Rule};
 use std::alloc::Global;
@@ -27,13 +28,22 @@ fn insert(rt: &impl Abort, owners: &mut Owners, rule: Rule) {
     owners.insert(rule).expect(rt, "memory");
 }
 
+/// Takes a rule out. It answers whether it was there.
+fn remove(owners: &mut Owners, len: u8, metric: u32) -> bool {
+    owners.remove(len, metric)
+}
+
+fn clear(owners: &mut Owners, len: u8, metric: Option<u32>) {
+    owners.clear(len, metric);
+}
+
 fn copied(rt: &impl Abort, owners: &Owners) -> Owners {
     owners.copy().expect(rt, "memory")
 }
 
 /// This rule is in force.
 fn compare_top(rt: &impl Abort, owners: &Owners, want: Option<Rule>) {
-    assert_eq!(rt; owners.top(), want);
+    same(rt, &owners.top(), &want);
 }
 
 fn three_rules(rt: &impl Abort, alloc: Global) -> Owners {
@@ -50,14 +60,14 @@ fn the_least_metric_of_the_longest_prefix_is_in_force(rt: HostRuntime) {
     let mut owners = three_rules(&rt, rt.alloc());
     let before = copied(&rt, &owners);
     compare_top(&rt, &owners, Some(rule(16, 7)));
-    assert!(rt; owners.remove(16, 7));
+    holds(&rt, remove(&mut owners, 16, 7));
     compare_top(&rt, &owners, Some(rule(16, 30)));
-    assert!(rt; !owners.remove(16, 7));
+    holds(&rt, !remove(&mut owners, 16, 7));
     compare_top(&rt, &before, Some(rule(16, 7)));
     insert(&rt, &mut owners, rule(16, 7));
-    owners.clear(16, None);
+    clear(&mut owners, 16, None);
     compare_top(&rt, &owners, Some(rule(8, 20)));
-    owners.clear(8, Some(20));
+    clear(&mut owners, 8, Some(20));
     compare_top(&rt, &owners, None);
 }
 
@@ -75,14 +85,14 @@ fn a_rule_alone_gives_way_and_comes_back(rt: HostRuntime) {
     insert(&rt, &mut owners, rule(24, 5));
     insert(&rt, &mut owners, own_rule(24, 5));
     let alone = copied(&rt, &owners);
-    assert!(rt; !owners.remove(24, 6));
-    assert!(rt; owners.remove(24, 5));
-    assert!(rt; !owners.has_length(24));
+    holds(&rt, !remove(&mut owners, 24, 6));
+    holds(&rt, remove(&mut owners, 24, 5));
+    holds(&rt, !owners.has_length(24));
     let none = copied(&rt, &owners);
     insert(&rt, &mut owners, rule(16, 1));
     insert(&rt, &mut owners, rule(24, 2));
-    assert!(rt; owners.remove(24, 2));
-    assert!(rt; owners.has_length(16));
+    holds(&rt, remove(&mut owners, 24, 2));
+    holds(&rt, owners.has_length(16));
     compare_top(&rt, &owners, Some(rule(16, 1)));
     compare_top(&rt, &alone, Some(own_rule(24, 5)));
     compare_top(&rt, &none, None);
@@ -98,12 +108,12 @@ fn a_third_rule_comes_and_goes(rt: HostRuntime) {
     insert(&rt, &mut owners, rule(24, 3));
     insert(&rt, &mut owners, rule(24, 4));
     let four = copied(&rt, &owners);
-    owners.clear(24, None);
+    clear(&mut owners, 24, None);
     compare_top(&rt, &owners, Some(rule(16, 2)));
-    assert!(rt; owners.remove(16, 2));
+    holds(&rt, remove(&mut owners, 16, 2));
     compare_top(&rt, &owners, Some(own_rule(8, 1)));
     insert(&rt, &mut owners, rule(8, 5));
-    owners.clear(8, None);
+    clear(&mut owners, 8, None);
     compare_top(&rt, &owners, None);
     compare_top(&rt, &two, Some(rule(16, 2)));
     compare_top(&rt, &four, Some(rule(24, 3)));
@@ -111,9 +121,9 @@ fn a_third_rule_comes_and_goes(rt: HostRuntime) {
 
 /// The rules of a length are cleared, of which there is one.
 fn clear_length(rt: &impl Abort, owners: &mut Owners, len: u8) {
-    assert!(rt; owners.has_length(len));
+    holds(rt, owners.has_length(len));
     owners.clear(len, None);
-    assert!(rt; !owners.has_length(len));
+    holds(rt, !owners.has_length(len));
 }
 
 #[test]
@@ -127,7 +137,7 @@ fn a_ninth_rule_comes_and_all_go(rt: HostRuntime) {
     insert(&rt, &mut owners, rule(9, 7));
     let nine = copied(&rt, &owners);
     compare_top(&rt, &owners, Some(rule(9, 7)));
-    owners.clear(9, Some(7));
+    clear(&mut owners, 9, Some(7));
     compare_top(&rt, &owners, Some(own_rule(8, 7)));
     for len in 1..9 {
         clear_length(&rt, &mut owners, len);

@@ -7,6 +7,7 @@ use crate::draw::next_draw;
 use crate::plain_list::{
     are_found, cloned, compare, copied, hold, insert, plain_numbers, push, rising, split, write,
 };
+use crate::same::{holds, same};
 use dn_model::OutOfMemory;
 use std::alloc::{AllocError, Global};
 use std::marker::Model;
@@ -69,11 +70,11 @@ impl Clone for Shared {
 fn a_new_list_is_empty(rt: HostRuntime) {
     let pages: Pages<u64> = Pages::new();
     crosses(&pages);
-    assert_eq!(rt; pages.len(), 0);
-    assert_eq!(rt; pages.height(), 0);
-    assert_eq!(rt; pages.get(0), None);
-    assert_eq!(rt; pages.run_from(0).len(), 0);
-    assert_eq!(rt; copied(&rt, &pages).len(), 0);
+    same(&rt, &pages.len(), &0);
+    same(&rt, &pages.height(), &0);
+    same(&rt, &pages.get(0), &None);
+    same(&rt, &pages.run_from(0).len(), &0);
+    same(&rt, &copied(&rt, &pages).len(), &0);
 }
 
 /// One element is changed, and the change answers what was there.
@@ -86,12 +87,12 @@ fn change(rt: &impl Abort, alloc: Global, pages: &mut Pages<u64>, k: u64, value:
             old
         })
         .expect(rt, "memory");
-    assert_eq!(rt; old, before);
+    same(rt, &old, &before);
 }
 
 /// The list has this element at a place.
 fn has(rt: &impl Abort, pages: &Pages<u64>, k: u64, value: u64) {
-    assert_eq!(rt; pages.get(k).copied(), Some(value));
+    same(rt, &pages.get(k).copied(), &Some(value));
 }
 
 #[test]
@@ -107,7 +108,7 @@ fn the_copy_reads_as_before(rt: HostRuntime) {
     compare(&rt, &pages, &plain);
     change(&rt, alloc, &mut pages, 2, 5, 1);
     compare(&rt, &copy, &old);
-    assert_eq!(rt; pages.len(), 102);
+    same(&rt, &pages.len(), &102);
     has(&rt, &pages, 0, 1000);
     has(&rt, &pages, 1, 1001);
     has(&rt, &pages, 2, 5);
@@ -119,8 +120,8 @@ fn the_copy_reads_as_before(rt: HostRuntime) {
 /// A search finds each multiple of three at its place, and the number behind it one place on.
 fn compare_multiples(rt: &impl Abort, pages: &Pages<u64>) {
     for k in 0..5000u64 {
-        assert_eq!(rt; pages.count_below(3 * k), k);
-        assert_eq!(rt; pages.count_below(3 * k + 1), k + 1);
+        same(rt, &pages.count_below(3 * k), &k);
+        same(rt, &pages.count_below(3 * k + 1), &(k + 1));
     }
 }
 
@@ -128,12 +129,12 @@ fn compare_multiples(rt: &impl Abort, pages: &Pages<u64>) {
 fn a_search_ends_where_keys_are_no_more_below(rt: HostRuntime) {
     let alloc = rt.alloc();
     let mut pages: Pages<u64> = Pages::new();
-    assert_eq!(rt; pages.count_below(5), 0);
+    same(&rt, &pages.count_below(5), &0);
     for k in 0..5000u64 {
         push(&rt, alloc, &mut pages, 3 * k);
     }
     compare_multiples(&rt, &pages);
-    assert_eq!(rt; pages.count_below(1_000_000), 5000);
+    same(&rt, &pages.count_below(1_000_000), &5000);
 }
 
 /// Puts numbers, each less than the one before by three, at the front: those after so many others, up to so many.
@@ -199,7 +200,11 @@ fn put_shared(rt: &impl Abort, alloc: Global, pages: &mut Pages<Shared>, number:
 
 /// The list has this number behind the pointer at a place.
 fn has_shared(rt: &impl Abort, pages: &Pages<Shared>, k: u64, number: u64) {
-    assert_eq!(rt; pages.get(k).map(|shared| shared.number()), Some(number));
+    same(
+        rt,
+        &pages.get(k).map(|shared| shared.number()),
+        &Some(number),
+    );
 }
 
 #[test]
@@ -235,11 +240,11 @@ fn pages_stand_low(rt: HostRuntime) {
     let mut in_middle = Pages::new();
     put_at_front(&rt, alloc, &mut at_front, 0, 100_000);
     put_in_middle(&rt, alloc, &mut in_middle);
-    assert_eq!(rt; at_end.len(), 100_000);
-    assert_eq!(rt; at_end.height(), 2);
-    assert_eq!(rt; at_front.len(), 100_000);
-    assert!(rt; at_front.height() <= 3);
-    assert!(rt; in_middle.height() <= 3);
+    same(&rt, &at_end.len(), &100_000);
+    same(&rt, &at_end.height(), &2);
+    same(&rt, &at_front.len(), &100_000);
+    holds(&rt, at_front.height() <= 3);
+    holds(&rt, in_middle.height() <= 3);
     has(&rt, &in_middle, 0, 1);
 }
 
@@ -306,7 +311,7 @@ fn insertions_all_over(rt: HostRuntime) {
             hold(&rt, &pages, &plain, &mut held, &mut old);
         }
     }
-    assert_eq!(rt; pages.len(), 20_001);
+    same(&rt, &pages.len(), &20_001);
     compare(&rt, &pages, &plain);
     compare(&rt, &held, &old);
 }

@@ -1,5 +1,6 @@
 //! A list in pages beside a plain `Vec`: the same is done to both, and then they are compared.
 
+use crate::same::{holds, same};
 use dn_model::OutOfMemory;
 use std::alloc::Global;
 use std::process::Abort;
@@ -7,31 +8,30 @@ use version_pages::Pages;
 
 /// The list has the elements of the `Vec`, in order.
 pub fn compare(rt: &impl Abort, pages: &Pages<u64>, plain: &Vec<u64>) {
-    assert_eq!(rt; pages.len(), plain.len() as u64);
+    same(rt, &pages.len(), &(plain.len() as u64));
     let mut from = 0;
     for k in 0..plain.len() {
         if k as u64 == from {
             let run = pages.run_from(from);
-            assert!(rt; run.len() > 0);
-            assert!(rt; run.len() <= 64);
+            holds(rt, run.len() > 0 && run.len() <= 64);
             from = from.saturating_add(run.len() as u64);
         }
-        assert_eq!(rt; pages.get(k as u64).copied(), plain.get(k).copied());
+        same(rt, &pages.get(k as u64).copied(), &plain.get(k).copied());
     }
-    assert_eq!(rt; from, pages.len());
-    assert_eq!(rt; pages.get(pages.len()), None);
+    same(rt, &from, &pages.len());
+    same(rt, &pages.get(pages.len()), &None);
 }
 
 /// The list has so many elements, and a search finds each of them at its place.
 pub fn are_found(rt: &impl Abort, pages: &Pages<u64>, len: u64) {
-    assert_eq!(rt; pages.len(), len);
+    same(rt, &pages.len(), &len);
     for k in 0..pages.len() {
         match pages.get(k) {
             Some(number) => {
-                assert_eq!(rt; pages.count_below(*number), k);
-                assert_eq!(rt; pages.count_below(number.saturating_add(1)), k + 1);
+                same(rt, &pages.count_below(*number), &k);
+                same(rt, &pages.count_below(number.saturating_add(1)), &(k + 1));
             }
-            None => assert!(rt; false),
+            None => holds(rt, false),
         }
     }
 }
@@ -203,7 +203,7 @@ pub fn raise(
     let count = pages
         .change_run(alloc, from, |run| raise_run(run, most))
         .expect(rt, "memory");
-    assert_eq!(rt; count, shown.min(most));
+    same(rt, &count, &shown.min(most));
     for k in 0..plain.len() {
         let at = k as u64;
         if from <= at && at - from < count {

@@ -2,6 +2,7 @@
 
 use crate::draw::next_draw;
 use crate::plain_list::{cloned, compare, copied, hold, plain_numbers, rising};
+use crate::same::{holds, same};
 use std::alloc::Global;
 use std::process::Abort;
 use version_pages::Pages;
@@ -47,11 +48,11 @@ fn a_run_over_many_pages(rt: HostRuntime) {
     cut(&rt, alloc, &mut pages, &mut plain, 0, 70);
     cut(&rt, alloc, &mut pages, &mut plain, 4_000, 923);
     cut(&rt, alloc, &mut pages, &mut plain, 1_234, 0);
-    assert_eq!(rt; pages.len(), 4_000);
+    same(&rt, &pages.len(), &4_000);
     compare(&rt, &pages, &plain);
     compare(&rt, &held, &old);
     cut(&rt, alloc, &mut pages, &mut plain, 0, 4_000);
-    assert_eq!(rt; pages.len(), 0);
+    same(&rt, &pages.len(), &0);
     compare(&rt, &pages, &plain);
 }
 
@@ -79,6 +80,6 @@ fn few_are_left_of_many(rt: HostRuntime) {
     let mut pages = rising(&rt, alloc, 5_000);
     let mut plain = plain_numbers(&rt, alloc, 0, 5_000);
     cut_all_over(&rt, alloc, &mut pages, &mut plain);
-    assert!(rt; pages.len() < 100);
-    assert!(rt; pages.height() <= 1);
+    holds(&rt, pages.len() < 100);
+    holds(&rt, pages.height() <= 1);
 }

@@ -5,6 +5,7 @@ use crate::plain_list::{
     are_found, cloned, compare, copied, extend, hold, plain_numbers, push, put_row, raise,
     raise_from, rising,
 };
+use crate::same::{holds, same};
 use std::alloc::Global;
 use std::process::Abort;
 use version_pages::Pages;
@@ -17,9 +18,9 @@ fn extend_by(rt: &impl Abort, alloc: Global, pages: &mut Pages<u64>, first: u64,
 
 /// The list has the numbers below a count, in order.
 fn compare_rising(rt: &impl Abort, pages: &Pages<u64>, len: u64) {
-    assert_eq!(rt; pages.len(), len);
+    same(rt, &pages.len(), &len);
     for k in 0..len {
-        assert_eq!(rt; pages.get(k).copied(), Some(k));
+        same(rt, &pages.get(k).copied(), &Some(k));
     }
 }
 
@@ -103,12 +104,12 @@ fn rows_all_over(rt: HostRuntime) {
     }
     compare(&rt, &pages, &plain);
     compare(&rt, &held, &old);
-    assert!(rt; pages.height() <= 2);
+    holds(&rt, pages.height() <= 2);
 }
 
 /// A full page begins at a place.
 fn is_full(rt: &impl Abort, pages: &Pages<u64>, at: u64) {
-    assert_eq!(rt; pages.run_from(at).len(), 64);
+    same(rt, &pages.run_from(at).len(), &64);
 }
 
 /// Rows of full pages go in where a page begins: between two, in front of all, and, while a copy holds all pages, more

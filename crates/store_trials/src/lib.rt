@@ -2,4 +2,14 @@
 #![tactic(auto)]
 
 #[cfg(test)]
+mod course;
+#[cfg(test)]
+mod growth_tests;
+#[cfg(test)]
+mod questions;
+#[cfg(test)]
+mod step;
+#[cfg(test)]
 mod store_tests;
+#[cfg(test)]
+mod trial;

@@ -1,4 +1,4 @@
-use Rattle.page_trials.proofs.table_tests.tables_side_by_side_do_what_each_alone_does.Given as goal
+use Rattle.page_trials.proofs.tables_tests.tables_side_by_side_do_what_each_alone_does.Given as goal
 
 -- the ledger of the blank
 abbrev pub ghosts-updates_near_any_place : goal.ghosts-updates_near_any_place

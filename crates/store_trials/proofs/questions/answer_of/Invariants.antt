@@ -1,4 +1,4 @@
-use Rattle.store_trials.proofs.store_tests.answer_of.Given as goal
+use Rattle.store_trials.proofs.questions.answer_of.Given as goal
 
 -- the ledger of the blank
 abbrev pub ghosts-answer_by_ledger : goal.ghosts-answer_by_ledger

@@ -1,0 +1,20 @@
+//! Answers beside what they are to be.
+
+use std::fmt::Debug;
+use std::process::Abort;
+
+/// Two values are equal. Each comparison of the trials goes by this call or the next, whose contracts say nothing: what
+/// a comparison found is of no use to the proof of the test that asks for it.
+pub fn same<T: PartialEq + Debug>(rt: &impl Abort, left: &T, right: &T) {
+    assert_eq!(rt; *left, *right);
+}
+
+/// Two slices have equal elements.
+pub fn same_list<T: PartialEq + Debug>(rt: &impl Abort, left: &[T], right: &[T]) {
+    assert_eq!(rt; left, right);
+}
+
+/// This is so.
+pub fn holds(rt: &impl Abort, is_so: bool) {
+    assert!(rt; is_so);
+}

@@ -52,12 +52,6 @@ runs-of-page lows page first count runs is inside h k d s m =
       past-there lows (first + k) s ((get_or runs k d).hi + 1) (omega arith) (r.1 ∙ sym (page-read lows page first (k + 1) 0 0 is (omega arith)) ∙ ap (λ j. get_or lows j 0) one),
     )
 
-pub runs-inside : (lows page : List ℕ) (first count : ℕ) → take (length page) (drop first lows) ≡ page → (0 < count → count < length page) → 0 < count → first + count ≤ length (spans_of lows)
-runs-inside lows page first count is inside some =
-    let there : first + count < length lows = page-inside lows page first count is (inside some) in
-    let long : length (spans_of lows) ≡ length lows = length-spans lows in
-    omega arith
-
 -- one more in a page
 pub runs-more : (page : List ℕ) (k : ℕ) (runs : List Run) (run : Run) → k < length runs → k + 1 < length page → AreRunsIn page k runs → run.lo ≡ get_or page k 0 → run.hi + 1 ≡ get_or page (k + 1) 0 → AreRunsIn page (k + 1) (slice_set runs k run)
 runs-more page k runs run room more h lo hi j d e m = ⊎_elim
@@ -75,12 +69,20 @@ runs-more page k runs run room more h lo hi j d e m = ⊎_elim
     ))
     (cases_lt j k)
 
--- the run of one span
-pub one-run : (spans : List Span) (i low past : ℕ) (runs : List Run) (run : Run) → 0 < length runs → ((d : Span) → low ≡ (get_or spans i d).low) → ((d : Span) → past ≡ (get_or spans i d).past) → run.lo ≡ low → run.hi + 1 ≡ past → AreRunsOf spans i 1 (slice_set runs 0 run)
-one-run spans i low past runs run some begin end lo hi zero d s m =
-    let is : get_or (slice_set runs 0 run) 0 d ≡ run = get_or-set_same runs 0 run d some in
-    let one : i ≡ i + 0 = omega arith in (
-      ap (λ (r : Run). r.lo) is ∙ lo ∙ begin s ∙ ap (λ j. span_low (get_or spans j s)) one,
-      ap (λ (r : Run). r.hi + 1) is ∙ hi ∙ end s ∙ ap (λ j. span_past (get_or spans j s)) one,
-    )
-one-run spans i low past runs run some begin end lo hi (suc k) d s m = absurd (omega arith)
+-- where a span of a page begins
+pub low-in-page : (lows page : List ℕ) (first k low : ℕ) → take (length page) (drop first lows) ≡ page → k < length page → low ≡ get_or page k 0 → (d : Span) → low ≡ (get_or (spans_of lows) (first + k) d).low
+low-in-page lows page first k low is l e d = e ∙ sym (page-read lows page first k 0 0 is l) ∙ sym (low-of lows (first + k) d 0 (page-inside lows page first k is l))
+
+-- one more span
+pub spans-more : (spans : List Span) (i k low past : ℕ) (runs : List Run) (run : Run) → k < length runs → AreRunsOf spans i k runs → ((d : Span) → low ≡ (get_or spans (i + k) d).low) → ((d : Span) → past ≡ (get_or spans (i + k) d).past) → run.lo ≡ low → run.hi + 1 ≡ past → AreRunsOf spans i (k + 1) (slice_set runs k run)
+spans-more spans i k low past runs run room h begin end lo hi j d s m = ⊎_elim
+    (λ (l : j < k).
+    let old : get_or (slice_set runs k run) j d ≡ get_or runs j d = get_or-set_other runs k j run d (λ (same : j ≡ k). omega arith) in
+    let is = h j d s l in
+    (ap (λ (r : Run). r.lo) old ∙ is.0, ap (λ (r : Run). r.hi + 1) old ∙ is.1))
+    (λ (l : k ≤ j).
+    let same : k ≡ j = omega arith in
+    let new : get_or (slice_set runs k run) k d ≡ run = get_or-set_same runs k run d room in
+    let P : ℕ → Type 0 = λ p. ((get_or (slice_set runs k run) p d).lo ≡ (get_or spans (i + p) s).low) × ((get_or (slice_set runs k run) p d).hi + 1 ≡ (get_or spans (i + p) s).past) in
+    subst P same (ap (λ (r : Run). r.lo) new ∙ lo ∙ begin s, ap (λ (r : Run). r.hi + 1) new ∙ hi ∙ end s))
+    (cases_lt j k)

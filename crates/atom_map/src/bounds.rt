@@ -1,6 +1,6 @@
 //! The boundaries of atoms alone.
 
-ghost use Rattle.std.specs.Prelude.{◌≡◌, ◌+◌, ◌<◌, ◌≤◌, ◌^◌, ℕ, IfOk, IfSome, OnErr, length, slice_index_or};
+ghost use Rattle.std.specs.Prelude.{◌≡◌, ◌+◌, ◌<◌, ◌≤◌, ◌^◌, ◌-◌, ℕ, IfOk, IfSome, OnErr, length, min, slice_index_or};
 ghost use Rattle.atom_map.specs.Spans.{Span, AreRunsIn, AreRunsOf, AreSpans, DoRise, IsCut, IsLastBegun, IsSpanAt, IsSpanPlace, one_span, spans_of};
 
 use crate::guide::Guide;
@@ -162,13 +162,7 @@ impl Bounds {
         ensures room { length out.new ≡ length out.old }
         ensures runs { AreRunsOf self.now i result out.new }
     {
-        let count = runs_at_hand(&self.lows, i, out);
-        if count > 0 {
-            return count;
-        }
-        let (low, past) = self.bounds(i);
-        out[0] = run_between(low, past);
-        1
+        runs_at(&self.lows, i, out)
     }
 
     /// The same atoms again. The two share what later cuts don't change.
@@ -235,8 +229,7 @@ fn run_between(low: u64, past: u64) -> Run
 /// answers how many.
 fn runs_in(page: &[u32], out: &mut [Run]) -> usize
     requires { DoRise page.now }
-    ensures within { result ≤ length out.new }
-    ensures inside { 0 < result → result < length page.now }
+    ensures count { result ≡ min (length out.old) (length page.now - 1) }
     ensures room { length out.new ≡ length out.old }
     ensures runs { AreRunsIn page.now result out.new }
 {
@@ -250,15 +243,25 @@ fn runs_in(page: &[u32], out: &mut [Run]) -> usize
 }
 
 /// The runs of the addresses of atoms side by side, from the one at a place on, put into `out` from its front: as many as
-/// are seen to end in that one's page and there is room for. It answers how many.
-fn runs_at_hand(lows: &Pages<u32>, i: u64, out: &mut [Run]) -> usize
-    requires { AreSpans (spans_of lows.now) }
+/// begin in that one's page and there is room for. It answers how many.
+fn runs_at(lows: &Pages<u32>, i: u64, out: &mut [Run]) -> usize
+    requires form { AreSpans (spans_of lows.now) }
+    requires place { i < length lows.now }
+    requires room { 0 < length out.old }
+    ensures some { 0 < result }
     ensures within { result ≤ length out.new }
-    ensures inside { 0 < result → i + result ≤ length (spans_of lows.now) }
+    ensures inside { i + result ≤ length lows.now }
     ensures room { length out.new ≡ length out.old }
     ensures runs { AreRunsOf (spans_of lows.now) i result out.new }
 {
-    runs_in(lows.run_from(i), out)
+    let page = lows.run_from(i);
+    let count = runs_in(page, out);
+    if count == out.len() {
+        return count;
+    }
+    let past = past_at(lows, i + count as u64);
+    out[count] = run_between(u64::from(page[count]), past);
+    count + 1
 }
 
 /// Which of the atoms that begin in a page has an address: the last that doesn't begin above it. `left` is how many begin in

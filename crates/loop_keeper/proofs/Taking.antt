@@ -86,6 +86,14 @@ touched-append (c ∷ cs) ds rs a = ap (λ (x : Bool). touches rs a c || x) (tou
 pub out-none : (old : List Kept) → AreSegments old → AreTakenOut [] old old
 out-none old form = record { form = form; only = λ rs a b has. (has, refl); kept = λ rs a b has t. has }
 
+-- where nothing is kept nothing is taken out
+pub out-empty : (changes : List Change) (old : List Kept) → length old ≡ 0 → AreSegments old → AreTakenOut changes old old
+out-empty changes old none form = record {
+  form = form;
+  only = λ rs a b has. let inside : has.place < length old = has.at.inside in absurd (omega arith);
+  kept = λ rs a b has t. has;
+}
+
 or-false : (x y : Bool) → (x || y) ≡ false → (x ≡ false) × (y ≡ false)
 or-false true y h = absurd (false≢true (sym h))
 or-false false y h = (refl, h)

@@ -17,6 +17,9 @@ use label_view::LabelView;
 /// How many rows are read ahead at once, at most.
 const AHEAD: usize = 16;
 
+/// From how many rows on it tells something that no run was found in them.
+const FEW: usize = 8;
+
 /// How many rows lie, at most, between a row and what was looked at before, where the rows behind it are read ahead.
 const CLOSE: u64 = 8;
 
@@ -83,9 +86,9 @@ impl Ahead {
         self.count = targets.min(runs);
     }
 
-    /// Reads the next rows, if an address lies behind those that were read. Where no run was found in these, the changes
-    /// lie far apart, and nothing is known then.
-    fn read_to<V: LabelView>(&mut self, view: &V, a: u32)
+    /// Reads the next rows, if an address lies behind those that were read. Where no run was found in these, and they are
+    /// not few, the changes lie far apart, and nothing is known then.
+    fn read_next<V: LabelView>(&mut self, view: &V, a: u32)
         requires { IsAhead (V.width view.now) (V.rows view.now) self.old }
         ensures ahead { IsAhead (V.width view.now) (V.rows view.now) self.new }
         ensures router { self.new.router ≡ self.old.router }
@@ -93,12 +96,23 @@ impl Ahead {
         if self.count == 0 || a <= self.runs[self.count - 1].hi {
             return;
         }
-        if !self.is_met {
+        if !self.is_met && self.count >= FEW {
             self.count = 0;
             return;
         }
         let past = self.from.saturating_add(self.count as u64);
         self.fill(view, self.router, past);
+    }
+
+    /// Reads on to an address, if it lies close behind the rows that were read. Few may be read at once, where a page of the
+    /// view ends: so it reads twice.
+    fn read_to<V: LabelView>(&mut self, view: &V, a: u32)
+        requires { IsAhead (V.width view.now) (V.rows view.now) self.old }
+        ensures ahead { IsAhead (V.width view.now) (V.rows view.now) self.new }
+        ensures router { self.new.router ≡ self.old.router }
+    {
+        self.read_next(view, a);
+        self.read_next(view, a);
     }
 
     /// Which of the rows has all of a run, if one is seen to. Runs are looked for in order of their addresses.

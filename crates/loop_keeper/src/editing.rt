@@ -183,6 +183,9 @@ pub(crate) fn are_met(segments: &Pages<Segment>, changes: &[Change]) -> bool
     requires { AreChanges changes.now }
     ensures { IsFalse result → AreSegments segments.now → AreTakenOut changes.now segments.now segments.now }
 {
+    if segments.len() == 0 {
+        return false;
+    }
     for change in changes {
         if is_met(segments, change) {
             return true;

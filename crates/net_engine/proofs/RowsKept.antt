@@ -35,6 +35,7 @@ use Rattle.net_engine.proofs.Flags.{targets-none}
 use Rattle.net_engine.proofs.Linked.{whole-links}
 use Rattle.net_engine.proofs.Standing.{AllRoutes, length-rows, row-at_place, row_with, some-row}
 use Rattle.net_engine.proofs.StandingFor.{are-forwarding}
+use Rattle.net_engine.proofs.Turning.{shown-alike}
 
 -- ---- by place
 
@@ -139,19 +140,6 @@ never-over rows labels l marks r a h marked off =
     (λ (past : labels.routers ≤ r.0).
     ap (is_over l) (get_or_past (targets_of labels k) r.0 NoRoute (subst (λ n. n ≤ r.0) (sym (h.wide k inside)) past)))
     (cases_lt r.0 labels.routers)))
-
--- what goes on over no link that turns is shown the same
-shown-alike : (before after : List LinkId) (l : LinkId) (t : Target) → AreAlikeBut before after l → is_over l t ≡ false → without before t ≡ without after t
-shown-alike before after l NoRoute alike off = refl
-shown-alike before after l (Dropped kind) alike off = refl
-shown-alike before after l Local alike off = refl
-shown-alike before after l (Exit i) alike off = refl
-shown-alike before after l (OnLink i) alike off = refl
-shown-alike before after l (To s k) alike off = ap (λ b. cond b (LinkDown k) (To s k)) (sym (alike k (flip l.0 k.0 off)))
-  where
-    flip : (x y : ℕ) → (y == x) ≡ false → (x == y) ≡ false
-    flip x y n = ne_eqb x y (λ e. both_ways (y == x) n (eq-eqb y x (sym e)))
-shown-alike before after l (LinkDown k) alike off = refl
 
 pub marked-alike : (s : State) (after : List LinkId) (l : LinkId) (rows : List ForwardingRow) (marks : List Bool) → IsSound s → rows ≡ rows_with s.net.atoms s.net.labels.rows → MarksOver s.net.labels l marks → AreAlikeBut s.down after l → AreMarked s.down after rows marks
 marked-alike s after l rows marks h is marked alike r a off =

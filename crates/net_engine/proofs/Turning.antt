@@ -1,10 +1,11 @@
 -- What is told where other links are down than before: from row to row, and from router to router.
-use Rattle.std.proofs.Common.{◌≡◌, ℕ, zero, suc, ◌+◌, ◌-◌, ◌<◌, ◌≤◌, ◌^◌, ◌∙◌, ◌==◌, ⊎_elim, Bool, true, false, Option, None, List, [], ◌∷◌, length, get_or, refl, ap, sym, subst, arith}
-use Rattle.std.proofs.lemmas.Bool.{and_left, and_right, cases_Bool, cases_eq, cases_lt, ne_eqb}
+use Rattle.std.proofs.Common.{◌≡◌, ℕ, zero, suc, ◌+◌, ◌-◌, ◌<◌, ◌≤◌, ◌^◌, ◌∙◌, ◌==◌, ⊎_elim, Bool, true, false, cond, Option, None, List, [], ◌∷◌, length, get_or, refl, ap, sym, subst, arith}
+use Rattle.std.proofs.lemmas.Bool.{and_left, and_right, both_ways, cases_Bool, cases_eq, cases_lt, eq-eqb, ne_eqb}
 use Rattle.std.proofs.lemmas.List.{get_or_past}
 use Rattle.base.specs.Delta.{TellsChange, change_at}
 use Rattle.base.specs.Forwarding.{AreEachForwarding, AreForwarding, does, row_low, row_past, target_in_row}
 use Rattle.base.specs.Links.{without}
+use Rattle.base.specs.Reach.{is_over}
 use Rattle.base.specs.Rows.{CoverFrom, is_within}
 use Rattle.base.specs.Walk.{with_down}
 use Rattle.base.specs.declared.change.Change.{Change}
@@ -13,11 +14,12 @@ use Rattle.base.specs.declared.ids.LinkId.{LinkId}
 use Rattle.base.specs.declared.ids.RouterId.{RouterId}
 use Rattle.base.specs.declared.run.Run.{Run}
 use Rattle.base.specs.declared.target.Target.{Target}
-use Rattle.base.specs.declared.target.Target.TheVariants.{NoRoute}
+use Rattle.base.specs.declared.target.Target.TheVariants.{NoRoute, Dropped, Local, Exit, OnLink, To, LinkDown}
 use Rattle.base.proofs.Covers.{holder-first, holder-rest, within-above, within-below}
 use Rattle.label_view.specs.Columns.{AreOfColumn}
 use Rattle.label_view.specs.Places.{AreRunsFrom, IsInRow, IsInRows, begin_of}
 use Rattle.label_view.proofs.InRow.{begin-before, row-among, target-is}
+use Rattle.net_engine.specs.LinkSet.{AreAlikeBut}
 use Rattle.net_engine.specs.LinkTurn.{AreMarked, IsStretch, IsToldTo, IsTurnDelta, IsTurnTold}
 use Rattle.net_engine.specs.Walked.{IsTold}
 
@@ -27,6 +29,19 @@ same-router q r e = let R : ℕ → RouterId = λ n. record { 0 = n } in ap R e
 -- where both are the same nothing is told
 none-told : (x y : Target) (o : Option (Target × Target)) → o ≡ None → x ≡ y → TellsChange x y o
 none-told x y o none same = subst (λ w. TellsChange x y w) (sym none) same
+
+-- what goes on over no link that turns is shown the same
+pub shown-alike : (before after : List LinkId) (l : LinkId) (t : Target) → AreAlikeBut before after l → is_over l t ≡ false → without before t ≡ without after t
+shown-alike before after l NoRoute alike off = refl
+shown-alike before after l (Dropped kind) alike off = refl
+shown-alike before after l Local alike off = refl
+shown-alike before after l (Exit i) alike off = refl
+shown-alike before after l (OnLink i) alike off = refl
+shown-alike before after l (To s k) alike off = ap (λ b. cond b (LinkDown k) (To s k)) (sym (alike k (flip l.0 k.0 off)))
+  where
+    flip : (x y : ℕ) → (y == x) ≡ false → (x == y) ≡ false
+    flip x y n = ne_eqb x y (λ e. both_ways (y == x) n (eq-eqb y x (sym e)))
+shown-alike before after l (LinkDown k) alike off = refl
 
 -- ---- rows side by side
 
@@ -130,6 +145,32 @@ stretch-of n rows r from targets runs k past first last t form inside column are
       hi = ap (λ (run : Run). run.hi + 1) ends ∙ subst P place after.1;
       same = λ a within. column-same n rows r from targets k past form inside column l end same t is a within;
     }
+
+-- rows side by side that don't go on over the link that turns show what they did
+pub rows-skipped : (n : ℕ) (rows : List ForwardingRow) (before after : List LinkId) (changes : List Change) (r : RouterId) (from : ℕ) (targets : List Target) (k past : ℕ) (l : LinkId) → AreForwarding n rows → from + length targets ≤ length rows → AreOfColumn rows r from targets → k ≤ past → past ≤ length targets → AreAlikeBut before after l → ((j : ℕ) (d : Target) → k ≤ j → j < past → is_over l (get_or targets j d) ≡ false) →
+    IsTurnTold before after rows changes r.0 (begin_of rows (from + k)) → IsTurnTold before after rows changes r.0 (begin_of rows (from + past))
+rows-skipped n rows before after changes r from targets k past l form inside column order end alike off told = ⊎_elim
+    (λ (some : k < past).
+    let rise : begin_of rows (from + k) < begin_of rows (from + past) = begin-before n rows (from + k) (from + past) form (omega arith) (omega arith) in
+    told-same (with_down before (does rows)) (with_down after (does rows)) changes changes r (begin_of rows (from + k)) (begin_of rows (from + past)) told (omega arith)
+    (λ a low high.
+    let e : from + past ≡ (from + k) + (past - k) = omega arith in
+    let P : ℕ → Type 0 = λ m. a < begin_of rows m in
+    let at = row-among rows (from + k) (past - k) a low (subst P e high) in
+    let first : from + k ≤ at.0 = at.1.0 in
+    let last : at.0 < (from + k) + (past - k) = at.1.1 in
+    let place : at.0 ≡ from + (at.0 - from) = omega arith in
+    let Q : ℕ → Type 0 = λ m. IsInRow rows m a in
+    let t : Target = get_or targets (at.0 - from) NoRoute in
+    let is : does rows r a ≡ t =
+    target-is n rows (from + (at.0 - from)) a r t form (omega arith)
+    (λ d. column (at.0 - from) d NoRoute (omega arith))
+    (subst Q place at.1.2) in
+    shown-alike before after l (does rows r a) alike (ap (λ (x : Target). is_over l x) is ∙ off (at.0 - from) NoRoute (omega arith) (omega arith))))
+    (λ (none : past ≤ k).
+    let same : from + k ≡ from + past = omega arith in
+    subst (λ m. IsTurnTold before after rows changes r.0 (begin_of rows m)) same told)
+    (cases_lt k past)
 
 -- ---- all rows
 

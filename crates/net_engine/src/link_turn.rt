@@ -2,15 +2,17 @@
 
 ghost use Rattle.std.specs.Prelude.{◌≡◌, ℕ, false, ◌+◌, ◌<◌, ◌≤◌, ◌^◌, IfOk, OnOk, length, slice_index_or};
 ghost use Rattle.base.specs.Forwarding.{AreForwarding};
+ghost use Rattle.base.specs.Reach.{is_over};
 ghost use Rattle.base.specs.declared.target.Target.{Target as TargetIs};
 ghost use Rattle.label_view.specs.Columns.{AreOfColumn};
 ghost use Rattle.label_view.specs.Places.{AreRunsFrom, begin_of};
+ghost use Rattle.net_engine.specs.LinkSet.{AreAlikeBut};
 ghost use Rattle.net_engine.specs.LinkTurn.{AreMarked, IsStretch, IsTurnDelta, IsTurnTold};
 
 use crate::link_set::LinkSet;
 use crate::told::tell;
 use delta_graph::Delta;
-use dn_model::{Change, OutOfMemory, RouterId, Run, Target};
+use dn_model::{Change, LinkId, OutOfMemory, RouterId, Run, Target};
 use label_view::{Column, LabelView, PAGE, Rows};
 use std::alloc::Global;
 use std::sync::ledger::Ledger;
@@ -21,6 +23,32 @@ use step_count::Steps;
 pub struct Turn<'a> {
     pub before: &'a LinkSet,
     pub after: &'a LinkSet,
+    /// The one that does.
+    pub link: LinkId,
+}
+
+/// Whether a target goes on over a link.
+fn is_by(target: Target, link: LinkId) -> bool
+    ensures { result ≡ is_over link target }
+{
+    match target {
+        Target::To(_, over) => over.0 == link.0,
+        _ => false,
+    }
+}
+
+/// The first place of a target over a link, from a place on; how many targets there are if none is.
+fn next_over(targets: &[Target], k: usize, link: LinkId) -> usize
+    requires { k ≤ length targets.now }
+    ensures from { k ≤ result }
+    ensures inside { result ≤ length targets.now }
+    ensures none { (j : ℕ) (d : TargetIs) → k ≤ j → j < result → is_over link (slice_index_or targets.now j d) ≡ false }
+{
+    let mut place = k;
+    'targets: while place < targets.len() && !is_by(targets[place], link) {
+        place += 1;
+    }
+    place
 }
 
 /// Rows side by side with whose addresses a router does one and the same.
@@ -129,6 +157,7 @@ fn tell_column<V: LabelView>(
     runs: &[Run],
     turn: &Turn<'_>,
 ) -> Result<(), OutOfMemory>
+    requires alike { AreAlikeBut turn.now.before.now turn.now.after.now turn.now.link }
     requires form { AreForwarding (V.width view.now) (V.rows view.now) }
     requires inside { column.now.from + length column.now.targets.now ≤ length (V.rows view.now) }
     requires fits { column.now.from + length column.now.targets.now < 2 ^ 64 }
@@ -140,9 +169,10 @@ fn tell_column<V: LabelView>(
     ensures { OnOk result (IsTurnTold turn.now.before.now turn.now.after.now (V.rows view.now) delta.new
         column.now.router.0 (begin_of (V.rows view.now) (column.now.from + length column.now.targets.now))) }
 {
-    let mut k = 0;
+    let mut k = next_over(column.targets, 0, turn.link);
     'rows: while k < column.targets.len() {
-        k = tell_some(delta, view, column, runs, k, turn)?;
+        let past = tell_some(delta, view, column, runs, k, turn)?;
+        k = next_over(column.targets, past, turn.link);
     }
     Ok(())
 }
@@ -154,6 +184,7 @@ fn tell_router<V: LabelView>(
     router: RouterId,
     turn: &Turn<'_>,
 ) -> Result<(), OutOfMemory>
+    requires alike { AreAlikeBut turn.now.before.now turn.now.after.now turn.now.link }
     requires router { router.0 < V.width view.now }
     requires told { IsTurnTold turn.now.before.now turn.now.after.now (V.rows view.now) delta.old router.0 0 }
     ensures { OnOk result (IsTurnTold turn.now.before.now turn.now.after.now (V.rows view.now) delta.new
@@ -195,6 +226,7 @@ fn tell_if_marked<V: LabelView>(
     marks: &[bool],
     turn: &Turn<'_>,
 ) -> Result<(), OutOfMemory>
+    requires alike { AreAlikeBut turn.now.before.now turn.now.after.now turn.now.link }
     requires router { router.0 < V.width view.now }
     requires marked { AreMarked turn.now.before.now turn.now.after.now (V.rows view.now) marks.now }
     requires told { IsTurnTold turn.now.before.now turn.now.after.now (V.rows view.now) delta.old router.0 0 }
@@ -226,7 +258,8 @@ pub fn turn_changes<V: LabelView, L: Ledger>(
     turn: &Turn<'_>,
     steps: &mut Steps<L>,
 ) -> Result<Delta, OutOfMemory>
-    requires { AreMarked turn.now.before.now turn.now.after.now (V.rows view.now) marks.now }
+    requires alike { AreAlikeBut turn.now.before.now turn.now.after.now turn.now.link }
+    requires marked { AreMarked turn.now.before.now turn.now.after.now (V.rows view.now) marks.now }
     ensures changes { IfOk result (IsTurnDelta turn.now.before.now turn.now.after.now (V.rows view.now)) }
     ensures cost { steps.new ≤ steps.old + length (V.rows view.now) }
 {

@@ -88,6 +88,7 @@ impl State {
         let turn = Turn {
             before: &self.down,
             after,
+            link,
         };
         turn_changes(alloc, &rows, &marks, &turn, steps)
     }

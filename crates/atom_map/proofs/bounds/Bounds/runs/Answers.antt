@@ -1,9 +1,10 @@
-use Rattle.atom_map.proofs.Bounded.{spans-seen}
-use Rattle.atom_map.proofs.SpanRuns.{span-bound, span-order}
+use Rattle.std.proofs.Common.{◌+◌, ◌≤◌, List, ◌∙◌, ap, length, subst, sym}
+use Rattle.atom_map.specs.Spans.{Span}
+use Rattle.atom_map.proofs.Bounded.{length-spans, place-inside}
 use Rattle.atom_map.proofs.bounds.Bounds.runs.Goals as goal
 
-pub run_between-requires-clause-some : goal.run_between-requires-clause-some
-run_between-requires-clause-some c = span-order c.args.self.now c.args.i c.bounds-low.result.0 c.bounds-low.result.1 (spans-seen c.self.inside.lows c.args.self.now c.self.view_is c.self.invariant) c.requires.place c.bounds-low.ensures.low c.bounds-low.ensures.past
+pub runs_at-requires-clause-place : goal.runs_at-requires-clause-place
+runs_at-requires-clause-place c = place-inside c.self.inside.lows c.args.self.now c.args.i c.self.view_is c.requires.place
 
-pub run_between-requires-clause-bound : goal.run_between-requires-clause-bound
-run_between-requires-clause-bound c = span-bound c.args.self.now c.args.i c.bounds-low.result.1 (spans-seen c.self.inside.lows c.args.self.now c.self.view_is c.self.invariant) c.requires.place c.bounds-low.ensures.past
+pub returns-clause-inside : goal.returns-clause-inside
+returns-clause-inside c = subst (λ n. c.args.i + c.runs_at.result ≤ n) (sym (length-spans c.self.inside.lows) ∙ ap (λ (ss : List Span). length ss) c.self.view_is) c.runs_at.ensures.inside

@@ -19,6 +19,8 @@ mod question;
 #[cfg(test)]
 mod ring;
 #[cfg(test)]
+mod same;
+#[cfg(test)]
 mod tests;
 #[cfg(test)]
 mod trial;

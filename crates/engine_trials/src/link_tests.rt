@@ -6,6 +6,7 @@ ghost use Rattle.net_engine.specs.Followed.{IsFollowed};
 
 use crate::block::{Block, prefix_of, run_of};
 use crate::course::{Course, course_of_ring};
+use crate::same::same;
 use answer_equality::is_same_answer;
 use dn_model::{Ask, Change, Entry, LinkId, Op, Query, RouterId, Target, Topology};
 use label_view::LabelView;
@@ -136,13 +137,13 @@ impl Play {
             changes,
             told,
         } = self;
-        assert_eq!(rt; changes.len(), told);
+        same(rt, &changes.len(), &told);
         course
     }
 
     /// What a router does with the first address of 10.0.0.0/8 is compared.
     fn compare_target(&self, rt: &impl Abort, router: RouterId, target: Target) {
-        assert_eq!(rt; does(rt, &self.course, router), target);
+        same(rt, &does(rt, &self.course, router), &target);
     }
 
     /// The next of the changes of the last entry is this.
@@ -152,7 +153,7 @@ impl Play {
             changes,
             told,
         } = self;
-        assert_eq!(rt; changes.as_slice().get(told), Some(&change));
+        same(rt, &changes.as_slice().get(told), &Some(&change));
         Play {
             course,
             changes,
@@ -260,6 +261,7 @@ fn a_link_is_down_before_a_route_goes_over_it(rt: HostRuntime) {
 /// A better route over the same link, to another router, is not seen until the link comes up; one that leads elsewhere is.
 #[test]
 fn a_route_is_replaced_while_its_link_is_down(rt: HostRuntime) {
+    let alloc = rt.alloc();
     let replaced = [
         Move::Make(Step::Turn(LINK, true)),
         Move::Make(Step::Set(SECOND, Block::Ten, 20, ON)),
@@ -279,10 +281,10 @@ fn a_route_is_replaced_while_its_link_is_down(rt: HostRuntime) {
         Move::Make(Step::Turn(LINK, false)),
         Move::Does(SECOND, Target::Exit(1)),
     ];
-    let course = course_after(&rt, rt.alloc(), &replaced);
-    let held = course.copy(rt.alloc()).expect(&rt, "memory");
-    follow(&rt, rt.alloc(), course, &works);
-    follow(&rt, rt.alloc(), held, &leaves);
+    let course = course_after(&rt, alloc, &replaced);
+    let held = course.copy(alloc).expect(&rt, "memory");
+    follow(&rt, alloc, course, &works);
+    follow(&rt, alloc, held, &leaves);
 }
 
 /// The third router is no end of the link. Changes are told by router, then address; what leads to two routers by one

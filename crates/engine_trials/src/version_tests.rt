@@ -7,6 +7,7 @@ ghost use Rattle.dn_model.specs.declared.topology.Topology.{Topology as Topology
 
 use crate::block::{Block, prefix_of, run_of};
 use crate::course::{Course, course_of_ring};
+use crate::same::{same, same_list};
 use delta_graph::Delta;
 use dn_model::{Change, Entry, Op, Route, RouterId, Target, Topology, plain_routes, plain_target};
 use label_view::LabelView;
@@ -156,7 +157,7 @@ fn compare(rt: &impl Abort, version: &Version, routes: &[Route]) {
     for a in ADDRESSES {
         let plain = plain_target(routes, &[], &[], a);
         assert_eq!(rt; by_rows(rt, version, FIRST, a), plain, "at {a}");
-        assert_eq!(rt; by_rows(rt, version, SECOND, a), Target::NoRoute);
+        same(rt, &by_rows(rt, version, SECOND, a), &Target::NoRoute);
     }
 }
 
@@ -202,13 +203,13 @@ fn compare_told(rt: &impl Abort, old: &Version, new: &Version, changes: &[Change
 /// A version has so many routers and atoms.
 fn compare_counts(rt: &impl Abort, version: &Version, routers: u32, atoms: u64) {
     let counts = (version.routers(), version.atoms());
-    assert_eq!(rt; counts, (routers, atoms));
+    same(rt, &counts, &(routers, atoms));
 }
 
 /// An address lies in the atom at this place, which has these bounds.
 fn compare_atom(rt: &impl Abort, version: &Version, a: u32, place: u64, bounds: (u64, u64)) {
     let found = version.atom_of(a);
-    assert_eq!(rt; (found, version.bounds(found)), (place, bounds));
+    same(rt, &(found, version.bounds(found)), &(place, bounds));
 }
 
 /// Atoms begin at 0.0.0.0, 10.0.0.0 and 11.0.0.0.
@@ -242,7 +243,7 @@ fn compare_said(rt: &impl Abort, alloc: Global, course: &Course, said: Move) {
         Move::ThreeAtoms => compare_three_atoms(rt, course.version()),
         Move::Plain => compare_course(rt, alloc, course),
         Move::Does(router, a, target) => {
-            assert_eq!(rt; by_rows(rt, course.version(), router, a), target);
+            same(rt, &by_rows(rt, course.version(), router, a), &target);
         }
     }
 }
@@ -322,18 +323,19 @@ fn compare_better(rt: &impl Abort, changes: &[Change]) {
         before: Target::Exit(2),
         after: Target::Exit(3),
     };
-    assert_eq!(rt; changes, &[change][..]);
+    same_list(rt, changes, &[change]);
 }
 
 #[test]
 fn of_two_metrics_the_lesser_wins(rt: HostRuntime) {
+    let alloc = rt.alloc();
     let moves = [Move::Make(FIRST, Update::Set(Block::Ten, 20, 2))];
-    let course = course_after(&rt, rt.alloc(), 3, &moves);
+    let course = course_after(&rt, alloc, 3, &moves);
     let better = Update::Set(Block::Ten, 5, 3);
-    let (course, delta) = advance_and_tell(&rt, rt.alloc(), course, FIRST, better);
+    let (course, delta) = advance_and_tell(&rt, alloc, course, FIRST, better);
     compare_better(&rt, delta.changes());
     compare_counts(&rt, course.version(), 3, 3);
-    let copy = copy_of(&rt, rt.alloc(), &course);
+    let copy = copy_of(&rt, alloc, &course);
     let bounds = (0x0A00_0000, 0x0B00_0000);
     compare_atom(&rt, copy.version(), 0x0A00_0000, 1, bounds);
 }
@@ -344,6 +346,7 @@ const INSIDE_TEN: Update = Update::Set(Block::TenOne, 9, 4);
 /// A copy has no guide of its own. It stands as it is while the version goes on, which searches from where it was.
 #[test]
 fn a_copy_that_is_held_keeps_its_answers(rt: HostRuntime) {
+    let alloc = rt.alloc();
     let before = [
         Move::Make(FIRST, Update::Set(Block::Ten, 20, 2)),
         Move::Make(FIRST, INSIDE_TEN),
@@ -357,11 +360,11 @@ fn a_copy_that_is_held_keeps_its_answers(rt: HostRuntime) {
         Move::Plain,
         Move::Make(FIRST, Update::Clear(Block::Ten, None)),
     ];
-    let course = course_after(&rt, rt.alloc(), 3, &before);
-    let held = copy_of(&rt, rt.alloc(), &course);
-    follow(&rt, rt.alloc(), course, &after);
-    let held = follow(&rt, rt.alloc(), held, &cleared);
-    compare_after_one(&rt, rt.alloc(), &held, INSIDE_TEN);
+    let course = course_after(&rt, alloc, 3, &before);
+    let held = copy_of(&rt, alloc, &course);
+    follow(&rt, alloc, course, &after);
+    let held = follow(&rt, alloc, held, &cleared);
+    compare_after_one(&rt, alloc, &held, INSIDE_TEN);
 }
 
 /// The history with an update more. The version before it, the one after it and what is told are compared.
@@ -418,6 +421,7 @@ fn compare_later(rt: &impl Abort, version: &Version) {
 /// the fifth alone has one inside. An update of one leaves the others' answers, and a copy's, as they are.
 #[test]
 fn each_router_keeps_its_own_routes(rt: HostRuntime) {
+    let alloc = rt.alloc();
     let own = [
         Move::Make(FIRST, Update::Set(Block::Ten, 20, 1)),
         Move::Make(SECOND, Update::Set(Block::Ten, 20, 2)),
@@ -431,9 +435,9 @@ fn each_router_keeps_its_own_routes(rt: HostRuntime) {
         Move::Make(RouterId(5), Update::Set(Block::Ten, 5, 60)),
         Move::Make(SECOND, Update::Clear(Block::Ten, None)),
     ];
-    let course = course_after(&rt, rt.alloc(), 6, &own);
-    let held = copy_of(&rt, rt.alloc(), &course);
-    let course = follow(&rt, rt.alloc(), course, &others);
+    let course = course_after(&rt, alloc, 6, &own);
+    let held = copy_of(&rt, alloc, &course);
+    let course = follow(&rt, alloc, course, &others);
     compare_before(&rt, held.version());
     compare_later(&rt, course.version());
 }

@@ -3,6 +3,7 @@
 ghost use Rattle.std.specs.Prelude.{◌≡◌, ◌<◌, ◌≤◌, ◌^◌, length};
 
 use crate::frames::{CHANGE_TEN, SET_IPV6, SET_MULTIPATH, SET_TEN, bytes_of};
+use crate::same::{same, same_list};
 use crate::test_network::{FIRST, triangle};
 use dn_io::{MemSource, Source};
 use dn_model::Topology;
@@ -112,10 +113,10 @@ fn compare_count<S: Source>(
 {
     match reader.next_frame(alloc, topology).expect(rt, "memory") {
         FeedStep::Ops(ops, _) => {
-            assert_eq!(rt; ops.len(), want);
+            same(rt, &ops.len(), &want);
             reader.take_back(ops);
         }
-        _ => assert_eq!(rt; 0, want),
+        _ => same(rt, &0, &want),
     }
 }
 
@@ -148,9 +149,9 @@ fn a_refused_frame_leaves_no_update(rt: HostRuntime) {
     let mut reader = FeedReader::new(alloc, source, FIRST, 1, 1000);
     let found = first_answers(&rt, alloc, &mut reader, &topology);
     let want = [Seen::Refused(0, 44, 13), Seen::Counts(1, 0), END];
-    assert_eq!(rt; found, want);
-    assert_eq!(rt; reader.told().updates, 1);
-    assert_eq!(rt; reader.told().refused.len(), 1);
+    same(&rt, &found, &want);
+    same(&rt, &reader.told().updates, &1);
+    same(&rt, &reader.told().refused.len(), &1);
 }
 
 /// What a feed comes to of which so many bytes are looked at.
@@ -158,7 +159,7 @@ fn compare_limit(rt: &impl Abort, alloc: Global, bytes: &[u8], limit: u64, want:
     requires some { 1 ≤ limit }
     requires most { limit ≤ 2 ^ 30 }
 {
-    assert_eq!(rt; answers_of(rt, alloc, bytes, 64, &[], limit), want);
+    same(rt, &answers_of(rt, alloc, bytes, 64, &[], limit), &want);
 }
 
 #[test]
@@ -179,7 +180,7 @@ fn a_fault_comes_after_whole_frames(rt: HostRuntime) {
     let faulted = Seen::Ended(FeedEnd::Faulted);
     let want = [Seen::Counts(1, 0), faulted, faulted];
     let found = answers_of(&rt, alloc, twice.as_slice(), 100, &[2], 1000);
-    assert_eq!(rt; found, want);
+    same(&rt, &found, &want);
 }
 
 /// What is told of the feed of `what_is_told_and_given_back`.
@@ -188,11 +189,11 @@ fn compare_told(rt: &impl Abort, told: &FeedTold) {
         offset: 192,
         cause: 15,
     };
-    assert_eq!(rt; told.end, Some(end));
-    assert_eq!(rt; told.feed_no, 3);
-    assert_eq!(rt; told.updates, 2);
-    assert_eq!(rt; told.skipped, 1);
-    assert_eq!(rt; told.refused.len(), 1);
+    same(rt, &told.end, &Some(end));
+    same(rt, &told.feed_no, &3);
+    same(rt, &told.updates, &2);
+    same(rt, &told.skipped, &1);
+    same(rt, &told.refused.len(), &1);
 }
 
 #[test]
@@ -210,6 +211,6 @@ fn what_is_told_and_given_back(rt: HostRuntime) {
     first_answers(&rt, alloc, &mut reader, &topology);
     compare_told(&rt, reader.told());
     let (source, told) = reader.into_parts();
-    assert_eq!(rt; source.left(), [7u8].as_slice());
+    same_list(&rt, source.left(), &[7]);
     compare_told(&rt, &told);
 }

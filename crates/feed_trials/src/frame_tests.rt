@@ -2,6 +2,7 @@
 
 ghost use Rattle.std.specs.Prelude.{◌≡◌, ◌+◌, ◌<◌, ◌≤◌, ◌^◌, length};
 
+use crate::same::{same, same_list};
 use dn_model::OutOfMemory;
 use fpm_frame::{Cutter, Finish, Next, write_frame};
 use std::alloc::Global;
@@ -87,7 +88,7 @@ fn compare_whole(rt: &impl Abort, alloc: Global, stream: &[u8], want: &Vec<Cut>)
     requires { length stream.now < 2 ^ 63 }
 {
     let cuts = cut_whole(alloc, stream).expect(rt, "memory");
-    assert_eq!(rt; cuts, *want);
+    same(rt, &cuts, want);
 }
 
 /// A stream byte by byte is cut into these.
@@ -95,7 +96,7 @@ fn compare_bytes(rt: &impl Abort, alloc: Global, stream: &[u8], want: &Vec<Cut>)
     requires { length stream.now < 2 ^ 63 }
 {
     let cuts = cut_bytes(alloc, stream).expect(rt, "memory");
-    assert_eq!(rt; cuts, *want);
+    same(rt, &cuts, want);
 }
 
 /// One more cut that is wanted.
@@ -155,7 +156,7 @@ fn compare_written(rt: &impl Abort, alloc: Global, kind: u8, payload: &[u8], wan
     requires { length payload.now ≤ 65531 }
 {
     let frame = write_frame(alloc, kind, payload).expect(rt, "memory");
-    assert_eq!(rt; frame.as_slice(), want);
+    same_list(rt, frame.as_slice(), want);
 }
 
 #[test]
@@ -182,5 +183,5 @@ fn cutters_are_send_and_sync(rt: HostRuntime) {
     take_end(&cutter, &mut cuts).expect(&rt, "memory");
     let mut wanted = Vec::new(alloc);
     push(&rt, &mut wanted, Cut::Ended(Finish::End));
-    assert_eq!(rt; cuts, wanted);
+    same(&rt, &cuts, &wanted);
 }

@@ -5,6 +5,7 @@ ghost use Rattle.dn_io.specs.Calls.{NoneOut};
 ghost use Rattle.dn_io.specs.Files.{bytes_of};
 ghost use Rattle.dn_io.specs.Told.{with_front, NothingLeft};
 
+use crate::same::{same, same_list};
 use dn_io::{
     CallBook, Gate, MemFile, MemSink, MemSource, MemWorld, NoGate, Point, Sink, Source, SureFile,
     SureSink, SureWorld, World, WorldRefused,
@@ -101,14 +102,14 @@ fn compare_read<S: Source>(rt: &impl Abort, source: &mut S, room: usize, count: 
     requires { room ≤ 5 }
 {
     let mut buf = [b'-'; 5];
-    assert_eq!(rt; read_once(source, &mut buf[..room]), count);
-    assert_eq!(rt; buf.as_slice(), want);
+    same(rt, &read_once(source, &mut buf[..room]), &count);
+    same_list(rt, buf.as_slice(), want);
 }
 
 /// What is left of a source, and how often it has failed.
 fn compare_source(rt: &impl Abort, source: &MemSource, left: &[u8], faults: u64) {
-    assert_eq!(rt; source.left(), left);
-    assert_eq!(rt; source.faults(), faults);
+    same_list(rt, source.left(), left);
+    same(rt, &source.faults(), &faults);
 }
 
 #[test]
@@ -127,13 +128,13 @@ fn a_source_gives_steps_and_fails_where_it_is_told(rt: HostRuntime) {
 }
 
 fn compare_write<K: Sink>(rt: &impl Abort, sink: &mut K, piece: &[u8], count: usize) {
-    assert_eq!(rt; write_once(sink, piece), count);
+    same(rt, &write_once(sink, piece), &count);
 }
 
 /// What a sink took, and how often it has failed.
 fn compare_sink(rt: &impl Abort, sink: &MemSink, written: &[u8], faults: u64) {
-    assert_eq!(rt; sink.written(), written);
-    assert_eq!(rt; sink.faults(), faults);
+    same_list(rt, sink.written(), written);
+    same(rt, &sink.faults(), &faults);
 }
 
 #[test]
@@ -198,7 +199,7 @@ fn compare_file<W: World>(rt: &impl Abort, alloc: Global, world: &mut W, name: &
     ensures { length (W.calls world.new) ≤ length (W.calls world.old) + 1 }
 {
     match read_file(alloc, world, name) {
-        Ok(Some(all)) => assert_eq!(rt; all.as_slice(), want),
+        Ok(Some(all)) => same_list(rt, all.as_slice(), want),
         _ => panic!(rt; "not read"),
     }
 }
@@ -214,13 +215,13 @@ fn compare_failed<W: World>(rt: &impl Abort, alloc: Global, world: &mut W, name:
 /// The calls of `a_world_takes_back_what_it_hands_out`.
 fn compare_calls(rt: &impl Abort, calls: &CallBook) {
     assert_eq!(rt; calls.len(), 4);
-    assert_eq!(rt; calls.name(1), "bad");
+    same(rt, &calls.name(1), &"bad");
     assert!(rt; !calls.is_out(0) && !calls.has_failed(0));
-    assert_eq!(rt; calls.left(0), Some(b"".as_slice()));
+    same(rt, &calls.left(0), &Some(b"".as_slice()));
     assert!(rt; !calls.is_out(1) && calls.has_failed(1));
-    assert_eq!(rt; calls.left(1), Some(b"es".as_slice()));
+    same(rt, &calls.left(1), &Some(b"es".as_slice()));
     assert!(rt; calls.has_failed(2) && calls.has_failed(3));
-    assert_eq!(rt; calls.left(3), None);
+    same(rt, &calls.left(3), &None);
 }
 
 #[test]
@@ -244,7 +245,7 @@ fn an_earlier_file_hides_a_later_one(rt: HostRuntime) {
     let later = mem_file(&rt, alloc, "f", b"later", 1, &[]);
     let mut world = world_of(&rt, alloc, earlier, later, &[]);
     match world.source_of("f") {
-        Ok(source) => assert_eq!(rt; source.left(), b"earlier".as_slice()),
+        Ok(source) => same_list(&rt, source.left(), b"earlier"),
         Err(_) => panic!(rt; "not opened"),
     }
     compare_file(&rt, alloc, &mut world, "f", b"earlier");

@@ -17,4 +17,6 @@ mod message_tests;
 #[cfg(test)]
 mod port_tests;
 #[cfg(test)]
+mod same;
+#[cfg(test)]
 mod test_network;

@@ -1,5 +1,6 @@
 //! The input of a few updates, against bytes that were written by hand.
 
+use crate::same::same;
 use dn_formats::Text;
 use made_input::make_input;
 
@@ -39,7 +40,7 @@ fn has(feeds: &[Text], place: usize, bytes: &[u8]) -> bool {
 #[test]
 fn five_updates_go_to_the_first_five_feeds(rt: HostRuntime) {
     let made = make_input(rt.alloc(), 5).expect(&rt, "memory");
-    assert_eq!(rt; made.feeds.len(), 8);
+    same(&rt, &made.feeds.len(), &8);
     assert!(rt; has(made.feeds.as_slice(), 0, &FIRST));
     assert!(rt; has(made.feeds.as_slice(), 4, &FIFTH));
     assert!(rt; has(made.feeds.as_slice(), 5, &[]));

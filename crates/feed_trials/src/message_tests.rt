@@ -4,6 +4,7 @@ ghost use Rattle.std.specs.Prelude.{◌≤◌, ◌<◌, length};
 ghost use Rattle.feed_model.specs.Payload.{CanBeSaid};
 
 use crate::frames::{BROKEN_LAST, SET_IPV6, SET_TEN, bytes_of};
+use crate::same::{same, same_list};
 use dn_model::Prefix;
 use rt_netlink::{
     Item, ItemKind, MAIN_TABLE, RawRoute, Refused, RouteKind, Skip, read_payload, write_route,
@@ -75,7 +76,7 @@ fn compare_in_tables(rt: &impl Abort, alloc: Global, payload: &[u8], tables: &[u
     let said = read_payload(alloc, payload, tables).expect(rt, "memory");
     let items = [item_at(0, what)];
     assert_eq!(rt; said.items.as_slice(), items.as_slice(), "in {tables:?}");
-    assert_eq!(rt; said.refused, None);
+    same(rt, &said.refused, &None);
 }
 
 /// The message of `SET_TEN`, with the byte at one place of it changed, is passed over by this cause.
@@ -124,7 +125,7 @@ fn skips_by_table_and_type(rt: HostRuntime) {
 #[test]
 fn writes_a_route(rt: HostRuntime) {
     let message = write_route(rt.alloc(), &ten(2)).expect(&rt, "memory");
-    assert_eq!(rt; message.as_slice(), &SET_TEN[4..]);
+    same_list(&rt, message.as_slice(), &SET_TEN[4..]);
 }
 
 #[test]
@@ -146,7 +147,7 @@ fn writes_a_route_of_a_wide_table(rt: HostRuntime) {
     let alloc = rt.alloc();
     let route = ten_in(1000, 2);
     let message = write_route(alloc, &route).expect(&rt, "memory");
-    assert_eq!(rt; message.as_slice(), IN_A_WIDE_TABLE.as_slice());
+    same_list(&rt, message.as_slice(), &IN_A_WIDE_TABLE);
     compare_in_tables(
         &rt,
         alloc,
@@ -163,5 +164,5 @@ fn writes_a_route_of_a_narrow_table(rt: HostRuntime) {
     let mut frame = SET_TEN;
     frame[24] = 255;
     let message = write_route(rt.alloc(), &ten_in(255, 2)).expect(&rt, "memory");
-    assert_eq!(rt; message.as_slice(), &frame[4..]);
+    same_list(&rt, message.as_slice(), &frame[4..]);
 }

@@ -4,6 +4,7 @@
 ghost use Rattle.std.specs.Prelude.{◌≡◌, ◌<◌, length};
 
 use crate::frames::SET_TEN;
+use crate::same::same;
 use crate::test_network::{FIRST, SECOND, THIRD, one_link, triangle};
 use dn_io::{MemSource, Source};
 use dn_model::{LinkId, Op, Target, Topology};
@@ -52,7 +53,7 @@ fn compare_targets(rt: &impl Abort, alloc: Global, interfaces: &[u8], want: [Opt
     let second = next_target(rt, alloc, &mut reader, &one_link);
     let third = next_target(rt, alloc, &mut reader, &triangle);
     let fourth = next_target(rt, alloc, &mut reader, &one_link);
-    assert_eq!(rt; [first, second, third, fourth], want);
+    same(rt, &[first, second, third, fourth], &want);
 }
 
 #[test]

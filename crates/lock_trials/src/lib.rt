@@ -8,3 +8,5 @@ mod lock_tests;
 mod pins_tests;
 #[cfg(test)]
 mod plain_book;
+#[cfg(test)]
+mod same;

@@ -4,6 +4,7 @@ ghost use Rattle.std.specs.Prelude.{◌≡◌, ◌<◌, ℕ, length, IfOk};
 ghost use Rattle.version_lock.specs.Callers.{IsSeatOf, IsNoteOf, IsSameSeat, HasNumber, first_seat};
 
 use crate::plain_book::{PlainBook, entry, plain_book};
+use crate::same::same;
 use dn_model::{Entry, OutOfMemory};
 use std::alloc::Global;
 use std::process::Abort;
@@ -40,12 +41,12 @@ fn one_seat_applies_and_pins(rt: HostRuntime) -> Result<(), Fail> {
     let before = lock.pin(&rt, &mut seat)?.snap.number();
     let position = lock.apply(&rt, &mut seat, &entry(7));
     let after = lock.pin(&rt, &mut seat)?.snap.number();
-    assert_eq!(rt; (before, position, after), (0, Ok(1), 1));
+    same(&rt, &(before, position, after), &(0, Ok(1), 1));
     let number = seat.number();
     let book = lock.close(seat);
     let posted = book.posted.as_slice();
     assert_eq!(rt; posted.len(), 1);
-    assert_eq!(rt; (posted[0].seat, posted[0].entry), (number, entry(7)));
+    same(&rt, &(posted[0].seat, posted[0].entry), &(number, entry(7)));
     Ok(())
 }
 
@@ -55,10 +56,10 @@ fn a_full_book_refuses(rt: HostRuntime) -> Result<(), Fail> {
     let first = lock.apply(&rt, &mut seat, &entry(1));
     let second = lock.apply(&rt, &mut seat, &entry(2));
     let third = lock.apply(&rt, &mut seat, &entry(3));
-    assert_eq!(rt; (first, second), (Ok(1), Ok(2)));
-    assert_eq!(rt; third, Err(PostRefused::Full { length: 2 }));
+    same(&rt, &(first, second), &(Ok(1), Ok(2)));
+    same(&rt, &third, &Err(PostRefused::Full { length: 2 }));
     let book = lock.close(seat);
-    assert_eq!(rt; book.posted.len(), 2);
+    same(&rt, &book.posted.len(), &2);
     Ok(())
 }
 
@@ -66,10 +67,14 @@ fn a_full_book_refuses(rt: HostRuntime) -> Result<(), Fail> {
 fn one_thread_sees_what_it_was_not_told(rt: HostRuntime) -> Result<(), Fail> {
     let (lock, mut a) = lock_of(&rt, rt.alloc(), 10, 2)?;
     let mut b = lock.split(&mut a, 1);
-    assert_eq!(rt; (a.number(), a.span(), b.number(), b.span()), (0, 1, 1, 1));
+    same(
+        &rt,
+        &(a.number(), a.span(), b.number(), b.span()),
+        &(0, 1, 1, 1),
+    );
     let position = lock.apply(&rt, &mut a, &entry(1));
     let pinned = lock.pin(&rt, &mut b)?.snap.number();
-    assert_eq!(rt; (position, pinned), (Ok(1), 1));
+    same(&rt, &(position, pinned), &(Ok(1), 1));
     Ok(())
 }
 
@@ -162,7 +167,7 @@ fn tell<R: Threads + Wait + Sync>(
 fn a_note_goes_to_another_thread(rt: HostRuntime) -> Result<(), Fail> {
     let (lock, mut a) = lock_of(&rt, rt.alloc(), 10, 2)?;
     let b = lock.split(&mut a, 1);
-    assert_eq!(rt; tell(&rt, &lock, a, b), (Some(1), Some(1)));
+    same(&rt, &tell(&rt, &lock, a, b), &(Some(1), Some(1)));
     Ok(())
 }
 
@@ -179,16 +184,16 @@ fn two_threads_contend(rt: HostRuntime) -> Result<(), Fail> {
     let (lock, seat) = lock_of(&rt, rt.alloc(), 10000, 2)?;
     let seat = in_two(&rt, &lock, seat, 2000);
     let book = lock.close(seat);
-    assert_eq!(rt; book.posted.len(), 4000);
+    same(&rt, &book.posted.len(), &4000);
     for number in 0..2u32 {
         let mut next = 0u32;
         for posted in book.posted.as_slice() {
             if posted.seat == number {
-                assert_eq!(rt; feed_of(&posted.entry), Some(next));
+                same(&rt, &feed_of(&posted.entry), &Some(next));
                 next = next.wrapping_add(1);
             }
         }
-        assert_eq!(rt; next, 2000);
+        same(&rt, &next, &2000);
     }
     Ok(())
 }

@@ -4,6 +4,7 @@ ghost use Rattle.std.specs.Prelude.{◌≡◌, ◌^◌, ◌<◌, ◌∷◌, [], 
 ghost use Rattle.std.specs.Arc.{arc_value};
 ghost use Rattle.fast_pins.specs.Known.{published};
 
+use crate::same::same;
 use dn_model::{Entry, List, Op, OutOfMemory, Posted, Prefix, RouterId, Topology};
 use fast_pins::{FastPins, FastReader, Publisher, Shot};
 use std::alloc::Global;
@@ -145,6 +146,6 @@ fn pin_untold_and_told(
 
 #[test]
 fn a_reader_pins_what_is_shown_or_told(rt: HostRuntime) -> Result<(), Fail> {
-    assert_eq!(rt; pin_to_the_end(&rt, rt.alloc())?, [0, 1, 1, 0, 1, 1]);
+    same(&rt, &pin_to_the_end(&rt, rt.alloc())?, &[0, 1, 1, 0, 1, 1]);
     Ok(())
 }

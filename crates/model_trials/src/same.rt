@@ -3,8 +3,8 @@
 use std::fmt::Debug;
 use std::process::Abort;
 
-/// Two values are equal. Each comparison of the trials goes by this call or the next, whose contracts say nothing: what
-/// a comparison found is of no use to the proof of the test that asks for it.
+/// Two values are equal. This contract and the next say nothing: what a comparison found is of no use to the proof of
+/// the test that asks for it. The length that an index rests on is compared by `assert_eq!`.
 pub fn same<T: PartialEq + Debug>(rt: &impl Abort, left: &T, right: &T) {
     assert_eq!(rt; *left, *right);
 }

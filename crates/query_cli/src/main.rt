@@ -6,6 +6,8 @@ mod file_source;
 mod file_world;
 mod out_sink;
 #[cfg(test)]
+mod same;
+#[cfg(test)]
 mod tests;
 mod words;
 

@@ -5,6 +5,7 @@ ghost use Rattle.std.specs.Prelude.{◌≡◌, ◌≤◌, length, IfOk};
 use crate::file_source::FileSource;
 use crate::file_world::FileWorld;
 use crate::out_sink::OutSink;
+use crate::same::{same, same_list};
 use crate::words::words;
 use dn_io::{CallBook, Failed, Sink, Source, World};
 use std::alloc::Global;
@@ -43,18 +44,18 @@ fn reads_a_file_to_its_end(rt: HostRuntime) -> Result<(), Fail> {
         panic!(&rt; "not opened");
     };
     let mut buf = [b'-'; 5000];
-    assert_eq!(rt; source.read(&mut buf), Ok(4096));
-    assert_eq!(rt; buf[0], b'x');
-    assert_eq!(rt; buf[4095], b'x');
-    assert_eq!(rt; buf[4096], b'-');
-    assert_eq!(rt; source.read(&mut buf), Ok(4));
-    assert_eq!(rt; buf[0], b't');
-    assert_eq!(rt; buf[3], b'l');
-    assert_eq!(rt; buf[4], b'x');
-    assert_eq!(rt; source.read(&mut buf), Ok(0));
-    assert_eq!(rt; state(world.calls(), 0), Some((true, false)));
+    same(&rt, &source.read(&mut buf), &Ok(4096));
+    same(&rt, &buf[0], &b'x');
+    same(&rt, &buf[4095], &b'x');
+    same(&rt, &buf[4096], &b'-');
+    same(&rt, &source.read(&mut buf), &Ok(4));
+    same(&rt, &buf[0], &b't');
+    same(&rt, &buf[3], &b'l');
+    same(&rt, &buf[4], &b'x');
+    same(&rt, &source.read(&mut buf), &Ok(0));
+    same(&rt, &state(world.calls(), 0), &Some((true, false)));
     world.give_back(source);
-    assert_eq!(rt; state(world.calls(), 0), Some((false, false)));
+    same(&rt, &state(world.calls(), 0), &Some((false, false)));
     fs::remove_file(&rt, name.as_str())?;
     Ok(())
 }
@@ -64,16 +65,16 @@ fn reads_a_file_to_its_end(rt: HostRuntime) -> Result<(), Fail> {
 fn counts_files_that_fail(rt: HostRuntime) -> Result<(), Fail> {
     let mut world = FileWorld::new(rt.alloc(), &rt);
     assert!(rt; world.source_of("/no-such-folder/feed").is_err());
-    assert_eq!(rt; state(world.calls(), 0), Some((false, true)));
+    same(&rt, &state(world.calls(), 0), &Some((false, true)));
     let mut world = FileWorld::new(rt.alloc(), &rt);
     let Ok(mut folder) = world.source_of("/") else {
         panic!(&rt; "not opened");
     };
     let mut buf = [b'-'; 4];
-    assert_eq!(rt; folder.read(&mut buf), Err(Failed));
-    assert_eq!(rt; &buf, b"----");
+    same(&rt, &folder.read(&mut buf), &Err(Failed));
+    same_list(&rt, &buf, b"----");
     world.give_back(folder);
-    assert_eq!(rt; state(world.calls(), 0), Some((false, true)));
+    same(&rt, &state(world.calls(), 0), &Some((false, true)));
     Ok(())
 }
 
@@ -100,23 +101,27 @@ impl Read for Interrupted {
 fn counts_a_read_that_fails_and_goes_on(rt: HostRuntime) {
     let mut source = FileSource::new(Interrupted { calls: 0 }, 3);
     let mut buf = [b'-'; 4];
-    assert_eq!(rt; source.read(&mut buf), Ok(2));
-    assert_eq!(rt; &buf, b"ab--");
-    assert_eq!(rt; source.read(&mut buf), Err(Failed));
-    assert_eq!(rt; source.read(&mut buf), Ok(1));
-    assert_eq!(rt; &buf, b"cb--");
-    assert_eq!(rt; source.read(&mut buf), Ok(0));
-    assert_eq!(rt; source.close(), (3, true));
+    same(&rt, &source.read(&mut buf), &Ok(2));
+    same_list(&rt, &buf, b"ab--");
+    same(&rt, &source.read(&mut buf), &Err(Failed));
+    same(&rt, &source.read(&mut buf), &Ok(1));
+    same_list(&rt, &buf, b"cb--");
+    same(&rt, &source.read(&mut buf), &Ok(0));
+    same(&rt, &source.close(), &(3, true));
 }
 
 #[test]
 fn writes_to_a_file(rt: HostRuntime) -> Result<(), Fail> {
     let name = temporary(&rt, "report")?;
     let mut sink = OutSink::new(File::create(&rt, name.as_str())?);
-    assert_eq!(rt; sink.write(b"done\n"), Ok(5));
-    assert_eq!(rt; sink.write(b""), Ok(0));
+    same(&rt, &sink.write(b"done\n"), &Ok(5));
+    same(&rt, &sink.write(b""), &Ok(0));
     drop(sink);
-    assert_eq!(rt; fs::read_to_string(&rt, name.as_str())?.as_str(), "done\n");
+    same(
+        &rt,
+        &fs::read_to_string(&rt, name.as_str())?.as_str(),
+        &"done\n",
+    );
     fs::remove_file(&rt, name.as_str())?;
     Ok(())
 }
@@ -138,11 +143,11 @@ impl Write for Stopped {
 #[test]
 fn counts_writes_that_take_nothing(rt: HostRuntime) -> Result<(), Fail> {
     let mut stopped = OutSink::new(Stopped);
-    assert_eq!(rt; stopped.write(b""), Ok(0));
-    assert_eq!(rt; stopped.write(b"done\n"), Err(Failed));
+    same(&rt, &stopped.write(b""), &Ok(0));
+    same(&rt, &stopped.write(b"done\n"), &Err(Failed));
     let device = fs::OpenOptions::new().write(true).open(&rt, "/dev/full")?;
     let mut full = OutSink::new(device);
-    assert_eq!(rt; full.write(b"done\n"), Err(Failed));
+    same(&rt, &full.write(b"done\n"), &Err(Failed));
     Ok(())
 }
 
@@ -183,8 +188,8 @@ impl Env for Given {
 #[test]
 fn words_that_are_not_text_are_none(rt: HostRuntime) -> Result<(), Fail> {
     let read = words(&(Given { byte: b'x' }, rt.alloc()))?;
-    assert_eq!(rt; read.len(), 2);
+    same(&rt, &read.len(), &2);
     let unread = words(&(Given { byte: 0xff }, rt.alloc()))?;
-    assert_eq!(rt; unread.len(), 0);
+    same(&rt, &unread.len(), &0);
     Ok(())
 }

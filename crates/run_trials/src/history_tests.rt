@@ -9,6 +9,7 @@ ghost use Rattle.dn_model.specs.declared.topology.Topology.{Topology as Topology
 ghost use Rattle.feed_threads.specs.AllJobs.{AreNumberedApart};
 ghost use Rattle.feed_threads.specs.Jobs.{AreApart, IsFresh};
 
+use crate::same::same;
 use crate::whole_run::set_frame;
 use dn_formats::{Asked, Line, Outcome, Script, Told};
 use dn_io::{MemSource, NoGate, Source};
@@ -258,7 +259,7 @@ fn compare_order(rt: &impl Abort, alloc: Global, store: &Store, feeds: &[u32], w
 /// There are so many jobs, and the one at this place has the next number and wanted no memory.
 pub(crate) fn compare_job(rt: &impl Abort, dones: &[JobDone<MemSource>], count: usize, at: usize) {
     assert!(rt; at < count && dones.len() == count, "job {at} of {count}");
-    assert_eq!(rt; dones[at].number as usize, at + 1);
+    same(rt, &(dones[at].number as usize), &(at + 1));
     assert!(rt; !dones[at].wanted_memory, "job {at}");
 }
 
@@ -345,7 +346,7 @@ fn compare_full(rt: &impl Abort, store: &mut Store)
     requires { length store.old.basis.topology.routers ≡ 3 }
 {
     let refused = store.post(0, &third_update());
-    assert_eq!(rt; refused, Err(PostRefused::Full { length: 2 }));
+    same(rt, &refused, &Err(PostRefused::Full { length: 2 }));
 }
 
 /// The history takes two of three updates, and the feed's end is that it was full.

@@ -21,6 +21,8 @@ mod read_gate;
 #[cfg(test)]
 mod run_tests;
 #[cfg(test)]
+mod same;
+#[cfg(test)]
 mod script_tests;
 #[cfg(test)]
 mod shown_gate;

@@ -5,6 +5,7 @@ ghost use Rattle.feed_threads.specs.AllJobs.{AreNumberedApart};
 ghost use Rattle.feed_threads.specs.Jobs.{AreApart, IsFresh};
 
 use crate::history_tests::{compare_end, compare_job, job, job_list, reader, run_over};
+use crate::same::same;
 use crate::whole_run::RING;
 use dn_formats::{Script, Told};
 use dn_io::{MemSource, Source};
@@ -85,7 +86,7 @@ fn compare_told(rt: &impl Abort, alloc: Global, tolds: &[Told], want: &str) {
 /// A store has so many entries, of which the last one says that job 1 took the first link down.
 fn compare_last(rt: &impl Abort, alloc: Global, store: &Store, count: usize) {
     let history = store.history(alloc).expect(rt, "memory");
-    assert_eq!(rt; history.as_slice().len(), count);
+    same(rt, &history.as_slice().len(), &count);
     let [.., last] = history.as_slice() else {
         panic!(rt; "an entry");
     };
@@ -94,7 +95,7 @@ fn compare_last(rt: &impl Abort, alloc: Global, store: &Store, count: usize) {
         link: LinkId(0),
         down: true,
     };
-    assert_eq!(rt; last.entry, down);
+    same(rt, &last.entry, &down);
 }
 
 const LINES: &str = "down a

@@ -4,6 +4,7 @@
 
 ghost use Rattle.std.specs.Prelude.{◌≤◌, All};
 
+use crate::same::same;
 use crate::slow_gate::SlowGate;
 use crate::whole_run::{
     RING, WholeRun, add, add_file, compare, file, number_of, run_parts, set_frame, text,
@@ -336,7 +337,7 @@ fn compare_run(rt: &impl Abort, alloc: Global, jobs: &[Asks], run: &WholeRun) {
     }
     push(rt, &mut due.text, "done\n");
     compare(rt, run, Status::Done, due.text.as_str());
-    assert_eq!(rt; chosen.steps.len(), made);
+    same(rt, &chosen.steps.len(), &made);
 }
 
 /// Runs the scripts, whose jobs a gate holds for a while that looks drawn.

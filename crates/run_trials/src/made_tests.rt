@@ -3,6 +3,7 @@
 
 ghost use Rattle.std.specs.Prelude.{◌≤◌, All};
 
+use crate::same::same;
 use crate::whole_run::{WholeRun, add_file, compare, compare_tail, file, run_parts};
 use dn_formats::Line;
 use dn_io::{MemFile, NoGate};
@@ -44,7 +45,7 @@ fn compare_link(rt: &impl Abort, link: &TopoLink, number: u16) {
 
 /// The routers are eight devices, each with its main table.
 fn compare_tables(rt: &impl Abort, tables: &[RouterTable]) {
-    assert_eq!(rt; tables.len(), 8);
+    same(rt, &tables.len(), &8);
     for number in 0..8u16 {
         let main = RouterTable {
             device: RouterId(number),
@@ -52,7 +53,7 @@ fn compare_tables(rt: &impl Abort, tables: &[RouterTable]) {
             replace: Replace::Key,
         };
         assert!(rt; (number as usize) < tables.len());
-        assert_eq!(rt; tables[number as usize], main);
+        same(rt, &tables[number as usize], &main);
     }
 }
 
@@ -62,7 +63,7 @@ fn compare_network(rt: &impl Abort, network: &Topology) {
     let routers = network.routers.as_slice();
     let links = network.links.as_slice();
     let edges = network.edges.as_slice();
-    assert_eq!(rt; (routers.len(), links.len(), edges.len()), (8, 8, 8));
+    same(rt, &(routers.len(), links.len(), edges.len()), &(8, 8, 8));
     compare_tables(rt, network.tables.as_slice());
     for number in 0..8u16 {
         let at = number as usize;
@@ -83,7 +84,7 @@ fn compare_take(rt: &impl Abort, line: &Line, number: u16) {
     else {
         panic!(rt; "a line that takes");
     };
-    assert_eq!(rt; *line, u32::from(number) + 1);
+    same(rt, line, &(u32::from(number) + 1));
     assert_eq!(rt; *router, RouterId(number), "line {line}");
     assert_eq!(rt; *count, None, "line {line}");
 }
@@ -93,7 +94,7 @@ fn compare_loops(rt: &impl Abort, line: &Line, number: u32) {
     let Line::Ask { line, query } = line else {
         panic!(rt; "a line that asks");
     };
-    assert_eq!(rt; *line, number);
+    same(rt, line, &number);
     let query = query.get();
     assert!(rt; matches!(query.ask(), Ask::Loops));
     assert!(rt; query.without().is_empty());
@@ -104,7 +105,7 @@ fn compare_lines(rt: &impl Abort, lines: &[Line]) {
     let [takes @ .., last] = lines else {
         panic!(rt; "some lines");
     };
-    assert_eq!(rt; takes.len(), 8);
+    same(rt, &takes.len(), &8);
     for number in 0..8u16 {
         assert!(rt; (number as usize) < takes.len());
         compare_take(rt, &takes[number as usize], number);

@@ -1,5 +1,6 @@
 //! A run that meets no fault, and the numbers of statuses.
 
+use crate::same::same;
 use crate::whole_run::{RING, TAKE_ALL, USUAL, set_frame, text, texts};
 use dn_io::{NoGate, SureFile, SureWorld};
 use dn_run::{Status, run_surely};
@@ -46,8 +47,8 @@ fn compare_status<R: Abort + Threads + Wait + Sync>(
     number: u8,
 ) {
     let status = status_of(rt, alloc, feed);
-    assert_eq!(rt; status, want);
-    assert_eq!(rt; status.number(), number);
+    same(rt, &status, &want);
+    same(rt, &status.number(), &number);
 }
 
 #[test]

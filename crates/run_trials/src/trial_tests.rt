@@ -2,6 +2,7 @@
 //! the entries and which positions a run chose is read from its report; the rest of the report then has to be what the
 //! plain evaluator of `dn_model` says, and order and positions what the lines of the jobs allow.
 
+use crate::same::same;
 use crate::slow_gate::SlowGate;
 use crate::trial::{
     FEEDS, Origin, TAKEN, UNTAKEN, UPDATES, count_of, entries, files, ring_text, script_text, words,
@@ -185,7 +186,7 @@ impl Trial {
             jobs.push(JobTold { number, told }).expect(rt, "memory");
             number = number.saturating_add(1);
         }
-        assert_eq!(rt; from, self.chosen.positions.len());
+        same(rt, &from, &self.chosen.positions.len());
         for _feed in UNTAKEN {
             let told = List::new(alloc);
             jobs.push(JobTold { number, told }).expect(rt, "memory");

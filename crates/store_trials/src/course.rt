@@ -1,6 +1,7 @@
 //! Courses of a store: what is posted, held and compared, one after another.
 
 use crate::questions::{compare, compare_wide, count_loops};
+use crate::same::same;
 use crate::step::Step;
 use crate::trial::Trial;
 use fast_pins::Shot;
@@ -80,7 +81,7 @@ impl Course {
     /// The snapshot at a place tells so many cycles.
     fn compare_loops(&self, rt: &impl Abort, alloc: Global, place: usize, count: usize) {
         let held = held_at(rt, self.held.as_slice(), place);
-        assert_eq!(rt; count_loops(rt, alloc, &held.snapshot), count);
+        same(rt, &count_loops(rt, alloc, &held.snapshot), &count);
     }
 
     /// The snapshot at a place is compared as threads find its answers.
@@ -99,9 +100,10 @@ impl Course {
     ) {
         let held = held_at(rt, self.held.as_slice(), place);
         let copy = held.snapshot.copy().expect(rt, "memory");
-        assert_eq!(rt;
-            (copy.number() as usize, copy.atoms()),
-            (held.steps.len(), atoms)
+        same(
+            rt,
+            &(copy.number() as usize, copy.atoms()),
+            &(held.steps.len(), atoms),
         );
         compare_wide(rt, alloc, &copy, held.steps.as_slice());
     }

@@ -3,6 +3,7 @@
 ghost use Rattle.std.specs.Prelude.{◌<◌, ◌+◌, ◌^◌};
 
 use crate::questions::compare;
+use crate::same::same;
 use crate::step::{entry_of, first_steps, step_at};
 use crate::trial::Trial;
 use dn_model::Posted;
@@ -20,7 +21,7 @@ fn is_at(posted: Option<&Posted>, place: u32) -> bool {
 /// A store has the first entries of a long history in its pages.
 fn compare_pages(rt: &impl Abort, trial: &Trial, count: u32) {
     let pages = trial.posted(rt);
-    assert_eq!(rt; pages.len(), u64::from(count));
+    same(rt, &pages.len(), &u64::from(count));
     for place in 0..count {
         let posted = pages.get(u64::from(place));
         assert!(rt; is_at(posted, place), "in pages at {place}");
@@ -30,7 +31,7 @@ fn compare_pages(rt: &impl Abort, trial: &Trial, count: u32) {
 /// A store lists the first entries of a long history.
 fn compare_list(rt: &impl Abort, alloc: Global, trial: &Trial, count: u32) {
     let history = trial.history(rt, alloc);
-    assert_eq!(rt; history.len(), count as usize);
+    same(rt, &history.len(), &(count as usize));
     for place in 0..count {
         let posted = history.as_slice().get(place as usize);
         assert!(rt; is_at(posted, place), "listed at {place}");
@@ -42,7 +43,7 @@ fn post_at(rt: &impl Abort, trial: &mut Trial, place: u32)
     requires { place + 1 < 2 ^ 32 }
 {
     let posted = trial.post(place, step_at(place));
-    assert_eq!(rt; posted, Ok(place + 1));
+    same(rt, &posted, &Ok(place + 1));
 }
 
 /// Posts entries of a long history until there are so many, and looks at them.
@@ -50,7 +51,7 @@ fn grow(rt: &impl Abort, alloc: Global, trial: &mut Trial, count: u32) {
     for number in trial.len()..u64::from(count) {
         post_at(rt, trial, number as u32);
     }
-    assert_eq!(rt; trial.len(), u64::from(count));
+    same(rt, &trial.len(), &u64::from(count));
     compare_pages(rt, trial, count);
     compare_list(rt, alloc, trial, count);
 }

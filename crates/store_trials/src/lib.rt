@@ -8,6 +8,8 @@ mod growth_tests;
 #[cfg(test)]
 mod questions;
 #[cfg(test)]
+mod same;
+#[cfg(test)]
 mod step;
 #[cfg(test)]
 mod store_tests;

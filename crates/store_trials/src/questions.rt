@@ -3,6 +3,7 @@
 ghost use Rattle.std.specs.Prelude.{◌≡◌, ◌<◌, ◌∷◌, [], IfOk, IsTrue};
 ghost use Rattle.base.specs.Name.{is_name_text};
 
+use crate::same::same;
 use crate::step::{Step, entries_of, network};
 use answer_equality::is_same_answer;
 use dn_model::{Answer, Ask, Cycle, List, Name, OutOfMemory, Query, plain_answer};
@@ -115,7 +116,7 @@ fn compare_question(
 
 /// A snapshot is the one after these steps, and answers as the plain evaluator does after them.
 pub fn compare(rt: &impl Abort, alloc: Global, snapshot: &Snapshot, steps: &[Step]) {
-    assert_eq!(rt; snapshot.number() as usize, steps.len());
+    same(rt, &(snapshot.number() as usize), &steps.len());
     for number in 0..QUESTIONS {
         compare_question(rt, alloc, snapshot, number, steps);
     }

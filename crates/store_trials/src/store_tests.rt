@@ -2,6 +2,7 @@
 
 use crate::course::{Move, course_of};
 use crate::questions::{compare, refusal_of};
+use crate::same::same;
 use crate::step::{Step, entry_of};
 use crate::trial::Trial;
 use dn_model::{Ask, Entry, Name};
@@ -29,11 +30,12 @@ fn a_full_store_refuses(rt: HostRuntime) {
     let first = trial.post(7, Step::ToSecond);
     let second = trial.post(7, Step::ClearAtFirst);
     let third = trial.post(7, Step::ExitAtSecond);
-    assert_eq!(rt; (first, second), (Ok(1), Ok(2)));
-    assert_eq!(rt; third, Err(PostRefused::Full { length: 2 }));
-    assert_eq!(rt;
-        last_of_two(&rt, rt.alloc(), &trial),
-        (7, entry_of(Step::ClearAtFirst))
+    same(&rt, &(first, second), &(Ok(1), Ok(2)));
+    same(&rt, &third, &Err(PostRefused::Full { length: 2 }));
+    same(
+        &rt,
+        &last_of_two(&rt, rt.alloc(), &trial),
+        &(7, entry_of(Step::ClearAtFirst)),
     );
 }
 
@@ -146,15 +148,17 @@ fn compare_pins(rt: &impl Abort, alloc: Global, snapshots: &[Snapshot]) {
 
 #[test]
 fn events_are_played(rt: HostRuntime) {
-    let mut trial = Trial::new(&rt, rt.alloc(), 2);
-    let snapshots = trial.play(rt.alloc()).expect(&rt, "memory");
-    compare_pins(&rt, rt.alloc(), &snapshots);
-    assert_eq!(rt;
-        last_of_two(&rt, rt.alloc(), &trial),
-        (3, entry_of(Step::ExitAtSecond))
+    let alloc = rt.alloc();
+    let mut trial = Trial::new(&rt, alloc, 2);
+    let snapshots = trial.play(alloc).expect(&rt, "memory");
+    compare_pins(&rt, alloc, &snapshots);
+    same(
+        &rt,
+        &last_of_two(&rt, alloc, &trial),
+        &(3, entry_of(Step::ExitAtSecond)),
     );
-    let refused = trial.play(rt.alloc()).err();
-    assert_eq!(rt; refused, Some(PostRefused::Full { length: 2 }));
+    let refused = trial.play(alloc).err();
+    same(&rt, &refused, &Some(PostRefused::Full { length: 2 }));
 }
 
 /// Why a snapshot of a new store doesn't answer.
@@ -165,10 +169,11 @@ fn refusal(rt: &impl Abort, alloc: Global, ask: Ask) -> Option<AskRefused> {
 
 #[test]
 fn an_unknown_name_is_told(rt: HostRuntime) {
-    let router = Name::from_text(rt.alloc(), b"r9").expect(&rt, "memory");
-    let refused = refusal(&rt, rt.alloc(), Ask::Blackholes(router));
-    assert_eq!(rt; refused, Some(AskRefused::UnknownRouter(1)));
-    let link = Name::from_text(rt.alloc(), b"z").expect(&rt, "memory");
-    let refused = refusal(&rt, rt.alloc(), Ask::Uses(link));
-    assert_eq!(rt; refused, Some(AskRefused::UnknownLink(1)));
+    let alloc = rt.alloc();
+    let router = Name::from_text(alloc, b"r9").expect(&rt, "memory");
+    let refused = refusal(&rt, alloc, Ask::Blackholes(router));
+    same(&rt, &refused, &Some(AskRefused::UnknownRouter(1)));
+    let link = Name::from_text(alloc, b"z").expect(&rt, "memory");
+    let refused = refusal(&rt, alloc, Ask::Uses(link));
+    same(&rt, &refused, &Some(AskRefused::UnknownLink(1)));
 }

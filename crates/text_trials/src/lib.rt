@@ -15,6 +15,8 @@ mod query_tests;
 #[cfg(test)]
 mod report_tests;
 #[cfg(test)]
+mod same;
+#[cfg(test)]
 mod script_tests;
 #[cfg(test)]
 mod topology_tests;

@@ -3,6 +3,7 @@
 ghost use Rattle.std.specs.Prelude.{IsTrue};
 ghost use Rattle.base.specs.Name.{is_name_text};
 
+use crate::same::same;
 use crate::triangle::{compare_report, history, link_entry};
 use crate::two_routers::network;
 use dn_formats::script_cause::BAD_LINE;
@@ -30,7 +31,7 @@ fn compare_line(
     let Some(Line::Link { line, link, down }) = script.lines.as_slice().get(place) else {
         panic!(rt; "a line of a link at {place}");
     };
-    assert_eq!(rt; *line, number);
+    same(rt, line, &number);
     assert_eq!(rt; link.as_bytes(), name.as_bytes(), "line {number}");
     assert_eq!(rt; *down, is_down, "line {number}");
 }
@@ -51,7 +52,7 @@ up 0
 #[test]
 fn reads_lines_of_links(rt: HostRuntime) {
     let script = script_of(&rt, rt.alloc(), LINES.as_bytes());
-    assert_eq!(rt; script.lines.as_slice().len(), 7);
+    same(&rt, &script.lines.as_slice().len(), &7);
     compare_line(&rt, &script, 0, 1, "a", true);
     compare_line(&rt, &script, 1, 4, "a", false);
     compare_line(&rt, &script, 2, 5, "zz", true);

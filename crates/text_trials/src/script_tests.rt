@@ -1,5 +1,6 @@
 //! A script that is read.
 
+use crate::same::same;
 use crate::two_routers::network;
 use dn_formats::script_cause::{BAD_LINE, TAKE_UNKNOWN};
 use dn_formats::{Line, Script};
@@ -25,7 +26,7 @@ fn scripts_are_send_and_sync(rt: HostRuntime) {
     );
     let script = script.expect(&rt, "a script");
     crosses(&script);
-    assert_eq!(rt; script.lines.as_slice().len(), 2);
+    same(&rt, &script.lines.as_slice().len(), &2);
 }
 
 /// A script has up to 65,536 lines, most of which take frames, so none of them has room for a query. A link line has its
@@ -57,7 +58,7 @@ fn query_at<'a>(rt: &impl Abort, script: &'a Script, place: usize, number: u32) 
     let Some(Line::Ask { line, query }) = script.lines.as_slice().get(place) else {
         panic!(rt; "a line that asks at {place}");
     };
-    assert_eq!(rt; *line, number);
+    same(rt, line, &number);
     query.get()
 }
 
@@ -100,7 +101,7 @@ fn reads_each_query(rt: HostRuntime) {
     let network = network(&rt, alloc);
     let script = read_script(alloc, EACH_QUERY.as_bytes(), &network, &[RouterId(0)], &[]);
     let script = script.expect(&rt, "a script");
-    assert_eq!(rt; script.lines.as_slice().len(), 10);
+    same(&rt, &script.lines.as_slice().len(), &10);
     assert!(rt; asks_path(ask_at(&rt, &script, 1, 2), "p", 0x0a01_0203));
     assert!(rt; asks_reach(ask_at(&rt, &script, 2, 4)));
     assert!(rt; matches!(ask_at(&rt, &script, 3, 5), Ask::Uses(link) if is_name_of(link, "l")));
@@ -129,7 +130,7 @@ fn alike(rt: &impl Abort, alloc: Global) -> Topology {
 
 /// The routers from which the lines of a script take, in order.
 fn compare_takes(rt: &impl Abort, script: &Script, want: &[u16]) {
-    assert_eq!(rt; script.lines.as_slice().len(), want.len());
+    same(rt, &script.lines.as_slice().len(), &want.len());
     for (line, wanted) in script.lines.as_slice().iter().zip(want) {
         let Line::Take { line, router, .. } = line else {
             panic!(rt; "a line that takes");

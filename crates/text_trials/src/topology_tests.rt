@@ -1,5 +1,6 @@
 //! A topology: that its text is read, and what it says.
 
+use crate::same::{same, same_list};
 use dn_model::{LinkId, Name, RouterId, TopoEnd, TopoLink, Topology};
 use std::alloc::Global;
 use std::process::Abort;
@@ -35,24 +36,24 @@ fn ring(rt: &impl Abort, alloc: Global) -> Topology {
 /// The routers of the ring: three, of which the last is `r3`.
 fn compare_routers(rt: &impl Abort, routers: &[Name]) {
     assert_eq!(rt; routers.len(), 3);
-    assert_eq!(rt; routers[2].as_bytes(), b"r3".as_slice());
+    same_list(rt, routers[2].as_bytes(), b"r3");
 }
 
 /// The links of the ring: three, of which the last is `c`.
 fn compare_links(rt: &impl Abort, links: &[TopoLink]) {
     assert_eq!(rt; links.len(), 3);
     let c = &links[2];
-    assert_eq!(rt; c.name.as_bytes(), b"c".as_slice());
-    assert_eq!(rt; (c.first.router.0, c.first.index), (2, 3));
-    assert_eq!(rt; (c.second.router.0, c.second.index), (0, 3));
+    same_list(rt, c.name.as_bytes(), b"c");
+    same(rt, &(c.first.router.0, c.first.index), &(2, 3));
+    same(rt, &(c.second.router.0, c.second.index), &(0, 3));
     assert!(rt; !c.unnumbered);
 }
 
 /// The edges of the ring: three, of which the second is at `r2`.
 fn compare_edges(rt: &impl Abort, edges: &[TopoEnd]) {
     assert_eq!(rt; edges.len(), 3);
-    assert_eq!(rt; edges[1].router.0, 1);
-    assert_eq!(rt; edges[1].index, 1);
+    same(rt, &edges[1].router.0, &1);
+    same(rt, &edges[1].index, &1);
 }
 
 #[test]
@@ -72,7 +73,7 @@ fn interfaces_are_found(rt: HostRuntime) {
         link: LinkId(1),
         unnumbered: true,
     };
-    assert_eq!(rt; port(&topology, RouterId(2), 2), Some(by_b));
-    assert_eq!(rt; port(&topology, RouterId(2), 1), Some(Port::Edge));
-    assert_eq!(rt; port(&topology, RouterId(2), 4), None);
+    same(&rt, &port(&topology, RouterId(2), 2), &Some(by_b));
+    same(&rt, &port(&topology, RouterId(2), 1), &Some(Port::Edge));
+    same(&rt, &port(&topology, RouterId(2), 4), &None);
 }

@@ -1,6 +1,7 @@
 //! Writing a report to a sink that takes parts and fails, and the report of a long history.
 
 use crate::printed::{printed, report_of, sink_by};
+use crate::same::same;
 use crate::triangle::{clear_ten, triangle};
 use dn_io::Failed;
 use dn_model::Posted;
@@ -30,7 +31,7 @@ fn prints_a_long_history(rt: HostRuntime) {
     let history = long_history(&rt, alloc, 100_001);
     let report = report_of(&rt, alloc, triangle(&rt, alloc), &[], &history, &[]);
     let sink = printed(&rt, alloc, report);
-    assert_eq!(rt; sink.written().len(), 3_288_949);
+    same(&rt, &sink.written().len(), &3_288_949);
 }
 
 /// The report of a history of so many equal updates, made line by line.
@@ -55,7 +56,7 @@ fn writes_a_long_history_byte_by_byte(rt: HostRuntime) {
     assert!(rt; report.write(&mut sink).is_ok());
     let want = long_report(&rt, alloc, 5_000);
     assert!(rt; sink.written() == want.as_bytes());
-    assert_eq!(rt; sink.faults(), 0);
+    same(&rt, &sink.faults(), &0);
 }
 
 /// A write in the middle of the history fails: what was written is a front of the report.
@@ -69,7 +70,7 @@ fn stops_in_the_history(rt: HostRuntime) {
     let want = long_report(&rt, alloc, 5_000);
     assert!(rt; sink.written().len() > 66_000);
     assert!(rt; want.as_bytes().starts_with(sink.written()));
-    assert_eq!(rt; sink.faults(), 1);
+    same(&rt, &sink.faults(), &1);
 }
 
 const REPORT: &str = "feed 1 r1 updates 1 skipped 0 refused 0 end
@@ -89,7 +90,7 @@ fn writes_all_by_parts(rt: HostRuntime) {
     let mut sink = sink_by(&rt, alloc, 16, &[]);
     assert!(rt; text_report(&rt, alloc, REPORT).write(&mut sink).is_ok());
     assert!(rt; sink.written() == REPORT.as_bytes());
-    assert_eq!(rt; sink.faults(), 0);
+    same(&rt, &sink.faults(), &0);
 }
 
 #[test]
@@ -103,5 +104,5 @@ fn stops_at_a_failed_write(rt: HostRuntime) {
         )
     );
     assert!(rt; sink.written() == b"feed 1 r1 update".as_slice());
-    assert_eq!(rt; sink.faults(), 1);
+    same(&rt, &sink.faults(), &1);
 }

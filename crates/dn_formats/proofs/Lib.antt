@@ -3,7 +3,9 @@ pub mod Decimals
 pub mod Digits
 pub mod LawfulLemmas
 pub mod MainTables
+pub mod MarkedTables
 pub mod QueryLemmas
 pub mod SplitLemmas
 pub mod TopologyLinksSound
 pub mod TopologySound
+pub mod TopologyVrfsSound

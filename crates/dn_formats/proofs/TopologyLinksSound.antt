@@ -1,37 +1,32 @@
 -- The links and the edges of a document without a fault are those of a sound topology.
 use Rattle.std.proofs.Common.{◌≡◌, ℕ, ◌+◌, ◌<◌, ◌≤◌, Bool, true, false, not, ◌&&◌, ◌||◌, ◌==◌, nat_le, nat_lt, List, [], ◌∷◌, ◌++◌, length, drop, map, Option, Some, None, is_none, option_and_then, position, cond, refl, sym, ap, ◌∙◌, arith, lit≤, Result, Ok, Err, append_assoc, length-append}
-use Rattle.std.proofs.lemmas.Bool.{and_parts, and_from, or_parts, not-false, le-leb, lt-ltb, leb-false, true≢false, and_left}
+use Rattle.std.proofs.lemmas.Bool.{and_parts, and_from, or_parts, not-false, le-leb, lt-ltb, leb-false, true≢false}
 use Rattle.std.proofs.lemmas.Option.{same_Some}
 use Rattle.std.proofs.lemmas.List.{append-nil, map-append}
 use Rattle.std.proofs.lemmas.List.Elements.{filter_map-append}
-use Rattle.std.proofs.lemmas.List.Folds.{list_all-append, list_any-append}
+use Rattle.std.proofs.lemmas.List.Folds.{list_all-append}
 use Rattle.std.proofs.lemmas.List.Quantifiers.{position-Some}
-use Rattle.std.specs.List.{list_any, list_all, filter_map}
+use Rattle.std.specs.List.{list_all, filter_map}
 use Rattle.toml.specs.Data.{Data, Members, as_table}
+use Rattle.dn_model.specs.declared.topology.RouterTable.{RouterTable}
 use Rattle.dn_model.specs.declared.topology.TopoEnd.{TopoEnd}
 use Rattle.dn_model.specs.declared.topology.TopoLink.{TopoLink}
+use Rattle.dn_formats.specs.declared.mark.Mark.{Mark}
 use Rattle.dn_formats.specs.declared.topology_fault.TopoFault.{TopoFault}
-use Rattle.dn_formats.specs.declared.topology_fault.TopoPart.TheVariants.{Routers, Link, Edge}
+use Rattle.dn_formats.specs.declared.topology_fault.TopoPart.TheVariants.{Routers, Vrf, Link, Edge, Router}
 use Rattle.dn_formats.specs.TopologyCauses.{too_long}
 use Rattle.base.specs.Name.{is_name_text}
 use Rattle.base.specs.Name.{same_text}
-use Rattle.dn_model.specs.Topology.{Parts, device_in, same_end, all_ends, is_end_of, is_link_of, are_tables, is_sound_topology}
+use Rattle.dn_model.specs.Topology.{Parts, same_end, all_ends, is_end_of, is_link_of, are_tables, is_sound_topology}
 use Rattle.base.specs.Lists.{all_differ}
 use Rattle.dn_formats.specs.EndText.{read_end, end_at}
 use Rattle.dn_formats.specs.Decimal.{is_decimal, decimal_value, number_within}
-use Rattle.dn_formats.specs.TopologyText.{passes, standing, faults_along, has_text, has_end, link_from, link_of_table, both_ends, ends_of_table, ends_of_entry, link_of_entry, name_of_entry, end_of_entry, name_in, ends_in, unnumbered_in, at_in, link_table, links_said, edge_table, edges_said, router_table, routers_said, main_tables, Sections, sections_of, parts_said, list_faults, parts_of, faults_of, unless_faulty, topology_of, top_fault, top_causes, said_by, document_of}
-use Rattle.dn_formats.proofs.MainTables.{main_device, main_tables-sound}
-use Rattle.dn_formats.proofs.TopologySound.{AreRouters, routers_sound, NoneStands, none_stands, map_empty, front_empty, back_empty, all_differ-push}
+use Rattle.dn_formats.specs.TopologyText.{passes, standing, faults_along, has_text, has_end, link_from, link_of_table, both_ends, ends_of_table, ends_of_entry, link_of_entry, name_of_entry, end_of_entry, name_in, ends_in, unnumbered_in, at_in, link_rows, links_said, edge_rows, edges_said, router_rows, routers_said, vrf_rows, mark_rows, marks_said, names_said, unmarked_tables, tables_said, Sections, sections_of, parts_said, list_faults, parts_of, faults_of, unless_faulty, topology_of, top_fault, top_causes, said_by, document_of}
+use Rattle.dn_formats.proofs.MarkedTables.{are_tables-marked, ends_differ-marked}
+use Rattle.dn_formats.proofs.TopologySound.{AreRouters, routers_sound, NoneStands, none_stands, map_empty, front_empty, back_empty, all_differ-push, and_then_some, cond_some}
+use Rattle.dn_formats.proofs.TopologyVrfsSound.{AreVrfs, vrfs_start, vrfs_sound, names_long, vrf_tables-sound}
 
 -- ---- ends
-
-and_then_some : {A B : Type 0} (f : A → Option B) (o : Option A) (y : B) → option_and_then f o ≡ Some y → (x : A) × ((o ≡ Some x) × (f x ≡ Some y))
-and_then_some f None y e = cc
-and_then_some f (Some x) y e = (x, (refl, e))
-
-cond_some : (b : Bool) (v n : ℕ) → cond b (Some v) None ≡ Some n → (b ≡ true) × (v ≡ n)
-cond_some true v n e = (refl, same_Some _ _ e)
-cond_some false v n e = cc
 
 end_at-parts : (place index : Option ℕ) (e : TopoEnd) → end_at place index ≡ Some e → (place ≡ Some e.router.0) × (index ≡ Some e.index)
 end_at-parts (Some place) (Some index) e is = (ap (λ o. Some o.router.0) (same_Some _ _ is), ap (λ o. Some o.index) (same_Some _ _ is))
@@ -108,38 +103,28 @@ pub all_ends-push : (ls : List TopoLink) (l : TopoLink) → all_ends (ls ++ l �
 all_ends-push [] l = refl
 all_ends-push (x ∷ ls) l = ap (λ es. x.first ∷ x.second ∷ es) (all_ends-push ls l)
 
-pub record AreLinks (routers : List (List ℕ)) (es : List Data) : Type 0 where
+pub record AreLinks (routers : List (List ℕ)) (tables : List RouterTable) (es : List Data) : Type 0 where
   pub few : length es ≤ 4096
   pub as_many : length (links_said routers es) ≡ length es
   pub sound : list_all (is_link_of (length routers)) (links_said routers es) ≡ true
   pub named : filter_map name_of_entry es ≡ map (λ l. l.name) (links_said routers es)
   pub names : all_differ same_text (map (λ l. l.name) (links_said routers es)) ≡ true
-  pub ends : all_differ (same_end (main_tables routers)) (all_ends (links_said routers es)) ≡ true
-
--- ends at two devices aren't the same interface
-ends_apart : (routers : List (List ℕ)) (a b : TopoEnd) → (a.router.0 == b.router.0) ≡ false → same_end (main_tables routers) a b ≡ false
-ends_apart routers a b apart =
-    let devices : ((device_in (main_tables routers) a.router).0 == (device_in (main_tables routers) b.router).0) ≡ false =
-    rw (main_device routers a.router, main_device routers b.router) apart in
-    and_left _ _ devices
+  pub ends : all_differ (same_end tables) (all_ends (links_said routers es)) ≡ true
 
 -- one more link whose ends are new and differ
-pub ends_push : (routers : List (List ℕ)) (ls : List TopoLink) (l : TopoLink) → all_differ (same_end (main_tables routers)) (all_ends ls) ≡ true → (l.first.router.0 == l.second.router.0) ≡ false
-    → (has_end (main_tables routers) (all_ends ls) l.first || has_end (main_tables routers) (all_ends ls) l.second) ≡ false → all_differ (same_end (main_tables routers)) (all_ends (ls ++ l ∷ [])) ≡ true
-ends_push routers ls l differ apart fresh =
-    let same : TopoEnd → TopoEnd → Bool = same_end (main_tables routers) in
-    let parts = or_parts (has_end (main_tables routers) (all_ends ls) l.first) (has_end (main_tables routers) (all_ends ls) l.second) fresh in
-    let other : same l.first l.second ≡ false = ends_apart routers l.first l.second apart in
-    let seconds : list_any (λ y. same y l.second) (all_ends ls ++ l.first ∷ []) ≡ false =
-    rw (list_any-append (λ y. same y l.second) (all_ends ls) (l.first ∷ []), parts.1, other) in
+pub ends_push : (tables : List RouterTable) (ls : List TopoLink) (l : TopoLink) → all_differ (same_end tables) (all_ends ls) ≡ true
+    → (has_end tables (all_ends ls) l.first || has_end tables (all_ends ls ++ l.first ∷ []) l.second) ≡ false → all_differ (same_end tables) (all_ends (ls ++ l ∷ [])) ≡ true
+ends_push tables ls l differ fresh =
+    let same : TopoEnd → TopoEnd → Bool = same_end tables in
+    let parts = or_parts (has_end tables (all_ends ls) l.first) (has_end tables (all_ends ls ++ l.first ∷ []) l.second) fresh in
     rw (all_ends-push ls l)
-    (all_differ-push same (all_ends ls ++ l.first ∷ []) l.second (all_differ-push same (all_ends ls) l.first differ parts.0) seconds)
+    (all_differ-push same (all_ends ls ++ l.first ∷ []) l.second (all_differ-push same (all_ends ls) l.first differ parts.0) parts.1)
 
-link_push : (routers : List (List ℕ)) (es : List Data) (x : Data) (l : TopoLink) → link_of_entry routers x ≡ Some l → AreLinks routers es → nat_le 4096 (length es) ≡ false
+link_push : (routers : List (List ℕ)) (tables : List RouterTable) (es : List Data) (x : Data) (l : TopoLink) → link_of_entry routers x ≡ Some l → AreLinks routers tables es → nat_le 4096 (length es) ≡ false
     → passes (λ n. not (is_name_text n)) (name_of_entry x) ≡ false → passes (has_text (filter_map name_of_entry es)) (name_of_entry x) ≡ false
-    → (l.first.router.0 == l.second.router.0) ≡ false → (has_end (main_tables routers) (all_ends (links_said routers es)) l.first || has_end (main_tables routers) (all_ends (links_said routers es)) l.second) ≡ false
-    → AreLinks routers (es ++ x ∷ [])
-link_push routers es x l is sound few named fresh apart ends =
+    → (l.first.router.0 == l.second.router.0) ≡ false → (has_end tables (all_ends (links_said routers es)) l.first || has_end tables (all_ends (links_said routers es) ++ l.first ∷ []) l.second) ≡ false
+    → AreLinks routers tables (es ++ x ∷ [])
+link_push routers tables es x l is sound few named fresh apart ends =
     let said : links_said routers (es ++ x ∷ []) ≡ links_said routers es ++ l ∷ [] = filter_map-append (link_of_entry routers) es (x ∷ []) ∙ rw is in
     let facts = link_of_entry-parts routers x l is in
     let name_is : name_of_entry x ≡ Some l.name = facts.name in
@@ -157,47 +142,47 @@ link_push routers es x l is sound few named fresh apart ends =
       sound = rw (said, list_all-append (is_link_of (length routers)) (links_said routers es) (l ∷ []), sound.sound) (and_from _ _ good refl);
       named = rw (said, more_named, entries_named, sound.named);
       names = rw (said, more_named) (all_differ-push same_text (map (λ (k : TopoLink). k.name) (links_said routers es)) l.name sound.names (rw (← sound.named) new_name));
-      ends = rw said (ends_push routers (links_said routers es) l sound.ends apart ends);
+      ends = rw said (ends_push tables (links_said routers es) l sound.ends ends);
     }
 
 -- an entry at which no row of its table stands
-link_step : (routers : List (List ℕ)) (es : List Data) (x : Data) (l : Option TopoLink) → link_of_entry routers x ≡ l → AreLinks routers es → nat_le 4096 (length es) ≡ false
+link_step : (routers : List (List ℕ)) (tables : List RouterTable) (es : List Data) (x : Data) (l : Option TopoLink) → link_of_entry routers x ≡ l → AreLinks routers tables es → nat_le 4096 (length es) ≡ false
     → passes (λ n. not (is_name_text n)) (name_of_entry x) ≡ false → passes (has_text (filter_map name_of_entry es)) (name_of_entry x) ≡ false
     → is_none l ≡ false → passes (λ both. both.0.router.0 == both.1.router.0) (ends_of_entry routers x) ≡ false
-    → passes (λ both. has_end (main_tables routers) (all_ends (links_said routers es)) both.0 || has_end (main_tables routers) (all_ends (links_said routers es)) both.1) (ends_of_entry routers x) ≡ false → AreLinks routers (es ++ x ∷ [])
-link_step routers es x None is sound few named fresh there apart ends = absurd (true≢false there)
-link_step routers es x (Some l) is sound few named fresh there apart ends =
+    → passes (λ both. has_end tables (all_ends (links_said routers es)) both.0 || has_end tables (all_ends (links_said routers es) ++ both.0 ∷ []) both.1) (ends_of_entry routers x) ≡ false → AreLinks routers tables (es ++ x ∷ [])
+link_step routers tables es x None is sound few named fresh there apart ends = absurd (true≢false there)
+link_step routers tables es x (Some l) is sound few named fresh there apart ends =
     let ends_are : ends_of_entry routers x ≡ Some (l.first, l.second) = (link_of_entry-parts routers x l is).ends in
     let taken = all_ends (links_said routers es) in
-    link_push routers es x l is sound few named fresh
+    link_push routers tables es x l is sound few named fresh
     (ap (passes (λ both. both.0.router.0 == both.1.router.0)) (sym ends_are) ∙ apart)
-    (ap (passes (λ both. has_end (main_tables routers) taken both.0 || has_end (main_tables routers) taken both.1)) (sym ends_are) ∙ ends)
+    (ap (passes (λ both. has_end tables taken both.0 || has_end tables (taken ++ both.0 ∷ []) both.1)) (sym ends_are) ∙ ends)
 
-pub link_next : (routers : List (List ℕ)) (es : List Data) (x : Data) → AreLinks routers es → NoneStands (link_table routers es) x → AreLinks routers (es ++ x ∷ [])
-link_next routers es x sound rows =
-    link_step routers es x (link_of_entry routers x) refl sound rows.0 rows.1.1.1.1.0 rows.1.1.1.1.1.0 (link_there routers (as_table x) rows.1.0 rows.1.1.1.0 rows.1.1.1.1.1.1.0) rows.1.1.1.1.1.1.1.0 rows.1.1.1.1.1.1.1.1.0
+pub link_next : (routers : List (List ℕ)) (tables : List RouterTable) (es : List Data) (x : Data) → AreLinks routers tables es → NoneStands (link_rows routers tables es) x → AreLinks routers tables (es ++ x ∷ [])
+link_next routers tables es x sound rows =
+    link_step routers tables es x (link_of_entry routers x) refl sound rows.0 rows.1.1.1.1.0 rows.1.1.1.1.1.0 (link_there routers (as_table x) rows.1.0 rows.1.1.1.0 rows.1.1.1.1.1.1.0) rows.1.1.1.1.1.1.1.0 rows.1.1.1.1.1.1.1.1.0
 
-pub links_sound : (routers : List (List ℕ)) (es more : List Data) → AreLinks routers es → faults_along Link (link_table routers) es more ≡ [] → AreLinks routers (es ++ more)
+pub links_sound : (routers : List (List ℕ)) (tables : List RouterTable) (es more : List Data) → AreLinks routers tables es → faults_along Link (link_rows routers tables) es more ≡ [] → AreLinks routers tables (es ++ more)
 unfolding faults_along
-links_sound routers es [] sound none = rw (append-nil es) sound
-links_sound routers es (x ∷ more) sound none =
-    let stand : standing (link_table routers es) x ≡ [] = map_empty (λ (cause : ℕ). record { part = Link; entry = length es + 1; cause = cause }) _ (front_empty _ _ none) in
-    let more_sound : AreLinks routers ((es ++ x ∷ []) ++ more) =
-    links_sound routers (es ++ x ∷ []) more (link_next routers es x sound (none_stands (link_table routers es) x stand)) (back_empty _ _ none) in
+links_sound routers tables es [] sound none = rw (append-nil es) sound
+links_sound routers tables es (x ∷ more) sound none =
+    let stand : standing (link_rows routers tables es) x ≡ [] = map_empty (λ (cause : ℕ). record { part = Link; entry = length es + 1; cause = cause }) _ (front_empty _ _ none) in
+    let more_sound : AreLinks routers tables ((es ++ x ∷ []) ++ more) =
+    links_sound routers tables (es ++ x ∷ []) more (link_next routers tables es x sound (none_stands (link_rows routers tables es) x stand)) (back_empty _ _ none) in
     rw append_assoc at more_sound
 
 -- ---- edges
 
-pub record AreEdges (routers : List (List ℕ)) (links : List TopoLink) (es : List Data) : Type 0 where
+pub record AreEdges (routers : List (List ℕ)) (tables : List RouterTable) (links : List TopoLink) (es : List Data) : Type 0 where
   pub few : length es ≤ 16384
   pub as_many : length (edges_said routers es) ≡ length es
   pub sound : list_all (is_end_of (length routers)) (edges_said routers es) ≡ true
-  pub ends : all_differ (same_end (main_tables routers)) (all_ends links ++ edges_said routers es) ≡ true
+  pub ends : all_differ (same_end tables) (all_ends links ++ edges_said routers es) ≡ true
 
-edge_step : (routers : List (List ℕ)) (links : List TopoLink) (es : List Data) (x : Data) (e : Option TopoEnd) → end_of_entry routers x ≡ e → AreEdges routers links es → nat_le 16384 (length es) ≡ false
-    → is_none e ≡ false → passes (has_end (main_tables routers) (all_ends links ++ edges_said routers es)) e ≡ false → AreEdges routers links (es ++ x ∷ [])
-edge_step routers links es x None is sound few there fresh = absurd (true≢false there)
-edge_step routers links es x (Some e) is sound few there fresh =
+edge_step : (routers : List (List ℕ)) (tables : List RouterTable) (links : List TopoLink) (es : List Data) (x : Data) (e : Option TopoEnd) → end_of_entry routers x ≡ e → AreEdges routers tables links es → nat_le 16384 (length es) ≡ false
+    → is_none e ≡ false → passes (has_end tables (all_ends links ++ edges_said routers es)) e ≡ false → AreEdges routers tables links (es ++ x ∷ [])
+edge_step routers tables links es x None is sound few there fresh = absurd (true≢false there)
+edge_step routers tables links es x (Some e) is sound few there fresh =
     let said : edges_said routers (es ++ x ∷ []) ≡ edges_said routers es ++ e ∷ [] = filter_map-append (end_of_entry routers) es (x ∷ []) ∙ rw is in
     let text = and_then_some (read_end routers) (option_and_then at_in (as_table x)) e is in
     let good : is_end_of (length routers) e ≡ true = read_end-sound routers text.0 e text.1.1 in
@@ -206,51 +191,64 @@ edge_step routers links es x (Some e) is sound few there fresh =
       few = rw (length-append es (x ∷ [])) (omega arith);
       as_many = rw (said, length-append (edges_said routers es) (e ∷ []), length-append es (x ∷ []), sound.as_many);
       sound = rw (said, list_all-append (is_end_of (length routers)) (edges_said routers es) (e ∷ []), sound.sound) (and_from _ _ good refl);
-      ends = rw (said, ← append_assoc) (all_differ-push (same_end (main_tables routers)) (all_ends links ++ edges_said routers es) e sound.ends fresh);
+      ends = rw (said, ← append_assoc) (all_differ-push (same_end tables) (all_ends links ++ edges_said routers es) e sound.ends fresh);
     }
 
-pub edge_next : (routers : List (List ℕ)) (links : List TopoLink) (es : List Data) (x : Data) → AreEdges routers links es → NoneStands (edge_table routers links es) x → AreEdges routers links (es ++ x ∷ [])
-edge_next routers links es x sound rows = edge_step routers links es x (end_of_entry routers x) refl sound rows.0 rows.1.1.1.1.0 rows.1.1.1.1.1.0
+pub edge_next : (routers : List (List ℕ)) (tables : List RouterTable) (links : List TopoLink) (es : List Data) (x : Data) → AreEdges routers tables links es → NoneStands (edge_rows routers tables links es) x → AreEdges routers tables links (es ++ x ∷ [])
+edge_next routers tables links es x sound rows = edge_step routers tables links es x (end_of_entry routers x) refl sound rows.0 rows.1.1.1.1.0 rows.1.1.1.1.1.0
 
-pub edges_sound : (routers : List (List ℕ)) (links : List TopoLink) (es more : List Data) → AreEdges routers links es → faults_along Edge (edge_table routers links) es more ≡ [] → AreEdges routers links (es ++ more)
+pub edges_sound : (routers : List (List ℕ)) (tables : List RouterTable) (links : List TopoLink) (es more : List Data) → AreEdges routers tables links es → faults_along Edge (edge_rows routers tables links) es more ≡ [] → AreEdges routers tables links (es ++ more)
 unfolding faults_along
-edges_sound routers links es [] sound none = rw (append-nil es) sound
-edges_sound routers links es (x ∷ more) sound none =
-    let stand : standing (edge_table routers links es) x ≡ [] = map_empty (λ (cause : ℕ). record { part = Edge; entry = length es + 1; cause = cause }) _ (front_empty _ _ none) in
-    let more_sound : AreEdges routers links ((es ++ x ∷ []) ++ more) =
-    edges_sound routers links (es ++ x ∷ []) more (edge_next routers links es x sound (none_stands (edge_table routers links es) x stand)) (back_empty _ _ none) in
+edges_sound routers tables links es [] sound none = rw (append-nil es) sound
+edges_sound routers tables links es (x ∷ more) sound none =
+    let stand : standing (edge_rows routers tables links es) x ≡ [] = map_empty (λ (cause : ℕ). record { part = Edge; entry = length es + 1; cause = cause }) _ (front_empty _ _ none) in
+    let more_sound : AreEdges routers tables links ((es ++ x ∷ []) ++ more) =
+    edges_sound routers tables links (es ++ x ∷ []) more (edge_next routers tables links es x sound (none_stands (edge_rows routers tables links es) x stand)) (back_empty _ _ none) in
     rw append_assoc at more_sound
 
 -- ---- the whole
 
 -- lists of entries without a fault say a sound topology
-pub entries_sound : (lists : Sections) → faults_along Routers router_table [] lists.routers ≡ []
-    → faults_along Link (link_table (routers_said lists.routers)) [] lists.links ≡ []
-    → faults_along Edge (edge_table (routers_said lists.routers) (links_said (routers_said lists.routers) lists.links)) [] lists.edges ≡ []
+pub entries_sound : (lists : Sections) → faults_along Routers router_rows [] lists.routers ≡ []
+    → faults_along Vrf (vrf_rows (routers_said lists.routers)) [] lists.vrfs ≡ []
+    → faults_along Link (link_rows (names_said lists) (unmarked_tables lists)) [] lists.links ≡ []
+    → faults_along Edge (edge_rows (names_said lists) (unmarked_tables lists) (links_said (names_said lists) lists.links)) [] lists.edges ≡ []
     → is_sound_topology (parts_said lists) ≡ true
-entries_sound lists no_router no_link no_edge =
-    let names : List (List ℕ) = routers_said lists.routers in
+entries_sound lists no_router no_vrf no_link no_edge =
+    let devices : List (List ℕ) = routers_said lists.routers in
+    let names : List (List ℕ) = names_said lists in
+    let tables : List RouterTable = unmarked_tables lists in
+    let marks : List Mark = marks_said names lists.marks in
     let links : List TopoLink = links_said names lists.links in
     let first : AreRouters lists.routers = routers_sound [] lists.routers (record { few = lit≤ tt; as_many = refl; names = refl; differ = refl }) no_router in
-    let second : AreLinks names lists.links = links_sound names [] lists.links (record { few = lit≤ tt; as_many = refl; sound = refl; named = refl; names = refl; ends = refl }) no_link in
-    let third : AreEdges names links lists.edges =
-    edges_sound names links [] lists.edges
+    let few_devices : length devices ≤ 1024 = rw first.as_many first.few in
+    let virtual : AreVrfs devices lists.vrfs = vrfs_sound devices [] lists.vrfs (vrfs_start devices few_devices first.names first.differ) no_vrf in
+    let second : AreLinks names tables lists.links = links_sound names tables [] lists.links (record { few = lit≤ tt; as_many = refl; sound = refl; named = refl; names = refl; ends = refl }) no_link in
+    let third : AreEdges names tables links lists.edges =
+    edges_sound names tables links [] lists.edges
     (record { few = lit≤ tt; as_many = refl; sound = refl; ends = rw (append-nil (all_ends links)) second.ends }) no_edge in
-    let few_routers : nat_le (length names) 1024 ≡ true = le-leb _ _ (rw first.as_many first.few) in
+    let few_routers : nat_le (length names) 1024 ≡ true = le-leb _ _ (rw (names_long devices lists.vrfs virtual) virtual.few) in
     let few_links : nat_le (length links) 4096 ≡ true = le-leb _ _ (rw second.as_many second.few) in
     let few_edges : nat_le (length (edges_said names lists.edges)) 16384 ≡ true = le-leb _ _ (rw third.as_many third.few) in
-    let tables : are_tables (length names) (main_tables names) ≡ true = main_tables-sound names in
-    and_from _ _ (and_from _ _ (and_from _ _ (and_from _ _ (and_from _ _ (and_from _ _ (and_from _ _ (and_from _ _ (and_from _ _ tables few_routers) few_links) few_edges) first.names) first.differ) second.sound) second.names) third.sound) third.ends
+    let has_tables : are_tables (length names) (tables_said lists) ≡ true = are_tables-marked (length names) tables marks ∙ vrf_tables-sound devices lists.vrfs virtual in
+    let ends : all_differ (same_end (tables_said lists)) (all_ends links ++ edges_said names lists.edges) ≡ true =
+    ends_differ-marked tables marks (all_ends links ++ edges_said names lists.edges) ∙ third.ends in
+    and_from _ _ (and_from _ _ (and_from _ _ (and_from _ _ (and_from _ _ (and_from _ _ (and_from _ _ (and_from _ _ (and_from _ _ has_tables few_routers) few_links) few_edges) virtual.names) virtual.differ) second.sound) second.names) third.sound) ends
 
 -- the same of one list of all their faults
 pub lists_sound : (lists : Sections) → list_faults lists ≡ [] → is_sound_topology (parts_said lists) ≡ true
 lists_sound lists none =
-    let names : List (List ℕ) = routers_said lists.routers in
-    let first : List TopoFault = faults_along Routers router_table [] lists.routers in
-    let second : List TopoFault = faults_along Link (link_table names) [] lists.links in
-    let third : List TopoFault = faults_along Edge (edge_table names (links_said names lists.links)) [] lists.edges in
-    let both : first ++ second ≡ [] = front_empty (first ++ second) third none in
-    entries_sound lists (front_empty first second both) (back_empty first second both) (back_empty (first ++ second) third none)
+    let names : List (List ℕ) = names_said lists in
+    let tables : List RouterTable = unmarked_tables lists in
+    let first : List TopoFault = faults_along Routers router_rows [] lists.routers in
+    let second : List TopoFault = faults_along Vrf (vrf_rows (routers_said lists.routers)) [] lists.vrfs in
+    let third : List TopoFault = faults_along Link (link_rows names tables) [] lists.links in
+    let fourth : List TopoFault = faults_along Edge (edge_rows names tables (links_said names lists.links)) [] lists.edges in
+    let four : ((first ++ second) ++ third) ++ fourth ≡ [] = front_empty (((first ++ second) ++ third) ++ fourth) (faults_along Router (mark_rows names) [] lists.marks) none in
+    let three : (first ++ second) ++ third ≡ [] = front_empty ((first ++ second) ++ third) fourth four in
+    let two : first ++ second ≡ [] = front_empty (first ++ second) third three in
+    entries_sound lists (front_empty first second two) (back_empty first second two) (back_empty (first ++ second) third three)
+    (back_empty ((first ++ second) ++ third) fourth four)
 
 pub document_sound : (doc : Members) → faults_of doc ≡ [] → is_sound_topology (parts_of doc) ≡ true
 document_sound doc none =

@@ -1,6 +1,7 @@
 -- A document without a fault says a sound topology.
-use Rattle.std.proofs.Common.{◌≡◌, ℕ, ◌+◌, ◌<◌, ◌≤◌, Bool, true, false, not, nat_le, List, [], ◌∷◌, ◌++◌, length, map, filter, Option, Some, None, is_none, cond, refl, ◌∙◌, arith, append_assoc, length-append}
+use Rattle.std.proofs.Common.{◌≡◌, ℕ, ◌+◌, ◌<◌, ◌≤◌, Bool, true, false, not, nat_le, List, [], ◌∷◌, ◌++◌, length, map, filter, Option, Some, None, is_none, option_and_then, cond, refl, ◌∙◌, arith, append_assoc, length-append}
 use Rattle.std.proofs.lemmas.Bool.{and_parts, or_parts, not-true, not-false, leb-false, true≢false}
+use Rattle.std.proofs.lemmas.Option.{same_Some}
 use Rattle.std.proofs.lemmas.List.{append-nil}
 use Rattle.std.proofs.lemmas.List.Elements.{filter_map-append}
 use Rattle.std.proofs.lemmas.List.Folds.{list_all-append, list_any-append}
@@ -10,7 +11,7 @@ use Rattle.dn_formats.specs.declared.topology_fault.TopoPart.TheVariants.{Router
 use Rattle.base.specs.Name.{is_name_text}
 use Rattle.base.specs.Name.{same_text}
 use Rattle.base.specs.Lists.{all_differ}
-use Rattle.dn_formats.specs.TopologyText.{passes, standing, faults_along, has_text, router_table, routers_said}
+use Rattle.dn_formats.specs.TopologyText.{passes, standing, faults_along, has_text, router_rows, routers_said}
 
 -- ---- lists without a fault
 
@@ -51,6 +52,16 @@ all_differ-push same (y ∷ xs) x differ other =
     let parts = and_parts (not (list_any (same y) xs)) (all_differ same xs) differ in
     rw (list_any-append (same y) xs (x ∷ []), not-true _ parts.0, heads.0) (all_differ-push same xs x parts.1 heads.1)
 
+-- ---- values that may be absent
+
+pub and_then_some : {A B : Type 0} (f : A → Option B) (o : Option A) (y : B) → option_and_then f o ≡ Some y → (x : A) × ((o ≡ Some x) × (f x ≡ Some y))
+and_then_some f None y e = cc
+and_then_some f (Some x) y e = (x, (refl, e))
+
+pub cond_some : (b : Bool) (v n : ℕ) → cond b (Some v) None ≡ Some n → (b ≡ true) × (v ≡ n)
+cond_some true v n e = (refl, same_Some _ _ e)
+cond_some false v n e = cc
+
 -- ---- routers
 
 -- the entries are few enough, and the names that they say are names and differ
@@ -73,14 +84,14 @@ router_push es x (Some name) is sound few text named fresh =
       differ = rw said (all_differ-push same_text (routers_said es) name sound.differ fresh);
     }
 
-pub router_next : (es : List Data) (x : Data) → AreRouters es → NoneStands (router_table es) x → AreRouters (es ++ x ∷ [])
+pub router_next : (es : List Data) (x : Data) → AreRouters es → NoneStands (router_rows es) x → AreRouters (es ++ x ∷ [])
 router_next es x sound rows = router_push es x (as_str x) refl sound rows.0 rows.1.0 rows.1.1.0 rows.1.1.1.0
 
-pub routers_sound : (es more : List Data) → AreRouters es → faults_along Routers router_table es more ≡ [] → AreRouters (es ++ more)
+pub routers_sound : (es more : List Data) → AreRouters es → faults_along Routers router_rows es more ≡ [] → AreRouters (es ++ more)
 unfolding faults_along
 routers_sound es [] sound none = rw (append-nil es) sound
 routers_sound es (x ∷ more) sound none =
-    let stand : standing (router_table es) x ≡ [] = map_empty (λ (cause : ℕ). record { part = Routers; entry = length es + 1; cause = cause }) _ (front_empty _ _ none) in
+    let stand : standing (router_rows es) x ≡ [] = map_empty (λ (cause : ℕ). record { part = Routers; entry = length es + 1; cause = cause }) _ (front_empty _ _ none) in
     let more_sound : AreRouters ((es ++ x ∷ []) ++ more) =
-    routers_sound (es ++ x ∷ []) more (router_next es x sound (none_stands (router_table es) x stand)) (back_empty _ _ none) in
+    routers_sound (es ++ x ∷ []) more (router_next es x sound (none_stands (router_rows es) x stand)) (back_empty _ _ none) in
     rw append_assoc at more_sound

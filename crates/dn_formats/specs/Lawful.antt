@@ -93,7 +93,7 @@ abbrev pub taken : List Line → FeedRead → List FrameStep
 taken lines f = front_of (asked f.router lines) f.steps
 
 -- the updates of the frames that lines take of a feed, as far as the history took them
-abbrev pub kept_by : List Line → FeedRead → List Op
+abbrev pub kept_by : List Line → FeedRead → List (RouterId × Op)
 kept_by lines f = kept_of f (taken lines f)
 
 -- a script: its lines, and of how many of its link lines the history took the entry, which are the first so many

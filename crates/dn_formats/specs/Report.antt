@@ -87,8 +87,10 @@ report t feeds history jobs =
 abbrev pub topology_part_text : TopoPart → List ℕ
 topology_part_text parts.Top = codes "top"
 topology_part_text parts.Routers = codes "routers"
+topology_part_text parts.Vrf = codes "vrf"
 topology_part_text parts.Link = codes "link"
 topology_part_text parts.Edge = codes "edge"
+topology_part_text parts.Router = codes "router"
 
 -- a number and its cause's name
 abbrev pub cause_words : List (ℕ × List ℕ) → ℕ → List ℕ

@@ -31,6 +31,21 @@ too_many = 9
 abbrev pub too_long : ℕ
 too_long = 10
 
+abbrev pub bad_replace : ℕ
+bad_replace = 11
+
+abbrev pub twice_marked : ℕ
+twice_marked = 12
+
+abbrev pub no_such_router : ℕ
+no_such_router = 13
+
+abbrev pub bad_table : ℕ
+bad_table = 14
+
+abbrev pub table_twice : ℕ
+table_twice = 15
+
 -- each with its name
 abbrev pub topology_causes : List (ℕ × List ℕ)
 topology_causes =
@@ -44,4 +59,9 @@ topology_causes =
     ∷ (self_link, codes "SelfLink")
     ∷ (too_many, codes "TooMany")
     ∷ (too_long, codes "TooLong")
+    ∷ (bad_replace, codes "BadReplace")
+    ∷ (twice_marked, codes "TwiceMarked")
+    ∷ (no_such_router, codes "NoSuchRouter")
+    ∷ (bad_table, codes "BadTable")
+    ∷ (table_twice, codes "TableTwice")
     ∷ []

@@ -11,9 +11,9 @@ pub enum ErrorLine {
     BadPart { part: u32 },
     /// This part is a feed or a script more than a run takes.
     TooManyParts { part: u32 },
-    /// The router that this part names isn't in the topology.
+    /// This part names no device of the topology: no router, or a VRF, which has no feed.
     UnknownRouter { part: u32 },
-    /// An earlier part is a feed of the router that this part names.
+    /// An earlier part is a feed of the device that this part names.
     RouterTwice { part: u32 },
     /// The scripts, and the feeds that no script takes, are more jobs than a run takes.
     TooManyJobs,

@@ -16,12 +16,13 @@ pub fn feeds_are_kept_whole()
         → IsKept limit history f → (f.end ≡ Full → ⊥) → kept_by lines f ≡ updates (taken lines f) }
 {}
 
-/// Each cause has its number: those of topologies 1 to 10, of scripts 1 to 5.
+/// Each cause has its number: those of topologies 1 to 15, of scripts 1 to 5.
 pub fn causes_have_their_numbers()
     ensures topologies { topology.NOT_TOML ∷ topology.UNKNOWN_KEY ∷ topology.MISSING_KEY ∷ topology.BAD_NAME ∷
         topology.TWICE_NAMED ∷ topology.BAD_END ∷ topology.END_TWICE ∷ topology.SELF_LINK ∷
-        topology.TOO_MANY ∷ topology.TOO_LONG ∷ []
-        ≡ 1 ∷ 2 ∷ 3 ∷ 4 ∷ 5 ∷ 6 ∷ 7 ∷ 8 ∷ 9 ∷ 10 ∷ [] }
+        topology.TOO_MANY ∷ topology.TOO_LONG ∷ topology.BAD_REPLACE ∷ topology.TWICE_MARKED ∷
+        topology.NO_SUCH_ROUTER ∷ topology.BAD_TABLE ∷ topology.TABLE_TWICE ∷ []
+        ≡ 1 ∷ 2 ∷ 3 ∷ 4 ∷ 5 ∷ 6 ∷ 7 ∷ 8 ∷ 9 ∷ 10 ∷ 11 ∷ 12 ∷ 13 ∷ 14 ∷ 15 ∷ [] }
     ensures scripts { script.BAD_LINE ∷ script.TAKE_UNKNOWN ∷ script.TAKEN_TWICE ∷ script.TOO_MANY_LINES ∷
         script.TOO_LONG ∷ []
         ≡ 1 ∷ 2 ∷ 3 ∷ 4 ∷ 5 ∷ [] }

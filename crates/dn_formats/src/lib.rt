@@ -10,6 +10,7 @@ mod asked;
 mod decimal;
 mod error_line;
 mod laws;
+mod mark;
 mod print;
 mod query_laws;
 mod script;
@@ -24,6 +25,7 @@ pub use asked::Asked;
 pub use decimal::read_number;
 pub use error_line::ErrorLine;
 pub use laws::{causes_have_their_numbers, feeds_are_kept_whole};
+pub use mark::Mark;
 pub use print::{
     print_address, print_prefix, print_run, print_target, push_address, push_bytes, push_decimal,
     push_labelled, push_link, push_prefix, push_router, push_run, push_target,

@@ -9,10 +9,14 @@ pub enum TopoPart {
     Top,
     /// The list `routers`.
     Routers,
+    /// The tables `vrf`.
+    Vrf,
     /// The tables `link`.
     Link,
     /// The tables `edge`.
     Edge,
+    /// The tables `router`, which mark routers.
+    Router,
 }
 
 /// The first fault of a text that is no topology.

@@ -113,10 +113,10 @@ module _ {S : Type 0} where
 
   -- a reader as it is made
   abbrev pub made : S → ℕ → RouterId → Reader S
-  made source number router = record { source = source; limit = feed_limit; passed = 0; held = []; told = told_so_far number router [] }
+  made source number router = record { source = source; limit = feed_limit; passed = 0; held = []; told = told_so_far number router []; tables = [] }
 
   fresh-made : (t : Topology) (faults : S → ℕ) (source : S) (number : ℕ) (router : RouterId) → router.0 < length t.routers → faults source ≡ 0 → IsFresh t faults (made source number router)
-  fresh-made t faults source number router known none = record { told = refl; passed = refl; held = refl; limit = omega arith; router = known; faults_none = none }
+  fresh-made t faults source number router known none = record { told = refl; passed = refl; held = refl; limit = omega arith; router = known; faults_none = none; knows = λ some. absurd (some refl) }
 
   -- one more feed was opened
   pub open-push : (t : Topology) (faults : S → ℕ) (rs : List (Reader S)) (router : RouterId) (routers : List RouterId) (source : S) →

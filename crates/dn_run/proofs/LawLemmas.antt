@@ -7,6 +7,7 @@ use Rattle.std.proofs.lemmas.List.{length-map}
 use Rattle.std.proofs.lemmas.List.Elements.{All-cons, All-head, All-map, All-nil, All-tail}
 use Rattle.std.proofs.lemmas.List.Sorted.{Contains-permutation, IsPermutation-map, IsPermutation-sym}
 use Rattle.dn_formats.specs.Lawful.{AreLinksKept, IsLawful, Job, ScriptRun, jobs_of, link_entries}
+use Rattle.feed_model.specs.Feed.{IsToTableOf}
 use Rattle.feed_model.specs.Steps.{FeedRead, updates}
 use Rattle.dn_formats.specs.declared.script.Line.{Line}
 use Rattle.feed_model.specs.declared.feed_told.FeedEnd.TheVariants as ends
@@ -204,6 +205,7 @@ module _ {S : Type 0} (t : Topology) (left : S → Option (List ℕ)) (faults pl
             feed_no = reads.feed_no;
             router = reads.router;
             told_is = reads.told_is;
+            own = subst (λ router. All (IsToTableOf t router) (updates f.steps)) (reads.reads.router ∙ sym reads.router) reads.reads.own;
             counts = subst (λ s. CountsBy (Some f.end) (faults s)) reads.source_is (subst (λ e. CountsBy e (faults reads.reader.source)) end reads.reads.counts);
             stands = λ bytes has. subst (λ s. StandsBy (Some f.end) t reads.reader (left s) bytes f.steps) reads.source_is
                 (subst (λ e. StandsBy e t reads.reader (left reads.reader.source) bytes f.steps) end (reads.reads.stands bytes has));

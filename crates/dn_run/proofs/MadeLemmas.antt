@@ -68,7 +68,7 @@ fresh-each : (t : Topology) (n : ℕ) (is : List ℕ) → All (λ i. i < length 
 fresh-each t n [] all = All-nil (IsFresh t sure_faults)
 fresh-each t n (i ∷ is) all =
     All-cons (IsFresh t sure_faults) (made_reader n i) (map (made_reader n) is)
-    (record { told = refl; passed = refl; held = refl; limit = omega arith; router = All-head (λ i. i < length t.routers) i is all; faults_none = refl })
+    (record { told = refl; passed = refl; held = refl; limit = omega arith; router = All-head (λ i. i < length t.routers) i is all; faults_none = refl; knows = λ some. absurd (some refl) })
     (fresh-each t n is (All-tail (λ i. i < length t.routers) i is all))
 
 below-each : (m : ℕ) → m ≡ 8 → All (λ i. i < m) router_numbers

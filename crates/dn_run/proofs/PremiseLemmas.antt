@@ -34,7 +34,7 @@ each-task P (task ∷ tasks) all =
     let both = all-parts P task.feeds (readers_of tasks) all in All-cons (λ task. All P task.feeds) task tasks both.0 (each-task P tasks both.1)
 
 unread-as : {S : Type 0} (t : Topology) (faults : S → ℕ) (r : Reader S) → IsFresh t faults r → IsUnread t faults r
-unread-as t faults r fresh = record { told = fresh.told; passed = fresh.passed; held = fresh.held; router = fresh.router; faults_none = fresh.faults_none }
+unread-as t faults r fresh = record { told = fresh.told; passed = fresh.passed; held = fresh.held; router = fresh.router; faults_none = fresh.faults_none; knows = fresh.knows }
 
 pub tasks-fresh : {S : Type 0} (t : Topology) (faults : S → ℕ) (scripts : List (List Line)) (readers : List (Reader S)) → All (IsFresh t faults) readers →
     All (λ task. All (IsUnread t faults) task.feeds) (tasks_of scripts readers)

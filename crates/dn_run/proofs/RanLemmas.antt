@@ -115,7 +115,7 @@ module _ {S : Type 0} where
       IsReadAs t left faults start source told f → start.limit ≡ feed_limit → IfSome file (λ bytes. left start.source ≡ Some bytes) →
       ReadTold t file (faults source) (left source) told f
   one-told t faults left start source told f None by limit is = record {
-    read = (fault-counts (Some f.end) (faults source) by.counts, λ full. subst (λ e. CountsBy (Some e) (faults source)) full by.counts);
+    read = (fault-counts (Some f.end) (faults source) by.counts, (λ full. subst (λ e. CountsBy (Some e) (faults source)) full by.counts), by.own);
     told_is = (ap (λ (x : FeedTold). x.feed_no) by.told_is, ap (λ (x : FeedTold). x.router) by.told_is, ap (λ (x : FeedTold). x.end) by.told_is);
   }
   one-told t faults left start source told f (Some bytes) by limit is = record {

@@ -2,7 +2,8 @@
 use Rattle.std.specs.Prelude.{◌≡◌, ℕ, suc, ◌+◌, ◌<◌, ◌≤◌, ◌^◌, ◌==◌, Bool, true, false, IsTrue, map, List, [], ◌∷◌}
 use Rattle.std.specs.Prelude.{length, All, Option, Some}
 use Rattle.std.specs.List.{list_any}
-use Rattle.feed_model.specs.Steps.{FeedRead, told_of}
+use Rattle.feed_model.specs.Feed.{IsToTableOf}
+use Rattle.feed_model.specs.Steps.{FeedRead, told_of, updates}
 use Rattle.dn_model.specs.Entry.{entries}
 use Rattle.dn_model.specs.declared.entry.Posted.{Posted}
 use Rattle.base.specs.Lists.{all_differ}
@@ -11,7 +12,7 @@ use Rattle.dn_formats.specs.declared.script.Script.{Script}
 use Rattle.dn_model.specs.declared.topology.Topology.{Topology}
 use Rattle.feed_model.specs.declared.feed_told.FeedTold.{FeedTold}
 use Rattle.dn_formats.specs.declared.told.JobTold.{JobTold}
-use Rattle.route_feed.specs.FeedReader.{Reader, told_so_far}
+use Rattle.route_feed.specs.FeedReader.{KnowsTables, Reader, told_so_far}
 use Rattle.feed_threads.specs.Feeds.{CountsBy, StandsBy}
 use Rattle.dn_run.specs.Law.{IsLawfulRun}
 use Rattle.dn_run.specs.Limits.{most_jobs, most_lines}
@@ -21,7 +22,7 @@ use Rattle.dn_run.specs.Run.{ScriptLines, takes_router, untaken}
 abbrev pub scripts_of : List Script → ScriptLines
 scripts_of scripts = map (λ script. script.lines) scripts
 
--- a reader that has read nothing yet, of a router's feed
+-- a reader that has read nothing yet, of a device's feed
 pub record IsFresh {S : Type 0} (t : Topology) (faults : S → ℕ) (r : Reader S) : Type 0 where
   pub told : r.told ≡ told_so_far r.told.feed_no r.told.router []
   pub passed : r.passed ≡ 0
@@ -29,6 +30,7 @@ pub record IsFresh {S : Type 0} (t : Topology) (faults : S → ℕ) (r : Reader 
   pub limit : r.limit ≤ 2 ^ 30
   pub router : r.told.router.0 < length t.routers
   pub faults_none : faults r.source ≡ 0
+  pub knows : KnowsTables t r.told.router r.tables
 
 -- the feeds are numbered in order, from this number
 abbrev pub AreNumbered : {S : Type 0} → ℕ → List (Reader S) → Type 0
@@ -62,7 +64,8 @@ abbrev pub AreFewJobs : ScriptLines → List RouterId → Type 0
 AreFewJobs scripts routers = length scripts + length (untaken scripts routers) ≤ most_jobs
 
 -- A feed was read to this end by a reader that began as `start`, and its source came back: its count of faults goes
--- with the end, and this is told of the feed. Where the source told its bytes, these steps are what they come to.
+-- with the end, this is told of the feed, and each update is to a table of its device. Where the source told its bytes,
+-- these steps are what they come to.
 pub record IsReadAs {S : Type 0} (t : Topology) (left : S → Option (List ℕ)) (faults : S → ℕ) (start : Reader S)
     (source : S) (told : FeedTold) (f : FeedRead) : Type 0 where
   pub reader : Reader S
@@ -73,6 +76,7 @@ pub record IsReadAs {S : Type 0} (t : Topology) (left : S → Option (List ℕ))
   pub router : f.router ≡ start.told.router
   pub told_is : told ≡ told_of f
   pub counts : CountsBy (Some f.end) (faults source)
+  pub own : All (IsToTableOf t f.router) (updates f.steps)
   pub stands : (bytes : List ℕ) → left start.source ≡ Some bytes →
       StandsBy (Some f.end) t reader (left source) bytes f.steps
 

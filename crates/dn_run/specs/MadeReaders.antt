@@ -14,6 +14,7 @@ reader_of i bytes = record {
   passed = 0;
   held = [];
   told = told_so_far (i + 1) (made_router i) [];
+  tables = [];
 }
 
 -- that of a router's generated feed

@@ -1,7 +1,7 @@
 -- What a run comes to: its steps in order, of which the first that fails ends it.
 use Rattle.std.specs.Prelude.{ℕ, suc, Bool, true, false, List, [], ◌∷◌, ◌++◌, ◌≡◌, ◌≤◌, ◌+◌, ◌==◌, ◌&&◌, nat_lt, not}
 use Rattle.std.specs.Prelude.{All, length, map, filter, Option, None, Some, MatchOption, Result, Ok, Err}
-use Rattle.std.specs.Prelude.{if◌then◌else◌}
+use Rattle.std.specs.Prelude.{if◌then◌else◌, option_and_then}
 use Rattle.std.specs.List.{list_all, list_any, filter_map, flat_map}
 use Rattle.std.specs.Option.{option_to_list}
 use Rattle.dn_io.specs.Told.{with_end, NothingLeft}
@@ -9,12 +9,12 @@ use Rattle.dn_io.specs.Files.{Files}
 use Rattle.dn_io.specs.Calls.{Call, CallState, Out, Refused, Back, state_failed}
 use Rattle.dn_formats.specs.Words.{FeedWords, PartsSaid, parts_of, unless_faulty}
 use Rattle.dn_formats.specs.TopologyText.{topology_of}
-use Rattle.dn_model.specs.Tables.{parts}
+use Rattle.dn_model.specs.Tables.{device_of, parts}
 use Rattle.dn_model.specs.Topology.{Parts}
 use Rattle.dn_model.specs.Lookup.{router_of}
 use Rattle.dn_formats.specs.ScriptText.{script_of}
-use Rattle.feed_model.specs.Feed.{IsReading, IsFaultedReading}
-use Rattle.feed_model.specs.Steps.{FeedRead, told_of}
+use Rattle.feed_model.specs.Feed.{IsReading, IsFaultedReading, IsToTableOf}
+use Rattle.feed_model.specs.Steps.{FeedRead, told_of, updates}
 use Rattle.dn_formats.specs.Lawful.{takes}
 use Rattle.dn_formats.specs.Report.{report, error_text}
 use Rattle.base.specs.declared.ids.RouterId.{RouterId}
@@ -111,9 +111,12 @@ IsReadOfBytes t bytes (Back true (Some left)) f =
     × IsFaultedReading t f.router read f.steps × (f.end ≡ ends.Faulted)
 IsReadOfBytes t bytes _ f = ⊥
 
--- Of a feed whose bytes aren't told: its end tells a fault exactly where reading it failed, and never a full history.
+-- Of a feed whose bytes aren't told: its end tells a fault exactly where reading it failed, and never a full history;
+-- and each update is to a table of its device.
 abbrev pub IsReadOf : Topology → Option (List ℕ) → CallState → FeedRead → Type 0
-IsReadOf t None state f = (is_faulted (Some f.end) ≡ state_failed state) × (f.end ≡ ends.Full → ⊥)
+IsReadOf t None state f =
+    (is_faulted (Some f.end) ≡ state_failed state) × (f.end ≡ ends.Full → ⊥)
+    × All (IsToTableOf t f.router) (updates f.steps)
 IsReadOf t (Some bytes) state f = IsReadOfBytes t bytes state f
 
 -- What the report tells of a feed: what was read of it, with its counts; where its bytes aren't told, its number,
@@ -205,22 +208,27 @@ taken_by_line (Link l name down) = []
 abbrev pub taken_by_scripts : ScriptLines → List RouterId
 taken_by_scripts scripts = flat_map (flat_map taken_by_line) scripts
 
--- the faults of a feed's router, which these routers of feeds stand before: the topology doesn't have it, or it is one
+-- the router of a name, if it is a device: a VRF has no feed
+abbrev pub device_named : Topology → List ℕ → Option RouterId
+device_named t name =
+    option_and_then (λ r. if (device_of t r).0 == r.0 then Some r else None) (router_of t name)
+
+-- the faults of a feed's device, which these devices of feeds stand before: the topology doesn't have it, or it is one
 -- of them
 abbrev pub router_faults : List RouterId → ℕ → Option RouterId → List ErrorLine
 router_faults before part None = errors.UnknownRouter part ∷ []
 router_faults before part (Some r) = if list_any (λ q. q.0 == r.0) before then errors.RouterTwice part ∷ [] else []
 
--- the routers of feeds that the topology has
+-- the devices of feeds that the topology has
 abbrev pub routers_said : Topology → FeedParts → List RouterId
-routers_said t feeds = filter_map (λ feed. router_of t feed.1.router) feeds
+routers_said t feeds = filter_map (λ feed. device_named t feed.1.router) feeds
 
 -- the faults of the routers of feeds in order, which these routers stand before
 abbrev pub routers_faults : Topology → List RouterId → FeedParts → List ErrorLine
 routers_faults t before [] = []
 routers_faults t before (feed ∷ feeds) =
-    router_faults before feed.0 (router_of t feed.1.router)
-    ++ routers_faults t (before ++ option_to_list (router_of t feed.1.router)) feeds
+    router_faults before feed.0 (device_named t feed.1.router)
+    ++ routers_faults t (before ++ option_to_list (device_named t feed.1.router)) feeds
 
 -- the routers of feeds, or the first fault of one
 abbrev pub routers_of : Topology → FeedParts → Result (List RouterId) ErrorLine

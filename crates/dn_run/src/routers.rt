@@ -1,17 +1,16 @@
 //! The routers of a run's feeds.
 
-ghost use Rattle.std.specs.Prelude.{◌≡◌, ◌<◌, ◌==◌, ◌∷◌, [], map, length, All, Ok, Some, IsTrue, IfOk, IfErr, false};
+ghost use Rattle.std.specs.Prelude.{◌≡◌, ◌<◌, ◌==◌, ◌∷◌, [], map, length, All, Ok, Some, IsTrue, IfOk, IfErr, IfSome, false};
 ghost use Rattle.std.specs.List.{list_any};
-ghost use Rattle.dn_model.specs.Lookup.{router_of};
 ghost use Rattle.base.specs.Lists.{all_differ};
 ghost use Rattle.dn_run.specs.Jobs.{same_router};
 ghost use Rattle.dn_run.specs.PartsRead.{feed_texts};
 ghost use Rattle.dn_run.specs.RoutersFound.{AreRoutersRefused};
-ghost use Rattle.dn_run.specs.Run.{router_faults, routers_of};
+ghost use Rattle.dn_run.specs.Run.{device_named, router_faults, routers_of};
 
 use crate::parts::FeedPart;
 use dn_formats::ErrorLine;
-use dn_model::{OutOfMemory, RouterId, Topology, router};
+use dn_model::{Name, OutOfMemory, RouterId, Topology, device_of, router};
 use std::alloc::{AllocError, AllocFailed, Global};
 
 /// Why the routers of feeds aren't found.
@@ -52,20 +51,33 @@ pub fn is_among(routers: &[RouterId], router: RouterId) -> bool
     routers.iter().any(|other| other.0 == router.0)
 }
 
-/// The router of a feed, which these routers of feeds stand before; or the line that tells why it may not have the
+/// The router of a name, if it is a device: a VRF has no feed.
+fn device_named(topology: &Topology, name: &Name) -> Option<RouterId>
+    ensures value { result ≡ device_named topology.now name.now }
+    ensures within { IfSome result (λ r. r.0 < length topology.now.routers) }
+{
+    let router = router(topology, name)?;
+    if device_of(topology, router).0 == router.0 {
+        Some(router)
+    } else {
+        None
+    }
+}
+
+/// The device of a feed, which these devices of feeds stand before; or the line that tells why it may not have the
 /// feed.
 fn find_router(
     topology: &Topology,
     before: &[RouterId],
     feed: &FeedPart,
 ) -> Result<RouterId, ErrorLine>
-    ensures found { IfOk result (λ r. router_of topology.now feed.now.router ≡ Some r) }
+    ensures found { IfOk result (λ r. device_named topology.now feed.now.router ≡ Some r) }
     ensures within { IfOk result (λ r. r.0 < length topology.now.routers) }
     ensures fresh { IfOk result (λ r. list_any (λ q. q.0 == r.0) before.now ≡ false) }
     ensures refused { IfErr result (λ line. router_faults before.now feed.now.part
-        (router_of topology.now feed.now.router) ≡ line ∷ []) }
+        (device_named topology.now feed.now.router) ≡ line ∷ []) }
 {
-    let Some(router) = router(topology, &feed.router) else {
+    let Some(router) = device_named(topology, &feed.router) else {
         return Err(ErrorLine::UnknownRouter { part: feed.part });
     };
     if is_among(before, router) {
@@ -74,7 +86,7 @@ fn find_router(
     Ok(router)
 }
 
-/// The routers of feeds, in order: each is in the topology, and no two feeds have one router; or the line that tells
+/// The devices of feeds, in order: each is in the topology, and no two feeds have one device; or the line that tells
 /// the first fault.
 pub fn find_routers(
     alloc: Global,

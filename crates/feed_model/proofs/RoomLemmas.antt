@@ -4,7 +4,7 @@ use Rattle.std.proofs.Common.{◌≡◌, ℕ, zero, suc, ◌+◌, ◌-◌, ◌*�
 use Rattle.std.specs.Prelude.{◌||◌, if◌then◌else◌, Result, Ok, Err}
 use Rattle.std.proofs.lemmas.Bool.{ltb-false}
 use Rattle.feed_model.specs.Attributes.{padded}
-use Rattle.feed_model.specs.Feed.{Gathered, nothing_gathered, with_update, unless_refused, gathered, step_by, IsStep}
+use Rattle.feed_model.specs.Feed.{Gathered, nothing_gathered, with_update, unless_refused, gathered, router_by, step_by, IsStepBy}
 use Rattle.feed_model.specs.Frames.{Frame}
 use Rattle.feed_model.specs.Message.{op_of}
 use Rattle.feed_model.specs.Payload.{Ruling, Refuses, Skips, said_by, message_said, item_of, said, said_after, ruling_of, nothing_more, message_length, route_of}
@@ -47,18 +47,18 @@ HasRoom : Topology → RouterId → ℕ → Payload → Type 0
 HasRoom t r n p = (g : Gathered) → RoomFor (28 * length g.ops + n) (gathered t r g p.items p.refused)
 
 -- a message of m bytes, at the front of n bytes and one more, and the messages after its padding
-after_message : (m n more : ℕ) (g : Gathered) (op : Op) → 28 ≤ m → m ≤ 1 + n → more ≤ n - (padded m - 1) →
+after_message : (m n more : ℕ) (g : Gathered) (op : RouterId × Op) → 28 ≤ m → m ≤ 1 + n → more ≤ n - (padded m - 1) →
     28 * length (g.ops ++ op ∷ []) + more ≤ 28 * length g.ops + (1 + n)
 after_message m n more g op h k r = omega (arith, length-append g.ops (op ∷ []))
 
-update_room : (t : Topology) (r : RouterId) (at m n more : ℕ) (p : Payload) (g : Gathered) (o : Option Op) → 28 ≤ m → m ≤ 1 + n →
+update_room : (t : Topology) (r to : RouterId) (at m n more : ℕ) (p : Payload) (g : Gathered) (o : Option Op) → 28 ≤ m → m ≤ 1 + n →
     more ≤ n - (padded m - 1) → HasRoom t r more p →
-    RoomFor (28 * length g.ops + (1 + n)) (unless_refused (with_update g at o) (λ next. gathered t r next p.items p.refused))
+    RoomFor (28 * length g.ops + (1 + n)) (unless_refused (with_update g at to o) (λ next. gathered t r next p.items p.refused))
 unfolding HasRoom
-update_room t r at m n more p g None h k l room = tt
-update_room t r at m n more p g (Some op) h k l room =
-    let next : Gathered = record { ops = g.ops ++ op ∷ []; skipped = g.skipped } in
-    room_more _ _ (gathered t r next p.items p.refused) (after_message m n more g op h k l) (room next)
+update_room t r to at m n more p g None h k l room = tt
+update_room t r to at m n more p g (Some op) h k l room =
+    let next : Gathered = record { ops = g.ops ++ (to, op) ∷ []; skipped = g.skipped } in
+    room_more _ _ (gathered t r next p.items p.refused) (after_message m n more g (to, op) h k l) (room next)
 
 said_room : (t : Topology) (r : RouterId) (at n : ℕ) (bytes : List ℕ) (o : Option Ruling) (p : Payload) → length bytes ≡ 1 + n →
     (o ≡ None → (28 ≤ message_length bytes) × (message_length bytes ≤ length bytes)) →
@@ -70,7 +70,7 @@ said_room t r at n bytes (Some (Skips skip)) p e h room = λ g.
     room_more _ _ (gathered t r next p.items p.refused) (omega arith) (room next)
 said_room t r at n bytes None p e h room = λ g.
     let there : (28 ≤ message_length bytes) × (message_length bytes ≤ length bytes) = h refl in
-    update_room t r at (message_length bytes) n (n - (padded (message_length bytes) - 1)) p g (op_of t r (route_of bytes))
+    update_room t r (router_by t r (route_of bytes).table) at (message_length bytes) n (n - (padded (message_length bytes) - 1)) p g (op_of t r (route_of bytes))
     there.0 (subst (λ (x : ℕ). message_length bytes ≤ x) e there.1) (omega arith) room
 
 nothing_room : (t : Topology) (r : RouterId) (n : ℕ) → HasRoom t r n nothing_more
@@ -100,19 +100,19 @@ said_after-room t r tables at zero (byte ∷ bytes) =
     (route_room tables (byte ∷ bytes)) (said_after-room t r tables (at + 1) skip bytes)))
 
 -- the updates of a frame that is accepted are those that its messages came to
-accepted_room : (offset n skipped : ℕ) (ops : List Op) (x : Result Gathered Refusal) → RoomFor n x → Accepted ops skipped ≡ step_by offset x → 28 * length ops ≤ n
-accepted_room offset n skipped ops (Ok g) h e = let same : ops ≡ g.ops = cc in subst (λ (xs : List Op). 28 * length xs ≤ n) (sym same) h
+accepted_room : (offset n skipped : ℕ) (ops : List (RouterId × Op)) (x : Result Gathered Refusal) → RoomFor n x → Accepted ops skipped ≡ step_by offset x → 28 * length ops ≤ n
+accepted_room offset n skipped ops (Ok g) h e = let same : ops ≡ g.ops = cc in subst (λ (xs : List (RouterId × Op)). 28 * length xs ≤ n) (sym same) h
 accepted_room offset n skipped ops (Err first) h e = let no : ⊥ = cc in absurd no
 
--- each update of a frame that is accepted takes at least 28 bytes of its payload
-pub accepted-room : (t : Topology) (r : RouterId) (offset : ℕ) (f : Frame) (ops : List Op) (skipped : ℕ) → IsStep t r offset f (Accepted ops skipped) →
-    28 * length ops ≤ length f.payload
+-- each update of a frame that is accepted takes at least 28 bytes of its payload, whichever tables are read
+pub accepted-room : (tables : List ℕ) (t : Topology) (r : RouterId) (offset : ℕ) (f : Frame) (ops : List (RouterId × Op)) (skipped : ℕ) →
+    IsStepBy tables t r offset f (Accepted ops skipped) → 28 * length ops ≤ length f.payload
 unfolding HasRoom
-accepted-room t r offset f ops skipped (inl a) =
+accepted-room tables t r offset f ops skipped (inl a) =
     let whole : HasRoom t r (length f.payload) a.payload =
     subst (λ (p : Payload). HasRoom t r (length f.payload) p) (sym a.says)
-    (as_many t r (said_after [] 0 0 f.payload) (length f.payload - 0) (length f.payload) (omega arith) (said_after-room t r [] 0 0 f.payload)) in
+    (as_many t r (said_after tables 0 0 f.payload) (length f.payload - 0) (length f.payload) (omega arith) (said_after-room t r tables 0 0 f.payload)) in
     let x : Result Gathered Refusal = gathered t r nothing_gathered a.payload.items a.payload.refused in
     accepted_room offset (length f.payload) skipped ops x
     (room_more (28 * length nothing_gathered.ops + length f.payload) (length f.payload) x (omega arith) (whole nothing_gathered)) a.comes_to
-accepted-room t r offset f ops skipped (inr a) = let no : ⊥ = let e = a.refused in cc in absurd no
+accepted-room tables t r offset f ops skipped (inr a) = let no : ⊥ = let e = a.refused in cc in absurd no

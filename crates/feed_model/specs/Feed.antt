@@ -1,6 +1,6 @@
--- What a router's feed says: its frames one by one, and how it ends. A feed is a stream of frames of FRR's forwarding
+-- What a device's feed says: its frames one by one, and how it ends. A feed is a stream of frames of FRR's forwarding
 -- plane manager (fpm/fpm.h), and a frame of kind 1 holds messages of rtnetlink(7).
-use Rattle.std.specs.Prelude.{◌≡◌, ◌≢◌, ◌⊎◌, ℕ, ◌+◌, Bool, nat_lt, List, [], ◌∷◌, ◌++◌, length, take, Option, None, Some, Result, Ok, Err, if◌then◌else◌}
+use Rattle.std.specs.Prelude.{◌≡◌, ◌≢◌, ◌⊎◌, ℕ, ◌+◌, ◌==◌, Bool, nat_lt, List, [], ◌∷◌, ◌++◌, length, take, map, filter, Option, None, Some, unwrap_or, Result, Ok, Err, if◌then◌else◌}
 use Rattle.feed_model.specs.Frames.{Frame, Frames, FrameRest, NoRest, CutFrame, BadVersion, BadFrameLength, frame_text, frames_text, rest_kind}
 use Rattle.feed_model.specs.Message.{op_of, object_of}
 use Rattle.feed_model.specs.Payload.{IsPayload}
@@ -13,30 +13,46 @@ use Rattle.feed_model.specs.declared.payload.ItemKind.TheVariants.{Route, Object
 use Rattle.feed_model.specs.declared.payload.Payload.{Payload}
 use Rattle.feed_model.specs.declared.payload.Refused.{Refused as Refusal}
 use Rattle.feed_model.specs.FrameCauses.{unknown_interface, frame_type, bad_version, bad_frame_length}
+use Rattle.dn_model.specs.Tables.{device_of, vrf_of}
 use Rattle.dn_model.specs.declared.topology.Topology.{Topology}
 use Rattle.feed_model.specs.declared.feed_told.FeedEnd.{FeedEnd}
 use Rattle.feed_model.specs.declared.feed_told.FeedEnd.TheVariants.{End, CutShort, Lost, TooLong}
 
--- ---- what the messages of a payload are to this router
+-- ---- what the messages of a payload are to the device whose feed they are in
 
--- What the messages of a frame that were looked at came to: their updates, in order, and how many were passed over.
+-- The numbers of a device's tables: its main one, and those of its VRFs.
+abbrev pub tables_of : Topology → RouterId → List ℕ
+tables_of t device = map (λ table. table.number) (filter (λ table. table.device.0 == device.0) t.tables)
+
+-- The router that a route in a device's feed belongs to, by its table's number: the VRF that has the table, or else the
+-- device. Routes of a table that it doesn't have are not read.
+abbrev pub router_by : Topology → RouterId → ℕ → RouterId
+router_by t device table = unwrap_or (vrf_of t device table) device
+
+-- an update of the table of a device, or of one of its VRFs
+abbrev pub IsToTableOf : Topology → RouterId → RouterId × Op → Type 0
+IsToTableOf t device u = device_of t u.0 ≡ device_of t device
+
+-- What the messages of a frame that were looked at came to: their updates, in order, each with the router whose table
+-- it changes, and how many were passed over.
 pub record Gathered : Type 0 where
-  pub ops : List Op
+  pub ops : List (RouterId × Op)
   pub skipped : ℕ
 
 abbrev pub nothing_gathered : Gathered
 nothing_gathered = record { ops = []; skipped = 0 }
 
--- A message at this place whose update this is joins them. Without an update it is refused: its interface isn't the
--- router's.
-abbrev pub with_update : Gathered → ℕ → Option Op → Result Gathered Refusal
-with_update g at None = Err (record { at = at; cause = unknown_interface })
-with_update g at (Some op) = Ok (record { ops = g.ops ++ op ∷ []; skipped = g.skipped })
+-- A message at this place whose update this is, to the table of this router, joins them. Without an update it is
+-- refused: its interface isn't the device's.
+abbrev pub with_update : Gathered → ℕ → RouterId → Option Op → Result Gathered Refusal
+with_update g at router None = Err (record { at = at; cause = unknown_interface })
+with_update g at router (Some op) = Ok (record { ops = g.ops ++ (router, op) ∷ []; skipped = g.skipped })
 
--- one more message, at this place
+-- One more message, at this place. The interface of a route is looked for among all of the device's, whichever table
+-- the route is in. Objects are the device's own.
 abbrev pub with_message : Topology → RouterId → Gathered → ℕ → ItemKind → Result Gathered Refusal
-with_message t r g at (Route raw) = with_update g at (op_of t r raw)
-with_message t r g at (Object raw) = with_update g at (object_of t r raw)
+with_message t r g at (Route raw) = with_update g at (router_by t r raw.table) (op_of t r raw)
+with_message t r g at (Object raw) = with_update g at r (object_of t r raw)
 with_message t r g at (Skipped skip) = Ok (record { ops = g.ops; skipped = g.skipped + 1 })
 
 -- what follows a message, unless that is refused
@@ -62,11 +78,12 @@ step_by offset (Err first) = Refused (record { offset = offset; at = first.at; c
 abbrev pub step_of : Topology → RouterId → ℕ → Payload → FrameStep
 step_of t r offset p = step_by offset (gathered t r nothing_gathered p.items p.refused)
 
--- a netlink frame comes to what its payload says; of routes those of the main table alone are read
-pub record IsNetlinkStep (t : Topology) (r : RouterId) (offset : ℕ) (frame : Frame) (step : FrameStep) : Type 0 where
+-- a netlink frame comes to what its payload says, of whose routes those of these tables and the main one are read
+pub record IsNetlinkStep (tables : List ℕ) (t : Topology) (r : RouterId) (offset : ℕ) (frame : Frame)
+    (step : FrameStep) : Type 0 where
   pub netlink : frame.kind ≡ 1
   pub payload : Payload
-  pub says : IsPayload [] frame.payload payload
+  pub says : IsPayload tables frame.payload payload
   pub comes_to : step ≡ step_of t r offset payload
 
 -- a frame of another kind is refused, whatever it holds
@@ -74,9 +91,14 @@ pub record IsOtherStep (offset : ℕ) (frame : Frame) (step : FrameStep) : Type 
   pub other : frame.kind ≢ 1
   pub refused : step ≡ Refused (record { offset = offset; at = 0; cause = frame_type })
 
--- what the frame at this offset of this router's feed comes to
+-- what the frame at this offset of this device's feed comes to, where the routes of these tables and the main one are
+-- read
+abbrev pub IsStepBy : List ℕ → Topology → RouterId → ℕ → Frame → FrameStep → Type 0
+IsStepBy tables t r offset frame step = IsNetlinkStep tables t r offset frame step ⊎ IsOtherStep offset frame step
+
+-- the same with all tables of the device
 abbrev pub IsStep : Topology → RouterId → ℕ → Frame → FrameStep → Type 0
-IsStep t r offset frame step = IsNetlinkStep t r offset frame step ⊎ IsOtherStep offset frame step
+IsStep t r offset frame step = IsStepBy (tables_of t r) t r offset frame step
 
 -- what these frames come to, one after another, where the first begins at this offset
 abbrev pub AreSteps : Topology → RouterId → ℕ → List Frame → List FrameStep → Type 0

@@ -88,7 +88,7 @@ abbrev pub target_at : Port → Bool → ℕ → Target
 target_at (Link far link unnumbered) via index = if via || unnumbered then To far link else OnLink index
 target_at Edge via index = if via then Exit index else OnLink index
 
--- the same by the interface's number, where the router has it
+-- the same by the interface's number, where the router's device has it
 abbrev pub unicast_target : Topology → RouterId → Bool → ℕ → Option Target
 unicast_target t r via index = option_map (λ port. target_at port via index) (port_of t r index)
 
@@ -105,7 +105,7 @@ set_op_by t r Blackhole p metric via oif = Some (Set p (unwrap_or metric 0) (tar
 set_op_by t r Unreachable p metric via oif = Some (Set p (unwrap_or metric 0) (target.Dropped drop.Unreachable))
 set_op_by t r Prohibit p metric via oif = Some (Set p (unwrap_or metric 0) (target.Dropped drop.Prohibit))
 
--- the update that a route's message is to this router; none where it needs an interface that isn't the router's
+-- the update that a route's message in this device's feed is; none where it needs an interface that the device hasn't
 abbrev pub op_of : Topology → RouterId → RawRoute → Option Op
 op_of t r raw =
     if raw.del then Some (Clear raw.prefix raw.metric)

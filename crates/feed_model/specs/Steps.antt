@@ -9,13 +9,13 @@ use Rattle.feed_model.specs.declared.feed_told.RefusedFrame.{RefusedFrame}
 use Rattle.feed_model.specs.declared.feed_told.FeedEnd.{FeedEnd}
 use Rattle.feed_model.specs.declared.feed_told.FeedTold.{FeedTold}
 
--- Accepted: the updates of the frame and how many messages it passed over. Refused: where it begins in the feed,
--- where its refused message begins in its payload, and the cause.
+-- Accepted: the updates of the frame, each with the router whose table it changes, and how many messages it passed
+-- over. Refused: where it begins in the feed, where its refused message begins in its payload, and the cause.
 pub data FrameStep : Type 0 where
-  Accepted : (ops : List Op) (skipped : ℕ) → FrameStep
+  Accepted : (ops : List (RouterId × Op)) (skipped : ℕ) → FrameStep
   Refused : (frame : RefusedFrame) → FrameStep
 
-abbrev pub ops_of : FrameStep → List Op
+abbrev pub ops_of : FrameStep → List (RouterId × Op)
 ops_of (Accepted ops skipped) = ops
 ops_of (Refused frame) = []
 
@@ -28,15 +28,15 @@ refused_of (Accepted ops skipped) = []
 refused_of (Refused frame) = frame ∷ []
 
 -- the updates of accepted frames, in order
-abbrev pub updates : List FrameStep → List Op
+abbrev pub updates : List FrameStep → List (RouterId × Op)
 updates steps = flat_map ops_of steps
 
 -- the refused frames, in order
 abbrev pub refusals : List FrameStep → List RefusedFrame
 refusals steps = flat_map refused_of steps
 
--- A feed of a run, with what was read of it: its number from 1, its router, what each frame came to, how many of its
--- updates the history took, which are the first so many, and its end.
+-- A feed of a run, with what was read of it: its number from 1, the device whose feed it is, what each frame came to,
+-- how many of its updates the history took, which are the first so many, and its end.
 pub record FeedRead : Type 0 where
   pub feed_no : ℕ
   pub router : RouterId
@@ -45,7 +45,7 @@ pub record FeedRead : Type 0 where
   pub end : FeedEnd
 
 -- the updates of a feed's first frames that the history took: no more than it took of the feed
-abbrev pub kept_of : FeedRead → List FrameStep → List Op
+abbrev pub kept_of : FeedRead → List FrameStep → List (RouterId × Op)
 kept_of f steps = take f.kept (updates steps)
 
 -- What is told of a feed: how many of its updates the history took, and what was passed over and refused in all of its
@@ -60,9 +60,9 @@ told_of f = record {
   end = Some f.end;
 }
 
--- updates of a router's feed as entries of the history
-abbrev pub entries_by : ℕ → RouterId → List Op → List Entry
-entries_by feed_no router ops = map (λ op. Route router feed_no op) ops
+-- updates of the feed with this number as entries of the history
+abbrev pub entries_by : ℕ → List (RouterId × Op) → List Entry
+entries_by feed_no ops = map (λ u. Route u.0 feed_no u.1) ops
 
-abbrev pub entries_of : FeedRead → List Op → List Entry
-entries_of f ops = entries_by f.feed_no f.router ops
+abbrev pub entries_of : FeedRead → List (RouterId × Op) → List Entry
+entries_of f ops = entries_by f.feed_no ops

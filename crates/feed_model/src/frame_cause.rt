@@ -32,7 +32,7 @@ pub const ENCAP: u8 = 10;
 pub const NEXT_HOP_ID: u8 = 11;
 /// A unicast route is set, and no interface is given for it.
 pub const NO_INTERFACE: u8 = 12;
-/// A unicast route is set over an interface that the router doesn't have.
+/// A unicast route is set over an interface that neither the device nor a VRF of it has.
 pub const UNKNOWN_INTERFACE: u8 = 13;
 /// A frame's payload is of another type than netlink.
 pub const FRAME_TYPE: u8 = 14;

@@ -20,6 +20,7 @@ use Rattle.dn_formats.proofs.TopologySound.{all_differ-push}
 use Rattle.dn_formats.specs.Lawful.{Job, entries_of_job, entry_after, given_along, link_entries, pin_after}
 use Rattle.feed_model.specs.Steps.{FrameStep, FeedRead}
 use Rattle.dn_model.specs.declared.entry.Op.{Op}
+use Rattle.base.specs.declared.ids.RouterId.{RouterId}
 use Rattle.dn_formats.specs.declared.script.Line.{Line}
 use Rattle.dn_formats.specs.declared.script.Line.TheVariants as line
 use Rattle.feed_model.specs.declared.feed_told.FeedTold.{FeedTold}
@@ -45,8 +46,8 @@ use Rattle.feed_threads.specs.Runs.{AllRun, AreReady, IsReady, IsReadyBatch, May
 use Rattle.feed_threads.specs.Seats.{own_of, SawMore}
 use Rattle.feed_threads.specs.Tells.{IsOwnLinkOutcome, IsOwnOutcome, TellsOwn, TellsOwnFront}
 use Rattle.feed_threads.specs.Tracks.{TookFirstLinks, TookLinks}
+use Rattle.feed_threads.proofs.GiveLemmas.{took-later}
 use Rattle.feed_threads.proofs.SeatLemmas.{saw-seat}
-use Rattle.feed_threads.proofs.TakeLemmas.{took-later}
 
 -- ---- what is told stays told
 
@@ -165,11 +166,11 @@ reads-later t left faults place limit seen later (r ∷ rs) (b ∷ bs) [] p is =
 reads-later t left faults place limit seen later (r ∷ rs) (b ∷ bs) (f ∷ fs) p is =
     (read-later t left faults place limit seen later r b.0 b.1 f p is.0, reads-later t left faults place limit seen later rs bs fs p is.1)
 
-took-front-later : (limit : ℕ) (seen later : List Posted) (kept : Option ℕ) (steps : List FrameStep) (ops : List Op) → IsPrefix seen later → TookFront limit seen kept steps ops → TookFront limit later kept steps ops
+took-front-later : (limit : ℕ) (seen later : List Posted) (kept : Option ℕ) (steps : List FrameStep) (ops : List (RouterId × Op)) → IsPrefix seen later → TookFront limit seen kept steps ops → TookFront limit later kept steps ops
 took-front-later limit seen later None steps ops p took = took
 took-front-later limit seen later (Some n) steps ops p took = took-later limit seen later (Some n) steps ops p took
 
-stands-front-later : {S : Type 0} (t : Topology) (left : S → Option (List ℕ)) (faults place : S → ℕ) (limit : ℕ) (seen later : List Posted) (start : Reader S) (feed : Feed S) (steps : List FrameStep) (ops : List Op) → IsPrefix seen later →
+stands-front-later : {S : Type 0} (t : Topology) (left : S → Option (List ℕ)) (faults place : S → ℕ) (limit : ℕ) (seen later : List Posted) (start : Reader S) (feed : Feed S) (steps : List FrameStep) (ops : List (RouterId × Op)) → IsPrefix seen later →
     StandsFront t left faults place limit seen start feed steps ops → StandsFront t left faults place limit later start feed steps ops
 stands-front-later t left faults place limit seen later start feed steps ops p st = record { reads = st.reads; took = took-front-later limit seen later feed.kept steps ops p st.took; unended = st.unended }
 

@@ -26,17 +26,18 @@ use Rattle.feed_threads.specs.Seats.{own_of}
 use Rattle.feed_threads.specs.Takes.{GivesFirst, IsCount, IsWithin}
 use Rattle.feed_threads.specs.Tracks.{Begun, GoesOn, IsApartFrom, IsJobOn, Links, MayBecome, MayKeep, Strand, TookFirstLinks, TookLinks, Tracks, Woven, rests_by, rests_of, taken_of_all}
 use Rattle.feed_threads.proofs.EndLemmas.{job-order, links-all, map-then, rest_line, rests-of-links, rests-of-routers, rests-same, two-of}
+use Rattle.feed_threads.proofs.GiveLemmas.{entries_by-append, later-more, prefix-length, took-later, updates-append}
 use Rattle.feed_threads.proofs.ListLemmas.{Parts, all-parts, all-joined, all-through, ZipParts, zip-parts}
 use Rattle.feed_threads.proofs.OrderLemmas.{asked-push, given-append, given-push, gives-taken, links-append, links-same, none-taken, one-alone, taken_by-own}
 use Rattle.feed_threads.proofs.StrandLemmas.{nows, grown, Others, apart-kept, apart-others, count-grown, Split, split-at}
-use Rattle.feed_threads.proofs.TakeLemmas.{count-within, entries_by-append, later-more, prefix-length, took-later, updates-append}
+use Rattle.feed_threads.proofs.TakeLemmas.{count-within}
 use Rattle.feed_threads.proofs.TracksLemmas.{Counted, found-feed, kept-is, other-takes}
 
 -- ---- what a feed may come to
 
-keeps-taken : (limit : ℕ) (seen : List Posted) (kept : Option ℕ) (f : FeedRead) (steps : List FrameStep) (ops : List Op) → TookOf limit seen kept steps ops → MayKeep kept (length ops) f.kept → kept_of f steps ≡ ops
+keeps-taken : (limit : ℕ) (seen : List Posted) (kept : Option ℕ) (f : FeedRead) (steps : List FrameStep) (ops : List (RouterId × Op)) → TookOf limit seen kept steps ops → MayKeep kept (length ops) f.kept → kept_of f steps ≡ ops
 keeps-taken limit seen None f steps ops took may =
-    let enough : length (updates steps) ≤ f.kept = subst (λ (xs : List Op). length xs ≤ f.kept) took may in
+    let enough : length (updates steps) ≤ f.kept = subst (λ (xs : List (RouterId × Op)). length xs ≤ f.kept) took may in
     take_all f.kept (updates steps) enough ∙ sym took
 keeps-taken limit seen (Some n) f steps ops took may =
     let fewer : n < length (updates steps) = took.1.fewer in
@@ -90,27 +91,27 @@ take-begins {X = X} n k xs ys less few =
     )
 
 -- What lines take of a feed begins with what the history took, where they ask for all the frames that were read.
-begun-kept : (lines : List Line) (f : FeedRead) (steps more later : List FrameStep) (ops : List Op) (n : ℕ) → f.steps ≡ (steps ++ more) ++ later → ops ≡ updates steps → n ≤ length (updates more) →
+begun-kept : (lines : List Line) (f : FeedRead) (steps more later : List FrameStep) (ops : List (RouterId × Op)) (n : ℕ) → f.steps ≡ (steps ++ more) ++ later → ops ≡ updates steps → n ≤ length (updates more) →
     length (ops ++ take n (updates more)) ≤ f.kept → IsWithin (asked f.router lines) (length (steps ++ more)) → IsPrefix (ops ++ take n (updates more)) (kept_by lines f)
 begun-kept lines f steps more later ops n steps-are whole few kept within =
     let c : Option ℕ = asked f.router lines in
-    let um : List Op = updates more in
+    let um : List (RouterId × Op) = updates more in
     let fr : (zs : List FrameStep) × (front_of c ((steps ++ more) ++ later) ≡ (steps ++ more) ++ zs) = front-begins c (steps ++ more) later within in
-    let u : List Op = updates fr.0 in
+    let u : List (RouterId × Op) = updates fr.0 in
     let ups : updates (front_of c f.steps) ≡ ops ++ (um ++ u) =
-    ap (λ (xs : List FrameStep). updates (front_of c xs)) steps-are ∙ ap updates fr.1 ∙ updates-append (steps ++ more) fr.0 ∙ ap (λ (z : List Op). z ++ u) (updates-append steps more)
-    ∙ append_assoc (updates steps) um u ∙ ap (λ (z : List Op). z ++ (um ++ u)) (sym whole) in
+    ap (λ (xs : List FrameStep). updates (front_of c xs)) steps-are ∙ ap updates fr.1 ∙ updates-append (steps ++ more) fr.0 ∙ ap (λ (z : List (RouterId × Op)). z ++ u) (updates-append steps more)
+    ∙ append_assoc (updates steps) um u ∙ ap (λ (z : List (RouterId × Op)). z ++ (um ++ u)) (sym whole) in
     let len : length (ops ++ take n um) ≡ length ops + n = length-append ops (take n um) ∙ ap (λ (k : ℕ). length ops + k) (length-take-le n um few) in
     let j : ℕ = f.kept - length ops in
     let sum : f.kept ≡ length ops + (f.kept - length ops) = omega (arith, len, kept) in
     let enough : n ≤ f.kept - length ops = omega (arith, len, kept) in
     let rest : IsPrefix (take n um) (take j (um ++ u)) = take-begins n j um u enough few in (
       rest.0,
-      append_assoc ops (take n um) rest.0 ∙ ap (λ (z : List Op). ops ++ z) rest.1 ∙ sym (take-append-add ops (um ++ u) j)
-          ∙ ap (λ (k : ℕ). take k (ops ++ (um ++ u))) (sym sum) ∙ ap (λ (z : List Op). take f.kept z) (sym ups),
+      append_assoc ops (take n um) rest.0 ∙ ap (λ (z : List (RouterId × Op)). ops ++ z) rest.1 ∙ sym (take-append-add ops (um ++ u) j)
+          ∙ ap (λ (k : ℕ). take k (ops ++ (um ++ u))) (sym sum) ∙ ap (λ (z : List (RouterId × Op)). take f.kept z) (sym ups),
     )
 
-took-front : (limit : ℕ) (seen later : List Posted) (kept : Option ℕ) (steps : List FrameStep) (ops : List Op) → IsPrefix seen later → TookOf limit seen kept steps ops → TookFront limit later kept steps ops
+took-front : (limit : ℕ) (seen later : List Posted) (kept : Option ℕ) (steps : List FrameStep) (ops : List (RouterId × Op)) → IsPrefix seen later → TookOf limit seen kept steps ops → TookFront limit later kept steps ops
 took-front limit seen later None steps ops begins took = ([], append-nil ops ∙ took)
 took-front limit seen later (Some n) steps ops begins took = took-later limit seen later (Some n) steps ops begins took
 
@@ -193,8 +194,8 @@ module _ {S : Type 0} (t : Topology) (left : S → Option (List ℕ)) (faults pl
       let before-gives : List Entry = given_along t job [] before in
       let q : RouterId = mid.now.reader.told.router in
       let m : ℕ = mid.now.reader.told.feed_no in
-      let first : List Op = take x.took.n (updates x.more) in
-      let es : List Entry = entries_by m q first in
+      let first : List (RouterId × Op) = take x.took.n (updates x.more) in
+      let es : List Entry = entries_by m first in
       let z : ZipParts MayBecome front (first_of count mid new a b x) back fs = zip-parts MayBecome front (first_of count mid new a b x) back fs zip in
       let g : GoesOn mid z.y = become-back count mid new a b x z.y st z.mid_zip in
       let own-line : (r.0 == q.0) ≡ true = ap (λ (n : ℕ). n == q.0) (sym (eqb-true q.0 r.0 this)) ∙ ap (λ (n : ℕ). q.0 == n) (eqb-true q.0 r.0 this) ∙ this in
@@ -207,11 +208,10 @@ module _ {S : Type 0} (t : Topology) (left : S → Option (List ℕ)) (faults pl
       (within-both (asked q before) count (length mid.steps) (length x.more) (end_of_feed mid.now) counted x.within)) in
       let has : IsPrefix (mid.ops ++ first) (kept_by (before ++ y ∷ []) z.y) =
       begun-kept (before ++ y ∷ []) z.y mid.steps x.more z.mid_zip.later mid.ops x.took.n z.mid_zip.steps (whole-before count mid new a b x st) x.took.few (may-keep count mid new a b x z.y z.mid_zip) within in
-      let tail : List Entry = entries_by m q has.0 in
+      let tail : List Entry = entries_by m has.0 in
       let own : taken_by before y z.y ≡ es ++ tail =
       taken_by-own before y z.y mid.ops (first ++ has.0) (kept-is mid z.y before g counted) (sym has.1 ∙ append_assoc mid.ops first has.0)
-      ∙ ap (λ (n : ℕ). entries_by n z.y.router (first ++ has.0)) g.feed_no ∙ ap (λ (p : RouterId). entries_by m p (first ++ has.0)) g.router
-      ∙ entries_by-append m q first has.0 in
+      ∙ ap (λ (n : ℕ). entries_by n (first ++ has.0)) g.feed_no ∙ entries_by-append m first has.0 in
       let alone : flat_map (taken_by before y) (z.front_ys ++ z.y ∷ z.back_ys) ≡ es ++ tail =
       one-alone (taken_by before y) z.front_ys z.y z.back_ys (es ++ tail)
       (none-taken before y z.front_ys (all-through MayBecome (IsApartFrom mid) (λ f. takes f.router y ≡ false) front z.front_ys (λ s f may p. other-takes mid s f l r count this p may.router) z.front_zip others.in_front))
@@ -233,7 +233,7 @@ module _ {S : Type 0} (t : Topology) (left : S → Option (List ℕ)) (faults pl
   begun-grown start olds news news' a b before links front mid back new l r count begins this news-are x w counted linked count-before order =
       let y : Line = line.Take l r count in
       let s' : Strand S = first_of count mid new a b x in
-      let um : List Op = updates x.more in
+      let um : List (RouterId × Op) = updates x.more in
       let n : ℕ = x.took.n in
       let Q : Strand S → Type 0 = λ s. Stands t left faults place limit a s.start s.now s.steps s.ops in
       let P : Strand S → Type 0 = λ s. StandsFront t left faults place limit b s.start s.now s.steps s.ops in
@@ -241,7 +241,7 @@ module _ {S : Type 0} (t : Topology) (left : S → Option (List ℕ)) (faults pl
       let st : Q mid = each.mid_is in
       let whole : mid.ops ≡ updates mid.steps = whole-before count mid new a b x st in
       let all : (mid.ops ++ take n um) ++ drop n um ≡ updates (mid.steps ++ x.more) =
-      append_assoc mid.ops (take n um) (drop n um) ∙ ap (λ (z : List Op). mid.ops ++ z) (take-append-drop n um) ∙ ap (λ (z : List Op). z ++ um) whole ∙ sym (updates-append mid.steps x.more) in
+      append_assoc mid.ops (take n um) (drop n um) ∙ ap (λ (z : List (RouterId × Op)). mid.ops ++ z) (take-append-drop n um) ∙ ap (λ (z : List (RouterId × Op)). z ++ um) whole ∙ sym (updates-append mid.steps x.more) in
       let others : Others front mid back = apart-others front mid back w.apart in
       let mine : Counted before mid = (all-parts (Counted before) front mid back counted).mid_is in
       let here : P s' = record {
@@ -258,7 +258,7 @@ module _ {S : Type 0} (t : Topology) (left : S → Option (List ℕ)) (faults pl
         apart = apart-kept front mid s' back (first-router count mid new a b x st) w.apart;
         linked = first-links links.full limit a b (length (link_entries t job_number before)) (length (link_entries t job_number (before ++ y ∷ []))) links.count
             (prefix-length a b begins) (let same = ap length (links-same t job_number before y refl) in omega (arith, same)) linked;
-        count = count-grown front mid s' back (own_of number a) (own_of number b) start mid.now.reader.told.feed_no mid.now.reader.told.router (take n um) links.count refl x.took.grows count-before;
+        count = count-grown front mid s' back (own_of number a) (own_of number b) start mid.now.reader.told.feed_no (take n um) links.count refl x.took.grows count-before;
         order = λ job on.
             begun-own start a b before front mid back new l r count job this x st mine others on.feeds
             (order job (record {

@@ -9,6 +9,7 @@ use Rattle.std.proofs.lemmas.List.{append-nil, map-append}
 use Rattle.std.proofs.lemmas.List.Folds.{list_any-append}
 use Rattle.std.proofs.lemmas.List.Elements.{All-nil, All-cons, All-head, All-tail, All-map, filter-append}
 use Rattle.dn_io.specs.Told.{with_front}
+use Rattle.feed_model.specs.Feed.{IsToTableOf}
 use Rattle.feed_model.specs.Frames.{IsFrame}
 use Rattle.dn_formats.specs.Lawful.{Job, asked, entries_of_job, first_taken, given_along, left_by, link_entries, takes, takes_feed}
 use Rattle.feed_model.specs.Steps.{FrameStep, FeedRead, updates, told_of}
@@ -32,11 +33,11 @@ use Rattle.feed_threads.specs.Seats.{own_of}
 use Rattle.feed_threads.specs.Takes.{IsCount, Passes}
 use Rattle.feed_threads.specs.Tells.{TellsOwn, TellsOwnFront}
 use Rattle.feed_threads.specs.Tracks.{AllApart, GoesOn, IsApartFrom, IsJobOn, Links, MayLink, Strand, TookLinks, Tracks, Whatever, rest_of, rests_by, rests_of, taken_of_all}
+use Rattle.feed_threads.proofs.GiveLemmas.{later-nil, passes-none}
 use Rattle.feed_threads.proofs.ListLemmas.{All-unmap, Parts, all-parts, all-through, eqb-back}
 use Rattle.feed_threads.proofs.OrderLemmas.{given-append, links-append}
 use Rattle.feed_threads.proofs.RestLemmas.{asked-rests, filter-none, rests-left, first_taken-append}
 use Rattle.feed_threads.proofs.StrandLemmas.{nows}
-use Rattle.feed_threads.proofs.TakeLemmas.{later-nil, passes-none}
 use Rattle.feed_threads.proofs.TellLemmas.{tells-untake}
 
 -- ---- before the first line
@@ -95,11 +96,11 @@ feed_of s = record {
   end = end_or (end_of_feed s.now);
 }
 
-kept-or : (limit : ℕ) (seen : List Posted) (kept : Option ℕ) (steps : List FrameStep) (ops : List Op) → TookOf limit seen kept steps ops → take (kept_or kept steps) (updates steps) ≡ ops
+kept-or : (limit : ℕ) (seen : List Posted) (kept : Option ℕ) (steps : List FrameStep) (ops : List (RouterId × Op)) → TookOf limit seen kept steps ops → take (kept_or kept steps) (updates steps) ≡ ops
 kept-or limit seen None steps ops took = take-length (updates steps) ∙ sym took
 kept-or limit seen (Some n) steps ops took = sym took.0
 
-kept-so : (limit : ℕ) (seen : List Posted) (kept : Option ℕ) (f : FeedRead) (ops : List Op) → f.kept ≡ kept_or kept f.steps → TookOf limit seen kept f.steps ops → IsKeptSo limit seen kept f
+kept-so : (limit : ℕ) (seen : List Posted) (kept : Option ℕ) (f : FeedRead) (ops : List (RouterId × Op)) → f.kept ≡ kept_or kept f.steps → TookOf limit seen kept f.steps ops → IsKeptSo limit seen kept f
 kept-so limit seen None f ops is took = is
 kept-so limit seen (Some n) f ops is took = (is, took.1)
 
@@ -277,6 +278,7 @@ module _ {S : Type 0} (t : Topology) (left : S → Option (List ℕ)) (faults pl
     whole = sym (ap (with_front ([] ++ r.held)) is ∙ ap (λ xs. with_front xs (Some bytes)) fresh.held);
     within = (let p : r.passed ≡ 0 = fresh.passed in let q : length r.held ≡ 0 = ap length fresh.held in omega arith);
     counted = fresh.told;
+    knows = fresh.knows;
   }
 
   going-on : (r : Reader S) → IsFresh t faults r → r.told.end ≡ None
@@ -293,6 +295,7 @@ module _ {S : Type 0} (t : Topology) (left : S → Option (List ℕ)) (faults pl
         keeps_place = refl;
         told = fresh.told ∙ ap (told_upto r.told.feed_no r.told.router []) (sym going);
         counts = subst (λ (e : Option FeedEnd). CountsBy e (faults r.source)) (sym going) fresh.faults_none;
+        own = All-nil (IsToTableOf t r.told.router);
         stands = λ bytes is. subst (λ (e : Option FeedEnd). StandsBy e t r (left r.source) bytes []) (sym going) (at-start r fresh bytes is);
       }
 

@@ -89,8 +89,8 @@ kept-more before (l ∷ lines) f =
 kept-whole : (lines : List Line) (f : FeedRead) → Front (kept_by lines f) (kept_of f f.steps)
 kept-whole lines f = kept-front f (taken lines f) f.steps (front-steps (asked f.router lines) f.steps)
 
-entries-join : (f : FeedRead) (xs ys : List Op) → entries_of f xs ++ entries_of f ys ≡ entries_of f (xs ++ ys)
-entries-join f xs ys = sym (map-append (λ (op : Op). Route f.router f.feed_no op) xs ys)
+entries-join : (f : FeedRead) (xs ys : List (RouterId × Op)) → entries_of f xs ++ entries_of f ys ≡ entries_of f (xs ++ ys)
+entries-join f xs ys = sym (map-append (λ (u : RouterId × Op). Route u.0 f.feed_no u.1) xs ys)
 
 -- ---- what lines take of feeds
 
@@ -106,9 +106,9 @@ taken-alone : (f : FeedRead) (before lines : List Line) → taken_along (f ∷ [
 taken-alone f before [] =
     sym (ap (λ b. entries_of f (drop (length (kept_by before f)) (kept_by b f))) (append-nil before) ∙ ap (entries_of f) (drop-all (kept_by before f)))
 taken-alone f before (l ∷ lines) =
-    let k : List Op = kept_by before f in
-    let m : List Op = kept_by (before ++ l ∷ []) f in
-    let n : List Op = kept_by (before ++ l ∷ lines) f in
+    let k : List (RouterId × Op) = kept_by before f in
+    let m : List (RouterId × Op) = kept_by (before ++ l ∷ []) f in
+    let n : List (RouterId × Op) = kept_by (before ++ l ∷ lines) f in
     let grows : Front k m = kept-grows before l f in
     let longer : length m ≡ length k + length grows.more = ap length grows.whole ∙ length-append k grows.more in
     let rest : Front m n =
@@ -122,7 +122,7 @@ taken-alone f before (l ∷ lines) =
 -- what lines take of one feed
 pub taken-first : (f : FeedRead) (lines : List Line) → taken_along (f ∷ []) [] lines ≡ entries_of f (kept_by lines f)
 taken-first f lines =
-    taken-alone f [] lines ∙ ap (λ (ops : List Op). entries_of f (drop (length ops) (kept_by lines f))) (take-nil f.kept)
+    taken-alone f [] lines ∙ ap (λ (ops : List (RouterId × Op)). entries_of f (drop (length ops) (kept_by lines f))) (take-nil f.kept)
 
 abbrev one_if : Bool → FeedRead → List FeedRead
 one_if true f = f ∷ []
@@ -192,24 +192,24 @@ first-filter p fs before (l ∷ lines) =
     ∙ ap (λ gs. gs ++ filter p (first_taken fs (before ++ l ∷ []) lines)) (filter-swap p (λ f. takes f.router l && not (takes_feed before f)) fs)
     ∙ ap (λ gs. filter (λ f. takes f.router l && not (takes_feed before f)) (filter p fs) ++ gs) (first-filter p fs (before ++ l ∷ []) lines)
 
-from-own : (f x : FeedRead) (ops : List Op) → same_as f x ≡ true → filter (is_from f) (entries_of x ops) ≡ entries_of x ops
+from-own : (f x : FeedRead) (ops : List (RouterId × Op)) → same_as f x ≡ true → filter (is_from f) (entries_of x ops) ≡ entries_of x ops
 from-own f x [] own = refl
-from-own f x (o ∷ os) own = rw own (ap (λ es. Route x.router x.feed_no o ∷ es) (from-own f x os own))
+from-own f x (u ∷ us) own = rw own (ap (λ es. Route u.0 x.feed_no u.1 ∷ es) (from-own f x us own))
 
-from-other : (f x : FeedRead) (ops : List Op) → same_as f x ≡ false → filter (is_from f) (entries_of x ops) ≡ []
+from-other : (f x : FeedRead) (ops : List (RouterId × Op)) → same_as f x ≡ false → filter (is_from f) (entries_of x ops) ≡ []
 from-other f x [] other = refl
-from-other f x (o ∷ os) other = rw other (from-other f x os other)
+from-other f x (u ∷ us) other = rw other (from-other f x us other)
 
 -- entries that each of some feeds gives
-abbrev gives : (FeedRead → List Op) → FeedRead → List Entry
+abbrev gives : (FeedRead → List (RouterId × Op)) → FeedRead → List Entry
 gives h x = entries_of x (h x)
 
-from-by : (h : FeedRead → List Op) (f x : FeedRead) (es : List Entry) (xs : List FeedRead) (b : Bool) → same_as f x ≡ b → es ≡ flat_map (gives h) xs →
+from-by : (h : FeedRead → List (RouterId × Op)) (f x : FeedRead) (es : List Entry) (xs : List FeedRead) (b : Bool) → same_as f x ≡ b → es ≡ flat_map (gives h) xs →
     filter (is_from f) (gives h x) ++ es ≡ flat_map (gives h) (cond b (x ∷ xs) xs)
 from-by h f x es xs true is rest = ap (λ ys. ys ++ es) (from-own f x (h x) is) ∙ ap (λ ys. gives h x ++ ys) rest
 from-by h f x es xs false is rest = ap (λ ys. ys ++ es) (from-other f x (h x) is) ∙ rest
 
-from-flat : (h : FeedRead → List Op) (f : FeedRead) (fs : List FeedRead) → filter (is_from f) (flat_map (gives h) fs) ≡ flat_map (gives h) (filter (same_as f) fs)
+from-flat : (h : FeedRead → List (RouterId × Op)) (f : FeedRead) (fs : List FeedRead) → filter (is_from f) (flat_map (gives h) fs) ≡ flat_map (gives h) (filter (same_as f) fs)
 from-flat h f [] = refl
 from-flat h f (x ∷ xs) =
     filter-append (is_from f) (gives h x) (flat_map (gives h) xs)
@@ -265,11 +265,11 @@ by-links n (entry.Link j l down ∷ es) all =
     ∙ ap (λ xs. entry.Link j l down ∷ xs) (by-links n es (All-tail (IsLinkOf n) (entry.Link j l down) es all))
 
 -- a feed's entries are none
-by-feed : (n : ℕ) (x : FeedRead) (ops : List Op) → filter (is_by n) (entries_of x ops) ≡ []
+by-feed : (n : ℕ) (x : FeedRead) (ops : List (RouterId × Op)) → filter (is_by n) (entries_of x ops) ≡ []
 by-feed n x [] = refl
-by-feed n x (o ∷ os) = by-feed n x os
+by-feed n x (u ∷ us) = by-feed n x us
 
-by-flat : (n : ℕ) (h : FeedRead → List Op) (fs : List FeedRead) → filter (is_by n) (flat_map (gives h) fs) ≡ []
+by-flat : (n : ℕ) (h : FeedRead → List (RouterId × Op)) (fs : List FeedRead) → filter (is_by n) (flat_map (gives h) fs) ≡ []
 by-flat n h [] = refl
 by-flat n h (x ∷ xs) =
     filter-append (is_by n) (gives h x) (flat_map (gives h) xs) ∙ ap (λ es. es ++ filter (is_by n) (flat_map (gives h) xs)) (by-feed n x (h x)) ∙ by-flat n h xs
@@ -423,10 +423,10 @@ IsFromSome fs e = is_from_some fs e ≡ true
 abbrev IsAmong : List FeedRead → FeedRead → Type 0
 IsAmong fs x = list_any (λ f. x.feed_no == f.feed_no) fs ≡ true
 
-some-entries : (fs : List FeedRead) (x : FeedRead) (ops : List Op) → IsAmong fs x → All (IsFromSome fs) (entries_of x ops)
-some-entries fs x ops is = All-map (IsFromSome fs) (λ (op : Op). Route x.router x.feed_no op) ops (λ k d less. is)
+some-entries : (fs : List FeedRead) (x : FeedRead) (ops : List (RouterId × Op)) → IsAmong fs x → All (IsFromSome fs) (entries_of x ops)
+some-entries fs x ops is = All-map (IsFromSome fs) (λ (u : RouterId × Op). Route u.0 x.feed_no u.1) ops (λ k d less. is)
 
-some-flat : (fs : List FeedRead) (h : FeedRead → List Op) (xs : List FeedRead) → All (IsAmong fs) xs → All (IsFromSome fs) (flat_map (gives h) xs)
+some-flat : (fs : List FeedRead) (h : FeedRead → List (RouterId × Op)) (xs : List FeedRead) → All (IsAmong fs) xs → All (IsFromSome fs) (flat_map (gives h) xs)
 some-flat fs h [] a = All-nil (IsFromSome fs)
 some-flat fs h (x ∷ xs) a =
     All-append (IsFromSome fs) (gives h x) (flat_map (gives h) xs) (some-entries fs x (h x) (All-head (IsAmong fs) x xs a)) (some-flat fs h xs (All-tail (IsAmong fs) x xs a))

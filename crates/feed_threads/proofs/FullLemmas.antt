@@ -8,6 +8,7 @@ use Rattle.std.proofs.lemmas.List.Elements.{All-nil, All-cons, All-head, All-tai
 use Rattle.dn_model.specs.declared.entry.Entry.{Entry}
 use Rattle.dn_model.specs.declared.entry.Entry.TheVariants.{Route}
 use Rattle.dn_model.specs.declared.entry.Op.{Op}
+use Rattle.base.specs.declared.ids.RouterId.{RouterId}
 use Rattle.dn_model.specs.declared.topology.Topology.{Topology}
 use Rattle.dn_formats.specs.Lawful.{IsBrokenOff, IsKeptAt, IsLawful, Job, is_by, is_by_some, is_from, is_from_some, kept_of_links, link_entries, link_entry}
 use Rattle.feed_model.specs.Steps.{FeedRead, kept_of, updates}
@@ -98,7 +99,7 @@ room-left t limit room lines feeds jobs h tolds lawful fits few less =
     (λ i d there.
     let g : FeedRead = get_or feeds i d in
     let is : length (filter (is_from g) h) ≡ length (kept_of g g.steps) =
-    ap length (lawful.shuffle.each i d there) ∙ length-map (kept_of g g.steps) (λ (op : Op). Route g.router g.feed_no op) in
+    ap length (lawful.shuffle.each i d there) ∙ length-map (kept_of g g.steps) (λ (u : RouterId × Op). Route u.0 g.feed_no u.1) in
     let kept : length (kept_of g g.steps) ≤ length (updates g.steps) = (let len = length-take g.kept (updates g.steps) in omega (arith, len)) in
     let own : 28 * length (updates g.steps) ≤ room = fits i d there in
     fewer-of is_from room g (is_from_some feeds) h (omega (arith, is, kept, own))) in

@@ -6,6 +6,7 @@ pub mod DoesLemmas
 pub mod EndLemmas
 pub mod EntriesLemmas
 pub mod FullLemmas
+pub mod GiveLemmas
 pub mod HistoryLemmas
 pub mod JobLemmas
 pub mod LawLemmas

@@ -1,7 +1,8 @@
 -- Lists of which one element is another, and lists that go along with each other.
-use Rattle.std.proofs.Common.{◌≡◌, ℕ, ◌==◌, false, List, [], ◌∷◌, ◌++◌, map, All, refl, ap, arith}
+use Rattle.std.proofs.Common.{◌≡◌, ℕ, ◌+◌, ◌<◌, ◌==◌, false, List, [], ◌∷◌, ◌++◌, ◌∙◌, get_or, length, map, take, All, refl, ap, arith}
 use Rattle.std.proofs.lemmas.Bool.Decides.{nat_tests}
 use Rattle.std.specs.List.{AllZip}
+use Rattle.std.proofs.lemmas.List.{get_or_default, take_more}
 use Rattle.std.proofs.lemmas.List.Elements.{All-append, All-nil, All-cons, All-head, All-tail}
 
 pub record Parts {X : Type 0} (P : X → Type 0) (front : List X) (mid : X) (back : List X) : Type 0 where
@@ -60,3 +61,9 @@ zip-parts R (x ∷ front) mid back (y ∷ ys) zip =
       mid_zip = rest.mid_zip;
       back_zip = rest.back_zip;
     }
+
+-- one more of a list of pairs, whose parts were looked up one by one
+pub take-pair : {X Y : Type 0} (xs : List (X × Y)) (i : ℕ) (d e : X × Y) → i < length xs →
+    take (i + 1) xs ≡ take i xs ++ ((get_or xs i d).0, (get_or xs i e).1) ∷ []
+take-pair {X = X} {Y = Y} xs i d e less =
+    take_more xs i d less ∙ ap (λ (u : X × Y). take i xs ++ ((get_or xs i d).0, u.1) ∷ []) (get_or_default xs i d e less)

@@ -108,7 +108,7 @@ one-alone g front f back es none is none-back =
     flat_map-append g front (f ∷ back) ∙ ap (λ x. x ++ flat_map g (f ∷ back)) none ∙ ap (λ x. x ++ flat_map g back) is ∙ ap (λ x. es ++ x) none-back ∙ append-nil es
 
 -- what a line takes of a feed, by what the history had taken of it before and after it
-pub taken_by-own : (before : List Line) (l : Line) (f : FeedRead) (ops more : List Op) → kept_by before f ≡ ops → kept_by (before ++ l ∷ []) f ≡ ops ++ more →
+pub taken_by-own : (before : List Line) (l : Line) (f : FeedRead) (ops more : List (RouterId × Op)) → kept_by before f ≡ ops → kept_by (before ++ l ∷ []) f ≡ ops ++ more →
     taken_by before l f ≡ entries_of f more
 taken_by-own before l f ops more was is =
     ap (λ xs. entries_of f (drop (length xs) (kept_by (before ++ l ∷ []) f))) was ∙ ap (λ xs. entries_of f (drop (length ops) xs)) is

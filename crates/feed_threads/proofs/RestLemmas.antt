@@ -76,15 +76,15 @@ rest-by lines done l q f true true own is =
     let before : kept_by (lines ++ rests_of done) f ≡ kept_of f f.steps = kept-of-asked (lines ++ rests_of done) f None all in
     let after : kept_by ((lines ++ rests_of done) ++ line.Take l q None ∷ []) f ≡ kept_of f f.steps =
     kept-of-asked ((lines ++ rests_of done) ++ line.Take l q None ∷ []) f None (asked-own f.router (lines ++ rests_of done) l q own) in
-    ap (λ (xs : List Op). entries_of f (drop (length xs) (kept_by ((lines ++ rests_of done) ++ line.Take l q None ∷ []) f))) before
-    ∙ ap (λ (xs : List Op). entries_of f (drop (length (kept_of f f.steps)) xs)) after ∙ ap (entries_of f) (drop-all (kept_of f f.steps))
+    ap (λ (xs : List (RouterId × Op)). entries_of f (drop (length xs) (kept_by ((lines ++ rests_of done) ++ line.Take l q None ∷ []) f))) before
+    ∙ ap (λ (xs : List (RouterId × Op)). entries_of f (drop (length (kept_of f f.steps)) xs)) after ∙ ap (entries_of f) (drop-all (kept_of f f.steps))
 rest-by lines done l q f true false own is =
     let same : asked f.router (lines ++ rests_of done) ≡ asked f.router lines = asked-unnamed f.router lines done is in
     let before : kept_by (lines ++ rests_of done) f ≡ kept_by lines f = kept-of-asked (lines ++ rests_of done) f (asked f.router lines) same in
     let after : kept_by ((lines ++ rests_of done) ++ line.Take l q None ∷ []) f ≡ kept_of f f.steps =
     kept-of-asked ((lines ++ rests_of done) ++ line.Take l q None ∷ []) f None (asked-own f.router (lines ++ rests_of done) l q own) in
-    ap (λ (xs : List Op). entries_of f (drop (length xs) (kept_by ((lines ++ rests_of done) ++ line.Take l q None ∷ []) f))) before
-    ∙ ap (λ (xs : List Op). entries_of f (drop (length (kept_by lines f)) xs)) after
+    ap (λ (xs : List (RouterId × Op)). entries_of f (drop (length xs) (kept_by ((lines ++ rests_of done) ++ line.Take l q None ∷ []) f))) before
+    ∙ ap (λ (xs : List (RouterId × Op)). entries_of f (drop (length (kept_by lines f)) xs)) after
 
 -- what is made of some things alone
 flat-by-test : {X Y : Type 0} (p : X → Bool) (g h : X → List Y) (x : X) (xs : List X) (b : Bool) → p x ≡ b → h x ≡ (if p x then g x else []) → flat_map h xs ≡ flat_map g (filter p xs) →

@@ -44,23 +44,23 @@ pub looks_none : (seat : Caller) → LooksOn seat seat
 looks_none seat = record { saw = saw-none seat; own = refl }
 
 -- the own entries once one more update of a feed was applied
-pub own-more : (old mid new : Caller) (n : ℕ) (r : RouterId) (ops more : List Op) (op : Op) (took : Bool) → SawMore old mid → took ≡ true → more ≡ ops ++ op ∷ [] →
-    own_of old.number mid.seen ≡ own_of old.number old.seen ++ entries_by n r ops →
-    own_of mid.number new.seen ≡ own_of mid.number mid.seen ++ (if took then Route r n op ∷ [] else []) →
-    own_of old.number new.seen ≡ own_of old.number old.seen ++ entries_by n r more
-own-more old mid new n r ops more op took saw is parts before after =
-    let e : Entry = Route r n op in
+pub own-more : (old mid new : Caller) (n : ℕ) (ops more : List (RouterId × Op)) (u : RouterId × Op) (took : Bool) → SawMore old mid → took ≡ true → more ≡ ops ++ u ∷ [] →
+    own_of old.number mid.seen ≡ own_of old.number old.seen ++ entries_by n ops →
+    own_of mid.number new.seen ≡ own_of mid.number mid.seen ++ (if took then Route u.0 n u.1 ∷ [] else []) →
+    own_of old.number new.seen ≡ own_of old.number old.seen ++ entries_by n more
+own-more old mid new n ops more u took saw is parts before after =
+    let e : Entry = Route u.0 n u.1 in
     let one : own_of mid.number new.seen ≡ own_of mid.number mid.seen ++ e ∷ [] = after ∙ ap (λ (b : Bool). own_of mid.number mid.seen ++ (if b then e ∷ [] else [])) is in
     subst (λ (k : ℕ). own_of k new.seen ≡ own_of k mid.seen ++ e ∷ []) (saw-number old mid saw) one
-    ∙ ap (λ es. es ++ e ∷ []) before ∙ append_assoc (own_of old.number old.seen) (entries_by n r ops) (e ∷ [])
-    ∙ ap (λ es. own_of old.number old.seen ++ es) (sym (map-append (λ (o : Op). Route r n o) ops (op ∷ [])))
-    ∙ ap (λ os. own_of old.number old.seen ++ entries_by n r os) (sym parts)
+    ∙ ap (λ es. es ++ e ∷ []) before ∙ append_assoc (own_of old.number old.seen) (entries_by n ops) (e ∷ [])
+    ∙ ap (λ es. own_of old.number old.seen ++ es) (sym (map-append (λ (v : RouterId × Op). Route v.0 n v.1) ops (u ∷ [])))
+    ∙ ap (λ os. own_of old.number old.seen ++ entries_by n os) (sym parts)
 
 -- the own entries once a further update was refused: the first n of them stand
-pub first-refused : (old mid new : Caller) (feed_no : ℕ) (r : RouterId) (ops : List Op) (n : ℕ) → SawMore old mid → n < length ops →
-    own_of old.number mid.seen ≡ own_of old.number old.seen ++ entries_by feed_no r (take n ops) → own_of mid.number new.seen ≡ own_of mid.number mid.seen →
-    TookFirst old.number feed_no r old.seen new.seen ops
-first-refused old mid new feed_no r ops n saw below before same = record {
+pub first-refused : (old mid new : Caller) (feed_no : ℕ) (ops : List (RouterId × Op)) (n : ℕ) → SawMore old mid → n < length ops →
+    own_of old.number mid.seen ≡ own_of old.number old.seen ++ entries_by feed_no (take n ops) → own_of mid.number new.seen ≡ own_of mid.number mid.seen →
+    TookFirst old.number feed_no old.seen new.seen ops
+first-refused old mid new feed_no ops n saw below before same = record {
   n = n;
   few = omega (arith, below);
   grows = subst (λ (k : ℕ). own_of k new.seen ≡ own_of k mid.seen) (saw-number old mid saw) same ∙ before;

@@ -3,7 +3,10 @@ use Rattle.std.proofs.Common.{◌≡◌, ℕ, ◌+◌, ◌<◌, ⊎_elim, List, 
 use Rattle.std.proofs.lemmas.Grind.{flat_map-append}
 use Rattle.std.proofs.lemmas.List.{append-nil}
 use Rattle.std.proofs.lemmas.List.Sums.{sum-map, sum_by-append}
+use Rattle.std.specs.List.{All}
 use Rattle.std.specs.Prelude.{IsOkAnd}
+use Rattle.std.proofs.lemmas.List.Elements.{All-append, All-nil}
+use Rattle.feed_model.specs.Feed.{IsToTableOf}
 use Rattle.dn_io.specs.Faults.{Rose}
 use Rattle.feed_model.specs.Steps.{FrameStep, Accepted, Refused, updates, refusals, skipped_of, ops_of, refused_of}
 use Rattle.dn_model.specs.declared.entry.Op.{Op}
@@ -13,7 +16,7 @@ use Rattle.dn_model.specs.declared.topology.Topology.{Topology}
 use Rattle.feed_model.specs.declared.feed_told.FeedEnd.{FeedEnd}
 use Rattle.feed_model.specs.declared.feed_told.FeedTold.{FeedTold}
 use Rattle.feed_model.specs.declared.feed_told.RefusedFrame.{RefusedFrame}
-use Rattle.route_feed.specs.FeedReader.{Reader, IsAt, IsAnswered, IsOutcome, FaultsAtStep, FaultsAt, told_so_far, told_after, told_then, end_of}
+use Rattle.route_feed.specs.FeedReader.{AreOwnOps, Reader, IsAt, IsAnswered, IsOutcome, FaultsAtStep, FaultsAt, told_so_far, told_after, told_then, end_of}
 use Rattle.route_feed.specs.declared.feed_step.FeedStep.{FeedStep}
 use Rattle.route_feed.specs.declared.feed_step.FeedStep.TheVariants as answers
 use Rattle.feed_threads.specs.Feeds.{handed_out, told_upto, StandsBy, CountsBy, HandsOut, ReadsOn}
@@ -24,7 +27,7 @@ sum_push : (steps : List FrameStep) (s : FrameStep) → sum (map skipped_of (ste
 sum_push steps s =
     omega (arith, sum-map skipped_of (steps ++ s ∷ []), sum_by-append skipped_of steps (s ∷ []), sum-map skipped_of steps, sum-map skipped_of (s ∷ []))
 
-told_ops : (n : ℕ) (r : RouterId) (steps : List FrameStep) (ops : List Op) (skipped : ℕ) →
+told_ops : (n : ℕ) (r : RouterId) (steps : List FrameStep) (ops : List (RouterId × Op)) (skipped : ℕ) →
     told_after (told_so_far n r steps) (answers.Ops ops skipped) ≡ told_so_far n r (steps ++ Accepted ops skipped ∷ [])
 told_ops n r steps ops skipped =
     let u : length (updates (steps ++ Accepted ops skipped ∷ [])) ≡ length (updates steps) + length ops =
@@ -90,7 +93,7 @@ none-handed answers.TooLong end is = refl
 none-handed answers.Faulted end is = refl
 
 updates-after : (told : FeedTold) (step : FeedStep) → (told_after told step).updates ≡ told.updates + length (updates (handed_out step))
-updates-after told (answers.Ops ops skipped) = ap (λ (xs : List Op). told.updates + length xs) (sym (append-nil ops))
+updates-after told (answers.Ops ops skipped) = ap (λ (xs : List (RouterId × Op)). told.updates + length xs) (sym (append-nil ops))
 updates-after told (answers.Refused o m c) = sym (add-zero told.updates)
 updates-after told answers.End = sym (add-zero told.updates)
 updates-after told (answers.CutShort o) = sym (add-zero told.updates)
@@ -107,6 +110,24 @@ end-after told (answers.Lost o c) none = refl
 end-after told answers.TooLong none = refl
 end-after told answers.Faulted none = refl
 
+-- ---- whose tables updates change
+
+own-of-step : (t : Topology) (r : RouterId) (step : FeedStep) → AreOwnOps t r step → All (IsToTableOf t r) (updates (handed_out step))
+own-of-step t r (answers.Ops ops skipped) own = subst (All (IsToTableOf t r)) (sym (append-nil ops)) own
+own-of-step t r (answers.Refused o m c) own = All-nil (IsToTableOf t r)
+own-of-step t r answers.End own = All-nil (IsToTableOf t r)
+own-of-step t r (answers.CutShort o) own = All-nil (IsToTableOf t r)
+own-of-step t r (answers.Lost o c) own = All-nil (IsToTableOf t r)
+own-of-step t r answers.TooLong own = All-nil (IsToTableOf t r)
+own-of-step t r answers.Faulted own = All-nil (IsToTableOf t r)
+
+-- one step more of a device's feed changes its tables alone
+own-on : (t : Topology) (r : RouterId) (steps : List FrameStep) (step : FeedStep) → All (IsToTableOf t r) (updates steps) → AreOwnOps t r step →
+    All (IsToTableOf t r) (updates (steps ++ handed_out step))
+own-on t r steps step before own =
+    subst (All (IsToTableOf t r)) (sym (flat_map-append ops_of steps (handed_out step)))
+    (All-append (IsToTableOf t r) (updates steps) (updates (handed_out step)) before (own-of-step t r step own))
+
 -- ---- a call of the reader
 
 module _ {S : Type 0} (t : Topology) (left : S → Option (List ℕ)) (faults place : S → ℕ) where
@@ -120,6 +141,7 @@ module _ {S : Type 0} (t : Topology) (left : S → Option (List ℕ)) (faults pl
     pub router : new.told.router ≡ old.told.router
     pub feed_no : new.told.feed_no ≡ old.told.feed_no
     pub stays : place new.source ≡ place old.source
+    pub own : IfOk result (AreOwnOps t old.told.router)
 
   handed-going : (old new : Reader S) (step : FeedStep) → Answers old new (Ok step) → old.told.end ≡ None → (start : Reader S) (steps : List FrameStep) →
       HandsOut t left faults place start old steps → HandsOut t left faults place start new (steps ++ handed_out step)
@@ -139,6 +161,8 @@ module _ {S : Type 0} (t : Topology) (left : S → Option (List ℕ)) (faults pl
             ∙ ap (λ (r : RouterId). told_upto new.told.feed_no r (steps ++ handed_out step) (end_of step)) (sym a.router)
             ∙ ap (λ (e : Option FeedEnd). told_upto new.told.feed_no new.told.router (steps ++ handed_out step) e) (sym end);
         counts = subst (λ (e : Option FeedEnd). CountsBy e (faults new.source)) (sym end) (counts-on step (faults old.source) (faults new.source) none (a.counts going));
+        own = subst (λ (r : RouterId). All (IsToTableOf t r) (updates (steps ++ handed_out step))) (sym a.router)
+            (own-on t old.told.router steps step h.own a.own);
         stands = λ bytes is.
             subst (λ (e : Option FeedEnd). StandsBy e t new (left new.source) bytes (steps ++ handed_out step)) (sym end)
             (stands-on t step new (left new.source) bytes steps
@@ -175,6 +199,7 @@ module _ {S : Type 0} (t : Topology) (left : S → Option (List ℕ)) (faults pl
         keeps_place = a.stays ∙ h.keeps_place;
         told = subst (λ (x : FeedTold). x ≡ told_upto x.feed_no x.router steps x.end) (sym told) h.told;
         counts = subst (λ (x : FeedTold). CountsBy x.end (faults new.source)) (sym told) (subst (λ (n : ℕ). CountsBy old.told.end n) (sym (a.counts is)) h.counts);
+        own = subst (λ (r : RouterId). All (IsToTableOf t r) (updates steps)) (sym a.router) h.own;
         stands = λ bytes at.
             subst (λ (x : FeedTold). StandsBy x.end t new (left new.source) bytes steps) (sym told)
             (subst (λ (x : Option FeedEnd). StandsBy x t new (left new.source) bytes steps) (sym is)

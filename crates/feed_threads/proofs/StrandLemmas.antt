@@ -18,8 +18,8 @@ use Rattle.feed_threads.specs.Feeds.{Feed, end_with, end_of_feed, Stands, TookOf
 use Rattle.feed_threads.specs.Takes.{IsLater, Gives, Passes, TakesSome}
 use Rattle.feed_threads.specs.Places.{TakesFrom}
 use Rattle.feed_threads.specs.Tracks.{Strand, GoesOn, IsApartFrom, AllApart, Woven, taken_of_all}
+use Rattle.feed_threads.proofs.GiveLemmas.{updates-append, later-more, passes-more, stands-later}
 use Rattle.feed_threads.proofs.ListLemmas.{Parts, all-parts, all-joined}
-use Rattle.feed_threads.proofs.TakeLemmas.{updates-append, later-more, passes-more, stands-later}
 
 -- ---- the strand of a feed
 
@@ -60,7 +60,7 @@ split-at (s ∷ ss) (x ∷ a) r b e =
     }
 
 -- a strand whose feed gave some frames more
-abbrev pub grown : {S : Type 0} → Strand S → Feed S → List FrameStep → List Op → Strand S
+abbrev pub grown : {S : Type 0} → Strand S → Feed S → List FrameStep → List (RouterId × Op) → Strand S
 grown s new more ops = record { start = s.start; now = new; steps = s.steps ++ more; ops = s.ops ++ ops }
 
 -- ---- feeds apart
@@ -105,20 +105,20 @@ taken-at (x ∷ front) s s' back n is =
     omega (arith, rest)
 
 -- the job's own entries grow by as many as the updates that were taken of one feed
-pub count-grown : {S : Type 0} (front : List (Strand S)) (s s' : Strand S) (back : List (Strand S)) (own own' start : List Entry) (n : ℕ) (r : RouterId) (ops : List Op) (links : ℕ) →
-    s'.ops ≡ s.ops ++ ops → own' ≡ own ++ entries_by n r ops → length own ≡ length start + (taken_of_all (front ++ s ∷ back) + links) →
+pub count-grown : {S : Type 0} (front : List (Strand S)) (s s' : Strand S) (back : List (Strand S)) (own own' start : List Entry) (n : ℕ) (ops : List (RouterId × Op)) (links : ℕ) →
+    s'.ops ≡ s.ops ++ ops → own' ≡ own ++ entries_by n ops → length own ≡ length start + (taken_of_all (front ++ s ∷ back) + links) →
     length own' ≡ length start + (taken_of_all (front ++ s' ∷ back) + links)
-count-grown front s s' back own own' start n r ops links is grows count =
+count-grown front s s' back own own' start n ops links is grows count =
     let more : length s'.ops ≡ length s.ops + length ops = ap length is ∙ length-append s.ops ops in
     let all : taken_of_all (front ++ s' ∷ back) ≡ taken_of_all (front ++ s ∷ back) + length ops = taken-at front s s' back (length ops) more in
     let len : length own' ≡ length own + length ops =
-    ap length grows ∙ length-append own (entries_by n r ops) ∙ ap (λ (k : ℕ). length own + k) (length-map ops (λ (op : Op). Route r n op)) in
+    ap length grows ∙ length-append own (entries_by n ops) ∙ ap (λ (k : ℕ). length own + k) (length-map ops (λ (u : RouterId × Op). Route u.0 n u.1)) in
     omega (arith, all, len, count)
 
 -- ---- what the history kept
 
 -- a take that reaches past a front has all of the front
-take-front : (k : ℕ) (xs ys zs : List Op) → take k (xs ++ ys) ≡ xs ++ zs → take k xs ≡ xs
+take-front : (k : ℕ) (xs ys zs : List (RouterId × Op)) → take k (xs ++ ys) ≡ xs ++ zs → take k xs ≡ xs
 take-front zero [] ys zs e = refl
 take-front zero (x ∷ xs) ys zs e = cc
 take-front (suc k) [] ys zs e = refl
@@ -127,7 +127,7 @@ take-front (suc k) (x ∷ xs) ys zs e =
     ap (λ l. x ∷ l) (take-front k xs ys zs rest)
 
 -- what the history took of a feed's frames so far, where the frames after them are known too
-kept-back : (limit : ℕ) (seen : List Posted) (kept : Option ℕ) (f : FeedRead) (steps more : List FrameStep) (ops more-ops : List Op) → TookOf limit seen kept steps ops →
+kept-back : (limit : ℕ) (seen : List Posted) (kept : Option ℕ) (f : FeedRead) (steps more : List FrameStep) (ops more-ops : List (RouterId × Op)) → TookOf limit seen kept steps ops →
     ((n : ℕ) → kept ≡ Some n → (more ≡ []) × (more-ops ≡ [])) → kept_of f (steps ++ more) ≡ ops ++ more-ops → kept_of f steps ≡ ops
 kept-back limit seen None f steps more ops more-ops took ended is =
     let e : take f.kept (updates steps ++ updates more) ≡ updates steps ++ more-ops = ap (take f.kept) (sym (updates-append steps more)) ∙ is ∙ ap (λ z. z ++ more-ops) took in

@@ -1,20 +1,17 @@
--- What taking frames of a feed adds to what it gave, and to the job's own entries.
+-- What a call that takes frames of a feed comes to.
 use Rattle.std.proofs.Common.{◌≡◌, ℕ, ◌+◌, ◌-◌, ◌<◌, ◌≤◌, Bool, true, false, is_none, is_some, List, [], ◌∷◌, ◌++◌, length, take, Option, None, Some, Result, Ok, Err, IfOk, OnOk, OnErr, IsErr, refl, ap, sym, ◌∙◌, subst, arith, length-append, append_assoc}
-use Rattle.std.proofs.lemmas.Grind.{flat_map-append}
-use Rattle.std.proofs.lemmas.List.{append-nil, map-append}
+use Rattle.std.proofs.lemmas.List.{append-nil}
 use Rattle.std.proofs.Math.Seq.{take-append-add}
 use mathlib.Core.List.{IsPrefix}
 use Rattle.version_lock.proofs.Histories.{prefix_self}
-use Rattle.feed_model.specs.Steps.{FrameStep, Accepted, updates, ops_of, entries_by}
+use Rattle.feed_model.specs.Steps.{FrameStep, Accepted, updates, entries_by}
 use Rattle.dn_formats.specs.Lawful.{both_counts}
-use Rattle.dn_model.specs.declared.entry.Entry.TheVariants.{Route}
 use Rattle.dn_model.specs.declared.entry.Op.{Op}
 use Rattle.dn_model.specs.declared.entry.Posted.{Posted}
 use Rattle.base.specs.declared.ids.RouterId.{RouterId}
 use Rattle.base.specs.declared.memory.OutOfMemory.{OutOfMemory}
 use Rattle.dn_model.specs.declared.topology.Topology.{Topology}
 use Rattle.feed_model.specs.declared.feed_told.FeedEnd.{FeedEnd}
-use Rattle.feed_model.specs.declared.feed_told.FeedEnd.TheVariants as ends
 use Rattle.feed_model.specs.declared.feed_told.FeedTold.{FeedTold}
 use Rattle.route_feed.specs.FeedReader.{Reader, end_of, Advances}
 use Rattle.route_feed.specs.declared.feed_step.FeedStep.{FeedStep}
@@ -23,64 +20,9 @@ use Rattle.feed_threads.specs.Feeds.{Feed, end_with, end_of_feed, handed_out, Ha
 use Rattle.version_lock.specs.Callers.{Caller, Lock}
 use Rattle.feed_threads.specs.Seats.{own_of, LooksOn, SawMore}
 use Rattle.feed_threads.specs.Takes.{IsLater, IsCount, IsWithin, HasTaken, TookFirst, Passes, Gives, GivesFirst, TakesSome, TakesAny, Takes}
+use Rattle.feed_threads.proofs.GiveLemmas.{entries_by-append, updates-append, later-nil, later-more, passes-step, kept-end, gives-none, gives-still, unbroken, gives-more, gives-whole, gives-broken}
 use Rattle.feed_threads.proofs.SeatLemmas.{none-ok, saw-none, saw-more, saw-number}
-use Rattle.feed_threads.proofs.StepLemmas.{none-handed, reads-none}
-
--- ---- lists
-
-pub prefix-length : {A : Type 0} (xs ys : List A) → IsPrefix xs ys → length xs ≤ length ys
-prefix-length xs ys p = omega (arith, length-append xs p.0, ap length p.1)
-
-pub entries_by-append : (n : ℕ) (r : RouterId) (xs ys : List Op) → entries_by n r (xs ++ ys) ≡ entries_by n r xs ++ entries_by n r ys
-entries_by-append n r xs ys = map-append (λ (op : Op). Route r n op) xs ys
-
-pub updates-append : (xs ys : List FrameStep) → updates (xs ++ ys) ≡ updates xs ++ updates ys
-updates-append xs ys = flat_map-append ops_of xs ys
-
--- ---- no frame after an end
-
-pub later-nil : (end : Option FeedEnd) → IsLater end []
-later-nil None = tt
-later-nil (Some e) = refl
-
-pub later-more : (end mid : Option FeedEnd) (xs ys : List FrameStep) → IsLater end xs → ((e : FeedEnd) → end ≡ Some e → mid ≡ Some e) → IsLater mid ys → IsLater end (xs ++ ys)
-later-more None mid xs ys a same b = tt
-later-more (Some e) mid xs ys a same b =
-    let none : ys ≡ [] = subst (λ (o : Option FeedEnd). IsLater o ys) (same e refl) b in
-    rw (a, none) refl
-
-later-handed : (end : Option FeedEnd) (step : FeedStep) → ((e : FeedEnd) → end ≡ Some e → end_of step ≡ Some e) → IsLater end (handed_out step)
-later-handed None step ended = tt
-later-handed (Some e) step ended = none-handed step e (ended e refl)
-
--- ---- the bytes that updates take
-
-pub passes-step : {S : Type 0} (step : FeedStep) (old new : Reader S) → Advances step old new → new.limit ≡ old.limit → Passes old new (handed_out step)
-passes-step (answers.Ops ops skipped) old new a limit =
-    let same : length (ops ++ []) ≡ length ops = ap length (append-nil ops) in
-    record { fits = omega (arith, a.2, same); within = λ w. a.1 }
-passes-step (answers.Refused o m c) old new a limit = record { fits = omega (arith, a.0); within = λ w. a.1 }
-passes-step answers.End old new a limit = record { fits = omega (arith, a); within = λ w. omega (arith, a, limit, w) }
-passes-step (answers.CutShort o) old new a limit = record { fits = omega (arith, a); within = λ w. omega (arith, a, limit, w) }
-passes-step (answers.Lost o c) old new a limit = record { fits = omega (arith, a); within = λ w. omega (arith, a, limit, w) }
-passes-step answers.TooLong old new a limit = record { fits = omega (arith, a); within = λ w. omega (arith, a, limit, w) }
-passes-step answers.Faulted old new a limit = record { fits = omega (arith, a); within = λ w. omega (arith, a, limit, w) }
-
-pub passes-none : {S : Type 0} (reader : Reader S) → Passes reader reader []
-passes-none reader = record { fits = omega arith; within = λ w. w }
-
-pub passes-more : {S : Type 0} (old mid new : Reader S) (xs ys : List FrameStep) → Passes old mid xs → Passes mid new ys → Passes old new (xs ++ ys)
-passes-more old mid new xs ys a b =
-    let both : length (updates (xs ++ ys)) ≡ length (updates xs) + length (updates ys) = ap length (updates-append xs ys) ∙ length-append (updates xs) (updates ys) in
-    record { fits = omega (arith, both, a.fits, b.fits); within = λ w. b.within (a.within w) }
-
--- where a history had taken all, as it was seen, it had taken all as it is seen later; and so where it was full
-pub took-later : (limit : ℕ) (seen later : List Posted) (kept : Option ℕ) (steps : List FrameStep) (ops : List Op) → IsPrefix seen later → TookOf limit seen kept steps ops → TookOf limit later kept steps ops
-took-later limit seen later None steps ops begins took = took
-took-later limit seen later (Some n) steps ops begins took =
-    let more : length seen ≤ length later = prefix-length seen later begins in
-    let full : limit ≤ length seen = took.1.full in
-    (took.0, record { before = took.1.before; last = took.1.last; steps_are = took.1.steps_are; at_least = took.1.at_least; fewer = took.1.fewer; full = omega arith })
+use Rattle.feed_threads.proofs.StepLemmas.{reads-none}
 
 -- ---- counts
 
@@ -129,164 +71,11 @@ pub count-within : (n len : ℕ) (end : Option FeedEnd) → IsCount (Some n) len
 count-within n len None is = omega (arith, is)
 count-within n len (Some e) is = is
 
-kept-end : (kept : Option ℕ) (end : Option FeedEnd) → kept ≡ None → end_with kept end ≡ end
-kept-end kept end none = ap (λ (k : Option ℕ). end_with k end) none
-
 module _ {S : Type 0} (t : Topology) (left : S → Option (List ℕ)) (faults place : S → ℕ) (limit : ℕ) where
-  pub stands-later : (seen later : List Posted) (start : Reader S) (feed : Feed S) (steps : List FrameStep) (ops : List Op) → IsPrefix seen later →
-      Stands t left faults place limit seen start feed steps ops → Stands t left faults place limit later start feed steps ops
-  stands-later seen later start feed steps ops begins st = record { reads = st.reads; took = took-later limit seen later feed.kept steps ops begins st.took; unended = st.unended }
-
-  -- nothing is given
-  pub gives-none : (number : ℕ) (feed : Feed S) (seen : List Posted) → Gives t left faults place limit number feed feed seen seen []
-  gives-none number feed seen = record {
-    ops = [];
-    stands = λ start steps ops-before st.
-        subst (λ (xs : List FrameStep). Stands t left faults place limit seen start feed xs (ops-before ++ [])) (sym (append-nil steps))
-        (subst (λ (xs : List Op). Stands t left faults place limit seen start feed steps xs) (sym (append-nil ops-before)) st);
-    grows = sym (append-nil (own_of number seen));
-    whole = λ none. refl;
-    passes = passes-none feed.reader;
-    later = later-nil (end_of_feed feed);
-    ended = λ end is. (refl, refl);
-    feed_no = refl;
-    router = refl;
-  }
-
-  -- nor where more is seen, with nothing of the job's own
-  pub gives-still : (number : ℕ) (feed : Feed S) (a b : List Posted) → IsPrefix a b → own_of number b ≡ own_of number a → Gives t left faults place limit number feed feed a b []
-  gives-still number feed a b p same = record {
-    ops = [];
-    stands = λ start steps ops-before st.
-        subst (λ (xs : List FrameStep). Stands t left faults place limit b start feed xs (ops-before ++ [])) (sym (append-nil steps))
-        (subst (λ (xs : List Op). Stands t left faults place limit b start feed steps xs) (sym (append-nil ops-before)) (stands-later a b start feed steps ops-before p st));
-    grows = same ∙ sym (append-nil (own_of number a));
-    whole = λ none. refl;
-    passes = passes-none feed.reader;
-    later = later-nil (end_of_feed feed);
-    ended = λ end is. (refl, refl);
-    feed_no = refl;
-    router = refl;
-  }
-
-  -- a feed that wasn't broken off by now never was
-  unbroken : (number : ℕ) (old new : Feed S) (a b : List Posted) (xs : List FrameStep) → Gives t left faults place limit number old new a b xs → new.kept ≡ None → old.kept ≡ None
-  unbroken number old new a b xs x none = by-kept old.kept refl
-    where
-      by-kept : (k : Option ℕ) → old.kept ≡ k → old.kept ≡ None
-      by-kept None is = is
-      by-kept (Some n) is =
-          let full : end_of_feed old ≡ Some ends.Full = ap (λ (o : Option ℕ). end_with o old.reader.told.end) is in
-          sym (ap (λ (f : Feed S). f.kept) (x.ended ends.Full full).0) ∙ none
-
-  -- and then some more
-  pub gives-more : (number : ℕ) (old mid new : Feed S) (a b c : List Posted) (xs ys : List FrameStep) →
-      Gives t left faults place limit number old mid a b xs → Gives t left faults place limit number mid new b c ys → Gives t left faults place limit number old new a c (xs ++ ys)
-  gives-more number old mid new a b c xs ys x y = record {
-    ops = x.ops ++ y.ops;
-    stands = λ start steps ops-before st.
-        subst (λ (zs : List FrameStep). Stands t left faults place limit c start new zs (ops-before ++ (x.ops ++ y.ops))) (append_assoc steps xs ys)
-        (subst (λ (zs : List Op). Stands t left faults place limit c start new ((steps ++ xs) ++ ys) zs) (append_assoc ops-before x.ops y.ops)
-        (y.stands start (steps ++ xs) (ops-before ++ x.ops) (x.stands start steps ops-before st)));
-    grows = y.grows ∙ ap (λ n. own_of number b ++ entries_by n mid.reader.told.router y.ops) x.feed_no ∙ ap (λ r. own_of number b ++ entries_by old.reader.told.feed_no r y.ops) x.router
-        ∙ ap (λ z. z ++ entries_by old.reader.told.feed_no old.reader.told.router y.ops) x.grows
-        ∙ append_assoc (own_of number a) (entries_by old.reader.told.feed_no old.reader.told.router x.ops) (entries_by old.reader.told.feed_no old.reader.told.router y.ops)
-        ∙ ap (λ z. own_of number a ++ z) (sym (entries_by-append old.reader.told.feed_no old.reader.told.router x.ops y.ops));
-    whole = λ none.
-        let all : y.ops ≡ updates ys = y.whole none in
-        let before : x.ops ≡ updates xs = x.whole (unbroken number mid new b c ys y none) in
-        ap (λ z. z ++ y.ops) before ∙ ap (λ z. updates xs ++ z) all ∙ sym (updates-append xs ys);
-    passes = passes-more old.reader mid.reader new.reader xs ys x.passes y.passes;
-    later = later-more (end_of_feed old) (end_of_feed mid) xs ys x.later (λ e is. ap end_of_feed (x.ended e is).0 ∙ is) y.later;
-    ended = λ e is.
-        let first : (mid ≡ old) × (x.ops ≡ []) = x.ended e is in
-        let second : (new ≡ mid) × (y.ops ≡ []) = y.ended e (ap end_of_feed first.0 ∙ is) in
-        (second.0 ∙ first.0, ap (λ z. z ++ y.ops) first.1 ∙ second.1);
-    feed_no = y.feed_no ∙ x.feed_no;
-    router = y.router ∙ x.router;
-  }
-
-  -- ---- one frame
-
-  -- where the history took all that a reader's answer hands out
-  pub gives-whole : (number : ℕ) (old new : Feed S) (seen-before seen : List Posted) (step : FeedStep) → IsPrefix seen-before seen → old.kept ≡ None → new.kept ≡ None →
-      ((start : Reader S) (steps : List FrameStep) → HandsOut t left faults place start old.reader steps → HandsOut t left faults place start new.reader (steps ++ handed_out step)) →
-      ((end : FeedEnd) → old.reader.told.end ≡ Some end → (new.reader ≡ old.reader) × (end_of step ≡ Some end)) →
-      new.reader.told.feed_no ≡ old.reader.told.feed_no → new.reader.told.router ≡ old.reader.told.router →
-      own_of number seen ≡ own_of number seen-before ++ entries_by old.reader.told.feed_no old.reader.told.router (updates (handed_out step)) →
-      Passes old.reader new.reader (handed_out step) →
-      Gives t left faults place limit number old new seen-before seen (handed_out step)
-  gives-whole number old new seen-before seen step begins kept kept' handed again feed_no router grows passes =
-      let going : end_of_feed old ≡ old.reader.told.end = kept-end old.kept old.reader.told.end kept in
-      record {
-        ops = updates (handed_out step);
-        stands = λ start steps ops-before st. record {
-          reads = handed start steps st.reads;
-          took = subst (λ (k : Option ℕ). TookOf limit seen k (steps ++ handed_out step) (ops-before ++ updates (handed_out step))) (sym kept')
-              (ap (λ z. z ++ updates (handed_out step)) (subst (λ (k : Option ℕ). TookOf limit seen-before k steps ops-before) kept st.took) ∙ sym (updates-append steps (handed_out step)));
-          unended = λ n is. absurd (cc (sym kept' ∙ is));
-        };
-        grows = grows;
-        whole = λ none. refl;
-        passes = passes;
-        later = later-handed (end_of_feed old) step (λ e is. (again e (sym going ∙ is)).1);
-        ended = λ e is. (
-          same-feed old new kept kept' (again e (sym going ∙ is)).0,
-          ap updates (none-handed step e (again e (sym going ∙ is)).1),
-        );
-        feed_no = feed_no;
-        router = router;
-      }
-    where
-      same-feed : (x y : Feed S) → x.kept ≡ None → y.kept ≡ None → y.reader ≡ x.reader → y ≡ x
-      same-feed x y k l r = ap (λ (o : Option ℕ). record { reader = y.reader; kept = o }) (l ∙ sym k) ∙ ap (λ (q : Reader S). record { reader = q; kept = x.kept }) r
-
-  -- where it was full after the first n of a frame's updates
-  pub gives-broken : (number : ℕ) (old new : Feed S) (seen-before seen : List Posted) (ops : List Op) (skipped n : ℕ) → old.kept ≡ None → old.reader.told.end ≡ None →
-      new.kept ≡ Some (old.reader.told.updates + n) → n < length ops → limit ≤ length seen →
-      ((start : Reader S) (steps : List FrameStep) → HandsOut t left faults place start old.reader steps → HandsOut t left faults place start new.reader (steps ++ Accepted ops skipped ∷ [])) →
-      new.reader.told.feed_no ≡ old.reader.told.feed_no → new.reader.told.router ≡ old.reader.told.router →
-      own_of number seen ≡ own_of number seen-before ++ entries_by old.reader.told.feed_no old.reader.told.router (take n ops) →
-      new.reader.told.end ≡ None → Passes old.reader new.reader (Accepted ops skipped ∷ []) →
-      Gives t left faults place limit number old new seen-before seen (Accepted ops skipped ∷ [])
-  gives-broken number old new seen-before seen ops skipped n kept going kept' fewer full handed feed_no router grows unended passes =
-      let none : end_of_feed old ≡ None = kept-end old.kept old.reader.told.end kept ∙ going in
-      record {
-        ops = take n ops;
-        stands = λ start steps ops-before st.
-            let before : ops-before ≡ updates steps = subst (λ (k : Option ℕ). TookOf limit seen-before k steps ops-before) kept st.took in
-            let count : old.reader.told.updates ≡ length (updates steps) = ap (λ (x : FeedTold). x.updates) st.reads.told in
-            let all : updates (steps ++ Accepted ops skipped ∷ []) ≡ updates steps ++ ops = updates-append steps (Accepted ops skipped ∷ []) ∙ ap (λ z. updates steps ++ z) (append-nil ops) in
-            let both : length (updates (steps ++ Accepted ops skipped ∷ [])) ≡ length (updates steps) + length ops = ap length all ∙ length-append (updates steps) ops in
-            record {
-              reads = handed start steps st.reads;
-              took = subst (λ (k : Option ℕ). TookOf limit seen k (steps ++ Accepted ops skipped ∷ []) (ops-before ++ take n ops)) (sym kept') (
-                ap (λ z. z ++ take n ops) before ∙ sym (take-append-add (updates steps) ops n) ∙ ap (λ z. take (length (updates steps) + n) z) (sym all)
-                    ∙ ap (λ z. take (z + n) (updates (steps ++ Accepted ops skipped ∷ []))) (sym count),
-                record {
-                  before = steps;
-                  last = Accepted ops skipped;
-                  steps_are = refl;
-                  at_least = omega arith;
-                  fewer = omega arith;
-                  full = full;
-                },
-              );
-              unended = λ m is. unended;
-            };
-        grows = grows;
-        whole = λ none. absurd (cc (sym kept' ∙ none));
-        passes = passes;
-        later = subst (λ (o : Option FeedEnd). IsLater o (Accepted ops skipped ∷ [])) (sym none) tt;
-        ended = λ e is. absurd (cc (sym none ∙ is));
-        feed_no = feed_no;
-        router = router;
-      }
-
   -- ---- one frame, as its call says it
 
   pub took-none : (number : ℕ) (feed : Feed S) (seen : List Posted) → is_none (end_of_feed feed) ≡ false → TakesSome t left faults place limit number (Some 1) feed feed seen seen
-  took-none number feed seen ended = record { more = []; adds = gives-none number feed seen; counted = count-fewer 0 1 0 (end_of_feed feed) ended (omega arith) (zero-count (end_of_feed feed)) }
+  took-none number feed seen ended = record { more = []; adds = gives-none t left faults place limit number feed seen; counted = count-fewer 0 1 0 (end_of_feed feed) ended (omega arith) (zero-count (end_of_feed feed)) }
     where
       zero-count : (end : Option FeedEnd) → IsCount (Some 0) 0 end
       zero-count None = refl
@@ -302,7 +91,7 @@ module _ {S : Type 0} (t : Topology) (left : S → Option (List ℕ)) (faults pl
   }
 
   -- an accepted frame, of which the history took all or only some updates
-  pub took-ops : (number : ℕ) (old new : Feed S) (seen-before seen : List Posted) (ops : List Op) (skipped : ℕ) (mid : Reader S) (result : Result Bool OutOfMemory) →
+  pub took-ops : (number : ℕ) (old new : Feed S) (seen-before seen : List Posted) (ops : List (RouterId × Op)) (skipped : ℕ) (mid : Reader S) (result : Result Bool OutOfMemory) →
       IsPrefix seen-before seen → old.kept ≡ None → old.reader.told.end ≡ None → new.reader ≡ mid → mid.told.end ≡ None → mid.told.updates ≡ old.reader.told.updates + length (updates (Accepted ops skipped ∷ [])) →
       ((start : Reader S) (steps : List FrameStep) → HandsOut t left faults place start old.reader steps → HandsOut t left faults place start mid (steps ++ Accepted ops skipped ∷ [])) →
       mid.told.feed_no ≡ old.reader.told.feed_no → mid.told.router ≡ old.reader.told.router → Passes old.reader mid (Accepted ops skipped ∷ []) →
@@ -311,12 +100,12 @@ module _ {S : Type 0} (t : Topology) (left : S → Option (List ℕ)) (faults pl
   took-ops number old new seen-before seen ops skipped mid (Err e) begins kept going reader end count handed feed_no router passes took = tt
   took-ops number old new seen-before seen ops skipped mid (Ok true) begins kept going reader end count handed feed_no router passes took =
       took-step number old new seen-before seen (answers.Ops ops skipped) took.0 (ap (λ (r : Reader S). r.told.end) reader ∙ end)
-      (gives-whole number old new seen-before seen (answers.Ops ops skipped) begins kept took.0
+      (gives-whole t left faults place limit number old new seen-before seen (answers.Ops ops skipped) begins kept took.0
       (λ start steps h. subst (λ (r : Reader S). HandsOut t left faults place start r (steps ++ Accepted ops skipped ∷ [])) (sym reader) (handed start steps h))
       (λ e is. absurd (cc (sym going ∙ is)))
       (ap (λ (r : Reader S). r.told.feed_no) reader ∙ feed_no) (ap (λ (r : Reader S). r.told.router) reader ∙ router)
-      (took.1 ∙ ap (λ z. own_of number seen-before ++ entries_by z mid.told.router ops) feed_no ∙ ap (λ z. own_of number seen-before ++ entries_by old.reader.told.feed_no z ops) router
-      ∙ ap (λ z. own_of number seen-before ++ entries_by old.reader.told.feed_no old.reader.told.router z) (sym (append-nil ops)))
+      (took.1 ∙ ap (λ z. own_of number seen-before ++ entries_by z ops) feed_no
+      ∙ ap (λ z. own_of number seen-before ++ entries_by old.reader.told.feed_no z) (sym (append-nil ops)))
       (subst (λ (r : Reader S). Passes old.reader r (Accepted ops skipped ∷ [])) (sym reader) passes))
   took-ops number old new seen-before seen ops skipped mid (Ok false) begins kept going reader end count handed feed_no router passes took =
       let n : ℕ = took.0 in
@@ -326,15 +115,15 @@ module _ {S : Type 0} (t : Topology) (left : S → Option (List ℕ)) (faults pl
       let kept' : new.kept ≡ Some (old.reader.told.updates + n) = took.2 ∙ ap Some sum in
       record {
         more = Accepted ops skipped ∷ [];
-        adds = gives-broken number old new seen-before seen ops skipped n kept going kept' fewer took.3
+        adds = gives-broken t left faults place limit number old new seen-before seen ops skipped n kept going kept' fewer took.3
             (λ start steps h. subst (λ (r : Reader S). HandsOut t left faults place start r (steps ++ Accepted ops skipped ∷ [])) (sym reader) (handed start steps h))
             (ap (λ (r : Reader S). r.told.feed_no) reader ∙ feed_no) (ap (λ (r : Reader S). r.told.router) reader ∙ router)
-            (took.4 ∙ ap (λ z. own_of number seen-before ++ entries_by z mid.told.router (take n ops)) feed_no ∙ ap (λ z. own_of number seen-before ++ entries_by old.reader.told.feed_no z (take n ops)) router)
+            (took.4 ∙ ap (λ z. own_of number seen-before ++ entries_by z (take n ops)) feed_no)
             (ap (λ (r : Reader S). r.told.end) reader ∙ end) (subst (λ (r : Reader S). Passes old.reader r (Accepted ops skipped ∷ [])) (sym reader) passes);
         counted = subst (λ (k : Option ℕ). IsCount (Some 1) 1 (end_with k new.reader.told.end)) (sym kept') (omega arith);
       }
 
-  pub more-ops : (number : ℕ) (new : Feed S) (mid : FeedTold) (seen-before seen : List Posted) (ops : List Op) (result : Result Bool OutOfMemory) → new.reader.told.end ≡ None →
+  pub more-ops : (number : ℕ) (new : Feed S) (mid : FeedTold) (seen-before seen : List Posted) (ops : List (RouterId × Op)) (result : Result Bool OutOfMemory) → new.reader.told.end ≡ None →
       IfOk result (λ more. HasTaken limit number more new.kept mid seen-before seen ops) → IfOk result (λ more. more ≡ is_none (end_of_feed new))
   more-ops number new mid seen-before seen ops (Err e) going took = tt
   more-ops number new mid seen-before seen ops (Ok true) going took = sym (ap is_none (kept-end new.kept new.reader.told.end took.0 ∙ going))
@@ -346,7 +135,7 @@ module _ {S : Type 0} (t : Topology) (left : S → Option (List ℕ)) (faults pl
       TakesSome t left faults place limit number (Some (n + m)) old new a c
   took-more number n m old mid new a b c x y = record {
     more = x.more ++ y.more;
-    adds = gives-more number old mid new a b c x.more y.more x.adds y.adds;
+    adds = gives-more t left faults place limit number old mid new a b c x.more y.more x.adds y.adds;
     counted = count-more (Some n) (Some m) x.more y.more (end_of_feed mid) (end_of_feed new) x.counted y.counted y.adds.later (λ e is. ap end_of_feed (y.adds.ended e is).0 ∙ is);
   }
 
@@ -356,14 +145,14 @@ module _ {S : Type 0} (t : Topology) (left : S → Option (List ℕ)) (faults pl
   took-fewer number n m old new a b ended less x = record { more = x.more; adds = x.adds; counted = count-fewer n m (length x.more) (end_of_feed new) ended less x.counted }
 
   pub took-start : (number : ℕ) (feed : Feed S) (seen : List Posted) → TakesSome t left faults place limit number (Some 0) feed feed seen seen
-  took-start number feed seen = record { more = []; adds = gives-none number feed seen; counted = zero-count (end_of_feed feed) }
+  took-start number feed seen = record { more = []; adds = gives-none t left faults place limit number feed seen; counted = zero-count (end_of_feed feed) }
     where
       zero-count : (end : Option FeedEnd) → IsCount (Some 0) 0 end
       zero-count None = refl
       zero-count (Some e) = omega arith
 
   pub took-still : (number : ℕ) (feed : Feed S) (a b : List Posted) → IsPrefix a b → own_of number b ≡ own_of number a → TakesSome t left faults place limit number (Some 0) feed feed a b
-  took-still number feed a b p same = record { more = []; adds = gives-still number feed a b p same; counted = none-counted (end_of_feed feed) }
+  took-still number feed a b p same = record { more = []; adds = gives-still t left faults place limit number feed a b p same; counted = none-counted (end_of_feed feed) }
     where
       none-counted : (end : Option FeedEnd) → IsCount (Some 0) 0 end
       none-counted None = refl
@@ -377,11 +166,11 @@ module _ {S : Type 0} (t : Topology) (left : S → Option (List ℕ)) (faults pl
   took-after (Err e) number m old new a b c is p same took = tt
 
   pub any-start : (number : ℕ) (feed : Feed S) (seen : List Posted) → TakesAny t left faults place limit number feed feed seen seen
-  any-start number feed seen = record { more = []; adds = gives-none number feed seen }
+  any-start number feed seen = record { more = []; adds = gives-none t left faults place limit number feed seen }
 
   pub any-more : (number : ℕ) (count : Option ℕ) (old mid new : Feed S) (a b c : List Posted) → TakesAny t left faults place limit number old mid a b → TakesSome t left faults place limit number count mid new b c →
       TakesAny t left faults place limit number old new a c
-  any-more number count old mid new a b c x y = record { more = x.more ++ y.more; adds = gives-more number old mid new a b c x.more y.more x.adds y.adds }
+  any-more number count old mid new a b c x y = record { more = x.more ++ y.more; adds = gives-more t left faults place limit number old mid new a b c x.more y.more x.adds y.adds }
 
   pub any-all : (number : ℕ) (old new : Feed S) (a b : List Posted) → is_none (end_of_feed new) ≡ false → TakesAny t left faults place limit number old new a b → TakesSome t left faults place limit number None old new a b
   any-all number old new a b ended x = record { more = x.more; adds = x.adds; counted = count-any (length x.more) (end_of_feed new) ended }
@@ -416,11 +205,11 @@ module _ {S : Type 0} (t : Topology) (left : S → Option (List ℕ)) (faults pl
       let f : Feed S = record { reader = r; kept = k } in
       subst (λ (x : Feed S). TakesSome t left faults place limit number (Some 1) x (record { reader = r'; kept = k }) seen seen) is
       (took-step number f (record { reader = r'; kept = k }) seen seen step none end
-      (gives-whole number f (record { reader = r'; kept = k }) seen seen step (prefix_self seen) none none handed again feed_no router
-      (sym (ap (λ (xs : List Op). own_of number seen ++ entries_by r.told.feed_no r.told.router xs) no-update ∙ append-nil (own_of number seen))) passes))
+      (gives-whole t left faults place limit number f (record { reader = r'; kept = k }) seen seen step (prefix_self seen) none none handed again feed_no router
+      (sym (ap (λ (xs : List (RouterId × Op)). own_of number seen ++ entries_by r.told.feed_no xs) no-update ∙ append-nil (own_of number seen))) passes))
 
   -- an accepted frame
-  pub took-accepted : (number : ℕ) (old : Feed S) (r : Reader S) (k : Option ℕ) (r' : Reader S) (new : Feed S) (seen-before seen : List Posted) (step : FeedStep) (ops : List Op) (skipped : ℕ) (result : Result Bool OutOfMemory) →
+  pub took-accepted : (number : ℕ) (old : Feed S) (r : Reader S) (k : Option ℕ) (r' : Reader S) (new : Feed S) (seen-before seen : List Posted) (step : FeedStep) (ops : List (RouterId × Op)) (skipped : ℕ) (result : Result Bool OutOfMemory) →
       record { reader = r; kept = k } ≡ old → k ≡ None → step ≡ answers.Ops ops skipped → IsPrefix seen-before seen →
       ((start : Reader S) (steps : List FrameStep) → HandsOut t left faults place start r steps → HandsOut t left faults place start r' (steps ++ handed_out step)) →
       ((end : FeedEnd) → r.told.end ≡ Some end → (r' ≡ r) × (end_of step ≡ Some end)) → r'.told.end ≡ end_of step →
@@ -476,20 +265,19 @@ module _ {S : Type 0} (t : Topology) (left : S → Option (List ℕ)) (faults pl
       })
 
   -- one of a frame's updates was refused
-  pub first-ops : (number : ℕ) (old : Feed S) (r : Reader S) (k : Option ℕ) (r' : Reader S) (new : Feed S) (seen-before seen : List Posted) (step : FeedStep) (ops : List Op) (skipped : ℕ) (result : Result Bool OutOfMemory) →
+  pub first-ops : (number : ℕ) (old : Feed S) (r : Reader S) (k : Option ℕ) (r' : Reader S) (new : Feed S) (seen-before seen : List Posted) (step : FeedStep) (ops : List (RouterId × Op)) (skipped : ℕ) (result : Result Bool OutOfMemory) →
       record { reader = r; kept = k } ≡ old → k ≡ None → step ≡ answers.Ops ops skipped →
       ((start : Reader S) (steps : List FrameStep) → HandsOut t left faults place start r steps → HandsOut t left faults place start r' (steps ++ handed_out step)) →
       ((end : FeedEnd) → r.told.end ≡ Some end → (r' ≡ r) × (end_of step ≡ Some end)) →
-      r'.told.feed_no ≡ r.told.feed_no → r'.told.router ≡ r.told.router → new.reader ≡ r' → OnErr result (new.kept ≡ None) →
-      OnErr result (TookFirst number r'.told.feed_no r'.told.router seen-before seen ops) →
+      r'.told.feed_no ≡ r.told.feed_no → new.reader ≡ r' → OnErr result (new.kept ≡ None) →
+      OnErr result (TookFirst number r'.told.feed_no seen-before seen ops) →
       OnErr result (GivesFirst t left faults place limit number (Some 1) old new seen-before seen)
-  first-ops number old r k r' new seen-before seen step ops skipped (Ok b) is none step-is handed again feed_no router reader going took = tt
-  first-ops number old r k r' new seen-before seen step ops skipped (Err e) is none step-is handed again feed_no router reader going took =
+  first-ops number old r k r' new seen-before seen step ops skipped (Ok b) is none step-is handed again feed_no reader going took = tt
+  first-ops number old r k r' new seen-before seen step ops skipped (Err e) is none step-is handed again feed_no reader going took =
       let f : Feed S = record { reader = r; kept = k } in
       let no-end : end_of_feed f ≡ None = kept-end k r.told.end none ∙ going-of (r' ≡ r) r.told.end step (ap end_of step-is) again in
       let same : ops ++ [] ≡ ops = append-nil ops in
-      let first : TookFirst number r.told.feed_no r.told.router seen-before seen ops =
-      subst (λ (q : RouterId). TookFirst number r.told.feed_no q seen-before seen ops) router (subst (λ (m : ℕ). TookFirst number m r'.told.router seen-before seen ops) feed_no took) in
+      let first : TookFirst number r.told.feed_no seen-before seen ops = subst (λ (m : ℕ). TookFirst number m seen-before seen ops) feed_no took in
       subst (λ (x : Feed S). GivesFirst t left faults place limit number (Some 1) x new seen-before seen) is (record {
         kept = none;
         unbroken = going;
@@ -500,7 +288,7 @@ module _ {S : Type 0} (t : Topology) (left : S → Option (List ℕ)) (faults pl
         reads = λ start steps h.
             subst (λ (q : Reader S). HandsOut t left faults place start q (steps ++ Accepted ops skipped ∷ [])) (sym reader)
             (subst (λ (s : FeedStep). HandsOut t left faults place start r' (steps ++ handed_out s)) step-is (handed start steps h));
-        took = subst (λ (xs : List Op). TookFirst number r.told.feed_no r.told.router seen-before seen xs) (sym same) first;
+        took = subst (λ (xs : List (RouterId × Op)). TookFirst number r.told.feed_no seen-before seen xs) (sym same) first;
       })
 
   -- frames before that were taken whole
@@ -508,7 +296,7 @@ module _ {S : Type 0} (t : Topology) (left : S → Option (List ℕ)) (faults pl
       (y : GivesFirst t left faults place limit number count mid new b c) → IsWithin all-count (length xs + length y.more) → GivesFirst t left faults place limit number all-count old new a c
   first-more number count all-count old mid new a b c xs x y within =
       let n : ℕ = y.took.n in
-      let unbroken-before : old.kept ≡ None = unbroken number old mid a b xs x y.kept in
+      let unbroken-before : old.kept ≡ None = unbroken t left faults place limit number old mid a b xs x y.kept in
       let all : x.ops ≡ updates xs = x.whole y.kept in
       let parts : updates (xs ++ y.more) ≡ updates xs ++ updates y.more = updates-append xs y.more in
       let len : length (updates (xs ++ y.more)) ≡ length (updates xs) + length (updates y.more) = ap length parts ∙ length-append (updates xs) (updates y.more) in
@@ -533,11 +321,10 @@ module _ {S : Type 0} (t : Topology) (left : S → Option (List ℕ)) (faults pl
         took = record {
           n = length (updates xs) + n;
           few = omega (arith, len, few);
-          grows = y.took.grows ∙ ap (λ m. own_of number b ++ entries_by m mid.reader.told.router (take n (updates y.more))) x.feed_no
-              ∙ ap (λ r. own_of number b ++ entries_by old.reader.told.feed_no r (take n (updates y.more))) x.router
-              ∙ ap (λ z. z ++ entries_by old.reader.told.feed_no old.reader.told.router (take n (updates y.more))) (x.grows ∙ ap (λ z. own_of number a ++ entries_by old.reader.told.feed_no old.reader.told.router z) all)
-              ∙ append_assoc (own_of number a) (entries_by old.reader.told.feed_no old.reader.told.router (updates xs)) (entries_by old.reader.told.feed_no old.reader.told.router (take n (updates y.more)))
-              ∙ ap (λ z. own_of number a ++ z) (sym (entries_by-append old.reader.told.feed_no old.reader.told.router (updates xs) (take n (updates y.more))) ∙ ap (λ z. entries_by old.reader.told.feed_no old.reader.told.router z) (sym front));
+          grows = y.took.grows ∙ ap (λ m. own_of number b ++ entries_by m (take n (updates y.more))) x.feed_no
+              ∙ ap (λ z. z ++ entries_by old.reader.told.feed_no (take n (updates y.more))) (x.grows ∙ ap (λ z. own_of number a ++ entries_by old.reader.told.feed_no z) all)
+              ∙ append_assoc (own_of number a) (entries_by old.reader.told.feed_no (updates xs)) (entries_by old.reader.told.feed_no (take n (updates y.more)))
+              ∙ ap (λ z. own_of number a ++ z) (sym (entries_by-append old.reader.told.feed_no (updates xs) (take n (updates y.more))) ∙ ap (λ z. entries_by old.reader.told.feed_no z) (sym front));
         };
       }
 
@@ -562,7 +349,7 @@ module _ {S : Type 0} (t : Topology) (left : S → Option (List ℕ)) (faults pl
   first-after (Err e) number m old new a b c is p same first =
       let here : GivesFirst t left faults place limit number (Some 1) old new b c = subst (λ (n : ℕ). GivesFirst t left faults place limit n (Some 1) old new b c) is first in
       let one : length here.more ≤ 1 = here.within in
-      first-more number (Some 1) (Some 1) old old new a b c [] (gives-still number old a b p same) here (omega (arith, one))
+      first-more number (Some 1) (Some 1) old old new a b c [] (gives-still t left faults place limit number old a b p same) here (omega (arith, one))
 
 -- ---- one call, as its function says it
 

@@ -38,10 +38,11 @@ use Rattle.feed_threads.specs.Seats.{own_of}
 use Rattle.feed_threads.specs.Takes.{IsCount, IsLater, TakesSome}
 use Rattle.feed_threads.specs.Tells.{Adds, IsLinkOutcomeNow, IsOutcomeNow, TellsOwn}
 use Rattle.feed_threads.specs.Tracks.{GoesOn, IsApartFrom, IsJobOn, Links, MayLink, Strand, TookLinks, Tracks, Whatever, Woven, last_position, taken_of_all}
+use Rattle.feed_threads.proofs.GiveLemmas.{prefix-length, stands-later}
 use Rattle.feed_threads.proofs.ListLemmas.{Parts, all-parts, all-joined, All-unmap, all-through, eqb-back, ZipParts, zip-parts}
 use Rattle.feed_threads.proofs.OrderLemmas.{asked-push, gives, gives-taken, given-push, linked-none, linked-one, linked-past, links-push, links-same, none-taken, one-alone, taken_by-own}
 use Rattle.feed_threads.proofs.StrandLemmas.{nows, grown, count-grown, Others, apart-others, woven-took, goes-back, go-back, Grows, grows}
-use Rattle.feed_threads.proofs.TakeLemmas.{count-more, prefix-length, stands-later}
+use Rattle.feed_threads.proofs.TakeLemmas.{count-more}
 use Rattle.feed_threads.proofs.TellLemmas.{entry-now, link-own, outcome-own, pin-now, tells-ask, tells-link, tells-take}
 
 -- as many frames were taken as these lines ask for
@@ -172,14 +173,14 @@ module _ {S : Type 0} (t : Topology) (left : S → Option (List ℕ)) (faults pl
   took-order start a b before front mid back new l r count job this x st counted others zip order =
       let y : Line = line.Take l r count in
       let fs : List FeedRead = job.feeds in
-      let ops : List Op = x.adds.ops in
-      let es : List Entry = entries_by mid.now.reader.told.feed_no mid.now.reader.told.router ops in
+      let ops : List (RouterId × Op) = x.adds.ops in
+      let es : List Entry = entries_by mid.now.reader.told.feed_no ops in
       let z : ZipParts GoesOn front (grown mid new x.more ops) back fs = zip-parts GoesOn front (grown mid new x.more ops) back fs zip in
       let g : GoesOn mid z.y = goes-back t left faults place limit number mid new a b x.more z.y x.adds st z.mid_zip in
       let own : taken_by before y z.y ≡ es =
       taken_by-own before y z.y mid.ops ops (kept-is mid z.y before g counted)
       (kept-is (grown mid new x.more ops) z.y (before ++ y ∷ []) z.mid_zip (counted-own a b before mid new l r count this x counted))
-      ∙ ap (λ n. entries_by n z.y.router ops) g.feed_no ∙ ap (λ q. entries_by mid.now.reader.told.feed_no q ops) g.router in
+      ∙ ap (λ n. entries_by n ops) g.feed_no in
       let alone : flat_map (taken_by before y) (z.front_ys ++ z.y ∷ z.back_ys) ≡ es =
       one-alone (taken_by before y) z.front_ys z.y z.back_ys es
       (none-taken before y z.front_ys (all-through GoesOn (IsApartFrom mid) (λ f. takes f.router y ≡ false) front z.front_ys (λ s f g p. other-takes mid s f l r count this p g.router) z.front_zip others.in_front))
@@ -220,7 +221,7 @@ module _ {S : Type 0} (t : Topology) (left : S → Option (List ℕ)) (faults pl
             (λ k d i. counted-other before y (get_or back k d) (other-asked mid (get_or back k d) l r count this (others.in_back k d i)) (parts.back_all k d i));
         linked = took-links links.full limit a b (length (link_entries t job_number before)) (length (link_entries t job_number (before ++ y ∷ []))) links.count longer (ap length (links-same t job_number before y refl)) linked;
         pinned = omega (arith, longer, pinned);
-        count = count-grown front mid s' back (own_of number a) (own_of number b) start mid.now.reader.told.feed_no mid.now.reader.told.router x.adds.ops links.count refl x.adds.grows count-before;
+        count = count-grown front mid s' back (own_of number a) (own_of number b) start mid.now.reader.told.feed_no x.adds.ops links.count refl x.adds.grows count-before;
         whatever = λ job on.
             let back-zip : AllZip GoesOn (front ++ mid ∷ back) job.feeds = go-back t left faults place limit number front mid back new a b x.more job.feeds x.adds st on.feeds in
             let v : Whatever t limit number start a before tolds job = whatever job (record { number = on.number; feeds = back-zip; kept = on.kept }) in

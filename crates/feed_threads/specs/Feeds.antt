@@ -1,6 +1,7 @@
 -- Where a job's feed stands: what its reader handed out, and what the history took of that.
-use Rattle.std.specs.Prelude.{ℕ, ◌≡◌, ◌<◌, ◌≤◌, List, [], ◌∷◌, ◌++◌, length, take, Option, None, Some}
+use Rattle.std.specs.Prelude.{All, ℕ, ◌≡◌, ◌<◌, ◌≤◌, List, [], ◌∷◌, ◌++◌, length, take, Option, None, Some}
 use mathlib.Core.List.{IsPrefix}
+use Rattle.feed_model.specs.Feed.{IsToTableOf}
 use Rattle.feed_model.specs.Steps.{FrameStep, Accepted, Refused, updates}
 use Rattle.dn_model.specs.declared.entry.Op.{Op}
 use Rattle.dn_model.specs.declared.entry.Posted.{Posted}
@@ -75,18 +76,19 @@ pub record IsBroken (limit : ℕ) (seen : List Posted) (steps : List FrameStep) 
   pub full : limit ≤ length seen
 
 -- a history took these updates of the frames: all, or the first so many, where it was full
-abbrev pub TookOf : ℕ → List Posted → Option ℕ → List FrameStep → List Op → Type 0
+abbrev pub TookOf : ℕ → List Posted → Option ℕ → List FrameStep → List (RouterId × Op) → Type 0
 TookOf limit seen None steps ops = ops ≡ updates steps
 TookOf limit seen (Some n) steps ops = (ops ≡ take n (updates steps)) × IsBroken limit seen steps n
 
 -- The same where memory was wanting: the first of the updates, where no full history broke the feed off.
-abbrev pub TookFront : ℕ → List Posted → Option ℕ → List FrameStep → List Op → Type 0
+abbrev pub TookFront : ℕ → List Posted → Option ℕ → List FrameStep → List (RouterId × Op) → Type 0
 TookFront limit seen None steps ops = IsPrefix ops (updates steps)
 TookFront limit seen (Some n) steps ops = TookOf limit seen (Some n) steps ops
 
 module _ {S : Type 0} (t : Topology) (left : S → Option (List ℕ)) (faults place : S → ℕ) where
   -- A reader that began as `start` has handed out these frames and tells of them. Its source has its place, its count
-  -- of faults goes with the reader's end, and where it tells its bytes the frames are what they come to.
+  -- of faults goes with the reader's end, and each update is to a table of its device. Where the source tells its bytes
+  -- the frames are what they come to.
   pub record HandsOut (start now : Reader S) (steps : List FrameStep) : Type 0 where
     pub feed_no : now.told.feed_no ≡ start.told.feed_no
     pub router : now.told.router ≡ start.told.router
@@ -94,20 +96,21 @@ module _ {S : Type 0} (t : Topology) (left : S → Option (List ℕ)) (faults pl
     pub keeps_place : place now.source ≡ place start.source
     pub told : now.told ≡ told_upto now.told.feed_no now.told.router steps now.told.end
     pub counts : CountsBy now.told.end (faults now.source)
+    pub own : All (IsToTableOf t now.told.router) (updates steps)
     pub stands : (bytes : List ℕ) → left start.source ≡ Some bytes →
         StandsBy now.told.end t now (left now.source) bytes steps
 
   -- A feed whose reader has handed out these frames, of which the history took these updates. The reader of a feed that
   -- a full history broke off reads no further: it has met no end of its own.
   pub record Stands (limit : ℕ) (seen : List Posted) (start : Reader S) (feed : Feed S) (steps : List FrameStep)
-      (ops : List Op) : Type 0 where
+      (ops : List (RouterId × Op)) : Type 0 where
     pub reads : HandsOut start feed.reader steps
     pub took : TookOf limit seen feed.kept steps ops
     pub unended : (n : ℕ) → feed.kept ≡ Some n → feed.reader.told.end ≡ None
 
   -- the same where memory was wanting for one of the updates
   pub record StandsFront (limit : ℕ) (seen : List Posted) (start : Reader S) (feed : Feed S) (steps : List FrameStep)
-      (ops : List Op) : Type 0 where
+      (ops : List (RouterId × Op)) : Type 0 where
     pub reads : HandsOut start feed.reader steps
     pub took : TookFront limit seen feed.kept steps ops
     pub unended : (n : ℕ) → feed.kept ≡ Some n → feed.reader.told.end ≡ None

@@ -14,7 +14,7 @@ use Rattle.dn_formats.specs.declared.script.Line.{Line}
 use Rattle.dn_formats.specs.declared.script.Script.{Script}
 use Rattle.feed_model.specs.declared.feed_told.FeedTold.{FeedTold}
 use Rattle.dn_formats.specs.declared.told.Told.{Told}
-use Rattle.route_feed.specs.FeedReader.{Reader, told_so_far}
+use Rattle.route_feed.specs.FeedReader.{KnowsTables, Reader, told_so_far}
 use Rattle.feed_threads.specs.Feeds.{Feed, end_with, HandsOut, IsBroken, StandsFront, told_with}
 use Rattle.feed_threads.specs.Seats.{own_of}
 use Rattle.feed_threads.specs.Tells.{TellsOwn, TellsOwnFront}
@@ -35,13 +35,14 @@ lines_of (Some script) = script.lines
 abbrev pub unread : {S : Type 0} → Reader S → Feed S
 unread reader = record { reader = reader; kept = None }
 
--- a reader that has read nothing yet, of a router's feed
+-- a reader that has read nothing yet, of a device's feed
 pub record IsFresh {S : Type 0} (t : Topology) (faults : S → ℕ) (r : Reader S) : Type 0 where
   pub told : r.told ≡ told_so_far r.told.feed_no r.told.router []
   pub passed : r.passed ≡ 0
   pub held : r.held ≡ []
   pub router : r.told.router.0 < length t.routers
   pub faults_none : faults r.source ≡ 0
+  pub knows : KnowsTables t r.told.router r.tables
 
 -- no two of the feeds are of one router
 abbrev pub same_router : RouterId → RouterId → Bool

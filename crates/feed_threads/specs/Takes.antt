@@ -9,7 +9,7 @@ use Rattle.base.specs.declared.ids.RouterId.{RouterId}
 use Rattle.dn_model.specs.declared.topology.Topology.{Topology}
 use Rattle.feed_model.specs.declared.feed_told.FeedEnd.{FeedEnd}
 use Rattle.feed_model.specs.declared.feed_told.FeedTold.{FeedTold}
-use Rattle.route_feed.specs.FeedReader.{IsFeedOp, Reader}
+use Rattle.route_feed.specs.FeedReader.{IsFeedUpdate, Reader}
 use Rattle.version_lock.specs.Callers.{Caller, IsSeatOf, Lock}
 use Rattle.version_store.specs.Kept.{IsTaken}
 use Rattle.feed_threads.specs.Feeds.{Feed, end_of_feed, HandsOut, ReadsOn, Stands}
@@ -36,19 +36,18 @@ IsWithin (Some n) len = len ≤ n
 
 -- The history took the updates of one frame: all of them, and the feed goes on; or only the first of them, since it was
 -- full, and `kept` then says how many of the feed it took.
-abbrev pub HasTaken : ℕ → ℕ → Bool → Option ℕ → FeedTold → List Posted → List Posted → List Op → Type 0
+abbrev pub HasTaken : ℕ → ℕ → Bool → Option ℕ → FeedTold → List Posted → List Posted → List (RouterId × Op) → Type 0
 HasTaken limit number true kept told seen-before seen ops =
-    (kept ≡ None) × (own_of number seen ≡ own_of number seen-before ++ entries_by told.feed_no told.router ops)
+    (kept ≡ None) × (own_of number seen ≡ own_of number seen-before ++ entries_by told.feed_no ops)
 HasTaken limit number false kept told seen-before seen ops =
     (n : ℕ) × (n < length ops) × (kept ≡ Some (told.updates - (length ops - n))) × (limit ≤ length seen)
-    × (own_of number seen ≡ own_of number seen-before ++ entries_by told.feed_no told.router (take n ops))
+    × (own_of number seen ≡ own_of number seen-before ++ entries_by told.feed_no (take n ops))
 
--- The history took the first so many of a router's updates, none between them left out.
-pub record TookFirst (number feed_no : ℕ) (router : RouterId) (seen-before seen : List Posted)
-    (ops : List Op) : Type 0 where
+-- The history took the first so many of a feed's updates, none between them left out.
+pub record TookFirst (number feed_no : ℕ) (seen-before seen : List Posted) (ops : List (RouterId × Op)) : Type 0 where
   pub n : ℕ
   pub few : n ≤ length ops
-  pub grows : own_of number seen ≡ own_of number seen-before ++ entries_by feed_no router (take n ops)
+  pub grows : own_of number seen ≡ own_of number seen-before ++ entries_by feed_no (take n ops)
 
 -- a reader passed at least 28 bytes for each update of these frames, and stays within its limit
 pub record Passes {S : Type 0} (old new : Reader S) (more : List FrameStep) : Type 0 where
@@ -59,16 +58,13 @@ pub record Passes {S : Type 0} (old new : Reader S) (more : List FrameStep) : Ty
 abbrev pub MayAdd : Lock → Caller → Entry → Type 0
 MayAdd lock seat entry = IsSeatOf lock seat × IsTaken lock.setup.basis.topology entry
 
--- updates of a router may be applied by this seat: it is the lock's, and they are of a feed of the network's router
-abbrev pub MayPost : Lock → Caller → RouterId → List Op → Type 0
-MayPost lock seat router ops =
-    IsSeatOf lock seat × (router.0 < length lock.setup.basis.topology.routers)
-    × All (IsFeedOp lock.setup.basis.topology) ops
+-- updates may be applied by this seat: it is the lock's, and they can come of a feed of its network
+abbrev pub MayPost : Lock → Caller → List (RouterId × Op) → Type 0
+MayPost lock seat ops = IsSeatOf lock seat × All (IsFeedUpdate lock.setup.basis.topology) ops
 
 -- the same of updates that a feed's reader has just handed out, where the feed goes on
-abbrev pub MayPostOf : {S : Type 0} → Lock → Caller → Feed S → List Op → Type 0
-MayPostOf lock seat feed ops =
-    MayPost lock seat feed.reader.told.router ops × (length ops ≤ feed.reader.told.updates) × (feed.kept ≡ None)
+abbrev pub MayPostOf : {S : Type 0} → Lock → Caller → Feed S → List (RouterId × Op) → Type 0
+MayPostOf lock seat feed ops = MayPost lock seat ops × (length ops ≤ feed.reader.told.updates) × (feed.kept ≡ None)
 
 -- frames of a feed may be taken by this seat: it is the lock's, and the feed is of one of the network's routers
 abbrev pub MayTake : {S : Type 0} → Lock → Caller → Feed S → Type 0
@@ -90,12 +86,11 @@ module _ {S : Type 0} (t : Topology) (left : S → Option (List ℕ)) (faults pl
   -- A feed gave these frames more, while the history was seen from `seen-before` to `seen`; the entries of this number,
   -- the job's own, grew there by the updates that the history took of them. Past its end a feed gives nothing.
   pub record Gives (old new : Feed S) (seen-before seen : List Posted) (more : List FrameStep) : Type 0 where
-    pub ops : List Op
-    pub stands : (start : Reader S) (steps : List FrameStep) (ops-before : List Op) →
+    pub ops : List (RouterId × Op)
+    pub stands : (start : Reader S) (steps : List FrameStep) (ops-before : List (RouterId × Op)) →
         Stands t left faults place limit seen-before start old steps ops-before →
         Stands t left faults place limit seen start new (steps ++ more) (ops-before ++ ops)
-    pub grows : own_of number seen ≡
-        own_of number seen-before ++ entries_by old.reader.told.feed_no old.reader.told.router ops
+    pub grows : own_of number seen ≡ own_of number seen-before ++ entries_by old.reader.told.feed_no ops
     pub whole : new.kept ≡ None → ops ≡ updates more
     pub passes : Passes old.reader new.reader more
     pub later : IsLater (end_of_feed old) more
@@ -116,7 +111,7 @@ module _ {S : Type 0} (t : Topology) (left : S → Option (List ℕ)) (faults pl
     pub reads : (start : Reader S) (steps : List FrameStep) →
         HandsOut t left faults place start old.reader steps →
         HandsOut t left faults place start new.reader (steps ++ more)
-    pub took : TookFirst number old.reader.told.feed_no old.reader.told.router seen-before seen (updates more)
+    pub took : TookFirst number old.reader.told.feed_no seen-before seen (updates more)
 
   -- some frames more, as the count says
   pub record TakesSome (count : Option ℕ) (old new : Feed S) (seen-before seen : List Posted) : Type 0 where

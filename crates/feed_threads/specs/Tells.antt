@@ -1,5 +1,5 @@
 -- What a job tells of its queries and its link lines, by its own entries alone.
-use Rattle.std.specs.Prelude.{ℕ, ◌≡◌, ◌≤◌, ◌<◌, ◌-◌, Bool, List, [], ◌∷◌, ◌++◌, length, take, Option, None, Some, IsSome}
+use Rattle.std.specs.Prelude.{ℕ, ◌≡◌, ◌≤◌, ◌<◌, ◌-◌, Bool, List, [], ◌∷◌, ◌++◌, length, take, None, Some, IsSome}
 use Rattle.dn_formats.specs.Lawful.{Job, given_along, link_entries, pin_after, entry_after}
 use Rattle.dn_model.specs.Answer.{IsAnswer}
 use Rattle.dn_model.specs.Entry.{entries}
@@ -57,8 +57,8 @@ IsLinkOutcomeNow lock job_number name down old new Full =
 
 module _ (t : Topology) (limit : ℕ) (history : List Posted) (number : ℕ) (start : List Entry) (job : Job) where
   -- What is told of a query after some lines, where the last position was `last`: its first unknown name; or the answer
-  -- over the first entries of the history, up to its pin, among which those of the seat of this number are those that it
-  -- had before and what the job's lines gave since.
+  -- over the first entries of the history, up to its pin, among which those of the seat of this number are those that
+  -- it had before and what the job's lines gave since.
   abbrev pub IsOwnOutcome : List Line → ℕ → Question → Outcome → Type 0
   IsOwnOutcome before last q (Unknown u) = unknown_of t q ≡ Some u
   IsOwnOutcome before last q (Answered n answer) =
@@ -66,8 +66,8 @@ module _ (t : Topology) (limit : ℕ) (history : List Posted) (number : ℕ) (st
       × (own_of number (take n history) ≡ start ++ given_along t job [] before)
       × IsAnswer t (entries (take n history)) q answer
 
-  -- A link line's entry stands at a position past the last one, under the seat's number, and the seat's own before it are
-  -- those that it had and what the job's lines gave since.
+  -- A link line's entry stands at a position past the last one, under the seat's number, and the seat's own before it
+  -- are those that it had and what the job's lines gave since.
   pub record IsOwnLinkAt (before : List Line) (last : ℕ) (name : List ℕ) (down : Bool) (p : ℕ) : Type 0 where
     pub link : LinkId
     pub named : link_of t name ≡ Some link

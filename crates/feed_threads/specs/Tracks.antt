@@ -8,6 +8,7 @@ use Rattle.feed_model.specs.Steps.{FrameStep, FeedRead, kept_of}
 use Rattle.dn_model.specs.declared.entry.Entry.{Entry}
 use Rattle.dn_model.specs.declared.entry.Op.{Op}
 use Rattle.dn_model.specs.declared.entry.Posted.{Posted}
+use Rattle.base.specs.declared.ids.RouterId.{RouterId}
 use Rattle.dn_model.specs.declared.topology.Topology.{Topology}
 use Rattle.dn_formats.specs.declared.script.Line.{Line}
 use Rattle.dn_formats.specs.declared.script.Line.TheVariants.{Take, Ask, Link}
@@ -40,7 +41,7 @@ pub record Strand (S : Type 0) : Type 0 where
   pub start : Reader S
   pub now : Feed S
   pub steps : List FrameStep
-  pub ops : List Op
+  pub ops : List (RouterId × Op)
 
 -- a feed that has what a strand has, and further frames where that hasn't ended
 pub record GoesOn {S : Type 0} (s : Strand S) (f : FeedRead) : Type 0 where
@@ -93,8 +94,8 @@ abbrev pub TookFirstLinks : Bool → ℕ → List Posted → ℕ → ℕ → Typ
 TookFirstLinks false limit seen all count = count ≤ all
 TookFirstLinks true limit seen all count = (count < all) × (limit ≤ length seen)
 
--- how many link entries a history that took so many may take in the end: these or more, and where it was full at one just
--- these
+-- how many link entries a history that took so many may take in the end: these or more, and where it was full at one
+-- just these
 abbrev pub MayLink : Bool → ℕ → ℕ → Type 0
 MayLink false so-far kept = so-far ≤ kept
 MayLink true so-far kept = kept ≡ so-far
@@ -117,9 +118,9 @@ pub record IsJobOn {S : Type 0} (Goes : Strand S → FeedRead → Type 0) (job_n
 abbrev pub last_position : List Told → ℕ
 last_position tolds = fold position_after 0 tolds
 
--- What these lines have given and told holds of whatever the job comes to: the own entries of the seat of this number so
--- far are those that it had before and then what the lines gave, line by line; and what is told is right, however the
--- history goes on.
+-- What these lines have given and told holds of whatever the job comes to: the own entries of the seat of this number
+-- so far are those that it had before and then what the lines gave, line by line; and what is told is right, however
+-- the history goes on.
 pub record Whatever (t : Topology) (limit number : ℕ) (start : List Entry) (seen : List Posted) (before : List Line)
     (tolds : List Told) (job : Job) : Type 0 where
   pub order : own_of number seen ≡ start ++ given_along t job [] before
@@ -135,8 +136,8 @@ module _ {S : Type 0} (t : Topology) (left : S → Option (List ℕ)) (faults pl
     pub passes : All (λ s. Passes s.start s.now.reader s.steps) strands
     pub apart : AllApart strands
 
-  -- After these lines of the job of a number, done by a seat of a number: each feed has given as many frames as they ask
-  -- for, the history took their link entries or was full, and no position is past what was seen.
+  -- After these lines of the job of a number, done by a seat of a number: each feed has given as many frames as they
+  -- ask for, the history took their link entries or was full, and no position is past what was seen.
   pub record Tracks (number job_number : ℕ) (start : List Entry) (olds : List (Reader S)) (news : List (Feed S))
       (seen : List Posted) (before : List Line) (tolds : List Told) : Type 0 where
     pub strands : List (Strand S)

@@ -26,9 +26,9 @@ fn numbers_for<S: Source>(jobs: &JobList<S>) -> u32
 }
 
 /// Runs jobs side by side over an empty store, and gives back the store with their history, and what the jobs came to,
-/// in order. Where none of them wanted memory, the history is a shuffle of what it took of their feeds and link lines, each
-/// job's entries stand there in the job's order, each query is answered over the first entries of it, and each link line is
-/// told with its entry's position.
+/// in order. Where none of them wanted memory, the history is a shuffle of what it took of their feeds and link lines,
+/// each job's entries stand there in the job's order, each query is answered over the first entries of it, and each
+/// link line is told with its entry's position.
 ///
 /// # Errors
 ///

@@ -1,5 +1,5 @@
-//! Jobs over one version lock: each takes the feeds that it alone has, takes links down and up, and asks its script's queries
-//! over snapshots.
+//! Jobs over one version lock: each takes the feeds that it alone has, takes links down and up, and asks its script's
+//! queries over snapshots.
 #![tactic(auto)]
 
 mod all_jobs;

@@ -14,30 +14,29 @@ use route_feed::FeedStep;
 use std::sync::Wait;
 use version_lock::Seat;
 
-/// Applies updates of one router's feed, in order, and answers how many of them the history took: all, or fewer where
-/// it was full. Where memory is wanting it took the first of them.
+/// Applies updates of one feed, each to its router's table, in order, and answers how many of them the history took:
+/// all, or fewer where it was full. Where memory is wanting it took the first of them.
 #[tactic(auto, using(crate::proofs::OpLemmas::op_taken))]
 fn post_all<G: Gate, R: Wait>(
     rt: &R,
     desk: &Desk<'_, G>,
     seat: &mut Seat,
     feed_no: u32,
-    router: RouterId,
-    ops: &[Op],
+    ops: &[(RouterId, Op)],
 ) -> Result<usize, OutOfMemory>
-    requires { MayPost desk.now seat.old router ops.now }
+    requires { MayPost desk.now seat.old ops.now }
     ensures saw { SawMore seat.old seat.new }
     ensures few { IfOk result (λ n. n ≤ length ops.now) }
     ensures own { IfOk result (λ n. own_of seat.old.number seat.new.seen ≡ own_of seat.old.number seat.old.seen
-        ++ entries_by feed_no router (take n ops.now)) }
-    ensures first { OnErr result (TookFirst seat.old.number feed_no router seat.old.seen seat.new.seen ops.now) }
+        ++ entries_by feed_no (take n ops.now)) }
+    ensures first { OnErr result (TookFirst seat.old.number feed_no seat.old.seen seat.new.seen ops.now) }
     ensures full { IfOk result (λ n. n < length ops.now → desk.now.setup.basis.limit ≤ length seat.new.seen) }
 {
     for taken in 0..ops.len() {
         let entry = Entry::Route {
-            router,
+            router: ops[taken].0,
             feed_no,
-            op: ops[taken],
+            op: ops[taken].1,
         };
         if desk.post(rt, seat, &entry)?.is_none() {
             return Ok(taken);
@@ -53,21 +52,20 @@ fn take_ops<S: Source, G: Gate, R: Wait>(
     desk: &Desk<'_, G>,
     seat: &mut Seat,
     feed: &mut Feed<S>,
-    ops: List<Op>,
+    ops: List<(RouterId, Op)>,
 ) -> Result<bool, OutOfMemory>
     requires { MayPostOf desk.now seat.old feed.old ops }
     ensures saw { SawMore seat.old seat.new }
     ensures reader { feed.new.reader ≡ feed.old.reader }
     ensures took { IfOk result (λ more. HasTaken desk.now.setup.basis.limit seat.old.number more feed.new.kept
         feed.old.reader.told seat.old.seen seat.new.seen ops) }
-    ensures first { OnErr result (TookFirst seat.old.number feed.old.reader.told.feed_no feed.old.reader.told.router
-        seat.old.seen seat.new.seen ops) }
+    ensures first { OnErr result (TookFirst seat.old.number feed.old.reader.told.feed_no seat.old.seen
+        seat.new.seen ops) }
     ensures going { OnErr result (feed.new.kept ≡ None) }
 {
     let feed_no = feed.reader.told().feed_no;
-    let router = feed.reader.told().router;
     let count = ops.len();
-    let taken = post_all(rt, desk, seat, feed_no, router, ops.as_slice());
+    let taken = post_all(rt, desk, seat, feed_no, ops.as_slice());
     feed.reader.take_back(ops);
     let taken = taken?;
     if taken == count {

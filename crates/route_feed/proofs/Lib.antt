@@ -2,3 +2,4 @@ pub mod AnswerLemmas
 pub mod HandsLemmas
 pub mod HintLemmas
 pub mod ReaderLemmas
+pub mod TableLemmas

@@ -18,9 +18,16 @@ use Rattle.feed_model.proofs.FramesLemmas.{front-not_frame, front-not_lost, lost
 use Rattle.route_feed.specs.FeedReader.{Reader, told_so_far, told_at_end}
 use Rattle.route_feed.specs.Intake.{Inflow}
 
--- the reader of this intake, which tells this
-abbrev pub reader_of : {S : Type 0} → Inflow S → FeedTold → Reader S
-reader_of i told = record { source = i.source; limit = i.limit; passed = i.passed; held = i.held ++ i.pending; told = told }
+-- the reader of this intake, which tells this and has looked these tables up
+abbrev pub reader_of : {S : Type 0} → Inflow S → FeedTold → List ℕ → Reader S
+reader_of i told tables = record {
+  source = i.source;
+  limit = i.limit;
+  passed = i.passed;
+  held = i.held ++ i.pending;
+  told = told;
+  tables = tables;
+}
 
 front_of_front : (xs ys : List ℕ) (o : Option (List ℕ)) → with_front (xs ++ ys) o ≡ with_front xs (with_front ys o)
 front_of_front xs ys None = refl

@@ -1,11 +1,11 @@
 -- What a reader of a feed means, and what its answers say of the feed's bytes.
-use Rattle.std.specs.Prelude.{◌≡◌, ℕ, ◌+◌, ◌*◌, ◌<◌, ◌≤◌, List, [], ◌∷◌, ◌++◌, length, All, map, sum, Option, None, Some, Result, Ok, Err}
+use Rattle.std.specs.Prelude.{◌≡◌, ◌≢◌, ℕ, ◌+◌, ◌*◌, ◌<◌, ◌≤◌, List, [], ◌∷◌, ◌++◌, length, All, map, sum, Option, None, Some, Result, Ok, Err}
 use Rattle.dn_io.specs.Faults.{Rose}
 use Rattle.dn_io.specs.Told.{with_front, NothingLeft}
 use Rattle.dn_model.specs.Entry.{IsTargetOf}
 use Rattle.dn_model.specs.declared.entry.Op.{Op}
 use Rattle.dn_model.specs.declared.entry.Op.TheVariants.{Set, SetBy, Clear, Object, NoObject}
-use Rattle.feed_model.specs.Feed.{AreSteps, IsReading, IsFaultedReading}
+use Rattle.feed_model.specs.Feed.{AreSteps, IsReading, IsFaultedReading, IsToTableOf, tables_of}
 use Rattle.feed_model.specs.Frames.{Frame, IsFrame, frames_text}
 use Rattle.feed_model.specs.Steps.{FrameStep, Accepted, Refused, updates, refusals, skipped_of, told_of}
 use Rattle.base.specs.declared.ids.RouterId.{RouterId}
@@ -18,13 +18,19 @@ use Rattle.route_feed.specs.declared.feed_step.FeedStep.{FeedStep}
 use Rattle.route_feed.specs.declared.feed_step.FeedStep.TheVariants as answers
 
 -- A reader: its source, how many of the feed's bytes it looks at, how many bytes the frames took that it handed out,
--- the bytes that it has read after them, and what it tells.
+-- the bytes that it has read after them, what it tells, and the numbers of its device's tables, or none as long as it
+-- hasn't looked them up.
 pub record Reader (S : Type 0) : Type 0 where
   pub source : S
   pub limit : ℕ
   pub passed : ℕ
   pub held : List ℕ
   pub told : FeedTold
+  pub tables : List ℕ
+
+-- the tables that a reader looked up are all of its device's
+abbrev pub KnowsTables : Topology → RouterId → List ℕ → Type 0
+KnowsTables t r tables = tables ≢ [] → tables ≡ tables_of t r
 
 -- what is told after these steps, before an end
 abbrev pub told_so_far : ℕ → RouterId → List FrameStep → FeedTold
@@ -52,6 +58,7 @@ pub record IsAt {S : Type 0} (t : Topology) (reader : Reader S) (left : Option (
   pub whole : Some bytes ≡ with_front (frames_text frames ++ reader.held) left
   pub within : reader.passed + length reader.held ≤ reader.limit
   pub counted : reader.told ≡ told_so_far reader.told.feed_no reader.told.router steps
+  pub knows : KnowsTables t reader.told.router reader.tables
 
 -- a front of the bytes was read, at most one more than the limit, and the rest is left
 abbrev pub IsReadFrom : List ℕ → ℕ → Option (List ℕ) → Type 0
@@ -154,12 +161,26 @@ IsFeedOp t (Clear p m) = Unit {0}
 IsFeedOp t (Object id target) = ⊥
 IsFeedOp t (NoObject id) = ⊥
 
+-- the same with the router whose table it changes, which is in the network
+abbrev pub IsFeedUpdate : Topology → RouterId × Op → Type 0
+IsFeedUpdate t u = (u.0.0 < length t.routers) × IsFeedOp t u.1
+
 -- the updates that are handed out can come of this network
 abbrev pub AreOpsOf : Topology → FeedStep → Type 0
-AreOpsOf t (answers.Ops ops skipped) = All (IsFeedOp t) ops
+AreOpsOf t (answers.Ops ops skipped) = All (IsFeedUpdate t) ops
 AreOpsOf t (answers.Refused offset at cause) = Unit {0}
 AreOpsOf t answers.End = Unit {0}
 AreOpsOf t (answers.CutShort offset) = Unit {0}
 AreOpsOf t (answers.Lost offset cause) = Unit {0}
 AreOpsOf t answers.TooLong = Unit {0}
 AreOpsOf t answers.Faulted = Unit {0}
+
+-- the updates that are handed out are to tables of this device
+abbrev pub AreOwnOps : Topology → RouterId → FeedStep → Type 0
+AreOwnOps t r (answers.Ops ops skipped) = All (IsToTableOf t r) ops
+AreOwnOps t r (answers.Refused offset at cause) = Unit {0}
+AreOwnOps t r answers.End = Unit {0}
+AreOwnOps t r (answers.CutShort offset) = Unit {0}
+AreOwnOps t r (answers.Lost offset cause) = Unit {0}
+AreOwnOps t r answers.TooLong = Unit {0}
+AreOwnOps t r answers.Faulted = Unit {0}

@@ -1,6 +1,6 @@
 -- What an answer of a feed's reader says of one frame.
-use Rattle.std.specs.Prelude.{◌≡◌, ℕ, ◌+◌, ◌*◌, ◌≤◌, ◌++◌, length, Option, None, Some, Result, Ok, Err}
-use Rattle.feed_model.specs.Feed.{IsStep, Gathered, with_message}
+use Rattle.std.specs.Prelude.{◌≡◌, ℕ, ◌+◌, ◌*◌, ◌≤◌, ◌++◌, List, length, Option, None, Some, Result, Ok, Err}
+use Rattle.feed_model.specs.Feed.{IsStepBy, Gathered, with_message}
 use Rattle.feed_model.specs.Frames.{Frame, IsFrame, frame_text}
 use Rattle.feed_model.specs.Steps.{FrameStep, Accepted, Refused}
 use Rattle.base.specs.declared.ids.RouterId.{RouterId}
@@ -23,15 +23,16 @@ IsTaken t r old item new (Some refused) = with_message t r old item.at item.what
 abbrev pub count : Gathered → ℕ
 count g = length g.ops + g.skipped
 
--- the answer is what this frame, at this offset, comes to
-abbrev pub ComesTo : Topology → RouterId → ℕ → Frame → FeedStep → Type 0
-ComesTo t r offset frame (answers.Ops ops skipped) = IsStep t r offset frame (Accepted ops skipped)
-ComesTo t r offset frame (answers.Refused o at cause) = IsStep t r offset frame (Refused (record { offset = o; at = at; cause = cause }))
-ComesTo t r offset frame answers.End = ⊥
-ComesTo t r offset frame (answers.CutShort o) = ⊥
-ComesTo t r offset frame (answers.Lost o cause) = ⊥
-ComesTo t r offset frame answers.TooLong = ⊥
-ComesTo t r offset frame answers.Faulted = ⊥
+-- the answer is what this frame, at this offset, comes to, where the routes of these tables and the main one are read
+abbrev pub ComesTo : List ℕ → Topology → RouterId → ℕ → Frame → FeedStep → Type 0
+ComesTo tables t r offset frame (answers.Ops ops skipped) = IsStepBy tables t r offset frame (Accepted ops skipped)
+ComesTo tables t r offset frame (answers.Refused o at cause) =
+    IsStepBy tables t r offset frame (Refused (record { offset = o; at = at; cause = cause }))
+ComesTo tables t r offset frame answers.End = ⊥
+ComesTo tables t r offset frame (answers.CutShort o) = ⊥
+ComesTo tables t r offset frame (answers.Lost o cause) = ⊥
+ComesTo tables t r offset frame answers.TooLong = ⊥
+ComesTo tables t r offset frame answers.Faulted = ⊥
 
 -- what an answer says of a frame, if it is of one
 abbrev pub frame_step : FeedStep → Option FrameStep
@@ -63,12 +64,14 @@ HasRoom bytes (answers.Lost o cause) = Unit {0}
 HasRoom bytes answers.TooLong = Unit {0}
 HasRoom bytes answers.Faulted = Unit {0}
 
--- the frame at the front of what is held was handed out, counted and passed
-pub record Hands {S : Type 0} (t : Topology) (old new : Inflow S) (told_old told_new : FeedTold) (step : FeedStep) : Type 0 where
+-- the frame at the front of what is held was handed out, counted and passed; of its routes those of these tables and of
+-- the main one are read
+pub record Hands {S : Type 0} (tables : List ℕ) (t : Topology) (old new : Inflow S) (told_old told_new : FeedTold)
+    (step : FeedStep) : Type 0 where
   pub frame : Frame
   pub fits : IsFrame frame
   pub begins : old.held ≡ frame_text frame ++ new.held
-  pub comes_to : ComesTo t told_old.router old.passed frame step
+  pub comes_to : ComesTo tables t told_old.router old.passed frame step
   pub passed : new.passed ≡ old.passed + length (frame_text frame)
   pub source : new.source ≡ old.source
   pub limit : new.limit ≡ old.limit
@@ -77,6 +80,7 @@ pub record Hands {S : Type 0} (t : Topology) (old new : Inflow S) (told_old told
   pub of_frame : IsOfFrame (length frame.payload) step
   pub room : HasRoom (length frame.payload) step
 
-abbrev pub HandsTo : {S : Type 0} → Topology → Result FeedStep OutOfMemory → Inflow S → Inflow S → FeedTold → FeedTold → Type 0
-HandsTo t (Ok step) old new told_old told_new = Hands t old new told_old told_new step
-HandsTo t (Err e) old new told_old told_new = (new ≡ old) × (told_new ≡ told_old)
+abbrev pub HandsTo : {S : Type 0} → List ℕ → Topology → Result FeedStep OutOfMemory → Inflow S → Inflow S → FeedTold →
+    FeedTold → Type 0
+HandsTo tables t (Ok step) old new told_old told_new = Hands tables t old new told_old told_new step
+HandsTo tables t (Err e) old new told_old told_new = (new ≡ old) × (told_new ≡ told_old)

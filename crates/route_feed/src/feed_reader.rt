@@ -1,12 +1,13 @@
-//! The reader of a router's feed.
+//! The reader of a device's feed.
 
 ghost use Rattle.std.specs.Prelude.{◌≡◌, ℕ, ◌+◌, ◌<◌, ◌≤◌, ◌^◌, List, [], ◌++◌, length, Option, None, Some, IfOk, IsOkAnd, OnErr, false};
 ghost use Rattle.dn_io.specs.Told.{with_front};
 ghost use Rattle.feed_model.specs.Frames.{IsFrameFront};
 ghost use Rattle.feed_model.specs.Steps.{FrameStep};
 ghost use Rattle.dn_model.specs.declared.topology.Topology.{Topology};
-ghost use Rattle.route_feed.specs.FeedReader.{Reader, IsAt, IsOutcome, FaultsAt, told_then, told_so_far, end_of, IsReadersEnd, Advances, AreOpsOf};
+ghost use Rattle.route_feed.specs.FeedReader.{Reader, IsAt, IsOutcome, FaultsAt, told_then, told_so_far, end_of, IsReadersEnd, Advances, AreOpsOf, AreOwnOps};
 
+use crate::device::{Device, look_up};
 use crate::feed_step::FeedStep;
 use crate::frame_step::hand_out;
 use crate::intake::Intake;
@@ -17,11 +18,13 @@ use feed_model::{FeedEnd, FeedTold};
 use std::alloc::Global;
 use std::marker::Model;
 
-/// Reads a router's feed frame by frame, and counts what it tells. A contract sees it as a `Reader`.
+/// Reads a device's feed frame by frame, and counts what it tells. A contract sees it as a `Reader`.
 #[derive(Drop)]
 pub struct FeedReader<S: Source> {
     intake: Intake<S>,
     told: FeedTold,
+    /// The numbers of the device's tables, looked up before the first frame; a device has its main one at least.
+    tables: List<u32>,
     /// No clause speaks of it.
     workspace: Workspace,
 }
@@ -33,7 +36,14 @@ impl<S: Source> Model for FeedReader<S> {
 
     ghost Value = { Reader S };
 
-    ghost view = { λ r. record { source = r.intake.source; limit = r.intake.limit; passed = r.intake.passed; held = r.intake.held ++ r.intake.pending; told = r.told } };
+    ghost view = { λ r. record {
+      source = r.intake.source;
+      limit = r.intake.limit;
+      passed = r.intake.passed;
+      held = r.intake.held ++ r.intake.pending;
+      told = r.told;
+      tables = r.tables;
+    } };
 
     ghost invariant = { λ r. (r.intake.limit ≤ 2 ^ 30) × IsReadersEnd r.told.end × (r.told.end ≡ None → taken r.intake ≤ r.intake.limit) × (r.told.updates ≤ r.intake.passed) × (r.told.skipped ≤ r.intake.passed) };
 }
@@ -64,7 +74,7 @@ fn end_with(told: &mut FeedTold, end: FeedEnd) -> FeedStep
 }
 
 impl<S: Source> FeedReader<S> {
-    /// The reader of this router's feed, which has this number and of which `limit` bytes are looked at. It takes no
+    /// The reader of this device's feed, which has this number and of which `limit` bytes are looked at. It takes no
     /// memory, and reads nothing yet.
     pub fn new(
         alloc: Global,
@@ -76,7 +86,14 @@ impl<S: Source> FeedReader<S> {
         requires some { 1 ≤ limit }
         requires most { limit ≤ 2 ^ 30 }
         requires fresh { S.faults source ≡ 0 }
-        ensures start { result ≡ record { source = source; limit = limit; passed = 0; held = []; told = told_so_far feed_no router [] } }
+        ensures start { result ≡ record {
+          source = source;
+          limit = limit;
+          passed = 0;
+          held = [];
+          told = told_so_far feed_no router [];
+          tables = [];
+        } }
         ensures at { (t : Topology) (bytes : List ℕ) → S.left source ≡ Some bytes → IsAt t result (S.left result.source) bytes [] }
     {
         FeedReader {
@@ -89,6 +106,7 @@ impl<S: Source> FeedReader<S> {
                 refused: List::new(alloc),
                 end: None,
             },
+            tables: List::new(alloc),
             workspace: Workspace::new(alloc),
         }
     }
@@ -112,6 +130,7 @@ impl<S: Source> FeedReader<S> {
         ensures faults { self.old.told.end ≡ None → FaultsAt result (S.faults self.old.source) (S.faults self.new.source) }
         ensures advances { IfOk result (λ step. Advances step self.old self.new) }
         ensures within { IfOk result (AreOpsOf topology.now) }
+        ensures own { IfOk result (AreOwnOps topology.now self.old.told.router) }
         ensures limit { self.new.limit ≡ self.old.limit }
         ensures router { self.new.told.router ≡ self.old.told.router }
         ensures feed_no { self.new.told.feed_no ≡ self.old.told.feed_no }
@@ -122,18 +141,26 @@ impl<S: Source> FeedReader<S> {
         }
         match self.intake.fill()? {
             Some(end) => Ok(end_with(&mut self.told, end)),
-            None => hand_out(
-                alloc,
-                &mut self.intake,
-                &mut self.told,
-                topology,
-                &mut self.workspace,
-            ),
+            None => {
+                look_up(alloc, &mut self.tables, topology, self.told.router)?;
+                let device = Device {
+                    topology,
+                    router: self.told.router,
+                    tables: self.tables.as_slice(),
+                };
+                hand_out(
+                    alloc,
+                    &mut self.intake,
+                    &mut self.told,
+                    &device,
+                    &mut self.workspace,
+                )
+            }
         }
     }
 
     /// Takes back the updates of a frame that were handed out, for their memory: the next frame's may stand there.
-    pub fn take_back(&mut self, ops: List<Op>)
+    pub fn take_back(&mut self, ops: List<(RouterId, Op)>)
         ensures { self.new ≡ self.old }
     {
         let _ = &self.intake;

@@ -1,12 +1,13 @@
 //! The answers of a feed's reader.
 
-use dn_model::{List, Op};
+use dn_model::{List, Op, RouterId};
 
 /// What a reader of a feed answers.
 #[derive(Drop)]
 pub enum FeedStep {
-    /// The next frame is accepted: its updates, in order, and how many messages it passed over.
-    Ops(List<Op>, u32),
+    /// The next frame is accepted: its updates, in order, each with the router whose table it changes, and how many
+    /// messages it passed over.
+    Ops(List<(RouterId, Op)>, u32),
     /// The next frame is refused: where it begins in the feed, where its first refused message begins in its payload,
     /// and the cause, a number of the module `frame_cause` of `feed_model`. None of its updates is handed out.
     Refused { offset: u64, at: u32, cause: u8 },

@@ -14,7 +14,7 @@ use std::marker::Model;
 /// How many interfaces have a place of their own. One whose number is larger shares the place of another.
 const PLACES: u32 = 64;
 
-/// For the interfaces of one router, the place of the link and the place of the edge where each was found last time.
+/// For the interfaces of one device, the place of the link and the place of the edge where each was found last time.
 /// A contract sees nothing of it.
 #[derive(Drop)]
 pub struct PortHints {

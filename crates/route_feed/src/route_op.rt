@@ -1,4 +1,4 @@
-//! The update of a router's table that a route's message is.
+//! The update that a route's message in a device's feed is.
 
 ghost use Rattle.std.specs.Prelude.{◌≡◌, IfSome, unwrap_or};
 ghost use Rattle.dn_model.specs.Entry.{IsTargetOf};
@@ -11,7 +11,7 @@ use crate::port_hints::{PortHints, port_hinted};
 use dn_model::{DropKind, Op, Port, RouterId, Target, Topology};
 use feed_model::{RawRoute, RouteKind};
 
-/// What a unicast route does at a port, which is the router's interface of this number.
+/// What a unicast route does at a port, which is the device's interface of this number.
 fn target_at(port: Port, via: bool, index: u32) -> Target
     ensures value { result ≡ target_at port via index }
     ensures within { (t : TopologyIs) → IsPortWithin t port → IsTargetOf t result }
@@ -49,7 +49,7 @@ fn set(raw: &RawRoute, target: Target) -> Op
     }
 }
 
-/// The update that a message to set a unicast route is, where its interface is the router's.
+/// The update that a message to set a unicast route is, where its interface is the device's.
 fn set_unicast(
     topology: &Topology,
     router: RouterId,
@@ -83,8 +83,8 @@ fn set_by_kind(
     }
 }
 
-/// The update that a route's message is to this router, and None exactly where it is a unicast route to be set whose
-/// interface isn't the router's.
+/// The update that a route's message is, and None exactly where it is a unicast route to be set whose interface isn't
+/// the device's.
 pub fn op_of(
     topology: &Topology,
     router: RouterId,

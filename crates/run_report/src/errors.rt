@@ -42,8 +42,10 @@ fn part_word(part: TopoPart) -> &'static [u8]
     match part {
         TopoPart::Top => b"top",
         TopoPart::Routers => b"routers",
+        TopoPart::Vrf => b"vrf",
         TopoPart::Link => b"link",
         TopoPart::Edge => b"edge",
+        TopoPart::Router => b"router",
     }
 }
 

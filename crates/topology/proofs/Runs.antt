@@ -1,7 +1,6 @@
 -- The entries of a topology's text, one after the other.
-use Rattle.std.proofs.Common.{◌≡◌, ℕ, ◌+◌, ◌<◌, ◌≤◌, Bool, true, false, cond, List, [], ◌∷◌, ◌++◌, length, get_or, take, drop, map, filter, Option, Some, None, is_none, option_map, Err, refl, sym, ap, ◌∙◌, subst, arith, lit≤, append_assoc, length-append}
+use Rattle.std.proofs.Common.{◌≡◌, ℕ, ◌+◌, ◌<◌, ◌≤◌, Bool, true, false, cond, List, [], ◌∷◌, ◌++◌, length, get_or, take, drop, map, filter, Option, Some, None, is_none, option_map, refl, sym, ap, ◌∙◌, subst, arith, lit≤, append_assoc, length-append}
 use Rattle.std.proofs.lemmas.Bool.{true≢false, leb-false}
-use Rattle.std.proofs.lemmas.Option.{same_Some}
 use Rattle.std.proofs.lemmas.List.{append-nil, drop_more, take_more, take_all, drop_all, length-map}
 use Rattle.std.proofs.Math.ListN.{get_or-map}
 use Rattle.toml.specs.declared.value.Value.{Value}
@@ -9,7 +8,7 @@ use Rattle.toml.specs.View.{view}
 use Rattle.std.proofs.lemmas.List.Elements.{filter_map-append}
 use Rattle.std.specs.List.{filter_map, cons_option}
 use Rattle.std.specs.Option.{option_to_list}
-use Rattle.toml.specs.Data.{Data, Members, as_str}
+use Rattle.toml.specs.Data.{Data, as_str}
 use Rattle.dn_model.specs.declared.topology.Replace.TheVariants.{Key}
 use Rattle.dn_model.specs.declared.topology.RouterTable.{RouterTable}
 use Rattle.dn_model.specs.declared.topology.TopoEnd.{TopoEnd}
@@ -19,10 +18,10 @@ use Rattle.dn_formats.specs.declared.topology_fault.TopoPart.{TopoPart}
 use Rattle.dn_formats.specs.declared.topology_fault.TopoPart.TheVariants.{Routers, Link, Edge}
 use Rattle.dn_formats.specs.declared.topology_fault.TopoRefused.{TopoRefused}
 use Rattle.dn_formats.specs.declared.topology_fault.TopoRefused.TheVariants.{Fault, OutOfMemory}
-use Rattle.dn_model.specs.Topology.{Parts, all_ends, is_sound_topology}
-use Rattle.dn_formats.specs.TopologyText.{top_causes, top_fault, faults_of, Sections, sections_of, main_tables_from, main_tables, parts_said, list_faults, unless_faulty, standing, faults_along, router_causes, link_causes, edge_causes, router_table, link_table, edge_table, routers_said, links_said, edges_said, link_of_entry, end_of_entry}
+use Rattle.dn_model.specs.Topology.{all_ends}
+use Rattle.dn_formats.specs.TopologyText.{main_tables_from, main_tables, standing, faults_along, router_causes, link_causes, edge_causes, router_rows, link_rows, edge_rows, routers_said, links_said, edges_said, link_of_entry, end_of_entry}
 use Rattle.dn_formats.proofs.TopologySound.{NoneStands, AreRouters, router_next}
-use Rattle.dn_formats.proofs.TopologyLinksSound.{AreLinks, link_next, lists_sound as said_sound}
+use Rattle.dn_formats.proofs.TopologyLinksSound.{AreLinks, link_next}
 use Rattle.topology.specs.Reading.{first_standing, fault_at, IsRefusalAt, first_of, IsFirstFault, SayRouters, SayLinks, SayEdges}
 
 -- ---- one entry
@@ -39,7 +38,7 @@ none_from_first (row ∷ rows) x e =
     (parts.0, none_from_first rows x parts.1)
 
 -- and the list of causes is empty
-standing-none : {A : Type 0} (rows : List (ℕ × (A → Bool))) (x : A) → NoneStands rows x → standing rows x ≡ []
+pub standing-none : {A : Type 0} (rows : List (ℕ × (A → Bool))) (x : A) → NoneStands rows x → standing rows x ≡ []
 standing-none [] x h = refl
 standing-none (row ∷ rows) x h = rw h.0 (standing-none rows x h.1)
 
@@ -100,6 +99,11 @@ left_none part causes all i past left = left.same ∙ rw (drop_all i all past)
 pub said_more : {A : Type 0} (h : Data → Option A) (es : List Data) (x : Data) → filter_map h (es ++ x ∷ []) ≡ filter_map h es ++ option_to_list (h x)
 said_more h es x = filter_map-append h es (x ∷ []) ∙ ap (λ more. filter_map h es ++ more) (cons_option-nil (h x))
 
+-- an entry at which no row stands says something
+pub one_said : {A : Type 0} (xs new : List A) (x : Option A) → is_none x ≡ false → new ≡ xs ++ option_to_list x → length new ≡ length xs + 1
+one_said xs new None there pushed = absurd (true≢false there)
+one_said xs new (Some x) there pushed = ap length pushed ∙ length-append xs (x ∷ [])
+
 -- the fault of a cause is the refusal
 pub refusal_is : (part : TopoPart) (entry : ℕ) (cause : ℕ) (first : Option ℕ) (refused : TopoRefused) → refused ≡ Fault (fault_at part entry cause) → first ≡ Some cause → IsRefusalAt part entry first refused
 refusal_is part entry cause first refused is stands =
@@ -107,24 +111,24 @@ refusal_is part entry cause first refused is stands =
     subst P (sym is) (ap (option_map (fault_at part entry)) stands)
 
 -- the entry at a place, as data
-item_is : (vs : List Value) (i : ℕ) (v : Value) → v ≡ get_or vs i v → get_or (map view vs) i (view v) ≡ view v
+pub item_is : (vs : List Value) (i : ℕ) (v : Value) → v ≡ get_or vs i v → get_or (map view vs) i (view v) ≡ view v
 item_is vs i v e = get_or-map view vs i v ∙ ap view (sym e)
 
-item_within : (vs : List Value) (i : ℕ) → i < length vs → i < length (map view vs)
+pub item_within : (vs : List Value) (i : ℕ) → i < length vs → i < length (map view vs)
 item_within vs i h = rw length-map h
 
 -- ---- routers
 
 pub record RoutersSoFar (all : List Data) (i : ℕ) (names : List (List ℕ)) : Type 0 where
-  pub left : Left Routers router_table all i
+  pub left : Left Routers router_rows all i
   pub said : names ≡ routers_said (take i all)
   pub sound : AreRouters (take i all)
 
 pub routers_start : (all : List Data) → RoutersSoFar all 0 []
 routers_start all = record { left = record { same = refl }; said = refl; sound = record { few = lit≤ tt; as_many = refl; names = refl; differ = refl } }
 
-pub router_table-so_far : (all : List Data) (i : ℕ) (names : List (List ℕ)) → RoutersSoFar all i names → router_table (take i all) ≡ router_causes (length names) names
-router_table-so_far all i names far = rw (far.said, far.sound.as_many)
+pub router_rows-so_far : (all : List Data) (i : ℕ) (names : List (List ℕ)) → RoutersSoFar all i names → router_rows (take i all) ≡ router_causes (length names) names
+router_rows-so_far all i names far = rw (far.said, far.sound.as_many)
 
 pub routers_few : (all : List Data) (i : ℕ) (names : List (List ℕ)) → RoutersSoFar all i names → length names ≤ 1024
 routers_few all i names far =
@@ -135,125 +139,120 @@ routers_few all i names far =
 pub routers_more : (all : List Data) (i : ℕ) (names new : List (List ℕ)) (d : Data) → i < length all → RoutersSoFar all i names
     → first_standing (router_causes (length names) names) (get_or all i d) ≡ None → new ≡ names ++ option_to_list (as_str (get_or all i d)) → RoutersSoFar all (i + 1) new
 routers_more all i names new d within far none pushed =
-    let rows : NoneStands (router_table (take i all)) (get_or all i d) =
-    none_from_first (router_table (take i all)) (get_or all i d) (ap (λ rows. first_standing rows (get_or all i d)) (router_table-so_far all i names far) ∙ none) in
+    let rows : NoneStands (router_rows (take i all)) (get_or all i d) =
+    none_from_first (router_rows (take i all)) (get_or all i d) (ap (λ rows. first_standing rows (get_or all i d)) (router_rows-so_far all i names far) ∙ none) in
     record {
-      left = left_more Routers router_table all i d within far.left rows;
+      left = left_more Routers router_rows all i d within far.left rows;
       said = rw (pushed, take_more all i d within, far.said) (sym (said_more as_str (take i all) (get_or all i d)));
       sound = rw (take_more all i d within) (router_next (take i all) (get_or all i d) far.sound rows);
     }
 
 pub routers_refused : (all : List Data) (i : ℕ) (names : List (List ℕ)) (d : Data) (refused : TopoRefused) → i < length all → RoutersSoFar all i names
-    → IsRefusalAt Routers (length names + 1) (first_standing (router_causes (length names) names) (get_or all i d)) refused → IsFirstFault (faults_along Routers router_table [] all) refused
+    → IsRefusalAt Routers (length names + 1) (first_standing (router_causes (length names) names) (get_or all i d)) refused → IsFirstFault (faults_along Routers router_rows [] all) refused
 routers_refused all i names d refused within far here =
     let same : length names ≡ length (take i all) = ap length far.said ∙ far.sound.as_many in
     let P : ℕ → Type 0 = λ n. IsRefusalAt Routers (n + 1) (first_standing (router_causes (length names) names) (get_or all i d)) refused in
     let Q : List (ℕ × (Data → Bool)) → Type 0 = λ rows. IsRefusalAt Routers (length (take i all) + 1) (first_standing rows (get_or all i d)) refused in
-    left_refused Routers router_table all i d refused within far.left (subst Q (sym (router_table-so_far all i names far)) (subst P same here))
+    left_refused Routers router_rows all i d refused within far.left (subst Q (sym (router_rows-so_far all i names far)) (subst P same here))
 
 pub routers_done : (all : List Data) (i : ℕ) (names : List (List ℕ)) → length all ≤ i → RoutersSoFar all i names → SayRouters all names
 routers_done all i names past far =
     record {
-      faultless = left_none Routers router_table all i past far.left;
+      faultless = left_none Routers router_rows all i past far.left;
       said = far.said ∙ ap routers_said (take_all i all past);
       few = routers_few all i names far;
     }
 
 -- ---- links
 
-pub record LinksSoFar (routers : List (List ℕ)) (all : List Data) (i : ℕ) (links : List TopoLink) : Type 0 where
-  pub left : Left Link (link_table routers) all i
+pub record LinksSoFar (routers : List (List ℕ)) (tables : List RouterTable) (all : List Data) (i : ℕ) (links : List TopoLink) : Type 0 where
+  pub left : Left Link (link_rows routers tables) all i
   pub said : links ≡ links_said routers (take i all)
-  pub sound : AreLinks routers (take i all)
+  pub sound : AreLinks routers tables (take i all)
 
-pub links_start : (routers : List (List ℕ)) (all : List Data) → LinksSoFar routers all 0 []
-links_start routers all =
+pub links_start : (routers : List (List ℕ)) (tables : List RouterTable) (all : List Data) → LinksSoFar routers tables all 0 []
+links_start routers tables all =
     record { left = record { same = refl }; said = refl; sound = record { few = lit≤ tt; as_many = refl; sound = refl; named = refl; names = refl; ends = refl } }
 
-pub link_table-so_far : (routers : List (List ℕ)) (all : List Data) (i : ℕ) (links : List TopoLink) → LinksSoFar routers all i links
-    → link_table routers (take i all) ≡ link_causes routers (length links) (map (λ l. l.name) links) (all_ends links)
-link_table-so_far routers all i links far = rw (far.said, far.sound.as_many, far.sound.named)
+pub link_table-so_far : (routers : List (List ℕ)) (tables : List RouterTable) (all : List Data) (i : ℕ) (links : List TopoLink) → LinksSoFar routers tables all i links
+    → link_rows routers tables (take i all) ≡ link_causes routers tables (length links) (map (λ l. l.name) links) (all_ends links)
+link_table-so_far routers tables all i links far = rw (far.said, far.sound.as_many, far.sound.named)
 
-pub links_few : (routers : List (List ℕ)) (all : List Data) (i : ℕ) (links : List TopoLink) → LinksSoFar routers all i links → length links ≤ 4096
-links_few routers all i links far =
+pub links_few : (routers : List (List ℕ)) (tables : List RouterTable) (all : List Data) (i : ℕ) (links : List TopoLink) → LinksSoFar routers tables all i links → length links ≤ 4096
+links_few routers tables all i links far =
     let same : length links ≡ length (take i all) = ap length far.said ∙ far.sound.as_many in
     let few : length (take i all) ≤ 4096 = far.sound.few in
     omega arith
 
-pub links_more : (routers : List (List ℕ)) (all : List Data) (i : ℕ) (links new : List TopoLink) (d : Data) → i < length all → LinksSoFar routers all i links
-    → first_standing (link_causes routers (length links) (map (λ l. l.name) links) (all_ends links)) (get_or all i d) ≡ None
-    → new ≡ links ++ option_to_list (link_of_entry routers (get_or all i d)) → LinksSoFar routers all (i + 1) new
-links_more routers all i links new d within far none pushed =
-    let rows : NoneStands (link_table routers (take i all)) (get_or all i d) =
-    none_from_first (link_table routers (take i all)) (get_or all i d) (ap (λ rows. first_standing rows (get_or all i d)) (link_table-so_far routers all i links far) ∙ none) in
+pub links_more : (routers : List (List ℕ)) (tables : List RouterTable) (all : List Data) (i : ℕ) (links new : List TopoLink) (d : Data) → i < length all → LinksSoFar routers tables all i links
+    → first_standing (link_causes routers tables (length links) (map (λ l. l.name) links) (all_ends links)) (get_or all i d) ≡ None
+    → new ≡ links ++ option_to_list (link_of_entry routers (get_or all i d)) → LinksSoFar routers tables all (i + 1) new
+links_more routers tables all i links new d within far none pushed =
+    let rows : NoneStands (link_rows routers tables (take i all)) (get_or all i d) =
+    none_from_first (link_rows routers tables (take i all)) (get_or all i d) (ap (λ rows. first_standing rows (get_or all i d)) (link_table-so_far routers tables all i links far) ∙ none) in
     record {
-      left = left_more Link (link_table routers) all i d within far.left rows;
+      left = left_more Link (link_rows routers tables) all i d within far.left rows;
       said = rw (pushed, take_more all i d within, far.said) (sym (said_more (link_of_entry routers) (take i all) (get_or all i d)));
-      sound = rw (take_more all i d within) (link_next routers (take i all) (get_or all i d) far.sound rows);
+      sound = rw (take_more all i d within) (link_next routers tables (take i all) (get_or all i d) far.sound rows);
     }
 
-pub links_refused : (routers : List (List ℕ)) (all : List Data) (i : ℕ) (links : List TopoLink) (d : Data) (refused : TopoRefused) → i < length all → LinksSoFar routers all i links
-    → IsRefusalAt Link (length links + 1) (first_standing (link_causes routers (length links) (map (λ l. l.name) links) (all_ends links)) (get_or all i d)) refused
-    → IsFirstFault (faults_along Link (link_table routers) [] all) refused
-links_refused routers all i links d refused within far here =
+pub links_refused : (routers : List (List ℕ)) (tables : List RouterTable) (all : List Data) (i : ℕ) (links : List TopoLink) (d : Data) (refused : TopoRefused) → i < length all → LinksSoFar routers tables all i links
+    → IsRefusalAt Link (length links + 1) (first_standing (link_causes routers tables (length links) (map (λ l. l.name) links) (all_ends links)) (get_or all i d)) refused
+    → IsFirstFault (faults_along Link (link_rows routers tables) [] all) refused
+links_refused routers tables all i links d refused within far here =
     let same : length links ≡ length (take i all) = ap length far.said ∙ far.sound.as_many in
-    let P : ℕ → Type 0 = λ n. IsRefusalAt Link (n + 1) (first_standing (link_causes routers (length links) (map (λ l. l.name) links) (all_ends links)) (get_or all i d)) refused in
+    let P : ℕ → Type 0 = λ n. IsRefusalAt Link (n + 1) (first_standing (link_causes routers tables (length links) (map (λ l. l.name) links) (all_ends links)) (get_or all i d)) refused in
     let Q : List (ℕ × (Data → Bool)) → Type 0 = λ rows. IsRefusalAt Link (length (take i all) + 1) (first_standing rows (get_or all i d)) refused in
-    left_refused Link (link_table routers) all i d refused within far.left (subst Q (sym (link_table-so_far routers all i links far)) (subst P same here))
+    left_refused Link (link_rows routers tables) all i d refused within far.left (subst Q (sym (link_table-so_far routers tables all i links far)) (subst P same here))
 
-pub links_done : (routers : List (List ℕ)) (all : List Data) (i : ℕ) (links : List TopoLink) → length all ≤ i → LinksSoFar routers all i links → SayLinks routers all links
-links_done routers all i links past far =
-    record { faultless = left_none Link (link_table routers) all i past far.left; said = far.said ∙ ap (links_said routers) (take_all i all past) }
+pub links_done : (routers : List (List ℕ)) (tables : List RouterTable) (all : List Data) (i : ℕ) (links : List TopoLink) → length all ≤ i → LinksSoFar routers tables all i links → SayLinks routers tables all links
+links_done routers tables all i links past far =
+    record { faultless = left_none Link (link_rows routers tables) all i past far.left; said = far.said ∙ ap (links_said routers) (take_all i all past) }
 
 -- ---- edges
 
-pub record EdgesSoFar (routers : List (List ℕ)) (links : List TopoLink) (all : List Data) (i : ℕ) (edges : List TopoEnd) : Type 0 where
-  pub left : Left Edge (edge_table routers links) all i
+pub record EdgesSoFar (routers : List (List ℕ)) (tables : List RouterTable) (links : List TopoLink) (all : List Data) (i : ℕ) (edges : List TopoEnd) : Type 0 where
+  pub left : Left Edge (edge_rows routers tables links) all i
   pub said : edges ≡ edges_said routers (take i all)
   pub few : length edges ≤ 16384
   pub as_many : length edges ≡ length (take i all)
 
-pub edges_start : (routers : List (List ℕ)) (links : List TopoLink) (all : List Data) → EdgesSoFar routers links all 0 []
-edges_start routers links all = record { left = record { same = refl }; said = refl; few = lit≤ tt; as_many = refl }
+pub edges_start : (routers : List (List ℕ)) (tables : List RouterTable) (links : List TopoLink) (all : List Data) → EdgesSoFar routers tables links all 0 []
+edges_start routers tables links all = record { left = record { same = refl }; said = refl; few = lit≤ tt; as_many = refl }
 
-pub edge_table-so_far : (routers : List (List ℕ)) (links : List TopoLink) (all : List Data) (i : ℕ) (edges : List TopoEnd) → EdgesSoFar routers links all i edges
-    → edge_table routers links (take i all) ≡ edge_causes routers (length edges) (all_ends links ++ edges)
-edge_table-so_far routers links all i edges far = rw (← far.said, ← far.as_many)
+pub edge_table-so_far : (routers : List (List ℕ)) (tables : List RouterTable) (links : List TopoLink) (all : List Data) (i : ℕ) (edges : List TopoEnd) → EdgesSoFar routers tables links all i edges
+    → edge_rows routers tables links (take i all) ≡ edge_causes routers tables (length edges) (all_ends links ++ edges)
+edge_table-so_far routers tables links all i edges far = rw (← far.said, ← far.as_many)
 
--- an entry at which no row stands says an interface
-edge_said : (edges new : List TopoEnd) (end : Option TopoEnd) → is_none end ≡ false → new ≡ edges ++ option_to_list end → length new ≡ length edges + 1
-edge_said edges new None there pushed = absurd (true≢false there)
-edge_said edges new (Some end) there pushed = ap length pushed ∙ length-append edges (end ∷ [])
-
-pub edges_more : (routers : List (List ℕ)) (links : List TopoLink) (all : List Data) (i : ℕ) (edges new : List TopoEnd) (d : Data) → i < length all → EdgesSoFar routers links all i edges
-    → first_standing (edge_causes routers (length edges) (all_ends links ++ edges)) (get_or all i d) ≡ None
-    → new ≡ edges ++ option_to_list (end_of_entry routers (get_or all i d)) → EdgesSoFar routers links all (i + 1) new
-edges_more routers links all i edges new d within far none pushed =
+pub edges_more : (routers : List (List ℕ)) (tables : List RouterTable) (links : List TopoLink) (all : List Data) (i : ℕ) (edges new : List TopoEnd) (d : Data) → i < length all → EdgesSoFar routers tables links all i edges
+    → first_standing (edge_causes routers tables (length edges) (all_ends links ++ edges)) (get_or all i d) ≡ None
+    → new ≡ edges ++ option_to_list (end_of_entry routers (get_or all i d)) → EdgesSoFar routers tables links all (i + 1) new
+edges_more routers tables links all i edges new d within far none pushed =
     let x : Data = get_or all i d in
-    let rows : NoneStands (edge_table routers links (take i all)) (get_or all i d) =
-    none_from_first (edge_table routers links (take i all)) (get_or all i d) (ap (λ rows. first_standing rows (get_or all i d)) (edge_table-so_far routers links all i edges far) ∙ none) in
+    let rows : NoneStands (edge_rows routers tables links (take i all)) (get_or all i d) =
+    none_from_first (edge_rows routers tables links (take i all)) (get_or all i d) (ap (λ rows. first_standing rows (get_or all i d)) (edge_table-so_far routers tables links all i edges far) ∙ none) in
     let low : length (take i all) < 16384 = leb-false _ _ rows.0 in
     let same : length edges ≡ length (take i all) = far.as_many in
-    let one_more : length new ≡ length edges + 1 = edge_said edges new (end_of_entry routers (get_or all i d)) rows.1.1.1.1.0 pushed in
+    let one_more : length new ≡ length edges + 1 = one_said edges new (end_of_entry routers (get_or all i d)) rows.1.1.1.1.0 pushed in
     let taken : length (take i all ++ get_or all i d ∷ []) ≡ length (take i all) + 1 = length-append (take i all) (get_or all i d ∷ []) in
     record {
-      left = left_more Edge (edge_table routers links) all i d within far.left rows;
+      left = left_more Edge (edge_rows routers tables links) all i d within far.left rows;
       said = rw (pushed, take_more all i d within, far.said) (sym (said_more (end_of_entry routers) (take i all) (get_or all i d)));
       few = omega arith;
       as_many = rw (take_more all i d within) (omega arith);
     }
 
-pub edges_refused : (routers : List (List ℕ)) (links : List TopoLink) (all : List Data) (i : ℕ) (edges : List TopoEnd) (d : Data) (refused : TopoRefused) → i < length all → EdgesSoFar routers links all i edges
-    → IsRefusalAt Edge (length edges + 1) (first_standing (edge_causes routers (length edges) (all_ends links ++ edges)) (get_or all i d)) refused
-    → IsFirstFault (faults_along Edge (edge_table routers links) [] all) refused
-edges_refused routers links all i edges d refused within far here =
-    let P : ℕ → Type 0 = λ n. IsRefusalAt Edge (n + 1) (first_standing (edge_causes routers (length edges) (all_ends links ++ edges)) (get_or all i d)) refused in
+pub edges_refused : (routers : List (List ℕ)) (tables : List RouterTable) (links : List TopoLink) (all : List Data) (i : ℕ) (edges : List TopoEnd) (d : Data) (refused : TopoRefused) → i < length all → EdgesSoFar routers tables links all i edges
+    → IsRefusalAt Edge (length edges + 1) (first_standing (edge_causes routers tables (length edges) (all_ends links ++ edges)) (get_or all i d)) refused
+    → IsFirstFault (faults_along Edge (edge_rows routers tables links) [] all) refused
+edges_refused routers tables links all i edges d refused within far here =
+    let P : ℕ → Type 0 = λ n. IsRefusalAt Edge (n + 1) (first_standing (edge_causes routers tables (length edges) (all_ends links ++ edges)) (get_or all i d)) refused in
     let Q : List (ℕ × (Data → Bool)) → Type 0 = λ rows. IsRefusalAt Edge (length (take i all) + 1) (first_standing rows (get_or all i d)) refused in
-    left_refused Edge (edge_table routers links) all i d refused within far.left (subst Q (sym (edge_table-so_far routers links all i edges far)) (subst P far.as_many here))
+    left_refused Edge (edge_rows routers tables links) all i d refused within far.left (subst Q (sym (edge_table-so_far routers tables links all i edges far)) (subst P far.as_many here))
 
-pub edges_done : (routers : List (List ℕ)) (links : List TopoLink) (all : List Data) (i : ℕ) (edges : List TopoEnd) → length all ≤ i → EdgesSoFar routers links all i edges → SayEdges routers links all edges
-edges_done routers links all i edges past far =
-    record { faultless = left_none Edge (edge_table routers links) all i past far.left; said = far.said ∙ ap (edges_said routers) (take_all i all past) }
+pub edges_done : (routers : List (List ℕ)) (tables : List RouterTable) (links : List TopoLink) (all : List Data) (i : ℕ) (edges : List TopoEnd) → length all ≤ i → EdgesSoFar routers tables links all i edges → SayEdges routers tables links all edges
+edges_done routers tables links all i edges past far =
+    record { faultless = left_none Edge (edge_rows routers tables links) all i past far.left; said = far.said ∙ ap (edges_said routers) (take_all i all past) }
 
 -- ---- the same at values of `toml`
 
@@ -265,7 +264,7 @@ routers_step vs i names new v within is far none pushed =
     (pushed ∙ ap (λ x. names ++ option_to_list (as_str x)) (sym (item_is vs i v is)))
 
 pub routers_stop : (vs : List Value) (i : ℕ) (names : List (List ℕ)) (v : Value) (refused : TopoRefused) → i < length vs → v ≡ get_or vs i v → RoutersSoFar (map view vs) i names
-    → IsRefusalAt Routers (length names + 1) (first_standing (router_causes (length names) names) (view v)) refused → IsFirstFault (faults_along Routers router_table [] (map view vs)) refused
+    → IsRefusalAt Routers (length names + 1) (first_standing (router_causes (length names) names) (view v)) refused → IsFirstFault (faults_along Routers router_rows [] (map view vs)) refused
 routers_stop vs i names v refused within is far here =
     let P : Data → Type 0 = λ x. IsRefusalAt Routers (length names + 1) (first_standing (router_causes (length names) names) x) refused in
     routers_refused (map view vs) i names (view v) refused (item_within vs i within) far (subst P (sym (item_is vs i v is)) here)
@@ -273,120 +272,41 @@ routers_stop vs i names v refused within is far here =
 pub routers_end : (vs : List Value) (i : ℕ) (names : List (List ℕ)) → length vs ≤ i → RoutersSoFar (map view vs) i names → SayRouters (map view vs) names
 routers_end vs i names past far = routers_done (map view vs) i names (rw length-map past) far
 
-pub links_step : (routers : List (List ℕ)) (vs : List Value) (i : ℕ) (links new : List TopoLink) (v : Value) → i < length vs → v ≡ get_or vs i v → LinksSoFar routers (map view vs) i links
-    → first_standing (link_causes routers (length links) (map (λ l. l.name) links) (all_ends links)) (view v) ≡ None
-    → new ≡ links ++ option_to_list (link_of_entry routers (view v)) → LinksSoFar routers (map view vs) (i + 1) new
-links_step routers vs i links new v within is far none pushed =
-    links_more routers (map view vs) i links new (view v) (item_within vs i within) far
-    (ap (λ x. first_standing (link_causes routers (length links) (map (λ l. l.name) links) (all_ends links)) x) (item_is vs i v is) ∙ none)
+pub links_step : (routers : List (List ℕ)) (tables : List RouterTable) (vs : List Value) (i : ℕ) (links new : List TopoLink) (v : Value) → i < length vs → v ≡ get_or vs i v → LinksSoFar routers tables (map view vs) i links
+    → first_standing (link_causes routers tables (length links) (map (λ l. l.name) links) (all_ends links)) (view v) ≡ None
+    → new ≡ links ++ option_to_list (link_of_entry routers (view v)) → LinksSoFar routers tables (map view vs) (i + 1) new
+links_step routers tables vs i links new v within is far none pushed =
+    links_more routers tables (map view vs) i links new (view v) (item_within vs i within) far
+    (ap (λ x. first_standing (link_causes routers tables (length links) (map (λ l. l.name) links) (all_ends links)) x) (item_is vs i v is) ∙ none)
     (pushed ∙ ap (λ x. links ++ option_to_list (link_of_entry routers x)) (sym (item_is vs i v is)))
 
-pub links_stop : (routers : List (List ℕ)) (vs : List Value) (i : ℕ) (links : List TopoLink) (v : Value) (refused : TopoRefused) → i < length vs → v ≡ get_or vs i v → LinksSoFar routers (map view vs) i links
-    → IsRefusalAt Link (length links + 1) (first_standing (link_causes routers (length links) (map (λ l. l.name) links) (all_ends links)) (view v)) refused
-    → IsFirstFault (faults_along Link (link_table routers) [] (map view vs)) refused
-links_stop routers vs i links v refused within is far here =
-    let P : Data → Type 0 = λ x. IsRefusalAt Link (length links + 1) (first_standing (link_causes routers (length links) (map (λ l. l.name) links) (all_ends links)) x) refused in
-    links_refused routers (map view vs) i links (view v) refused (item_within vs i within) far (subst P (sym (item_is vs i v is)) here)
+pub links_stop : (routers : List (List ℕ)) (tables : List RouterTable) (vs : List Value) (i : ℕ) (links : List TopoLink) (v : Value) (refused : TopoRefused) → i < length vs → v ≡ get_or vs i v → LinksSoFar routers tables (map view vs) i links
+    → IsRefusalAt Link (length links + 1) (first_standing (link_causes routers tables (length links) (map (λ l. l.name) links) (all_ends links)) (view v)) refused
+    → IsFirstFault (faults_along Link (link_rows routers tables) [] (map view vs)) refused
+links_stop routers tables vs i links v refused within is far here =
+    let P : Data → Type 0 = λ x. IsRefusalAt Link (length links + 1) (first_standing (link_causes routers tables (length links) (map (λ l. l.name) links) (all_ends links)) x) refused in
+    links_refused routers tables (map view vs) i links (view v) refused (item_within vs i within) far (subst P (sym (item_is vs i v is)) here)
 
-pub links_end : (routers : List (List ℕ)) (vs : List Value) (i : ℕ) (links : List TopoLink) → length vs ≤ i → LinksSoFar routers (map view vs) i links → SayLinks routers (map view vs) links
-links_end routers vs i links past far = links_done routers (map view vs) i links (rw length-map past) far
+pub links_end : (routers : List (List ℕ)) (tables : List RouterTable) (vs : List Value) (i : ℕ) (links : List TopoLink) → length vs ≤ i → LinksSoFar routers tables (map view vs) i links → SayLinks routers tables (map view vs) links
+links_end routers tables vs i links past far = links_done routers tables (map view vs) i links (rw length-map past) far
 
-pub edges_step : (routers : List (List ℕ)) (links : List TopoLink) (vs : List Value) (i : ℕ) (edges new : List TopoEnd) (v : Value) → i < length vs → v ≡ get_or vs i v → EdgesSoFar routers links (map view vs) i edges
-    → first_standing (edge_causes routers (length edges) (all_ends links ++ edges)) (view v) ≡ None
-    → new ≡ edges ++ option_to_list (end_of_entry routers (view v)) → EdgesSoFar routers links (map view vs) (i + 1) new
-edges_step routers links vs i edges new v within is far none pushed =
-    edges_more routers links (map view vs) i edges new (view v) (item_within vs i within) far
-    (ap (λ x. first_standing (edge_causes routers (length edges) (all_ends links ++ edges)) x) (item_is vs i v is) ∙ none)
+pub edges_step : (routers : List (List ℕ)) (tables : List RouterTable) (links : List TopoLink) (vs : List Value) (i : ℕ) (edges new : List TopoEnd) (v : Value) → i < length vs → v ≡ get_or vs i v → EdgesSoFar routers tables links (map view vs) i edges
+    → first_standing (edge_causes routers tables (length edges) (all_ends links ++ edges)) (view v) ≡ None
+    → new ≡ edges ++ option_to_list (end_of_entry routers (view v)) → EdgesSoFar routers tables links (map view vs) (i + 1) new
+edges_step routers tables links vs i edges new v within is far none pushed =
+    edges_more routers tables links (map view vs) i edges new (view v) (item_within vs i within) far
+    (ap (λ x. first_standing (edge_causes routers tables (length edges) (all_ends links ++ edges)) x) (item_is vs i v is) ∙ none)
     (pushed ∙ ap (λ x. edges ++ option_to_list (end_of_entry routers x)) (sym (item_is vs i v is)))
 
-pub edges_stop : (routers : List (List ℕ)) (links : List TopoLink) (vs : List Value) (i : ℕ) (edges : List TopoEnd) (v : Value) (refused : TopoRefused) → i < length vs → v ≡ get_or vs i v → EdgesSoFar routers links (map view vs) i edges
-    → IsRefusalAt Edge (length edges + 1) (first_standing (edge_causes routers (length edges) (all_ends links ++ edges)) (view v)) refused
-    → IsFirstFault (faults_along Edge (edge_table routers links) [] (map view vs)) refused
-edges_stop routers links vs i edges v refused within is far here =
-    let P : Data → Type 0 = λ x. IsRefusalAt Edge (length edges + 1) (first_standing (edge_causes routers (length edges) (all_ends links ++ edges)) x) refused in
-    edges_refused routers links (map view vs) i edges (view v) refused (item_within vs i within) far (subst P (sym (item_is vs i v is)) here)
+pub edges_stop : (routers : List (List ℕ)) (tables : List RouterTable) (links : List TopoLink) (vs : List Value) (i : ℕ) (edges : List TopoEnd) (v : Value) (refused : TopoRefused) → i < length vs → v ≡ get_or vs i v → EdgesSoFar routers tables links (map view vs) i edges
+    → IsRefusalAt Edge (length edges + 1) (first_standing (edge_causes routers tables (length edges) (all_ends links ++ edges)) (view v)) refused
+    → IsFirstFault (faults_along Edge (edge_rows routers tables links) [] (map view vs)) refused
+edges_stop routers tables links vs i edges v refused within is far here =
+    let P : Data → Type 0 = λ x. IsRefusalAt Edge (length edges + 1) (first_standing (edge_causes routers tables (length edges) (all_ends links ++ edges)) x) refused in
+    edges_refused routers tables links (map view vs) i edges (view v) refused (item_within vs i within) far (subst P (sym (item_is vs i v is)) here)
 
-pub edges_end : (routers : List (List ℕ)) (links : List TopoLink) (vs : List Value) (i : ℕ) (edges : List TopoEnd) → length vs ≤ i → EdgesSoFar routers links (map view vs) i edges → SayEdges routers links (map view vs) edges
-edges_end routers links vs i edges past far = edges_done routers links (map view vs) i edges (rw length-map past) far
-
--- ---- the three lists, and the whole
-
-pub first_of-front : (xs ys : List TopoFault) (refused : TopoRefused) → IsFirstFault xs refused → IsFirstFault (xs ++ ys) refused
-first_of-front xs ys OutOfMemory h = tt
-first_of-front [] ys (Fault f) h = cc
-first_of-front (x ∷ xs) ys (Fault f) h = h
-
-pub first_of-back : (xs ys : List TopoFault) (refused : TopoRefused) → xs ≡ [] → IsFirstFault ys refused → IsFirstFault (xs ++ ys) refused
-first_of-back xs ys refused none h = let P : List TopoFault → Type 0 = λ zs. IsFirstFault (zs ++ ys) refused in subst P (sym none) h
-
-no_faults : (xs ys : List TopoFault) → xs ≡ [] → ys ≡ [] → xs ++ ys ≡ []
-no_faults xs ys one two = rw (one, two)
-
-pub lists_faultless : (lists : Sections) (p : Parts) → SayRouters lists.routers p.routers → SayLinks p.routers lists.links p.links → SayEdges p.routers p.links lists.edges p.edges
-    → list_faults lists ≡ []
-lists_faultless lists p r l e =
-    let names : List (List ℕ) = routers_said lists.routers in
-    let P : List (List ℕ) → Type 0 = λ n. faults_along Link (link_table n) [] lists.links ≡ [] in
-    let Q : List (List ℕ) → Type 0 = λ n. p.links ≡ links_said n lists.links in
-    let R : List (List ℕ) → Type 0 = λ n. faults_along Edge (edge_table n p.links) [] lists.edges ≡ [] in
-    let said_links : p.links ≡ links_said names lists.links = subst Q r.said l.said in
-    let U : List TopoLink → Type 0 = λ k. faults_along Edge (edge_table names k) [] lists.edges ≡ [] in
-    no_faults _ _ (no_faults _ _ r.faultless (subst P r.said l.faultless)) (subst U said_links (subst R r.said e.faultless))
-
-abbrev made : List (List ℕ) → List RouterTable → List TopoLink → List TopoEnd → Parts
-made routers tables links edges = record { routers = routers; tables = tables; links = links; edges = edges }
-
-same_parts : (rs xs : List (List ℕ)) (ts us : List RouterTable) (ls ks : List TopoLink) (es fs : List TopoEnd) → rs ≡ xs → ts ≡ us → ls ≡ ks → es ≡ fs → made rs ts ls es ≡ made xs us ks fs
-same_parts rs xs ts us ls ks es fs one two three four = cc
-
-pub lists_said : (lists : Sections) (p : Parts) → SayRouters lists.routers p.routers → p.tables ≡ main_tables p.routers → SayLinks p.routers lists.links p.links
-    → SayEdges p.routers p.links lists.edges p.edges → p ≡ parts_said lists
-lists_said lists p r tables l e =
-    let Q : List (List ℕ) → Type 0 = λ n. p.links ≡ links_said n lists.links in
-    let S : List (List ℕ) → Type 0 = λ n. p.edges ≡ edges_said n lists.edges in
-    let T : List (List ℕ) → Type 0 = λ n. p.tables ≡ main_tables n in
-    same_parts _ _ _ _ _ _ _ _ r.said (subst T r.said tables) (subst Q r.said l.said) (subst S r.said e.said)
-
-pub lists_sound : (lists : Sections) (p : Parts) → SayRouters lists.routers p.routers → p.tables ≡ main_tables p.routers → SayLinks p.routers lists.links p.links
-    → SayEdges p.routers p.links lists.edges p.edges → is_sound_topology p ≡ true
-lists_sound lists p r tables l e =
-    let P : Parts → Type 0 = λ q. is_sound_topology q ≡ true in
-    subst P (sym (lists_said lists p r tables l e)) (said_sound lists (lists_faultless lists p r l e))
-
-pub lists_refused-routers : (lists : Sections) (refused : TopoRefused) → IsFirstFault (faults_along Routers router_table [] lists.routers) refused → IsFirstFault (list_faults lists) refused
-lists_refused-routers lists refused h = first_of-front _ _ refused (first_of-front _ _ refused h)
-
-pub lists_refused-links : (lists : Sections) (names : List (List ℕ)) (refused : TopoRefused) → SayRouters lists.routers names
-    → IsFirstFault (faults_along Link (link_table names) [] lists.links) refused → IsFirstFault (list_faults lists) refused
-lists_refused-links lists names refused r h =
-    let P : List (List ℕ) → Type 0 = λ n. IsFirstFault (faults_along Link (link_table n) [] lists.links) refused in
-    first_of-front _ _ refused (first_of-back _ _ refused r.faultless (subst P r.said h))
-
-pub lists_refused-edges : (lists : Sections) (names : List (List ℕ)) (links : List TopoLink) (refused : TopoRefused) → SayRouters lists.routers names → SayLinks names lists.links links
-    → IsFirstFault (faults_along Edge (edge_table names links) [] lists.edges) refused → IsFirstFault (list_faults lists) refused
-lists_refused-edges lists names links refused r l h =
-    let said_names : List (List ℕ) = routers_said lists.routers in
-    let P : List (List ℕ) → Type 0 = λ n. faults_along Link (link_table n) [] lists.links ≡ [] in
-    let Q : List (List ℕ) → Type 0 = λ n. links ≡ links_said n lists.links in
-    let R : List (List ℕ) → Type 0 = λ n. IsFirstFault (faults_along Edge (edge_table n links) [] lists.edges) refused in
-    let said_links : links ≡ links_said said_names lists.links = subst Q r.said l.said in
-    let U : List TopoLink → Type 0 = λ k. IsFirstFault (faults_along Edge (edge_table said_names k) [] lists.edges) refused in
-    first_of-back _ _ refused (no_faults _ _ r.faultless (subst P r.said l.faultless)) (subst U said_links (subst R r.said h))
-
--- ---- the whole
-
--- a refusal by the first of the faults
-pub said_refused : (faults : List TopoFault) (said : Parts) (f : TopoFault) → first_of faults ≡ Some f → unless_faulty faults said ≡ Err f
-said_refused [] said f e = cc
-said_refused (x ∷ more) said f e = ap Err (same_Some _ _ e)
-
--- a document with no cause at the top is refused for its lists
-pub document_refused : (doc : Members) (lists : Sections) (refused : TopoRefused) → first_standing top_causes doc ≡ None → lists ≡ sections_of doc
-    → IsFirstFault (list_faults lists) refused → IsFirstFault (faults_of doc) refused
-document_refused doc lists refused none is h =
-    let P : Sections → Type 0 = λ s. IsFirstFault (list_faults s) refused in
-    first_of-back (map top_fault (standing top_causes doc)) (list_faults (sections_of doc)) refused
-    (ap (map top_fault) (standing-none top_causes doc (none_from_first top_causes doc none))) (subst P is h)
+pub edges_end : (routers : List (List ℕ)) (tables : List RouterTable) (links : List TopoLink) (vs : List Value) (i : ℕ) (edges : List TopoEnd) → length vs ≤ i → EdgesSoFar routers tables links (map view vs) i edges → SayEdges routers tables links (map view vs) edges
+edges_end routers tables links vs i edges past far = edges_done routers tables links (map view vs) i edges (rw length-map past) far
 
 -- ---- tables
 

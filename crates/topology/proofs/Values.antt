@@ -1,7 +1,7 @@
 -- The values that the crate `toml` hands out, as the lists that a topology's definition speaks of.
-use Rattle.std.proofs.Common.{◌≡◌, ◌<◌, ℕ, ◌+◌, Bool, not, cond, List, [], ◌∷◌, ◌++◌, length, get_or, drop, map, String, Global, string_bytes, Option, Some, None, refl, sym, ap, ◌∙◌, true, false, ◌||◌, ◌&&◌, ◌==◌, append_assoc}
+use Rattle.std.proofs.Common.{◌≡◌, ◌<◌, ◌≤◌, ℕ, ◌+◌, Bool, not, cond, List, [], ◌∷◌, ◌++◌, length, get_or, drop, map, String, Global, string_bytes, refl, sym, ap, ◌∙◌, true, false, ◌||◌, ◌&&◌, ◌==◌, append_assoc}
 use Rattle.std.specs.List.{list_any}
-use Rattle.std.proofs.lemmas.List.{drop_more}
+use Rattle.std.proofs.lemmas.List.{append-nil, drop_more, drop_all}
 use Rattle.std.proofs.lemmas.List.Folds.{list_any-append}
 use Rattle.std.specs.Map.{keys_of}
 use Rattle.toml.specs.Data.{Data}
@@ -10,11 +10,12 @@ use Rattle.toml.specs.declared.value.Value.{Value}
 use Rattle.dn_model.specs.declared.topology.TopoEnd.{TopoEnd}
 use Rattle.dn_model.specs.declared.topology.TopoLink.{TopoLink}
 use Rattle.base.specs.Name.{same_text}
-use Rattle.dn_model.specs.Topology.{all_ends}
-use Rattle.dn_formats.proofs.MainTables.{main_device}
+use Rattle.base.specs.declared.ids.RouterId.{RouterId}
+use Rattle.dn_model.specs.declared.topology.RouterTable.{RouterTable}
+use Rattle.dn_model.specs.Topology.{all_ends, device_in, same_end}
 use Rattle.dn_formats.proofs.TopologyLinksSound.{all_ends-push}
-use Rattle.dn_formats.specs.TopologyText.{items_in, has_key_besides, has_text, has_end, main_tables, passes}
-use Rattle.topology.specs.Taken.{has_place}
+use Rattle.dn_formats.specs.TopologyText.{items_in, has_key_besides, has_text, has_end}
+use Rattle.topology.specs.Taken.{Taken, with_ends}
 
 pub items_in-items_of : (ds : List Data) → items_in (items_of ds) ≡ ds
 items_in-items_of [] = refl
@@ -36,47 +37,61 @@ joined true false = refl
 joined false true = refl
 joined false false = refl
 
--- one interface more
-pub has_end-push : (ends new : List TopoEnd) (end e : TopoEnd) (before after : Bool) → new ≡ ends ++ end ∷ [] → before ≡ has_place ends e
-    → after ≡ cond ((end.router.0 == e.router.0) && (end.index == e.index)) true before → after ≡ has_place new e
-has_end-push ends new end e before after is_new is_before is_after =
-    let same : TopoEnd → Bool = λ other. (other.router.0 == e.router.0) && (other.index == e.index) in
-    is_after ∙ joined (same end) before ∙ ap (λ b. b || (same end || false)) is_before
-    ∙ sym (ap (λ all. has_place all e) is_new ∙ list_any-append same ends (end ∷ []))
+-- one end more
+pub has_end-push : (tables : List RouterTable) (ends new : List TopoEnd) (end e : TopoEnd) (device : RouterId) (before after : Bool) → device ≡ device_in tables end.router → new ≡ ends ++ end ∷ []
+    → before ≡ has_end tables ends e → after ≡ cond ((device.0 == (device_in tables e.router).0) && (end.index == e.index)) true before → after ≡ has_end tables new e
+has_end-push tables ends new end e device before after is_device is_new is_before is_after =
+    let same : TopoEnd → Bool = λ other. same_end tables other e in
+    is_after ∙ ap (λ (d : RouterId). cond ((d.0 == (device_in tables e.router).0) && (end.index == e.index)) true before) is_device
+    ∙ joined (same end) before ∙ ap (λ b. b || (same end || false)) is_before
+    ∙ sym (ap (λ all. has_end tables all e) is_new ∙ list_any-append same ends (end ∷ []))
 
--- of devices, an interface is found by its router and number
-has_end-place : (names : List (List ℕ)) (ends : List TopoEnd) (e : TopoEnd) → has_end (main_tables names) ends e ≡ has_place ends e
-has_end-place names [] e = refl
-has_end-place names (end ∷ ends) e = rw (main_device names end.router, main_device names e.router, has_end-place names ends e)
+shared : (a b c : Bool) → ((a || b) || c) ≡ (a || (b || (c || false)))
+shared true b c = refl
+shared false true c = refl
+shared false false true = refl
+shared false false false = refl
 
-pub end_taken : (names : List (List ℕ)) (ends : List TopoEnd) (o : Option TopoEnd) → passes (has_end (main_tables names) ends) o ≡ passes (has_place ends) o
-end_taken names ends None = refl
-end_taken names ends (Some e) = has_end-place names ends e
+-- a link's second end is taken where it was before, or is its first
+pub second_taken : (tables : List RouterTable) (ends : List TopoEnd) (first second : TopoEnd)
+    → ((has_end tables ends first || has_end tables ends second) || same_end tables first second) ≡ (has_end tables ends first || has_end tables (ends ++ first ∷ []) second)
+second_taken tables ends first second =
+    shared (has_end tables ends first) (has_end tables ends second) (same_end tables first second)
+    ∙ ap (λ b. has_end tables ends first || b) (sym (list_any-append (λ other. same_end tables other second) ends (first ∷ [])))
 
-pub ends_taken : (names : List (List ℕ)) (ends : List TopoEnd) (o : Option (TopoEnd × TopoEnd))
-    → passes (λ both. has_end (main_tables names) ends both.0 || has_end (main_tables names) ends both.1) o ≡ passes (λ both. has_place ends both.0 || has_place ends both.1) o
-ends_taken names ends None = refl
-ends_taken names ends (Some both) = rw (has_end-place names ends both.0, has_end-place names ends both.1)
-
--- one link more, and its interfaces
-pub ends_pushed : (ls new : List TopoLink) (l : TopoLink) (old mid last : List TopoEnd) → old ≡ all_ends ls → mid ≡ old ++ l.first ∷ [] → last ≡ mid ++ l.second ∷ []
-    → new ≡ ls ++ l ∷ [] → last ≡ all_ends new
+-- two ends more, and the link whose ends they are
+pub ends_pushed : (ls new : List TopoLink) (l : TopoLink) (old mid last : Taken) → old ≡ record { tables = old.tables; ends = all_ends ls } → mid ≡ with_ends old (l.first ∷ [])
+    → last ≡ with_ends mid (l.second ∷ []) → new ≡ ls ++ l ∷ [] → last ≡ record { tables = old.tables; ends = all_ends new }
 ends_pushed ls new l old mid last is_old is_mid is_last is_new =
-    is_last ∙ ap (λ (m : List TopoEnd). m ++ l.second ∷ []) (is_mid ∙ ap (λ (o : List TopoEnd). o ++ l.first ∷ []) is_old) ∙ sym (ap all_ends is_new ∙ all_ends-push ls l)
+    let ends : (old.ends ++ l.first ∷ []) ++ l.second ∷ [] ≡ all_ends new =
+    ap (λ (t : Taken). (t.ends ++ l.first ∷ []) ++ l.second ∷ []) is_old ∙ sym (ap all_ends is_new ∙ all_ends-push ls l) in
+    is_last ∙ ap (λ (m : Taken). with_ends m (l.second ∷ [])) is_mid ∙ ap (λ (es : List TopoEnd). record { tables = old.tables; ends = es }) ends
 
 two_more : (xs ys : List TopoEnd) (f s : TopoEnd) → ((xs ++ f ∷ []) ++ s ∷ []) ++ ys ≡ xs ++ (f ∷ s ∷ ys)
 two_more xs ys f s = simp append_assoc
 
 -- the interfaces so far and those of the links that are left are those of all links
-pub ends_next : (links : List TopoLink) (i : ℕ) (l : TopoLink) (old mid last : List TopoEnd) → i < length links → l ≡ get_or links i l → old ++ all_ends (drop i links) ≡ all_ends links
-    → mid ≡ old ++ l.first ∷ [] → last ≡ mid ++ l.second ∷ [] → last ++ all_ends (drop (i + 1) links) ≡ all_ends links
+pub ends_next : (links : List TopoLink) (i : ℕ) (l : TopoLink) (old mid last : Taken) → i < length links → l ≡ get_or links i l → old.ends ++ all_ends (drop i links) ≡ all_ends links
+    → mid ≡ with_ends old (l.first ∷ []) → last ≡ with_ends mid (l.second ∷ []) → last.ends ++ all_ends (drop (i + 1) links) ≡ all_ends links
 ends_next links i l old mid last within is so_far is_mid is_last =
-    ap (λ (m : List TopoEnd). m ++ all_ends (drop (i + 1) links)) (is_last ∙ ap (λ (m : List TopoEnd). m ++ l.second ∷ []) is_mid)
-    ∙ two_more old (all_ends (drop (i + 1) links)) l.first l.second
-    ∙ ap (λ (more : List TopoEnd). old ++ more) (ap (λ (k : TopoLink). k.first ∷ k.second ∷ all_ends (drop (i + 1) links)) is ∙ sym (ap all_ends (drop_more links i l within)))
+    ap (λ (t : Taken). t.ends ++ all_ends (drop (i + 1) links)) (is_last ∙ ap (λ (m : Taken). with_ends m (l.second ∷ [])) is_mid)
+    ∙ two_more old.ends (all_ends (drop (i + 1) links)) l.first l.second
+    ∙ ap (λ (more : List TopoEnd). old.ends ++ more) (ap (λ (k : TopoLink). k.first ∷ k.second ∷ all_ends (drop (i + 1) links)) is ∙ sym (ap all_ends (drop_more links i l within)))
     ∙ so_far
 
+pub tables_kept : (ts : List RouterTable) (old mid last : Taken) (es fs : List TopoEnd) → old.tables ≡ ts → mid ≡ with_ends old es → last ≡ with_ends mid fs → last.tables ≡ ts
+tables_kept ts old mid last es fs is_old is_mid is_last = ap (λ (t : Taken). t.tables) (is_last ∙ ap (λ (m : Taken). with_ends m fs) is_mid) ∙ is_old
+
+pub ends_end : (ts : List RouterTable) (links : List TopoLink) (i : ℕ) (taken : Taken) → length links ≤ i → taken.tables ≡ ts → taken.ends ++ all_ends (drop i links) ≡ all_ends links
+    → taken ≡ record { tables = ts; ends = all_ends links }
+ends_end ts links i taken past tables so_far =
+    let ends : taken.ends ≡ all_ends links =
+    sym (append-nil taken.ends) ∙ ap (λ (ls : List TopoLink). taken.ends ++ all_ends ls) (sym (drop_all i links past)) ∙ so_far in
+    ap (λ (t : List RouterTable). record { tables = t; ends = taken.ends }) tables ∙ ap (λ (es : List TopoEnd). record { tables = ts; ends = es }) ends
+
 -- an edge more, or none
-pub taken_next : (ends old new edges more edge : List TopoEnd) → old ≡ ends ++ edges → new ≡ old ++ edge → more ≡ edges ++ edge → new ≡ ends ++ more
-taken_next ends old new edges more edge is_old is_new is_more =
-    is_new ∙ ap (λ (o : List TopoEnd). o ++ edge) is_old ∙ append_assoc ends edges edge ∙ ap (λ (es : List TopoEnd). ends ++ es) (sym is_more)
+pub taken_next : (tables : List RouterTable) (ends edges more edge : List TopoEnd) (old new : Taken) → old ≡ record { tables = tables; ends = ends ++ edges } → new ≡ with_ends old edge → more ≡ edges ++ edge
+    → new ≡ record { tables = tables; ends = ends ++ more }
+taken_next tables ends edges more edge old new is_old is_new is_more =
+    is_new ∙ ap (λ (o : Taken). with_ends o edge) is_old
+    ∙ ap (λ (es : List TopoEnd). record { tables = tables; ends = es }) (append_assoc ends edges edge ∙ ap (λ (es : List TopoEnd). ends ++ es) (sym is_more))

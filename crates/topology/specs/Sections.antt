@@ -7,6 +7,8 @@ use Rattle.topology.specs.declared.sections.Sections.{Sections as Lists}
 abbrev pub sections : Lists → Sections
 sections lists = record {
   routers = map view lists.routers.now;
+  vrfs = map view lists.vrfs.now;
   links = map view lists.links.now;
   edges = map view lists.edges.now;
+  marks = map view lists.marks.now;
 }

@@ -1,14 +1,16 @@
 //! The document that a topology's text is, and what it says.
 
-ghost use Rattle.std.specs.Prelude.{◌≡◌, ◌≤◌, ◌||◌, [], IfOk, IfErr, Ok, length, is_none, option_map, codes};
+ghost use Rattle.std.specs.Prelude.{◌≡◌, ◌≤◌, [], IfOk, IfErr, Ok, length, option_map};
 ghost use Rattle.toml.specs.Parse.{parse_document};
 ghost use Rattle.toml.specs.View.{table_view};
-ghost use Rattle.dn_formats.specs.TopologyText.{list_at, list_or_none_at, said_by, top_causes, top_fault, main_tables, list_faults, parts_said, faults_of, parts_of, unless_faulty, document_of, IsTopologyText, IsTopologyRefused};
+ghost use Rattle.dn_formats.specs.TopologyText.{said_by, lacks_list, top_causes, top_fault, main_tables, list_faults, parts_said, faults_of, parts_of, unless_faulty, document_of, IsTopologyText, IsTopologyRefused};
 ghost use Rattle.dn_model.specs.Tables.{parts};
-ghost use Rattle.topology.specs.Reading.{first_standing, IsFirstFault, IsSaidRefusal};
+ghost use Rattle.topology.specs.Reading.{first_standing, IsFirstFault, IsSaidRefusal, SayAllRouters};
 ghost use Rattle.topology.specs.Sections.{sections};
 
-use crate::lists::{read_edges, read_links, read_routers};
+use crate::all_routers::Routers;
+use crate::lists::{read_edges, read_links, read_marks, read_routers, read_vrfs};
+use crate::mark::marked_tables;
 use crate::sections::{Sections, sections_of};
 use crate::value::{has_unknown_top_key, list_at, list_or_none_at};
 use dn_formats::topology_cause::{MISSING_KEY, NOT_TOML, TOO_LONG, UNKNOWN_KEY};
@@ -22,11 +24,13 @@ const BYTES: usize = 16_777_216;
 
 /// Whether a list at the top is absent or none.
 fn lacks_list(table: &Table) -> bool
-    ensures { result ≡ (is_none (list_at (codes "routers") (table_view table.now)) || is_none (list_or_none_at (codes "link") (table_view table.now)) || is_none (list_or_none_at (codes "edge") (table_view table.now))) }
+    ensures { result ≡ lacks_list (table_view table.now) }
 {
     list_at(table, "routers").is_none()
+        || list_or_none_at(table, "vrf").is_none()
         || list_or_none_at(table, "link").is_none()
         || list_or_none_at(table, "edge").is_none()
+        || list_or_none_at(table, "router").is_none()
 }
 
 /// The first cause that stands at the top of a document.
@@ -69,22 +73,54 @@ fn main_tables(alloc: Global, devices: &[Name]) -> Result<List<RouterTable>, Out
     Ok(tables)
 }
 
+/// The devices and the VRFs that lists of entries say, or the first fault of these.
+fn read_all_routers(alloc: Global, lists: &Sections<'_>) -> Result<Routers, TopoRefused>
+    ensures ok { IfOk result (SayAllRouters (sections lists.now)) }
+    ensures refused { IfErr result (IsFirstFault (list_faults (sections lists.now))) }
+{
+    let mut names = read_routers(alloc, lists.routers)?;
+    let mut tables = main_tables(alloc, names.as_slice())?;
+    read_vrfs(alloc, &mut names, &mut tables, lists.vrfs)?;
+    Ok(Routers { names, tables })
+}
+
+/// What lists of entries say beside these routers, or the first fault of these.
+fn read_beside(
+    alloc: Global,
+    routers: Routers,
+    lists: &Sections<'_>,
+) -> Result<Topology, TopoRefused>
+    requires { SayAllRouters (sections lists.now) routers }
+    ensures faultless { IfOk result (λ t. list_faults (sections lists.now) ≡ []) }
+    ensures said { IfOk result (λ t. parts t ≡ parts_said (sections lists.now)) }
+    ensures refused { IfErr result (IsFirstFault (list_faults (sections lists.now))) }
+{
+    let Routers { names, tables } = routers;
+    let links = read_links(alloc, names.as_slice(), tables.as_slice(), lists.links)?;
+    let edges = read_edges(
+        alloc,
+        names.as_slice(),
+        tables.as_slice(),
+        links.as_slice(),
+        lists.edges,
+    )?;
+    let marks = read_marks(alloc, names.as_slice(), lists.marks)?;
+    Ok(Topology {
+        routers: names,
+        tables: marked_tables(tables, marks.as_slice()),
+        links,
+        edges,
+    })
+}
+
 /// What lists of entries say, or their first fault.
 fn read_lists(alloc: Global, lists: &Sections<'_>) -> Result<Topology, TopoRefused>
     ensures faultless { IfOk result (λ t. list_faults (sections lists.now) ≡ []) }
     ensures said { IfOk result (λ t. parts t ≡ parts_said (sections lists.now)) }
     ensures refused { IfErr result (IsFirstFault (list_faults (sections lists.now))) }
 {
-    let names = read_routers(alloc, lists.routers)?;
-    let tables = main_tables(alloc, names.as_slice())?;
-    let links = read_links(alloc, names.as_slice(), lists.links)?;
-    let edges = read_edges(alloc, names.as_slice(), links.as_slice(), lists.edges)?;
-    Ok(Topology {
-        routers: names,
-        tables,
-        links,
-        edges,
-    })
+    let routers = read_all_routers(alloc, lists)?;
+    read_beside(alloc, routers, lists)
 }
 
 /// What a document says, or its first fault.

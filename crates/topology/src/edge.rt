@@ -1,11 +1,10 @@
 //! Entries of `edge`.
 
-ghost use Rattle.std.specs.Prelude.{◌≡◌, ◌≤◌, length, map, not, is_none, option_map, option_and_then};
+ghost use Rattle.std.specs.Prelude.{◌≡◌, ◌≤◌, length, is_none, option_map, option_and_then};
 ghost use Rattle.toml.specs.Data.{as_table};
 ghost use Rattle.toml.specs.View.{view};
-ghost use Rattle.dn_formats.specs.TopologyText.{passes, has_key_besides, is_edge_key, at_in, end_of_entry, edge_causes};
-ghost use Rattle.topology.specs.Reading.{first_standing};
-ghost use Rattle.topology.specs.Taken.{has_place};
+ghost use Rattle.dn_formats.specs.TopologyText.{passes, has_key_besides, is_edge_key, at_in, end_of_entry, has_end};
+ghost use Rattle.topology.specs.Reading.{first_at_edge};
 
 use crate::end::read_end;
 use crate::taken::TakenEnds;
@@ -57,7 +56,7 @@ fn is_short(entry: &Value) -> bool
 
 /// Whether the entry's interface is taken.
 fn is_end_taken(taken: &TakenEnds, end: Option<TopoEnd>) -> bool
-    ensures { result ≡ passes (has_place taken.now) end }
+    ensures { result ≡ passes (has_end taken.now.tables taken.now.ends) end }
 {
     match end {
         Some(end) => taken.has(end),
@@ -65,11 +64,11 @@ fn is_end_taken(taken: &TakenEnds, end: Option<TopoEnd>) -> bool
     }
 }
 
-/// The first cause that stands at an entry of `edge`, which so many entries stand before, and these interfaces.
-#[tactic(auto, using(crate::proofs::Values::end_taken))]
+/// The first cause that stands at an entry of `edge`, which so many entries stand before, where these interfaces are
+/// taken.
 pub fn edge_cause(routers: &[Name], count: usize, taken: &TakenEnds, entry: &Value) -> Option<u8>
     requires { length routers.now ≤ 1024 }
-    ensures { result ≡ first_standing (edge_causes routers.now count taken.now) (view entry.now) }
+    ensures { result ≡ first_at_edge routers.now taken.now count (view entry.now) }
 {
     let end = end_of_entry(routers, entry);
     if count >= 16384 {

@@ -2,15 +2,14 @@
 
 ghost use Rattle.std.specs.Prelude.{◌≡◌, ◌<◌, ◌≤◌, ◌==◌, IfSome, length, position};
 ghost use Rattle.std.specs.Option.{ForSome};
-ghost use Rattle.base.specs.Name.{same_text};
-ghost use Rattle.dn_formats.specs.EndText.{read_end, end_at};
+ghost use Rattle.dn_formats.specs.EndText.{place_of, read_end, end_at};
 
 use dn_formats::read_number;
 use dn_model::{Name, RouterId, TopoEnd};
 
 /// The first place in a list of names that has this text.
-fn place_of(names: &[Name], text: &[u8]) -> Option<usize>
-    ensures value { result ≡ position (λ name. same_text name text.now) names.now }
+pub fn place_of(names: &[Name], text: &[u8]) -> Option<usize>
+    ensures value { result ≡ place_of names.now text.now }
     ensures within { IfSome result (λ i. i < length names.now) }
 {
     names.iter().position(|name| name.as_bytes() == text)

@@ -1,20 +1,20 @@
 //! Entries of `link`.
 
-ghost use Rattle.std.specs.Prelude.{◌≡◌, ◌≤◌, ◌||◌, ◌==◌, length, map, not, is_none, option_map};
+ghost use Rattle.std.specs.Prelude.{◌≡◌, ◌≤◌, ◌||◌, ◌==◌, length, map, is_none, option_map};
 ghost use Rattle.toml.specs.Data.{as_table};
 ghost use Rattle.toml.specs.View.{view, table_view};
-ghost use Rattle.base.specs.Name.{is_name_text};
-ghost use Rattle.dn_formats.specs.TopologyText.{passes, has_text, has_key_besides, is_link_key, two_texts, name_in, ends_in, unnumbered_in, both_ends, ends_of_table, name_of_entry, ends_of_entry, link_causes};
-ghost use Rattle.topology.specs.Reading.{first_standing};
-ghost use Rattle.topology.specs.Taken.{has_place};
+ghost use Rattle.dn_formats.specs.TopologyText.{passes, has_text, has_key_besides, is_link_key, two_texts, name_in, ends_in, unnumbered_in, both_ends, ends_of_table, name_of_entry, ends_of_entry};
+ghost use Rattle.topology.specs.Reading.{first_at_link};
+ghost use Rattle.topology.specs.Taken.{is_pair_taken};
 
 use crate::end::read_end;
+use crate::name::{is_bad_name, name_of_entry};
 use crate::taken::{TakenEnds, has_link_name};
 use crate::value::{flag_or_none_at, has_unknown_link_key, list_at, text_at};
 use dn_formats::topology_cause::{
     BAD_END, BAD_NAME, END_TWICE, MISSING_KEY, SELF_LINK, TOO_MANY, TWICE_NAMED, UNKNOWN_KEY,
 };
-use dn_model::{Name, TopoEnd, TopoLink, is_name};
+use dn_model::{Name, TopoEnd, TopoLink};
 use toml::{Table, Value};
 
 /// The two texts that a list has, if it has two and they are texts.
@@ -84,16 +84,6 @@ pub fn ends_of_entry(routers: &[Name], entry: &Value) -> Option<(TopoEnd, TopoEn
     }
 }
 
-/// The name of an entry of `link`.
-pub fn name_of_entry(entry: &Value) -> Option<&str>
-    ensures { option_map (λ s. s.now) result ≡ name_of_entry (view entry.now) }
-{
-    match entry.as_table() {
-        Some(table) => text_at(table, "name"),
-        None => None,
-    }
-}
-
 /// Whether an entry is a table with a key without a meaning.
 fn has_unknown_key(entry: &Value) -> bool
     ensures { result ≡ passes (has_key_besides is_link_key) (as_table (view entry.now)) }
@@ -110,16 +100,6 @@ fn is_short(entry: &Value) -> bool
 {
     match entry.as_table() {
         Some(table) => lacks_value(table),
-        None => false,
-    }
-}
-
-/// Whether an entry's name is none.
-fn is_bad_name(entry: &Value) -> bool
-    ensures { result ≡ passes (λ name. not (is_name_text name)) (name_of_entry (view entry.now)) }
-{
-    match name_of_entry(entry) {
-        Some(text) => !is_name(text.as_bytes()),
         None => false,
     }
 }
@@ -144,17 +124,20 @@ fn is_self_link(ends: Option<(TopoEnd, TopoEnd)>) -> bool
     }
 }
 
-/// Whether one of the ends is taken.
+/// Whether one of the ends is taken, or the second is the same interface as the first.
+#[tactic(auto, using(crate::proofs::Values::second_taken))]
 fn is_end_taken(taken: &TakenEnds, ends: Option<(TopoEnd, TopoEnd)>) -> bool
-    ensures { result ≡ passes (λ both. has_place taken.now both.0 || has_place taken.now both.1) ends }
+    ensures { result ≡ passes (is_pair_taken taken.now) ends }
 {
     match ends {
-        Some((first, second)) => taken.has(first) || taken.has(second),
+        Some((first, second)) => {
+            taken.has(first) || taken.has(second) || taken.is_one_interface(first, second)
+        }
         None => false,
     }
 }
 
-/// The first cause that stands at an entry of `link`, which these links and interfaces stand before.
+/// The first cause that stands at an entry of `link`, which these links stand before, where these interfaces are taken.
 pub fn link_cause(
     routers: &[Name],
     links: &[TopoLink],
@@ -162,7 +145,7 @@ pub fn link_cause(
     entry: &Value,
 ) -> Option<u8>
     requires { length routers.now ≤ 1024 }
-    ensures { result ≡ first_standing (link_causes routers.now (length links.now) (map (λ l. l.name) links.now) taken.now) (view entry.now) }
+    ensures { result ≡ first_at_link routers.now taken.now links.now (view entry.now) }
 {
     let ends = ends_of_entry(routers, entry);
     if links.len() >= 4096 {

@@ -8,12 +8,14 @@ ghost use Rattle.topology.specs.Sections.{sections};
 use crate::value::list_at;
 use toml::{Table, Value};
 
-/// The entries of `routers`, `link` and `edge`.
+/// The entries of `routers`, `vrf`, `link`, `edge` and `router`.
 #[derive(Clone, Copy)]
 pub struct Sections<'a> {
     pub routers: &'a [Value],
+    pub vrfs: &'a [Value],
     pub links: &'a [Value],
     pub edges: &'a [Value],
+    pub marks: &'a [Value],
 }
 
 /// The entries of a list at a key; none where there is no such list.
@@ -32,7 +34,9 @@ pub fn sections_of(table: &Table) -> Sections<'_>
 {
     Sections {
         routers: entries_at(table, "routers"),
+        vrfs: entries_at(table, "vrf"),
         links: entries_at(table, "link"),
         edges: entries_at(table, "edge"),
+        marks: entries_at(table, "router"),
     }
 }

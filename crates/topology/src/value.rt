@@ -5,7 +5,7 @@ ghost use Rattle.std.specs.List.{list_any};
 ghost use Rattle.std.specs.BTreeMap.{keys};
 ghost use Rattle.toml.specs.Data.{get_member, as_array};
 ghost use Rattle.toml.specs.View.{view, table_view};
-ghost use Rattle.dn_formats.specs.TopologyText.{items_in, text_at, list_at, list_or_none_at, flag_or_none_at, is_top_key, is_link_key, is_edge_key, has_key_besides};
+ghost use Rattle.dn_formats.specs.TopologyText.{items_in, text_at, list_at, list_or_none_at, flag_or_none_at, number_at, text_or_at, is_top_key, is_vrf_key, is_link_key, is_edge_key, is_mark_key, has_key_besides};
 
 use toml::{Table, Value};
 
@@ -22,6 +22,26 @@ pub fn text_at<'a>(table: &'a Table, key: &str) -> Option<&'a str>
 {
     match value_at(table, key) {
         Some(value) => value.as_str(),
+        None => None,
+    }
+}
+
+/// The text at a key, if the key has a text, and the usual one where the key is absent.
+pub fn text_or_at<'a>(table: &'a Table, key: &str, usual: &'a str) -> Option<&'a str>
+    ensures { option_map (λ s. s.now) result ≡ text_or_at usual.now key.now (table_view table.now) }
+{
+    match value_at(table, key) {
+        Some(value) => value.as_str(),
+        None => Some(usual),
+    }
+}
+
+/// The whole number at a key, if the key has one.
+pub fn number_at(table: &Table, key: &str) -> Option<i64>
+    ensures { result ≡ number_at key.now (table_view table.now) }
+{
+    match value_at(table, key) {
+        Some(value) => value.as_integer(),
         None => None,
     }
 }
@@ -70,7 +90,14 @@ pub fn flag_or_none_at(table: &Table, key: &str) -> Option<bool>
 fn is_top_key(key: &str) -> bool
     ensures { result ≡ is_top_key key.now }
 {
-    key == "routers" || key == "link" || key == "edge"
+    key == "routers" || key == "vrf" || key == "link" || key == "edge" || key == "router"
+}
+
+/// Whether a key has a meaning in a VRF.
+fn is_vrf_key(key: &str) -> bool
+    ensures { result ≡ is_vrf_key key.now }
+{
+    key == "router" || key == "table" || key == "name"
 }
 
 /// Whether a key has a meaning in a link.
@@ -87,6 +114,13 @@ fn is_edge_key(key: &str) -> bool
     key == "at"
 }
 
+/// Whether a key has a meaning in a mark.
+fn is_mark_key(key: &str) -> bool
+    ensures { result ≡ is_mark_key key.now }
+{
+    key == "name" || key == "replace"
+}
+
 /// Whether one of the keys has no meaning at the top.
 fn some_key_is_no_top_key(table: &Table) -> bool
     ensures { result ≡ list_any (λ k. not (is_top_key (string_bytes k))) (keys table.now) }
@@ -99,6 +133,20 @@ pub fn has_unknown_top_key(table: &Table) -> bool
     ensures { result ≡ has_key_besides is_top_key (table_view table.now) }
 {
     some_key_is_no_top_key(table)
+}
+
+/// Whether one of the keys has no meaning in a VRF.
+fn some_key_is_no_vrf_key(table: &Table) -> bool
+    ensures { result ≡ list_any (λ k. not (is_vrf_key (string_bytes k))) (keys table.now) }
+{
+    table.keys().any(|key| !is_vrf_key(key.as_str()))
+}
+
+/// Whether a table has a key without a meaning in a VRF.
+pub fn has_unknown_vrf_key(table: &Table) -> bool
+    ensures { result ≡ has_key_besides is_vrf_key (table_view table.now) }
+{
+    some_key_is_no_vrf_key(table)
 }
 
 /// Whether one of the keys has no meaning in a link.
@@ -127,4 +175,18 @@ pub fn has_unknown_edge_key(table: &Table) -> bool
     ensures { result ≡ has_key_besides is_edge_key (table_view table.now) }
 {
     some_key_is_no_edge_key(table)
+}
+
+/// Whether one of the keys has no meaning in a mark.
+fn some_key_is_no_mark_key(table: &Table) -> bool
+    ensures { result ≡ list_any (λ k. not (is_mark_key (string_bytes k))) (keys table.now) }
+{
+    table.keys().any(|key| !is_mark_key(key.as_str()))
+}
+
+/// Whether a table has a key without a meaning in a mark.
+pub fn has_unknown_mark_key(table: &Table) -> bool
+    ensures { result ≡ has_key_besides is_mark_key (table_view table.now) }
+{
+    some_key_is_no_mark_key(table)
 }

@@ -12,6 +12,7 @@ returns g c =
       router = c.next_frame.ensures.router;
       feed_no = c.next_frame.ensures.feed_no;
       stays = c.next_frame.ensures.stays;
+      own = c.next_frame.ensures.own;
     } in
     record {
       handed = handed-on _ _ _ _ _ _ _ a;

@@ -1,5 +1,5 @@
-use Rattle.std.proofs.Common.{◌≡◌, ◌<◌, ◌+◌, ◌++◌, ◌∷◌, ◌∙◌, [], ap, length, not, take, rules, arith}
-use Rattle.std.proofs.lemmas.Grind.{common_steps}
+use Rattle.std.proofs.Common.{◌<◌, ◌∙◌, ap, length, not, arith}
+use Rattle.feed_threads.proofs.ListLemmas.{take-pair}
 use Rattle.feed_threads.proofs.SeatLemmas.{saw-more, own-more, first-refused, on-err}
 use Rattle.feed_threads.proofs.take.post_all.Goals as goal
 
@@ -7,13 +7,11 @@ pub returns-then-is_none-clause-saw : goal.returns-then-is_none-clause-saw
 returns-then-is_none-clause-saw g c = saw-more _ _ _ c.loop-taken.invariant.saw c.post.ensures.saw
 
 pub loop-taken-preserved : goal.loop-taken-preserved
-loop-taken-preserved g c =
-    let more : take (c.loop-taken.taken + 1) c.args.ops.now ≡ take c.loop-taken.taken c.args.ops.now ++ c.index-ops-taken.result ∷ [] = first_of (search rules, grind (arith, common_steps)) in
-    record {
-      saw = saw-more _ _ _ c.loop-taken.invariant.saw c.post.ensures.saw;
-      own = own-more c.args.seat.now c.loop-taken.seat c.post.new.seat c.args.feed_no c.args.router _ _ c.index-ops-taken.result _
-          c.loop-taken.invariant.saw (c.is_none.ensures ∙ ap not c.if-is_none.false) more c.loop-taken.invariant.own c.in_ok-post.ensures.own;
-    }
+loop-taken-preserved g c = record {
+  saw = saw-more _ _ _ c.loop-taken.invariant.saw c.post.ensures.saw;
+  own = own-more c.args.seat.now c.loop-taken.seat c.post.new.seat c.args.feed_no _ _ _ _ c.loop-taken.invariant.saw (c.is_none.ensures ∙ ap not c.if-is_none.false)
+      (take-pair c.args.ops.now c.loop-taken.taken c.index-ops-taken.result c.index-ops-taken-in-loop-taken.result (omega arith)) c.loop-taken.invariant.own c.in_ok-post.ensures.own;
+}
 
 pub returns-in_err-post-clause-saw : goal.returns-in_err-post-clause-saw
 returns-in_err-post-clause-saw g c = saw-more _ _ _ c.loop-taken.invariant.saw c.post.ensures.saw
@@ -21,5 +19,5 @@ returns-in_err-post-clause-saw g c = saw-more _ _ _ c.loop-taken.invariant.saw c
 pub returns-in_err-post-clause-first : goal.returns-in_err-post-clause-first
 returns-in_err-post-clause-first g c =
     let below : c.loop-taken.taken < length c.args.ops.now = omega arith in
-    on-err c.from_residual.result _ (first-refused c.args.seat.now c.loop-taken.seat c.post.new.seat c.args.feed_no c.args.router c.args.ops.now c.loop-taken.taken
+    on-err c.from_residual.result _ (first-refused c.args.seat.now c.loop-taken.seat c.post.new.seat c.args.feed_no c.args.ops.now c.loop-taken.taken
     c.loop-taken.invariant.saw below c.loop-taken.invariant.own c.in_err-post.ensures.kept)

@@ -7,5 +7,5 @@ use Rattle.feed_threads.proofs.take.post_all.Given as goal
 abbrev pub invariant-loop-taken : goal.invariant-loop-taken
 invariant-loop-taken g l = record {
   saw : SawMore l.fn.seat l.seat;
-  own : own_of l.fn.seat.number l.seat.seen ≡ own_of l.fn.seat.number l.fn.seat.seen ++ entries_by l.feed_no l.router (take l.taken l.ops);
+  own : own_of l.fn.seat.number l.seat.seen ≡ own_of l.fn.seat.number l.fn.seat.seen ++ entries_by l.feed_no (take l.taken l.ops);
 }

@@ -2,9 +2,10 @@ use Rattle.std.proofs.Common.{◌∙◌, ap, sym}
 use Rattle.feed_model.specs.Steps.{updates}
 use Rattle.route_feed.specs.declared.feed_step.FeedStep.{FeedStep}
 use Rattle.feed_threads.specs.Feeds.{handed_out}
+use Rattle.feed_threads.proofs.GiveLemmas.{passes-step}
 use Rattle.feed_threads.proofs.SeatLemmas.{saw-none}
 use Rattle.feed_threads.proofs.StepLemmas.{reads-none}
-use Rattle.feed_threads.proofs.TakeLemmas.{passes-step, none-of, first-none, first-ops, takes-arm, takes-broke, took-full, took-accepted, reads-arm, reads-wait}
+use Rattle.feed_threads.proofs.TakeLemmas.{none-of, first-none, first-ops, takes-arm, takes-broke, took-full, took-accepted, reads-arm, reads-wait}
 use Rattle.feed_threads.proofs.take.take_frame.Goals as goal
 
 pub returns-then-is_some-clause-takes : goal.returns-then-is_some-clause-takes
@@ -27,7 +28,7 @@ returns-in-Ops-clause-takes g c =
           (passes-step c.in_ok-ops.field-0 _ _ c.in_ok-ops.ensures.advances c.in_ok-ops.ensures.limit) c.take_ops.ensures.took;
       first = first-ops c.args.desk.now.setup.basis.topology g.S.Source.left g.S.Source.faults g.S.Source.place c.args.desk.now.setup.basis.limit c.args.seat.now.number c.args.feed.now c.feed.inside.reader c.feed.inside.kept c.next_step.new.reader c.take_ops.new.feed c.args.seat.now.seen c.take_ops.new.seat.seen
           c.in_ok-ops.field-0 _ _ c.take_ops.result c.feed.view_is none c.in-Ops.is
-          (rw c.topology.ensures at c.in_ok-ops.ensures.handed) c.in_ok-ops.ensures.again c.in_ok-ops.ensures.feed_no c.in_ok-ops.ensures.router c.take_ops.ensures.reader c.take_ops.ensures.going c.take_ops.ensures.first;
+          (rw c.topology.ensures at c.in_ok-ops.ensures.handed) c.in_ok-ops.ensures.again c.in_ok-ops.ensures.feed_no c.take_ops.ensures.reader c.take_ops.ensures.going c.take_ops.ensures.first;
     }
 
 pub returns-in-Refused-clause-takes : goal.returns-in-Refused-clause-takes

@@ -1,4 +1,4 @@
-use Rattle.std.proofs.Common.{List, OnOk, ap, refl, subst}
+use Rattle.std.proofs.Common.{List, OnOk, ap, subst}
 use Rattle.dn_formats.specs.declared.told.Told.{Told}
 use Rattle.version_lock.specs.Callers.{Caller}
 use Rattle.feed_threads.specs.Seats.{LooksOn}

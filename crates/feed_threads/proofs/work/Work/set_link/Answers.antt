@@ -1,7 +1,7 @@
 use Rattle.std.proofs.Common.{◌≡◌, ℕ, List, [], ◌∷◌, ◌++◌, OnOk, refl, subst, sym}
 use Rattle.dn_formats.specs.declared.told.Told.TheVariants.{Linked}
 use Rattle.feed_threads.specs.Shown.{IsShown}
-use Rattle.feed_threads.specs.Works.{IsAtWork, Work}
+use Rattle.feed_threads.specs.Works.{Work}
 use Rattle.feed_threads.proofs.DoesLemmas.{link-broke, works-linked, works-unlinked}
 use Rattle.feed_threads.proofs.SeatLemmas.{none-ok, saw-none}
 use Rattle.feed_threads.proofs.ShownLemmas.{shown-later}

@@ -1,0 +1,6 @@
+use Rattle.dn_formats.specs.TopologyText.{is_vrf_key}
+use Rattle.topology.proofs.Values.{has_key_besides-entries}
+use Rattle.topology.proofs.value.has_unknown_vrf_key.Goals as goal
+
+pub returns : goal.returns
+returns c = rw (has_key_besides-entries is_vrf_key c.args.table.now.entries) c.some_key_is_no_vrf_key.ensures

@@ -17,6 +17,10 @@ mod message_tests;
 #[cfg(test)]
 mod port_tests;
 #[cfg(test)]
+mod routes;
+#[cfg(test)]
 mod same;
 #[cfg(test)]
 mod test_network;
+#[cfg(test)]
+mod vrf_tests;

@@ -1,14 +1,12 @@
 //! Payloads of frames, byte by byte: what they say, and what stands before a refusal; and a route as it is written.
 
-ghost use Rattle.std.specs.Prelude.{◌≤◌, ◌<◌, length};
-ghost use Rattle.feed_model.specs.Payload.{CanBeSaid};
+ghost use Rattle.std.specs.Prelude.{◌≤◌, length};
 
 use crate::frames::{BROKEN_LAST, SET_IPV6, SET_TEN, bytes_of};
+use crate::routes::{ten, ten_in};
 use crate::same::{same, same_list};
 use dn_model::Prefix;
-use rt_netlink::{
-    Item, ItemKind, MAIN_TABLE, RawRoute, Refused, RouteKind, Skip, read_payload, write_route,
-};
+use rt_netlink::{Item, ItemKind, RawRoute, Refused, Skip, read_payload, write_route};
 use std::alloc::Global;
 use std::process::Abort;
 
@@ -24,30 +22,6 @@ const IN_A_WIDE_TABLE: [u8; 68] = [
     0, 1, 0, 10, 0, 0, 0, 8, 0, 5, 0, 192, 0, 2, 1, 8, 0, 4, 0, 2, 0, 0, 0, 8, 0, 6, 0, 20, 0, 0,
     0, 8, 0, 0x0f, 0, 0xe8, 3, 0, 0,
 ];
-
-/// 10.0.0.0/8 by a gateway over this interface, in the main table.
-fn ten(interface: u32) -> RawRoute
-    ensures { CanBeSaid result }
-{
-    ten_in(MAIN_TABLE, interface)
-}
-
-/// 10.0.0.0/8 by a gateway over this interface, in this table.
-fn ten_in(table: u32, interface: u32) -> RawRoute
-    requires { 0 < table }
-    ensures { CanBeSaid result }
-{
-    RawRoute {
-        del: false,
-        prefix: Prefix::new(0x0a00_0000, 8),
-        table,
-        metric: Some(20),
-        kind: RouteKind::Unicast,
-        via: true,
-        oif: Some(interface),
-        by: None,
-    }
-}
 
 /// An item at a place.
 fn item_at(at: u32, what: ItemKind) -> Item {
@@ -157,6 +131,17 @@ fn writes_a_route_of_a_wide_table(rt: HostRuntime) {
     );
     let other = ItemKind::Skipped(Skip::OtherTable);
     compare_in_tables(&rt, alloc, &IN_A_WIDE_TABLE, &[10], other);
+}
+
+/// The attribute stands in place of the header's table, also where its number is 0, which counts as the main table.
+#[test]
+fn reads_an_attribute_of_no_table(rt: HostRuntime) {
+    let mut message = IN_A_WIDE_TABLE;
+    message[20] = 10;
+    message[64] = 0;
+    message[65] = 0;
+    let main = ItemKind::Route(ten(2));
+    compare_in_tables(&rt, rt.alloc(), &message, &[10], main);
 }
 
 #[test]

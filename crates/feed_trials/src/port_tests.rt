@@ -23,7 +23,7 @@ fn frames_at(rt: &impl Abort, alloc: Global, interfaces: &[u8]) -> Vec<u8> {
     bytes
 }
 
-/// The target that the next frame sets, and None where it is refused.
+/// The target that the next frame sets at `r1`, and None where it is refused.
 fn next_target<S: Source>(
     rt: &impl Abort,
     alloc: Global,
@@ -35,7 +35,7 @@ fn next_target<S: Source>(
 {
     match reader.next_frame(alloc, topology).expect(rt, "memory") {
         FeedStep::Ops(ops, _) => match ops.as_slice() {
-            [Op::Set { target, .. }] => Some(*target),
+            [(router, Op::Set { target, .. })] if *router == FIRST => Some(*target),
             _ => None,
         },
         _ => None,

@@ -39,14 +39,40 @@ ends = [\"r3:1\", \"r1:2\"]
 at = \"r1:3\"
 ";
 
-/// The topology of a text that names three routers.
-fn three_routers(rt: &impl Abort, alloc: Global, text: &str) -> Topology
-    ensures { length result.routers ≡ 3 }
+const TWO_DEVICES: &str = "routers = [\"r1\", \"r2\"]
+[[vrf]]
+router = \"r1\"
+table = 10
+name = \"v1\"
+[[vrf]]
+router = \"r2\"
+table = 10
+name = \"v2\"
+[[vrf]]
+router = \"r1\"
+table = 1034
+name = \"w1\"
+[[link]]
+name = \"a\"
+ends = [\"r1:2\", \"r2:2\"]
+[[link]]
+name = \"d\"
+ends = [\"v1:3\", \"r2:3\"]
+[[link]]
+name = \"e\"
+ends = [\"r1:4\", \"v1:5\"]
+[[edge]]
+at = \"w1:6\"
+";
+
+/// The topology of a text that names so many routers.
+fn network_of(rt: &impl Abort, alloc: Global, text: &str, routers: u32) -> Topology
+    ensures { length result.routers ≡ routers }
 {
     let topology = read_topology(alloc, text.as_bytes())
         .ok()
         .expect(rt, "a topology");
-    assert!(rt; topology.router_count() == 3);
+    assert!(rt; topology.router_count() == routers);
     topology
 }
 
@@ -55,7 +81,7 @@ fn three_routers(rt: &impl Abort, alloc: Global, text: &str) -> Topology
 pub fn triangle(rt: &impl Abort, alloc: Global) -> Topology
     ensures { length result.routers ≡ 3 }
 {
-    three_routers(rt, alloc, TRIANGLE)
+    network_of(rt, alloc, TRIANGLE, 3)
 }
 
 /// The routers of the triangle with other interfaces: `r1`'s interface 2 leads to `r3` over link `d`, its interface 3
@@ -63,5 +89,15 @@ pub fn triangle(rt: &impl Abort, alloc: Global) -> Topology
 pub fn one_link(rt: &impl Abort, alloc: Global) -> Topology
     ensures { length result.routers ≡ 3 }
 {
-    three_routers(rt, alloc, ONE_LINK)
+    network_of(rt, alloc, ONE_LINK, 3)
+}
+
+/// Two devices, `r1` and `r2`, and three VRFs: `v1` is table 10 of `r1`, `v2` table 10 of `r2`, and `w1` table 1034 of
+/// `r1`. The interfaces 2 to 6 of `r1` are, in order: one of `r1` itself, from which link `a` leads to `r2`; one of `v1`,
+/// from which link `d` leads to `r2`; the two ends of link `e`, of which the first is at `r1` itself and the second at
+/// `v1`; and an edge at `w1`. Those of `r2` are its ends of `a` and `d`, 2 and 3.
+pub fn two_devices(rt: &impl Abort, alloc: Global) -> Topology
+    ensures { length result.routers ≡ 5 }
+{
+    network_of(rt, alloc, TWO_DEVICES, 5)
 }

@@ -17,7 +17,11 @@ mod link_turn_tests;
 #[cfg(test)]
 mod made_tests;
 #[cfg(test)]
+mod mark_tests;
+#[cfg(test)]
 mod read_gate;
+#[cfg(test)]
+mod ring_run;
 #[cfg(test)]
 mod run_tests;
 #[cfg(test)]
@@ -34,6 +38,8 @@ mod sure_tests;
 mod trial;
 #[cfg(test)]
 mod trial_tests;
+#[cfg(test)]
+mod vrf_tests;
 #[cfg(test)]
 mod whole_run;
 #[cfg(test)]

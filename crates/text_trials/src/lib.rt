@@ -7,11 +7,15 @@ mod link_tests;
 #[cfg(test)]
 mod long_line_tests;
 #[cfg(test)]
+mod mark_tests;
+#[cfg(test)]
 mod print_tests;
 #[cfg(test)]
 mod printed;
 #[cfg(test)]
 mod query_tests;
+#[cfg(test)]
+mod refused;
 #[cfg(test)]
 mod report_tests;
 #[cfg(test)]
@@ -24,5 +28,7 @@ mod topology_tests;
 mod triangle;
 #[cfg(test)]
 mod two_routers;
+#[cfg(test)]
+mod vrf_tests;
 #[cfg(test)]
 mod writing_tests;

@@ -9,9 +9,10 @@ import struct
 from dataclasses import dataclass
 
 ADDRESSES = 2**32
+MAIN = 254
 DROPS = {6: "blackhole", 7: "unreachable", 8: "prohibit"}
 UNICAST, LOCAL = 1, 2
-SPARE = 1000  # an interface that no route names
+SPARE = 1000  # an interface that no route names, and neither the next
 
 # What a router does: ("noroute",), ("local",), ("dropped", WORD), ("exit", I), ("onlink", I), ("to", ROUTER, LINK) or
 # ("linkdown", LINK), with routers and links by their places.
@@ -40,9 +41,13 @@ class Route:
     kind: int = 0
     has_gateway: bool = False
     interface: int | None = None
+    table: int = MAIN
+    table_byte: int = MAIN  # what stands in the fixed part, 0 counting as main; where it isn't the table, an attribute says it
 
     def message(self):
-        route = struct.pack("<BBBBBBBBI", 2, self.length, 0, 0, 254, 11, 0, self.kind, 0)
+        route = struct.pack("<BBBBBBBBI", 2, self.length, 0, 0, self.table_byte, 11, 0, self.kind, 0)
+        if (self.table_byte or MAIN) != self.table:
+            route += attribute(15, struct.pack("<I", self.table))
         route += attribute(1, struct.pack(">I", self.base))
         if self.has_gateway:
             route += attribute(5, bytes([192, 0, 2, 1]))
@@ -66,64 +71,102 @@ def frame_of(routes):
 
 
 class Network:
-    """Routers r0, r1, .., links l0, l1, .. between two (router, interface) each, and edges."""
+    """Devices r0, r1, .., then their VRFs v0, v1, .., links l0, l1, .. between two (router, interface) each, and edges. A
+    router is a device or a VRF, by its place; one that is marked replaces by prefix."""
 
     def __init__(self, chance):
         count = chance.randint(1, 6)
-        self.routers = [f"r{i}" for i in range(count)]
+        self.device_of = list(range(count))
+        self.table_of = [MAIN] * count
+        for _ in range(chance.choice([0, 0, 1, 2, 4])):
+            device, table = chance.randrange(count), chance.choice([1, 10, 10, 253, 255, 256, ADDRESSES - 1])
+            if self.router_by(device, table) is None:
+                self.device_of.append(device)
+                self.table_of.append(table)
+        self.devices = [f"r{i}" for i in range(count)]
+        self.routers = self.devices + [f"v{i}" for i in range(len(self.device_of) - count)]
+        share = chance.choice([0, 0.5, 1])
+        self.marks = {router: chance.random() < 0.7 for router in range(len(self.routers)) if chance.random() < share}
         self.interfaces = [0] * count
         self.links = []
-        for _ in range(chance.randint(0, 2 * count) if count > 1 else 0):
-            first, second = chance.sample(range(count), 2)
+        for _ in range(chance.randint(0, 2 * count) if len(self.routers) > 1 else 0):
+            first, second = chance.sample(range(len(self.routers)), 2)
             self.links.append((self.new_end(first), self.new_end(second), chance.random() < 0.3))
-        self.edges = [self.new_end(router) for router in range(count) if chance.random() < 0.7]
+        self.edges = [self.new_end(router) for router in range(len(self.routers)) if chance.random() < 0.7]
 
     def new_end(self, router):
-        self.interfaces[router] += 1
-        return router, self.interfaces[router]
+        """A new interface of the router's device."""
+        self.interfaces[self.device_of[router]] += 1
+        return router, self.interfaces[self.device_of[router]]
+
+    def router_by(self, device, table):
+        """The router that this table of a device is; None where it is none."""
+        found = [router for router, own in enumerate(self.table_of) if (self.device_of[router], own) == (device, table)]
+        return found[0] if found else None
+
+    def replaces_prefix(self, router):
+        return self.marks.get(router, False)
 
     def add_spare_link(self):
         """A link between interfaces that no route names, and its name."""
-        self.links.append(((0, SPARE), (len(self.routers) - 1, SPARE), False))
+        self.links.append(((0, SPARE), (len(self.routers) - 1, SPARE + 1), False))
         return f"l{len(self.links) - 1}"
 
     def link_names(self):
         return [f"l{number}" for number in range(len(self.links))]
 
     def text(self):
-        names = ", ".join(f'"{name}"' for name in self.routers)
+        names = ", ".join(f'"{name}"' for name in self.devices)
         lines = [f"routers = [{names}]"]
+        for router in range(len(self.devices), len(self.routers)):
+            lines += ["[[vrf]]", f'router = "{self.devices[self.device_of[router]]}"', f"table = {self.table_of[router]}",
+                      f'name = "{self.routers[router]}"']
         for number, (first, second, is_unnumbered) in enumerate(self.links):
-            ends = ", ".join(f'"r{router}:{interface}"' for router, interface in (first, second))
+            ends = ", ".join(f'"{self.routers[router]}:{interface}"' for router, interface in (first, second))
             lines += ["[[link]]", f'name = "l{number}"', f"ends = [{ends}]"]
             lines += ["unnumbered = true"] if is_unnumbered else []
         for router, interface in self.edges:
-            lines += ["[[edge]]", f'at = "r{router}:{interface}"']
+            lines += ["[[edge]]", f'at = "{self.routers[router]}:{interface}"']
+        for router, is_by_prefix in self.marks.items():
+            lines += ["[[router]]", f'name = "{self.routers[router]}"']
+            lines += ['replace = "prefix"'] if is_by_prefix else ['replace = "key"'] * (router % 2)
         return "\n".join(lines) + "\n"
 
-    def target(self, router, route):
-        """What a route that this router sets does."""
+    def target(self, device, route):
+        """What a route that a device sets does, in whichever of its tables: all of its interfaces are looked at."""
         if route.kind == LOCAL:
             return ("local",)
         if route.kind in DROPS:
             return "dropped", DROPS[route.kind]
-        here = router, route.interface
         for number, (first, second, is_unnumbered) in enumerate(self.links):
-            if here in (first, second) and (route.has_gateway or is_unnumbered):
-                return "to", (second if here == first else first)[0], number
-        if here in self.edges and route.has_gateway:
+            for near, far in ((first, second), (second, first)):
+                if self.is_at(device, route.interface, near) and (route.has_gateway or is_unnumbered):
+                    return "to", far[0], number
+        if route.has_gateway and any(self.is_at(device, route.interface, end) for end in self.edges):
             return "exit", route.interface
         return "onlink", route.interface
 
+    def is_at(self, device, interface, end):
+        return (device, interface) == (self.device_of[end[0]], end[1])
+
     def printed(self, target):
         if target[0] == "to":
-            return f"to r{target[1]} by l{target[2]}"
+            return f"to {self.routers[target[1]]} by l{target[2]}"
         if target[0] == "linkdown":
             return f"linkdown l{target[1]}"
         return " ".join(str(word) for word in target)
 
 
 # ---- the evaluator
+
+
+@dataclass(frozen=True)
+class Update:
+    """An entry of a device's feed, by its place: a route of one of its tables, whose router that is."""
+
+    device: int
+    router: int
+    route: Route
 
 
 @dataclass(frozen=True)
@@ -150,16 +193,16 @@ def shown(target, down):
 
 
 def tables_after(network, history):
-    """Each router's table, from (base, length, metric) to what is done, after these (router, route) and entries of links."""
+    """Each router's table, from (base, length, metric) to what is done, after these updates and entries of links."""
     tables = [{} for _ in network.routers]
-    for router, route in (entry for entry in history if not isinstance(entry, LinkEntry)):
-        table = tables[router]
-        if not route.is_deletion:
-            table[route.base, route.length, route.metric or 0] = network.target(router, route)
-            continue
+    for entry in (entry for entry in history if isinstance(entry, Update)):
+        table, route = tables[entry.router], entry.route
+        goes_all = network.replaces_prefix(entry.router) if not route.is_deletion else route.metric is None
         for key in list(table):
-            if key[:2] == (route.base, route.length) and route.metric in (None, key[2]):
+            if key[:2] == (route.base, route.length) and (goes_all or key[2] == (route.metric or 0)):
                 del table[key]
+        if not route.is_deletion:
+            table[route.base, route.length, route.metric or 0] = network.target(entry.device, route)
     return tables
 
 

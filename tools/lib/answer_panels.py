@@ -69,13 +69,14 @@ def show_reach(panel: Panel, report: Brief, answer: Answer, words: list[str]) ->
 
 def show_uses(panel: Panel, report: Brief, answer: Answer, words: list[str]) -> None:
     """An arrow over the link at each end where some address goes over it."""
-    router, far = "", {(near, link): far for near, far, link in report.ways_on}
+    router = ""
     for line in answer.lines:
         if line.startswith("from "):
             router = line.split()[1]
-        elif line != "none" and (router, words[1]) in far:
-            hop = Hop(router, far[router, words[1]], words[1], "")
-            panel.hops += [] if hop in panel.hops else [hop]
+        elif line != "none":
+            ways_on = [far for near, far, link in sorted(report.ways_on) if (near, link) == (router, words[1])]
+            hops = [Hop(router, far, words[1], "") for far in ways_on]
+            panel.hops += [hop for hop in hops if hop not in panel.hops]
 
 
 def show_holes(panel: Panel, _report: Brief, answer: Answer, words: list[str]) -> None:

@@ -12,9 +12,10 @@ from collections.abc import Iterable, Iterator
 from functools import cached_property
 
 from evaluator import downs_after
+from network import Network
 from progress import Teller
-from report import (HISTORY_OF_TEXT, NAME, PREFIX, TARGET_TEXT, Entry, Feed, HistoryEntry, LinkEntry, Report, ReportError,
-                    address_text, end_of_history, parse_answers, parse_report, read_entry)
+from report import (HISTORY_OF_TEXT, NAME, PREFIX, TARGET_TEXT, Entry, Feed, HistoryEntry, LinkEntry, Owners, Report,
+                    ReportError, address_text, end_of_history, parse_answers, parse_report, read_entry)
 
 # An entry, with its feed and router, which an entry of a link hasn't.
 FORM = re.compile(rf"^\d+ (?:(feed \d+ {NAME}) (?:set {PREFIX} metric \d+ (?:to {NAME} by {NAME}|{TARGET_TEXT})"
@@ -29,7 +30,10 @@ MOST_NEAR = 1 << 16
 
 
 class Brief:
-    """A report: its feeds and what is told of its jobs, and its history as text."""
+    """A report: its feeds and what is told of its jobs, and its history as text. `network` is the topology of its run, where
+    that is known: it says which routers replace by prefix, and whose VRFs are those that no update is of."""
+
+    network: Network | None = None
 
     def __init__(self, path: str, text: bytes) -> None:
         self.path = path
@@ -38,6 +42,7 @@ class Brief:
         match = HISTORY_OF_TEXT.search(text)
         self.begin = match.end()
         self.end = end_of_history(text, self.begin)
+        self.owners = Owners(self.feeds)
         self._check_history()
 
     @staticmethod
@@ -49,8 +54,8 @@ class Brief:
             return Brief(path, file.read())
 
     def _check_history(self) -> None:
-        """That each line is an entry at its position, of a router's feed. Where one isn't, the strict reader says which."""
-        routers = {b""} | {f"feed {feed.number} {feed.router}".encode() for feed in self.feeds}
+        """That each line is an entry at its position, of a router of its feed. Where one isn't the strict reader says which."""
+        known = {b""}
         teller = Teller(self.path, len(self.text))
         count = 0
         at = self.begin
@@ -60,14 +65,20 @@ class Brief:
             lines = self.text[at:stop].splitlines()
             formed = FORM.findall(self.text, at, stop)
             numbered = all(map(bytes.startswith, lines, map(b"%d ".__mod__, range(count + 1, count + len(lines) + 1))))
-            if len(formed) != len(lines) or not numbered or not routers.issuperset(formed):
+            if len(formed) != len(lines) or not numbered or not all(map(self._is_owned, set(formed) - known)):
                 parse_report(self.path, self.text)
                 raise ReportError(self.path, 1, "its history isn't one")
+            known.update(formed)
             count += len(lines)
             at = stop
         teller.end()
         if count != self.report.length:
             parse_report(self.path, self.text)
+
+    def _is_owned(self, said: bytes) -> bool:
+        """Whether `feed K ROUTER` may stand in an entry."""
+        _feed, number, router = said.decode("ascii").split(" ")
+        return self.owners.may_be(int(number), router)
 
     def _line_end(self, at: int) -> int:
         """The end of a line, a good many lines further on."""
@@ -83,7 +94,22 @@ class Brief:
         return self.report.length
 
     def feed_of(self, router: str) -> Feed | None:
-        return self.report.feed_of(router)
+        """The feed in which a router's updates come."""
+        if self.network is not None:
+            return self.report.feed_of(self.network.device_of(router))
+        return self.owners.feed_of(router)
+
+    def device_of(self, router: str) -> str:
+        """The device of a router, as far as it is known; else the router itself."""
+        if self.network is not None:
+            return self.network.device_of(router)
+        feed = self.feed_of(router)
+        return router if feed is None else feed.router
+
+    @property
+    def marked(self) -> frozenset[str]:
+        """The routers that are known to replace by prefix."""
+        return frozenset() if self.network is None else self.network.marked
 
     @cached_property
     def entries(self) -> list[HistoryEntry]:
@@ -110,8 +136,8 @@ class Brief:
         return {(near[0].decode(), on[1].decode(), on[3].decode()) for near, on in said}
 
     def names(self) -> set[str]:
-        """The routers that the report names: those with a feed, and those that some route leads to."""
-        return {feed.router for feed in self.feeds} | {far for _near, far, _link in self.ways_on}
+        """The routers that the report names: those with a feed, those with updates, and those that some route leads to."""
+        return set(self.owners.of) | {far for _near, far, _link in self.ways_on}
 
     def entries_about(self, address: int) -> list[Entry]:
         """The updates of prefixes that cover an address."""
@@ -122,10 +148,14 @@ class Brief:
         """A router's updates, of these prefixes or of all."""
         return self._entries(prefixes, router)
 
-    def _entries(self, prefixes: Iterable[str], router: str = NAME) -> Iterator[Entry]:
+    def entries_of_feed(self, feed: Feed) -> Iterator[Entry]:
+        """The updates of a feed, its device's and those of VRFs."""
+        return self._entries((), feed=str(feed.number))
+
+    def _entries(self, prefixes: Iterable[str], router: str = NAME, feed: str = r"\d+") -> Iterator[Entry]:
         asked = list(prefixes)
         wanted = "|".join(map(re.escape, asked)) or PREFIX
-        form = re.compile(rf"^(\d+) (feed \d+ {router} (?:set|clear) (?:{wanted})(?: [^\n]*)?)\n".encode(), re.MULTILINE)
+        form = re.compile(rf"^(\d+) (feed {feed} {router} (?:set|clear) (?:{wanted})(?: [^\n]*)?)\n".encode(), re.MULTILINE)
         near = self._lines_with({prefix.partition(".")[0] for prefix in asked}) if asked else None
         found = form.finditer(self.text, self.begin, self.end) if near is None else (
             form.match(self.text, at, self.end) for at in near)

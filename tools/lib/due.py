@@ -16,9 +16,10 @@ import re
 from collections.abc import Iterator, Sequence
 from dataclasses import dataclass, field
 
-from frames import SETTABLE_TYPES, UNICAST, Feed, Route, Skipped, decode
+from frames import SETTABLE_TYPES, UNICAST, Feed, Route, Skipped
 from network import Network, read_topology
 from queries import answer_lines, unknown_name
+from reading import Reading
 from report import Answer, HistoryEntry, LinkLine, Report, ReportError, link_words, parse_report
 from run_words import FeedPart, RunWords, read_words
 from script import LINK_VERBS
@@ -122,14 +123,16 @@ def feed_due(network: Network, folder: str, number: int, part: FeedPart) -> Feed
     refused: list[str] = []
     skipped = 0
     head = f"feed {number} {part.router}"
+    reading = Reading.of(network, part.router)
     path = os.path.join(folder, part.file)
     if os.path.isdir(path):
         return FeedDue([f"{head} updates 0 skipped 0 refused 0 readfault"], [], False, False)
     with open(path, "rb", buffering=0) as file:
         feed = Feed(file)
         for frame in feed:
-            decoded = decode(frame, lambda index: network.port(part.router, index) is not None)
-            frames.append([f"{head} {operation(network, part.router, route)}" for route in decoded.updates])
+            decoded = reading.decode(frame)
+            frames.append([f"feed {number} {reading.vrfs.get(route.table, part.router)} "
+                           f"{operation(network, part.router, route)}" for route in decoded.updates])
             if decoded.refused is not None:
                 refused.append(f"refused offset {frame.offset} message {decoded.refused.at} cause"
                                f" {decoded.refused.number} {decoded.refused.cause}")
@@ -142,7 +145,7 @@ def feed_due(network: Network, folder: str, number: int, part: FeedPart) -> Feed
 
 
 def operation(network: Network, router: str, route: Route) -> str:
-    """An update as the history prints it."""
+    """An update of a device's feed as the history prints it after its router."""
     metric = "" if route.metric is None else f" metric {route.metric}"
     if not route.is_set:
         return f"clear {route.prefix}{metric}"
@@ -150,7 +153,7 @@ def operation(network: Network, router: str, route: Route) -> str:
 
 
 def target(network: Network, router: str, route: Route) -> str:
-    """What a route that is set does with its addresses."""
+    """What a route that is set does with its addresses. Its interface is any of the device's, whichever its table is."""
     if route.route_type != UNICAST:
         return "local" if route.route_type == 2 else f"dropped {SETTABLE_TYPES[route.route_type]}"
     port = network.port(router, route.interface)

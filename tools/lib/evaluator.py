@@ -30,19 +30,26 @@ class Route:
 
 @dataclass
 class Table:
-    """The routes of one router: for each prefix, one route of each metric."""
+    """The routes of one router: for each prefix, one route of each metric. On a router that replaces by prefix one that is
+    set takes the place of all of its prefix. `is_mixed` is whether this ever made a difference: whether one came beside
+    routes of other metrics."""
 
+    replaces_prefix: bool = False
     by_prefix: dict[Prefix, dict[int, Route]] = field(default_factory=dict)
+    is_mixed: bool = False
 
     def apply(self, entry: Entry) -> list[Route]:
         """Does what an entry says, and answers the routes that it took away or put another in place of."""
         metrics = self.by_prefix.setdefault(entry.prefix, {})
-        if entry.target is None and entry.metric is None:
+        is_set = entry.target is not None
+        if is_set and metrics.keys() - {entry.metric}:
+            self.is_mixed = True
+        if entry.metric is None or is_set and self.replaces_prefix:
             gone = list(metrics.values())
             metrics.clear()
         else:
             gone = [metrics.pop(entry.metric)] if entry.metric in metrics else []
-        if entry.target is not None:
+        if is_set:
             metrics[entry.metric] = Route(entry.prefix, entry.metric, entry.target, entry.position)
         if not metrics:
             del self.by_prefix[entry.prefix]
@@ -103,12 +110,21 @@ class Change:
     after: Target
 
 
-def tables_after(entries: Sequence[HistoryEntry], position: int) -> dict[str, Table]:
-    """The table of each router that the first entries, up to the position, speak of."""
+class Everyone:
+    """All routers, where they are taken to replace by prefix."""
+
+    def __contains__(self, _router: object) -> bool:
+        return True
+
+
+def tables_after(entries: Sequence[HistoryEntry], position: int, marked: Container[str] = ()) -> dict[str, Table]:
+    """The table of each router that the first entries, up to the position, speak of. The marked routers replace by prefix."""
     tables: dict[str, Table] = {}
     for entry in entries[:position]:
         if isinstance(entry, Entry):
-            tables.setdefault(entry.router, Table()).apply(entry)
+            if entry.router not in tables:
+                tables[entry.router] = Table(entry.router in marked)
+            tables[entry.router].apply(entry)
     return tables
 
 
@@ -166,12 +182,14 @@ class _Side:
                 if any(route.target.router is not None and route.target.link in links for route in metrics.values())}
 
 
-def changes(entries: Sequence[HistoryEntry], first: int, last: int, routers: Iterable[str]) -> Iterator[Change]:
-    """What differs between the moment after `first` entries and that after `last`, for these routers in this order.
+def changes(entries: Sequence[HistoryEntry], first: int, last: int, routers: Iterable[str],
+            marked: Container[str] = ()) -> Iterator[Change]:
+    """What differs between the moment after `first` entries and that after `last`, for these routers in this order. The
+    marked ones replace by prefix.
 
     Runs that touch and have the same two targets are one.
     """
-    before, after = tables_after(entries, first), tables_after(entries, last)
+    before, after = tables_after(entries, first, marked), tables_after(entries, last, marked)
     was_down, is_down = (frozenset(downs_after(entries, position)) for position in (first, last))
     touched: dict[str, set[Prefix]] = {}
     for entry in entries[first:last]:

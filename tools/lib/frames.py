@@ -9,7 +9,7 @@ from __future__ import annotations
 
 import ipaddress
 import struct
-from collections.abc import Callable, Iterator
+from collections.abc import Callable, Container, Iterator
 from dataclasses import dataclass, field
 from functools import lru_cache
 from typing import BinaryIO, NamedTuple
@@ -22,7 +22,9 @@ NETLINK = 1
 NEW_ROUTE, DELETE_ROUTE = 24, 25
 NEW_NEXTHOP, DELETE_NEXTHOP = 104, 105
 IPV4 = 2
+# Of tables: the main one, and all others.
 MAIN_TABLE = 254
+OTHER_TABLES = range(1, 2 ** 32)
 UNICAST = 1
 
 CAUSES = {
@@ -94,7 +96,8 @@ class Route(NamedTuple):
     """A message that sets or deletes a route; `at` is its place in the payload.
 
     A deletion without a metric, None, is of all routes of the prefix. `gateway` is None where there is neither a
-    GATEWAY nor a VIA. `sender` is the netlink port that zebra wrote into the message.
+    GATEWAY nor a VIA. `sender` is the netlink port that zebra wrote into the message, `table` the number of the routing
+    table, 0 counting as the main one.
     """
 
     at: int
@@ -106,6 +109,7 @@ class Route(NamedTuple):
     gateway: str | None
     interface: int | None
     sender: int
+    table: int = MAIN_TABLE
 
     @property
     def is_connected(self) -> bool:
@@ -116,13 +120,16 @@ class Route(NamedTuple):
 
 @dataclass(frozen=True, slots=True)
 class Skipped:
-    """A message that doesn't concern the IPv4 main table: `why` is OtherType, OtherFamily or OtherTable."""
+    """A message that concerns no IPv4 table that is read: `why` is OtherType, OtherFamily or OtherTable. With the last come
+    the table, and what could be read of the route, None where its prefix couldn't."""
 
     at: int
     why: str
     what: str
     message_type: int
     sender: int
+    table: int | None = None
+    route: Route | None = None
 
 
 @dataclass(frozen=True, slots=True)
@@ -258,16 +265,18 @@ USUAL = {
 DELETION = 44
 
 
-def _usual_change(payload: bytes, has_interface: HasInterface | None) -> list[Route | Skipped] | None:
+def _usual_change(payload: bytes, has_interface: HasInterface | None,
+                  tables: Container[int] = ()) -> list[Route | Skipped] | None:
     """The two routes of a payload that is a deletion and a set of the usual forms, both accepted; None of all others."""
     if len(payload) - DELETION not in USUAL:
         return None
-    first = _usual_route(payload[:DELETION], None)
-    second = None if first is None else _usual_route(payload[DELETION:], has_interface, DELETION)
+    first = _usual_route(payload[:DELETION], None, tables)
+    second = None if first is None else _usual_route(payload[DELETION:], has_interface, tables, DELETION)
     return None if second is None else [first, second]
 
 
-def _usual_route(payload: bytes, has_interface: HasInterface | None, at: int = 0) -> Route | None:
+def _usual_route(payload: bytes, has_interface: HasInterface | None, tables: Container[int] = (),
+                 at: int = 0) -> Route | None:
     """The route of a payload that is one message of the usual forms and is accepted; None of all others, which are read
     attribute by attribute. `at` is its place in the frame's payload."""
     form = USUAL.get(len(payload))
@@ -275,37 +284,42 @@ def _usual_route(payload: bytes, has_interface: HasInterface | None, at: int = 0
         return None
     size, kind, sender, family, length, source, table, protocol, route_type, head, address, next_head, metric, *rest = (
         form[0].unpack(payload))
-    if (size, kind, family, source, head, next_head, *rest[::2]) != form[1] or table not in (0, MAIN_TABLE) or length > 32:
+    table = table or MAIN_TABLE
+    if (size, kind, family, source, head, next_head, *rest[::2]) != form[1] or length > 32:
+        return None
+    if table != MAIN_TABLE and table not in tables:
         return None
     prefix = Prefix(int.from_bytes(address, "big"), length)
     if prefix.address & HOST_BITS[length]:
         return None
     if kind == DELETE_ROUTE:
-        return Route(at, False, prefix, metric, route_type, protocol, None, None, sender)
+        return Route(at, False, prefix, metric, route_type, protocol, None, None, sender, table)
     interface = rest[-1]
     if route_type != UNICAST or has_interface is not None and not has_interface(interface):
         return None
     gateway = _dotted(rest[1]) if len(rest) == 4 else None
-    return Route(at, True, prefix, metric, UNICAST, protocol, gateway, interface, sender)
+    return Route(at, True, prefix, metric, UNICAST, protocol, gateway, interface, sender, table)
 
 
-def decode(frame: Frame, has_interface: HasInterface | None = None) -> Decoded:
-    """What a frame comes to. Without `has_interface` no interface is unknown."""
-    if frame.kind == NETLINK and (usual := _usual_route(frame.payload, has_interface)) is not None:
+def decode(frame: Frame, has_interface: HasInterface | None = None, tables: Container[int] = ()) -> Decoded:
+    """What a frame comes to. Without `has_interface` no interface is unknown. Of routes those of the main table are read,
+    and those of these tables."""
+    if frame.kind == NETLINK and (usual := _usual_route(frame.payload, has_interface, tables)) is not None:
         return Decoded([usual])
-    if frame.kind == NETLINK and (change := _usual_change(frame.payload, has_interface)) is not None:
+    if frame.kind == NETLINK and (change := _usual_change(frame.payload, has_interface, tables)) is not None:
         return Decoded(change)
     if frame.kind != NETLINK:
         return Decoded([], Refused(0, "FrameType"))
     messages: list[Route | Skipped] = []
-    for message in read_messages(frame.payload, has_interface):
+    for message in read_messages(frame.payload, has_interface, tables):
         if isinstance(message, Refused):
             return Decoded(messages, message)
         messages.append(message)
     return Decoded(messages)
 
 
-def read_messages(payload: bytes, has_interface: HasInterface | None = None) -> Iterator[Message]:
+def read_messages(payload: bytes, has_interface: HasInterface | None = None,
+                  tables: Container[int] = ()) -> Iterator[Message]:
     """All messages of a payload, each by itself: it goes on after a refused one, as long as lengths allow."""
     at = 0
     while len(payload) - at >= 4:
@@ -314,11 +328,11 @@ def read_messages(payload: bytes, has_interface: HasInterface | None = None) -> 
         if left < 16 or length < 16 or length > left:
             yield Refused(at, "BadLength")
             return
-        yield _read_message(payload[at:at + length], at, has_interface)
+        yield _read_message(payload[at:at + length], at, has_interface, tables)
         at += _rounded(length)
 
 
-def _read_message(text: bytes, at: int, has_interface: HasInterface | None) -> Message:
+def _read_message(text: bytes, at: int, has_interface: HasInterface | None, tables: Container[int]) -> Message:
     """One message of at least 16 bytes. Its checks stand in the order in which they decide."""
     message_type, sender = struct.unpack_from("<4xH6xI", text)
     if message_type not in (NEW_ROUTE, DELETE_ROUTE):
@@ -327,28 +341,43 @@ def _read_message(text: bytes, at: int, has_interface: HasInterface | None) -> M
     if len(text) < 28:
         return Refused(at, "Short")
     is_set = message_type == NEW_ROUTE
-    family, length, source_length, tos, table, protocol, _scope, route_type = text[16:24]
+    family, length, source_length, tos = text[16:20]
     if family != IPV4:
         what = f"{MESSAGE_TYPES[message_type]} of {FAMILIES.get(family, f'family {family}')}"
         return Skipped(at, "OtherFamily", what, message_type, sender)
     attributes = _read_attributes(text[28:], is_set)
     if attributes is None:
         return Refused(at, "BadAttr")
-    table = _number(attributes, TABLE, table)
-    if table not in (0, MAIN_TABLE):
-        return Skipped(at, "OtherTable", f"{MESSAGE_TYPES[message_type]} of table {table}", message_type, sender)
+    route = _read_route(text, at, attributes) if length <= 32 else None
+    table = _table(text, attributes)
+    if table != MAIN_TABLE and table not in tables:
+        what = f"{MESSAGE_TYPES[message_type]} of table {table}"
+        return Skipped(at, "OtherTable", what, message_type, sender, table, route)
     if length > 32:
         return Refused(at, "BadPrefixLength")
-    route = None
-    if DST in attributes or length == 0:
-        prefix = Prefix(int.from_bytes(attributes.get(DST, bytes(4)), "big"), length)
-        metric = _number(attributes, PRIORITY, 0 if is_set else None)
-        route = Route(at, is_set, prefix, metric, route_type, protocol, _gateway(attributes),
-                      _number(attributes, OIF, None) if is_set else None, sender)
     cause = _refusal(route, source_length, tos, attributes, has_interface)
     if cause is not None or route is None:
         return Refused(at, cause or "NoDestination", route)
     return route
+
+
+def _read_route(text: bytes, at: int, attributes: dict[int, bytes]) -> Route | None:
+    """What a message says of a route; None where its prefix has a length and no address."""
+    message_type, sender = struct.unpack_from("<4xH6xI", text)
+    length, protocol, route_type = text[17], text[21], text[23]
+    if DST not in attributes and length > 0:
+        return None
+    is_set = message_type == NEW_ROUTE
+    prefix = Prefix(int.from_bytes(attributes.get(DST, bytes(4)), "big"), length)
+    metric = _number(attributes, PRIORITY, 0 if is_set else None)
+    interface = _number(attributes, OIF, None) if is_set else None
+    return Route(at, is_set, prefix, metric, route_type, protocol, _gateway(attributes), interface, sender,
+                 _table(text, attributes))
+
+
+def _table(text: bytes, attributes: dict[int, bytes]) -> int:
+    """The number of a route's table: that of the attribute, or else of the fixed part; 0 counts as the main one."""
+    return _number(attributes, TABLE, text[20]) or MAIN_TABLE
 
 
 def _refusal(route: Route | None, source_length: int, tos: int, attributes: dict[int, bytes],

@@ -26,6 +26,20 @@ def read_interface_names(words: list[str]) -> dict[End, str]:
     return names
 
 
+def read_vrf_names(words: list[str]) -> dict[tuple[str, int], str]:
+    """The names of VRFs by router and table, from files that `ip -j -d link` wrote, each as ROUTER=FILE. Without -d there are
+    none."""
+    names: dict[tuple[str, int], str] = {}
+    for router, path in map(router_and_file, words):
+        for interface in _read_json(path):
+            info = interface.get("linkinfo") if isinstance(interface, dict) else None
+            told = info.get("info_data") if isinstance(info, dict) and info.get("info_kind") == "vrf" else None
+            table = told.get("table") if isinstance(told, dict) else None
+            if isinstance(table, int) and isinstance(interface.get("ifname"), str):
+                names[router, table] = interface["ifname"]
+    return names
+
+
 def _read_json(path: str) -> list:
     with open(path, "rb") as file:
         text = file.read()

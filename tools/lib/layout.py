@@ -12,19 +12,55 @@ Place = tuple[float, float]
 MOST_STEPS = 300
 MOST_WORK = 2_000_000
 
+# How far a VRF stands from its device, as a part of what two linked routers do, and how far VRFs are turned from each other.
+VRF_SHARE = 0.4
+VRF_TURN = 0.9
+MOST_TURNS = 14
+
 
 def layout(network: Network) -> dict[str, Place]:
-    """A place in the unit square for each router: links pull, all else pushes apart, from a circle in the file's order."""
-    routers = network.routers
-    count = max(1, len(routers))
-    number = {router: place for place, router in enumerate(routers)}
+    """A place in the unit square for each router: links pull, all else pushes apart, from a circle in the file's order. VRFs
+    stand beside their device."""
+    devices = network.devices
+    count = max(1, len(devices))
+    number = {device: place for place, device in enumerate(devices)}
     spots = [(math.cos(2 * math.pi * place / count), math.sin(2 * math.pi * place / count)) for place in range(count)]
-    links = sorted({tuple(sorted(number[end[0]] for end in link.ends)) for link in network.links})
+    ends = {tuple(sorted(number[network.device_of(end[0])] for end in link.ends)) for link in network.links}
+    links = sorted((first, second) for first, second in ends if first != second)
     distance = 2 / math.sqrt(count)
     steps = min(MOST_STEPS, max(2, MOST_WORK // (count * count)))
     for step in range(steps):
         spots = _moved(spots, links, distance, 0.2 * (1 - step / steps))
-    return dict(zip(routers, _fitted(spots)))
+    spots = spots[:len(devices)]
+    if network.vrfs:
+        spots += _beside(network, dict(zip(devices, spots)), VRF_SHARE * distance)
+    return dict(zip(network.routers, _fitted(spots)))
+
+
+def _beside(network: Network, spots: dict[str, Place], away: float) -> list[Place]:
+    """The places of the VRFs: around their device's, each on the side of the routers that its links lead to, or away from the
+    middle of all."""
+    middle = [sum(axis) / len(spots) for axis in zip(*spots.values())]
+    turns: dict[str, list[float]] = {device: [] for device in spots}
+    found = []
+    for vrf in network.vrfs:
+        x, y = spots[vrf.device]
+        far = [spots[network.device_of(there[0])] for link in network.links for here, there in (link.ends, link.ends[::-1])
+               if here[0] == vrf.name and network.device_of(there[0]) != vrf.device]
+        dx, dy = (sum(axis) for axis in zip(*((x2 - x, y2 - y) for x2, y2 in far))) if far else (x - middle[0], y - middle[1])
+        turn = _free_turn(math.atan2(dy, dx), turns[vrf.device])
+        turns[vrf.device].append(turn)
+        found.append((x + math.cos(turn) * away, y + math.sin(turn) * away))
+    return found
+
+
+def _free_turn(wanted: float, taken: list[float]) -> float:
+    """The turn that is wanted, or the nearest one that is apart from those taken; where there is no room any."""
+    for step in range(MOST_TURNS):
+        turn = wanted + (step + 1) // 2 * (VRF_TURN if step % 2 else -VRF_TURN)
+        if all(math.cos(turn - other) <= math.cos(VRF_TURN * 0.99) for other in taken[:MOST_TURNS]):
+            return turn
+    return wanted + len(taken)
 
 
 def _moved(spots: list[Place], links: list[tuple[int, int]], distance: float, most: float) -> list[Place]:

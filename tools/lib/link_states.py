@@ -10,7 +10,7 @@ from __future__ import annotations
 import re
 from bisect import bisect_left
 from collections import Counter
-from collections.abc import Iterable, Iterator
+from collections.abc import Iterable, Iterator, Mapping
 from dataclasses import dataclass
 from datetime import datetime, tzinfo
 
@@ -26,7 +26,7 @@ MONITORED = re.compile(rb"\[(\d{4}-\d\d-\d\dT\d\d:\d\d:\d\d(?:\.\d+)?)\] (Delete
 
 @dataclass(frozen=True)
 class Turn:
-    """An end of a link goes down or comes up."""
+    """An end of a link, named by its device, goes down or comes up."""
 
     time: datetime
     end: End
@@ -41,9 +41,10 @@ class Change:
     down: frozenset[str]
 
 
-def turns_of_feed(router: str, path: str, moments: list[Moment]) -> Iterator[Turn]:
-    """What a feed tells of its router's interfaces, at the times at which its frames were told of."""
-    for index, interface in survey(router, path).interfaces.items():
+def turns_of_feed(router: str, path: str, moments: list[Moment], vrfs: Mapping[int, str] | None = None) -> Iterator[Turn]:
+    """What a feed tells of its device's interfaces, by routes of the main table and of its VRFs, at the times at which its
+    frames were told of."""
+    for index, interface in survey(router, path, vrfs).interfaces.items():
         for frame, is_down in _turns_of(interface):
             place = bisect_left(moments, frame, key=lambda moment: moment.frames)
             if place < len(moments):
@@ -85,7 +86,7 @@ def changes_of(network: Network, turns: Iterable[Turn]) -> list[Change]:
     changes: list[Change] = []
     for turn in sorted(turns, key=lambda one: one.time):
         ends = ends | {turn.end} if turn.is_down else ends - {turn.end}
-        down = frozenset(link.name for link in network.links if ends.intersection(link.ends))
+        down = frozenset(link.name for link in network.links if ends.intersection(map(network.at_device, link.ends)))
         if down != (changes[-1].down if changes else frozenset()):
             changes.append(Change(turn.time, down))
     return changes

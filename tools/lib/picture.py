@@ -7,9 +7,9 @@ from dataclasses import dataclass, field, replace
 from html import escape
 
 from layout import Place, layout
-from network import End, Link, Network
+from network import End, Link, Network, Vrf
 
-WAY, BEFORE, DOWN, PLAIN, FAINT = "#c62828", "#1565c0", "#9e9e9e", "#37474f", "#90a4ae"
+WAY, BEFORE, DOWN, PLAIN, FAINT, BAND = "#c62828", "#1565c0", "#9e9e9e", "#37474f", "#90a4ae", "#eceff1"
 CYCLES = ("#c62828", "#6a1b9a", "#ef6c00", "#00695c", "#283593")
 RADIUS, STUB, MARGIN, LINE = 20, 34, 90, 16
 
@@ -66,7 +66,7 @@ class Picture:
     def __init__(self, network: Network, has_labels: bool = True) -> None:
         self.network = network
         self.has_labels = has_labels
-        self.size = 150 * math.sqrt(max(2, len(network.routers)))
+        self.size = 150 * math.sqrt(max(2, len(network.devices) + len(network.vrfs) / 3))
         self.spots = {router: (MARGIN + x * self.size, MARGIN + y * self.size)
                       for router, (x, y) in layout(network).items()}
         self.middle = MARGIN + self.size / 2
@@ -88,13 +88,20 @@ class Picture:
         return "\n".join([*parts, "</svg>"]) + "\n"
 
     def _panel(self, panel: Panel) -> list[str]:
-        parts = [part for link in self.network.links for part in self._link(link, panel)]
+        parts = [self._belonging(vrf) for vrf in self.network.vrfs]
+        parts += [part for link in self.network.links for part in self._link(link, panel)]
         parts += [part for end in self.network.edges for part in self._edge(end, panel)]
         parts += [part for router in self.network.routers for part in self._router(router, panel)]
         at_edges = {(router, f"{kind} {index}") for router, index in self.network.edges for kind in ("exit", "onlink")}
         notes = [end for end in panel.ends if end not in at_edges]
         return parts + [self._note(end, panel.colours.get(end, WAY), sum(other[0] == end[0] for other in notes[:place]))
                         for place, end in enumerate(notes)]
+
+    def _belonging(self, vrf: Vrf) -> str:
+        """A broad band from a VRF to its device."""
+        (x1, y1), (x2, y2) = self.spots[vrf.device], self.spots[vrf.name]
+        return (f'<line x1="{x1:.1f}" y1="{y1:.1f}" x2="{x2:.1f}" y2="{y2:.1f}" stroke="{BAND}" '
+                f'stroke-width="{RADIUS}" stroke-linecap="round"/>')
 
     def _link(self, link: Link, panel: Panel) -> list[str]:
         (first, first_index), (second, second_index) = link.ends
@@ -118,10 +125,13 @@ class Picture:
                 _text(*_off(_on(start, bend, stop, 0.62), 0, 4), hop.text, hop.colour, f'{MIDDLE} font-weight="bold"')]
 
     def _curve(self, link: Link, near: str, far: str, more: float = 0) -> tuple[Place, Place, Place]:
-        """From one router to another, with a bend that is another one for each link beside it."""
+        """From one router to another, with a bend that is another one for each link beside it. A route of another table of
+        the near end's device begins at its own router; one that comes back to that, at the near end."""
+        if near == far:
+            near = next(end[0] for end in link.ends if end[0] != far)
         (x1, y1), (x2, y2) = self.spots[near], self.spots[far]
         length = max(math.hypot(x2 - x1, y2 - y1), 1e-9)
-        side = 1 if near == link.ends[0][0] else -1
+        side = 1 if far == link.ends[1][0] else -1
         bend = 24 * self.beside[link.name] * side + more
         middle = ((x1 + x2) / 2 - (y2 - y1) / length * bend, (y1 + y2) / 2 + (x2 - x1) / length * bend)
         return (x1, y1), middle, (x2, y2)

@@ -10,7 +10,7 @@ from __future__ import annotations
 from collections import defaultdict, deque
 from dataclasses import dataclass
 
-from network import End, Link, Network
+from network import End, Network
 from survey import Survey, holders
 
 # Which router each feed is of: a feed is named here by the router that the user gave it to.
@@ -24,17 +24,19 @@ MOST_HOLDERS = 16
 
 @dataclass
 class Sharing:
-    """Which interfaces of two feeds share a connected prefix."""
+    """Which interfaces of two routers share a connected prefix. They are named by their devices, whose feeds they are in."""
 
     partners: dict[End, set[End]]
 
     @staticmethod
     def of(surveys: list[Survey]) -> Sharing:
+        devices = {router: one.router for one in surveys for router in one.routers}
         partners: dict[End, set[End]] = defaultdict(set)
         for ends in holders(surveys).values():
             if len(ends) <= MOST_HOLDERS:
-                for end in ends:
-                    partners[end].update(other for other in ends if other[0] != end[0])
+                for router, index in ends:
+                    partners[devices[router], index].update(
+                        (devices[other], far) for other, far in ends if other != router)
         return Sharing(partners)
 
     def share(self, first: End, second: End) -> bool:
@@ -61,18 +63,20 @@ class Placing:
         self.surveys = {one.router: one for one in surveys}
         self.sharing = Sharing.of(surveys)
         self.given: Assignment = {router: router for router in self.surveys}
-        self.links = [link for link in network.links if not link.unnumbered]
-        self.links_of: dict[str, list[Link]] = defaultdict(list)
+        # The ends of links between two devices, which are named by these.
+        ends = [[network.at_device(end) for end in link.ends] for link in network.links if not link.unnumbered]
+        self.links = [(first, second) for first, second in ends if first[0] != second[0]]
+        self.links_of: dict[str, list[tuple[End, End]]] = defaultdict(list)
         for link in self.links:
-            for router, _index in link.ends:
-                self.links_of[router].append(link)
+            for device, _index in link:
+                self.links_of[device].append(link)
 
     def fit(self, places: Assignment) -> Fit:
         """How well the feeds fit with each at its place."""
         feeds = {router: feed for feed, router in places.items()}
         links = 0
         for link in self.links:
-            (first, first_index), (second, second_index) = link.ends
+            (first, first_index), (second, second_index) = link
             if first in feeds and second in feeds:
                 links += self.sharing.share((feeds[first], first_index), (feeds[second], second_index))
         unknown = sum(self.network.port(router, index) is None
@@ -82,10 +86,10 @@ class Placing:
     def better(self) -> Assignment | None:
         """The places where the feeds fit best, where these aren't those that were given."""
         best, best_fit = None, self.fit(self.given)
-        fed_links = sum(all(router in self.surveys for router, _index in link.ends) for link in self.links)
+        fed_links = sum(all(router in self.surveys for router, _index in link) for link in self.links)
         if best_fit == Fit(fed_links, 0):
             return None
-        beginnings = [(feed, router) for feed in self.surveys for router in self.network.routers if feed != router]
+        beginnings = [(feed, router) for feed in self.surveys for router in self.network.devices if feed != router]
         for feed, router in beginnings[:MOST_BEGINNINGS]:
             places = self._fill(self._follow(feed, router))
             fit = self.fit(places)
@@ -101,7 +105,7 @@ class Placing:
         while waiting:
             near = waiting.popleft()
             for link in self.links_of[found[near]]:
-                here, there = link.ends if link.ends[0][0] == found[near] else link.ends[::-1]
+                here, there = link if link[0][0] == found[near] else link[::-1]
                 fits = [end[0] for end in self.sharing.partners.get((near, here[1]), ()) if end[1] == there[1]]
                 if len(fits) == 1 and fits[0] not in found and there[0] not in taken:
                     found[fits[0]] = there[0]

@@ -37,7 +37,7 @@ class Snapshot:
     tables: dict[str, Table] = field(init=False)
 
     def __post_init__(self) -> None:
-        self.tables = tables_after(self.entries, self.position)
+        self.tables = tables_after(self.entries, self.position, self.network.marked)
         self.down = self.down | frozenset(downs_after(self.entries, self.position))
 
     @cached_property
@@ -188,7 +188,7 @@ def blackholes(snapshot: Snapshot, router: str) -> list[str]:
 
 def delta(snapshot: Snapshot) -> list[str]:
     before = max(0, snapshot.position - 1)
-    found = changes(snapshot.entries, before, snapshot.position, snapshot.network.routers)
+    found = changes(snapshot.entries, before, snapshot.position, snapshot.network.routers, snapshot.network.marked)
     return [f"{change.router} {run_text((change.low, change.high))} {change.before} -> {change.after}"
             for change in found] or ["none"]
 

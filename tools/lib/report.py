@@ -10,7 +10,7 @@ import re
 import sys
 from dataclasses import dataclass, field
 from functools import lru_cache
-from typing import Iterator, NamedTuple
+from typing import Iterable, Iterator, NamedTuple
 
 from progress import Teller
 
@@ -92,7 +92,8 @@ NO_ROUTE = Target("noroute")
 
 
 class Entry(NamedTuple):
-    """One update of the history. It sets a route where it has a target, and clears otherwise.
+    """One update of the history. It sets a route where it has a target, and clears otherwise. Its router is the feed's, or a
+    VRF of that.
 
     A clear without a metric takes away all routes of the prefix. A tuple and not a dataclass, since a history may have
     millions of entries.
@@ -236,7 +237,7 @@ class Report:
         return [one for one in self.told if isinstance(one, LinkLine)]
 
     def feed_of(self, router: str) -> Feed | None:
-        """The router's feed; a router has at most one in a run."""
+        """The feed of a device; it has at most one in a run."""
         return next((feed for feed in self.feeds if feed.router == router), None)
 
     def printed_lines(self) -> list[str]:
@@ -250,8 +251,9 @@ class Report:
         return [*lines, "done"]
 
     def names(self) -> set[str]:
-        """The routers that the report names: those with a feed, and those that some route leads to."""
+        """The routers that the report names: those with a feed, those with updates, and those that some route leads to."""
         named = {feed.router for feed in self.feeds}
+        named.update(entry.router for entry in self.entries if isinstance(entry, Entry))
         named.update(entry.target.router for entry in self.entries
                      if isinstance(entry, Entry) and entry.target and entry.target.router)
         return named
@@ -337,6 +339,23 @@ def parse_report(path: str, text: bytes) -> Report:
     return _Reader(path, text).report()
 
 
+class Owners:
+    """Of which feed each router's updates come: a device's of its own, a VRF's of its device's. A report doesn't say whose a
+    VRF is; its first update does."""
+
+    def __init__(self, feeds: Iterable[Feed]) -> None:
+        self.feeds = {feed.number: feed for feed in feeds}
+        self.of = {feed.router: feed.number for feed in self.feeds.values()}
+
+    def may_be(self, feed: int, router: str) -> bool:
+        """Whether an update of this feed may be of this router."""
+        return feed in self.feeds and self.of.setdefault(router, feed) == feed
+
+    def feed_of(self, router: str) -> Feed | None:
+        """The feed in which a router's updates come; None where none came, and it has no feed of its own."""
+        return self.feeds.get(self.of.get(router, 0))
+
+
 class _Reader:
     """Reads the lines of a report in order. Prefixes and targets are kept once each, since the same ones come often."""
 
@@ -402,15 +421,15 @@ class _Reader:
         match = HISTORY_LINE.fullmatch(self.take())
         if match is None:
             raise self.wrong("the line 'history N' has to stand here")
-        routers = {feed.number: feed.router for feed in report.feeds}
+        owners = Owners(report.feeds)
         teller = Teller(self.path, int(match[1]))
         for position in range(1, int(match[1]) + 1):
-            report.entries.append(self.entry(position, routers))
+            report.entries.append(self.entry(position, owners))
             if position % ENTRIES_BETWEEN_TELLING == 0:
                 teller.tell(position)
         teller.end()
 
-    def entry(self, position: int, routers: dict[int, str]) -> HistoryEntry:
+    def entry(self, position: int, owners: Owners) -> HistoryEntry:
         line = self.take()
         match = ENTRY_LINE.fullmatch(line)
         if match is None:
@@ -418,8 +437,8 @@ class _Reader:
         if int(match[1]) != position:
             raise self.wrong(f"this isn't entry {position} of the history")
         feed, router = int(match[2]), match[3]
-        if routers.get(feed) != router:
-            raise self.wrong(f"no line above says that feed {feed} is of {router}")
+        if not owners.may_be(feed, router):
+            raise self.wrong(f"no line above says that feed {feed} is of {router}, or of a device whose VRF that is")
         if match[4] is None:
             metric = None if match[8] is None else int(match[8])
             return Entry(position, feed, router, self.prefix(match[7]), metric, None)

@@ -8,7 +8,7 @@ from __future__ import annotations
 import os
 from dataclasses import dataclass, field
 
-from network import is_name, nearest_name
+from network import Network, is_name, nearest_name
 
 MOST_FEEDS = 64
 MOST_SCRIPTS = 64
@@ -126,13 +126,19 @@ def part_place(part: int, word: str) -> str:
     return f"part {part}: {word}"
 
 
-def check_routers(said: RunWords, routers: list[str]) -> None:
-    """That each feed's router is in the topology and has no other feed, in the order of the feeds. Raises Refused."""
+def check_routers(said: RunWords, network: Network) -> None:
+    """That each feed's router is in the topology, is no VRF and has no other feed, in the order of the feeds. Raises
+    Refused."""
     fed: dict[str, int] = {}
     for feed in said.feeds:
         place = part_place(feed.part, f"{feed.router}={feed.file}")
-        if feed.router not in routers:
-            rule = f"a feed is of a router of the topology; {feed.router} isn't among its routers, {_listed(routers)}"
+        device = network.device_of(feed.router)
+        if device != feed.router:
+            rule = f"a VRF has no feed; {feed.router} is one of {device}, in whose feed its routes come: {device}=FILE"
+            raise Refused(f"error part {feed.part} UnknownRouter", place, rule)
+        if feed.router not in network.devices:
+            listed = _listed(network.devices)
+            rule = f"a feed is of a router of the topology; {feed.router} isn't among its routers, {listed}"
             raise Refused(f"error part {feed.part} UnknownRouter", place, rule)
         if feed.router in fed:
             rule = f"a router has one feed; part {fed[feed.router]} is a feed of {feed.router} already"

@@ -6,7 +6,8 @@ The rules are those of docs/FORMATS.md, section Scripts.
 from __future__ import annotations
 
 import re
-from dataclasses import dataclass
+from collections.abc import Mapping
+from dataclasses import dataclass, field
 from difflib import get_close_matches
 
 from network import is_name
@@ -45,10 +46,11 @@ class BadLine(Exception):
 
 @dataclass(frozen=True)
 class Feeds:
-    """The routers that have a feed in this run, and those whose feed an earlier script takes."""
+    """The routers that have a feed in this run, those whose feed an earlier script takes, and the VRFs with their devices."""
 
     fed: list[str]
     taken: set[str]
+    devices: Mapping[str, str] = field(default_factory=dict)
 
 
 def read_script(text: bytes, feeds: Feeds) -> set[str]:
@@ -87,7 +89,9 @@ def _read_line(number: int, line: bytes, feeds: Feeds) -> str | None:
         raise ScriptFault(number, "BadLine", str(bad), line) from None
     if router not in feeds.fed:
         rule = f"a script takes from routers that have a feed in this run ({', '.join(feeds.fed) or 'none has'})"
-        raise ScriptFault(number, "TakeUnknown", f"{rule}, and {router} has none", line)
+        device = feeds.devices.get(router)
+        why = "has none" if device is None else f"is a VRF, whose routes come in the feed of {device}"
+        raise ScriptFault(number, "TakeUnknown", f"{rule}, and {router} {why}", line)
     if router in feeds.taken:
         rule = f"one script takes from a feed, and an earlier one takes {router}'s"
         raise ScriptFault(number, "TakenTwice", rule, line)

@@ -42,10 +42,23 @@ class Segment:
 
 def segments(surveys: list[Survey]) -> Iterator[Segment]:
     """The segments that more than one interface has, in the order of their prefixes."""
-    by_router = {one.router: one for one in surveys}
+    by_router = {router: one for one in surveys for router in one.routers}
     for prefix, ends in sorted(holders(surveys).items()):
-        if len(ends) > 1:
-            yield _segment(prefix, ends, by_router)
+        for part in _parts(ends, by_router):
+            if len(part) > 1:
+                yield _segment(prefix, part, by_router)
+
+
+def _parts(ends: list[End], surveys: dict[str, Survey]) -> list[list[End]]:
+    """The ends that may be at one segment: all that have the prefix. Where a device has it in several tables, these may be
+    networks of their own with the same addresses: then those of each number, if each has two devices."""
+    by_table: dict[int, list[End]] = defaultdict(list)
+    for end in ends:
+        by_table[surveys[end[0]].interfaces[end[1]].table].append(end)
+    if len(by_table) < 2 or len({surveys[router].router for router, _index in ends}) == len(ends):
+        return [ends]
+    are_apart = all(len({surveys[router].router for router, _index in part}) == 2 for part in by_table.values())
+    return list(by_table.values()) if are_apart else [ends]
 
 
 def _segment(prefix: Prefix, ends: list[End], surveys: dict[str, Survey]) -> Segment:

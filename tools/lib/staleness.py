@@ -1,7 +1,8 @@
 """Which routes a refused frame leaves stale, and until when.
 
 A refused frame changes no table, though the router did what it says. So a route that it sets or deletes stands as it was
-before, until an accepted frame sets or deletes the same route: same prefix, same metric.
+before, until an accepted frame sets or deletes the same route: same table, same prefix, same metric. In a table that replaces
+by prefix any set of the prefix does.
 """
 
 from __future__ import annotations
@@ -11,14 +12,17 @@ from collections.abc import Callable
 from dataclasses import dataclass, field
 
 from command import ToolError
-from frames import NETLINK, Decoded, Feed, Frame, HasInterface, Prefix, Refused, Route, Skipped, decode, read_messages
+from frames import MAIN_TABLE, NETLINK, Decoded, Feed, Frame, Prefix, Refused, Route, Skipped, read_messages
+from reading import Reading
 
 # Refused frames that are held at a time, while it isn't known when their routes are as sent again.
 MOST_HELD = 200_000
 
 
-# A route's prefix and metric; a deletion without a metric is of all metrics, None.
-Key = tuple[Prefix, int | None]
+# A prefix in a table.
+Place = tuple[int, Prefix]
+# A route's place and metric; a deletion without a metric is of all metrics, None.
+Key = tuple[Place, int | None]
 
 
 @dataclass
@@ -41,9 +45,11 @@ class Stale:
     def lines(self, name: str) -> list[str]:
         begin = f"{name} frame {self.frame} offset {self.offset} {self.cause}"
         lines = []
-        for prefix, metric in self.keys:
-            until = self.until.get((prefix, metric))
+        for key in self.keys:
+            until = self.until.get(key)
+            (table, prefix), metric = key
             route = f"{prefix} {'all metrics' if metric is None else f'metric {metric}'}"
+            route += "" if table == MAIN_TABLE else f" table {table}"
             lines.append(f"{begin} {route} " + ("to the end" if until is None else f"until frame {until}"))
         if not self.is_readable:
             lines.append(f"{begin} a route that can't be read, to the end")
@@ -53,16 +59,18 @@ class Stale:
 class Watch:
     """Follows a feed, and tells each refused frame once it is known until when its routes are stale."""
 
-    def __init__(self, name: str, tell: Callable[[Stale], None]) -> None:
+    def __init__(self, name: str, reading: Reading, tell: Callable[[Stale], None]) -> None:
         self.name = name
+        self.reading = reading
         self.tell = tell
         self.found = 0
         self._taken = 0
         self._held: deque[Stale] = deque()
         self._open: dict[Key, list[Stale]] = defaultdict(list)
-        self._metrics: dict[Prefix, set[int | None]] = defaultdict(set)
+        self._metrics: dict[Place, set[int | None]] = defaultdict(set)
 
-    def take(self, frame: Frame, decoded: Decoded) -> None:
+    def take(self, frame: Frame) -> None:
+        decoded = self.reading.decode(frame)
         if decoded.refused is not None:
             self._refuse(frame, decoded.refused)
         for route in decoded.updates:
@@ -78,7 +86,7 @@ class Watch:
 
     def _refuse(self, frame: Frame, refused: Refused) -> None:
         self.found += 1
-        keys, is_readable = routes_of(frame)
+        keys, is_readable = routes_of(frame, self.reading)
         stale = Stale(frame.number, frame.offset, refused.cause, keys, is_readable, self._taken)
         self._held.append(stale)
         if len(self._held) > MOST_HELD:
@@ -90,51 +98,56 @@ class Watch:
             self._metrics[key[0]].add(key[1])
 
     def _settle(self, route: Route, number: int) -> None:
-        """An accepted update makes its route as sent; a deletion without metric all routes of its prefix."""
-        metrics = self._metrics.get(route.prefix)
+        """An accepted update makes its route as sent; a deletion without metric all routes of its prefix, and so does a set in
+        a table that replaces by prefix."""
+        place = route.table, route.prefix
+        metrics = self._metrics.get(place)
         if metrics is None:
             return
-        settled = set(metrics) if route.metric is None else metrics & {route.metric}
+        is_of_all = route.metric is None or route.is_set and route.table in self.reading.marked
+        settled = set(metrics) if is_of_all else metrics & {route.metric}
         for metric in settled:
-            for stale in self._open.pop((route.prefix, metric)):
-                stale.until[route.prefix, metric] = number
-                stale.until_taken[route.prefix, metric] = self._taken
+            for stale in self._open.pop((place, metric)):
+                stale.until[place, metric] = number
+                stale.until_taken[place, metric] = self._taken
         metrics -= settled
         if not metrics:
-            del self._metrics[route.prefix]
+            del self._metrics[place]
 
 
-def routes_of(frame: Frame) -> tuple[list[Key], bool]:
+def routes_of(frame: Frame, reading: Reading) -> tuple[list[Key], bool]:
     """The routes that a refused frame would have set or deleted; False where some of it can't be read."""
     if frame.kind != NETLINK:
         return [], False
     keys: dict[Key, None] = {}
     is_readable = True
-    for message in read_messages(frame.payload):
+    for message in read_messages(frame.payload, tables=reading.vrfs):
         route = message.route if isinstance(message, Refused) else message
         if isinstance(route, Route):
-            keys[route.prefix, route.metric] = None
+            keys[(route.table, route.prefix), route.metric] = None
         elif not isinstance(message, Skipped):
             is_readable = False
     return list(keys), is_readable
 
 
-def stale_routes(name: str, path: str, has_interface: HasInterface | None) -> list[Stale]:
+def stale_routes(name: str, path: str, reading: Reading) -> list[Stale]:
     """The refused frames of a feed."""
     found: list[Stale] = []
-    watch = Watch(name, found.append)
+    watch = Watch(name, reading, found.append)
     with open(path, "rb") as file:
         for frame in Feed(file):
-            watch.take(frame, decode(frame, has_interface))
+            watch.take(frame)
     watch.finish()
     return found
 
 
 @dataclass(frozen=True)
 class Doubt:
-    """Whether the routes that a router has for an address are stale after so many updates of its feed."""
+    """Whether the routes that a router has for an address, in its table of the feed, are stale after so many updates of the
+    feed."""
 
     name: str
+    table: int
     taken: int
     address: int
     least_length: int
@@ -146,13 +159,14 @@ class Doubt:
                 if self._concerns(key) and stale.taken <= self.taken and not self._is_settled(stale, key)]
 
     def _concerns(self, key: Key) -> bool:
-        return key[0].covers(self.address) and key[0].length >= self.least_length
+        table, prefix = key[0]
+        return table == self.table and prefix.covers(self.address) and prefix.length >= self.least_length
 
     def _is_settled(self, stale: Stale, key: Key) -> bool:
         return key in stale.until_taken and stale.until_taken[key] < self.taken
 
     def _line(self, stale: Stale, key: Key) -> str:
-        prefix, metric = key
+        (_table, prefix), metric = key
         is_sure = stale.taken < self.taken
         until = f"frame {stale.until[key]} sends it again" if key in stale.until else "it isn't sent again"
         return (f"{self.name}: {prefix} {'of all metrics' if metric is None else f'metric {metric}'} "

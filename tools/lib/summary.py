@@ -4,7 +4,7 @@ from __future__ import annotations
 
 import re
 from collections import Counter
-from collections.abc import Iterator
+from collections.abc import Callable, Iterator
 from dataclasses import asdict
 
 from cidr import Run, read_run, runs_as_prefixes
@@ -114,8 +114,10 @@ def is_trouble(kind: str, answer: Answer) -> bool:
     return kind in ("loops", "waypoint") and answer.lines != ["none"]
 
 
-def answer_lines(answer: Answer | LinkLine, own: list[Prefix], names: dict[tuple[str, int], str], times: Times) -> Iterator[str]:
-    """An answer with its runs as prefixes, or how much they have of one's own, and with the names of interfaces."""
+def answer_lines(answer: Answer | LinkLine, own: list[Prefix], names: dict[tuple[str, int], str], times: Times,
+                 device_of: Callable[[str], str]) -> Iterator[str]:
+    """An answer with its runs as prefixes, or how much they have of one's own, and with the names of interfaces, which are
+    those of a router's device."""
     yield answer.printed_lines()[0] + time_of(answer, times)
     held: list[Run] = []
     last = ""
@@ -128,7 +130,7 @@ def answer_lines(answer: Answer | LinkLine, own: list[Prefix], names: dict[tuple
         held = []
         words = line.split()
         last = words[-1] if words[0] == "hops" else last
-        name = names.get((last, int(words[2]))) if words[0] == "end" and words[-1].isdigit() else None
+        name = names.get((device_of(last), int(words[2]))) if words[0] == "end" and words[-1].isdigit() else None
         yield f"    {cycle_line(line, own)}" + ("" if name is None else f" ({name})")
     yield from (f"    {text}" for text in runs_as_prefixes(held, own if held else []))
 

@@ -5,10 +5,15 @@ from __future__ import annotations
 
 import re
 
-from network import TopologyFault
+from network import TOP_KEYS, TopologyFault
 
-KNOWN_KEYS = {"top": ("routers", "link", "edge"), "link": ("name", "ends", "unnumbered"), "edge": ("at",)}
-KEY_OF_CAUSE = {"BadName": "name", "TwiceNamed": "name", "BadEnd": "ends", "EndTwice": "ends", "SelfLink": "ends"}
+KNOWN_KEYS = {"top": TOP_KEYS, "vrf": ("router", "table", "name"), "link": ("name", "ends", "unnumbered"), "edge": ("at",),
+              "router": ("name", "replace")}
+KEY_OF_CAUSE = {"BadName": "name", "TwiceNamed": "name", "BadEnd": "ends", "EndTwice": "ends", "SelfLink": "ends",
+                "BadReplace": "replace", "TwiceMarked": "name", "NoSuchRouter": "name", "BadTable": "table",
+                "TableTwice": "table"}
+# The same where a part has another key for it.
+KEY_OF_PART = {("edge", "BadEnd"): "at", ("edge", "EndTwice"): "at", ("vrf", "NoSuchRouter"): "router"}
 TOKEN = re.compile(r"#[^\n]*|\"(?:[^\"\\\n]|\\.)*\"|'[^'\n]*'|[\[\]{},]|[^\s\[\]{},#\"']+")
 KEY = re.compile(r"\s*(?:\"([^\"]*)\"|'([^']*)'|([A-Za-z0-9_-]+))\s*[=.]|\s*\[\[?\s*\"?([A-Za-z0-9_-]+)")
 
@@ -48,10 +53,8 @@ def _is_about(fault: TopologyFault, key: str, known: tuple[str, ...]) -> bool:
 
 
 def _line_in_entry(lines: list[str], fault: TopologyFault) -> int | None:
-    """The line of the key that a fault of a link or an edge is about, from the entry's header to the next header."""
-    wanted = KEY_OF_CAUSE.get(fault.cause)
-    if fault.part == "edge" and wanted == "ends":
-        wanted = "at"
+    """The line of the key that a fault of an entry is about, from the entry's header to the next header."""
+    wanted = KEY_OF_PART.get((fault.part, fault.cause)) or KEY_OF_CAUSE.get(fault.cause)
     for number in range(fault.line + 1, len(lines) + 1):
         line = lines[number - 1]
         if line.lstrip().startswith("["):

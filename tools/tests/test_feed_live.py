@@ -92,11 +92,11 @@ class Steps(unittest.TestCase):
 
     def test_outputs_that_the_document_shows(self) -> None:
         document = read(os.path.join(TOP, "docs", "FIRST-ANSWER.md")).decode()
-        swapped = tool("check", "topology.toml", "r1=r2.1.fpm", "r2=r1.1.fpm", "r3=r3.1.fpm", folder=LIVE).lines()[:3]
+        swapped = tool("check", "topology.toml", "r1=r2.1.fpm", "r2=r1.1.fpm", "r3=r3.1.fpm", folder=LIVE).lines()[2]
         frames = tool("frames", "r1.1.fpm", folder=LIVE).lines()[17:19]
-        script = "\n".join(text("script").splitlines()[:13])
-        for shown in (text("topology.toml"), f"```\n{script}\n```", "\n".join(swapped), "\n".join(frames)):
-            self.assertIn(shown, document)
+        topology, script = text("topology.toml").splitlines()[:21], text("script").splitlines()[:5]
+        for shown in (topology, [swapped], frames, script):
+            self.assertIn("```\n" + "\n".join(shown) + "\n```", document)
 
     def test_answers_over_time_that_the_document_shows(self) -> None:
         document = read(os.path.join(TOP, "docs", "FIRST-ANSWER.md")).decode()

@@ -7,11 +7,13 @@ import unittest
 
 from feed_help import TRIANGLE
 
-from network import Link, Network, Port, TopologyFault, line_of_entry, parse_topology, read_topology
+from network import Link, Network, Port, TopologyFault, Vrf, line_of_entry, parse_topology, read_topology
 
 TWO = 'routers = ["r1", "r2"]\n'
 LINK = '[[link]]\nname = "a"\nends = ["r1:2", "r2:2"]\n'
 EDGE = '[[edge]]\nat = "r1:1"\n'
+VRF = '[[vrf]]\nrouter = "r1"\ntable = 10\nname = "v1"\n'
+MARK = '[[router]]\nname = "r1"\nreplace = "prefix"\n'
 
 
 def fault(text: str | bytes) -> str:
@@ -39,6 +41,31 @@ class Networks(unittest.TestCase):
         self.assertEqual(fault(TWO + LINK + EDGE), "none")
         self.assertTrue(parse_topology((TWO + LINK + "unnumbered = true").encode()).links[0].unnumbered)
 
+    def test_vrfs(self) -> None:
+        """A VRF is a router; its interfaces are its device's, whichever of the two an end is written at."""
+        text = (TWO + MARK + LINK + '[[link]]\nname = "d"\nends = ["v1:5", "r2:5"]\n[[link]]\nname = "x"\n'
+                'ends = ["r1:7", "v1:8"]\n[[edge]]\nat = "v1:1"\n' + VRF)
+        network = parse_topology(text.encode())
+        self.assertEqual((network.routers, network.devices), (["r1", "r2", "v1"], ["r1", "r2"]))
+        self.assertEqual(network.vrfs, [Vrf("v1", "r1", 10)])
+        self.assertEqual([network.device_of(router) for router in network.routers], ["r1", "r2", "r1"])
+        self.assertEqual((network.tables("r1"), network.tables("r2"), network.tables("v1")), ({10: "v1"}, {}, {}))
+        self.assertEqual([network.table_of(router) for router in network.routers], [254, 254, 10])
+        for router in ("r1", "v1"):
+            self.assertEqual(network.port(router, 2), Port("a", "r2"))
+            self.assertEqual(network.port(router, 5), Port("d", "r2"))
+            self.assertEqual((network.port(router, 7), network.port(router, 8)), (Port("x", "v1"), Port("x", "r1")))
+            self.assertTrue(network.port(router, 1).is_edge)
+            self.assertEqual(network.interfaces(router), [1, 2, 5, 7, 8])
+        self.assertEqual(network.port("r2", 5), Port("d", "v1"))
+        self.assertIsNone(network.port("r2", 7))
+
+    def test_marks(self) -> None:
+        """A device's mark doesn't hold for its VRF, and `key` is the same as none."""
+        for text, marked in ((MARK, {"r1"}), (MARK.replace("r1", "v1"), {"v1"}), (MARK.replace("prefix", "key"), set()),
+                             ('[[router]]\nname = "r1"\n', set()), (MARK + MARK.replace("r1", "v1"), {"r1", "v1"})):
+            self.assertEqual(parse_topology((TWO + VRF + text).encode()).marked, marked)
+
 
 class Faults(unittest.TestCase):
     def test_the_whole_file(self) -> None:
@@ -55,7 +82,8 @@ class Faults(unittest.TestCase):
 
     def test_the_top(self) -> None:
         self.assertEqual(fault(""), "top 0 3 MissingKey")
-        self.assertEqual(fault('router = ["r1"]'), "top 0 2 UnknownKey")
+        self.assertEqual(fault('nodes = ["r1"]'), "top 0 2 UnknownKey")
+        self.assertEqual(fault('router = ["r1"]'), "top 0 3 MissingKey")
         self.assertEqual(fault('routers = "r1"'), "top 0 3 MissingKey")
         self.assertEqual(fault(TWO + '[link]\nname = "a"'), "top 0 3 MissingKey")
         self.assertEqual(fault(TWO + "edge = 4\nother = 1"), "top 0 2 UnknownKey")
@@ -90,6 +118,48 @@ class Faults(unittest.TestCase):
             self.assertEqual(fault(text), f"edge 1 {expected}")
         self.assertEqual(fault(TWO + EDGE + EDGE), "edge 2 7 EndTwice")
 
+    def test_faults_of_vrfs(self) -> None:
+        for text, expected in (
+                ("vrf = [4]", "3 MissingKey"), (VRF + "device = 1", "2 UnknownKey"),
+                (VRF.replace("table = 10\n", ""), "3 MissingKey"),
+                (VRF.replace('"r1"', "1"), "3 MissingKey"), (VRF.replace('"v1"', "1"), "3 MissingKey"),
+                (VRF.replace("10", '"10"'), "3 MissingKey"), (VRF.replace("10", "1e1"), "3 MissingKey"),
+                (VRF.replace("10", "true"), "3 MissingKey"), (VRF.replace("v1", "V1").replace("r1", "r9"), "4 BadName"),
+                (VRF.replace("v1", "r2").replace("r1", "r9"), "5 TwiceNamed"),
+                (VRF.replace("r1", "R1").replace("10", "0"), "13 NoSuchRouter"), (VRF.replace("r1", "v1"), "13 NoSuchRouter"),
+                *((VRF.replace("10", number), "14 BadTable") for number in ("0", "-1", "254", "4294967296"))):
+            self.assertEqual(fault(TWO + text), f"vrf 1 {expected}", text)
+        self.assertEqual(fault(TWO + VRF.replace("10", "4294967295") + VRF.replace("v1", "v2").replace("10", "1")), "none")
+        self.assertEqual(fault(TWO + VRF + VRF), "vrf 2 5 TwiceNamed")
+        self.assertEqual(fault(TWO + VRF + VRF.replace("v1", "v2")), "vrf 2 15 TableTwice")
+        self.assertEqual(fault(TWO + VRF + VRF.replace("v1", "v2").replace("r1", "r2")), "none")
+        self.assertEqual(fault(TWO + VRF + VRF.replace("v1", "v2").replace("r1", "v1")), "vrf 2 13 NoSuchRouter")
+        self.assertEqual(fault(TWO + "[[link]]\n" + VRF.replace("10", "0")), "vrf 1 14 BadTable")
+        many = ", ".join(f'"r{number}"' for number in range(1023))
+        self.assertEqual(fault(f"routers = [{many}]\n{VRF}"), "none")
+        self.assertEqual(fault(f"routers = [{many}]\n{VRF}[[vrf]]"), "vrf 2 9 TooMany")
+
+    def test_ends_of_vrfs(self) -> None:
+        link = LINK.replace('"a"', '"b"')
+        for text, expected in ((link.replace("r1:2", "v1:2").replace("r2:2", "r2:3"), "link 2 7 EndTwice"),
+                               (link.replace("r1:2", "v1:5").replace("r2:2", "r1:5"), "link 2 7 EndTwice"),
+                               (link.replace("r1:2", "v1:5").replace("r2:2", "v1:6"), "link 2 8 SelfLink"),
+                               (link.replace("r1:2", "v1:5").replace("r2:2", "r1:6"), "none"),
+                               (link.replace("r1:2", "v2:5").replace("r2:2", "r2:6"), "link 2 6 BadEnd"),
+                               ('[[edge]]\nat = "v1:2"', "edge 1 7 EndTwice"), ('[[edge]]\nat = "v1:3"', "none")):
+            self.assertEqual(fault(TWO + VRF + LINK + text), expected, text)
+
+    def test_faults_of_marks(self) -> None:
+        for text, expected in (
+                ("router = [4]", "3 MissingKey"), (MARK + "on = 1", "2 UnknownKey"), ("[[router]]", "3 MissingKey"),
+                (MARK.replace('"prefix"', "true"), "3 MissingKey"), (MARK.replace("r1", "R1"), "4 BadName"),
+                (MARK.replace("r1", "r9").replace("prefix", "x"), "13 NoSuchRouter"),
+                (MARK.replace("prefix", "x"), "11 BadReplace"),
+                (MARK.replace("prefix", "Key"), "11 BadReplace")):
+            self.assertEqual(fault(TWO + text), f"router 1 {expected}", text)
+        self.assertEqual(fault(TWO + MARK + MARK.replace("prefix", "x")), "router 2 12 TwiceMarked")
+        self.assertEqual(fault(TWO + MARK + "[[edge]]"), "edge 1 3 MissingKey")
+
     def test_places(self) -> None:
         with self.assertRaises(TopologyFault) as caught:
             parse_topology((TWO + LINK + EDGE + EDGE).encode())
@@ -98,6 +168,10 @@ class Faults(unittest.TestCase):
         with self.assertRaises(TopologyFault) as caught:
             parse_topology(b'routers = ["r1"]\n[[link]]\nname = a')
         self.assertEqual((caught.exception.line, caught.exception.column), (3, 8))
+        with self.assertRaises(TopologyFault) as caught:
+            parse_topology((TWO + VRF + LINK + '[[edge]]\nat = "v1:2"\n').encode())
+        self.assertEqual(str(caught.exception), "line 9: edge 1: EndTwice: v1:2 stands in link a already as r1:2: r1 and its "
+                         "VRFs share their interfaces")
         self.assertEqual(line_of_entry(TWO + LINK, "link", 1), 2)
         self.assertIsNone(line_of_entry(TWO + LINK, "link", 2))
 

@@ -246,7 +246,7 @@ class Quiet(unittest.TestCase):
     def test_the_network_made_by_chance(self) -> None:
         feeds = [f"{name[:-4]}={name}" for name in os.listdir(MADE) if name.endswith(".fpm")]
         found = set(kinds(tool("check", "topology.toml", *feeds, folder=MADE)))
-        self.assertLessEqual(found, {"no-feed", "refused", "broken-end", "older-module", "several-sessions"})
+        self.assertLessEqual(found, {"no-feed", "refused", "broken-end", "older-module", "no-mark", "several-sessions"})
 
 
 if __name__ == "__main__":

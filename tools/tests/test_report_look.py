@@ -26,10 +26,10 @@ from evaluator import Table, changes, tables_after, way
 from network import read_topology
 from report import Entry, Prefix, ReportError, Target, address_text, read_address, read_prefix, read_report
 
-# Each stored report, and how many routers its topology has.
-REPORTS = {path: len(read_topology(str(path.with_name("topology.toml"))).routers)
+# Each stored report with its topology.
+REPORTS = {path: read_topology(str(path.with_name("topology.toml")))
            for path in (*sorted(EXAMPLES.glob("*/report.txt")), DATA / "made" / "report.txt")}
-REPORTS[DATA / "odd.report"] = 4
+REPORTS[DATA / "odd.report"] = read_topology(str(DATA / "odd.toml"))
 
 
 def look(*words: object) -> tuple[int, str, str]:
@@ -43,13 +43,14 @@ class PrintedAnswers(unittest.TestCase):
 
     def test_paths(self) -> None:
         seen = 0
-        for path, routers in REPORTS.items():
+        for path, network in REPORTS.items():
             report = read_report(str(path))
             for answer in report.answers:
                 words = answer.query.split()
                 if words[0] != "path" or answer.position is None:
                     continue
-                found = way(tables_after(report.entries, answer.position), words[1], read_address(words[2]), routers)
+                tables = tables_after(report.entries, answer.position, network.marked)
+                found = way(tables, words[1], read_address(words[2]), len(network.routers))
                 lines = ["hops " + " ".join(hop.router for hop in found.hops), f"end {found.end()}"]
                 self.assertEqual(lines, answer.lines, f"{path}, line {answer.line}")
                 seen += 1
@@ -57,14 +58,12 @@ class PrintedAnswers(unittest.TestCase):
 
     def test_deltas(self) -> None:
         seen = 0
-        for path in REPORTS:
+        for path, network in REPORTS.items():
             report = read_report(str(path))
-            # The topologies of these reports have their routers in the order of the feeds.
-            routers = [feed.router for feed in report.feeds]
             for answer in report.answers:
                 if answer.query != "delta":
                     continue
-                found = changes(report.entries, max(0, answer.position - 1), answer.position, routers)
+                found = changes(report.entries, max(0, answer.position - 1), answer.position, network.routers, network.marked)
                 lines = [f"{change.router} {address_text(change.low)}-{address_text(change.high)}"
                          f" {change.before} -> {change.after}" for change in found]
                 self.assertEqual(lines or ["none"], answer.lines, f"{path}, line {answer.line}")
@@ -188,7 +187,8 @@ class Entries(unittest.TestCase):
     """What `look where` says of a prefix."""
 
     def test_sets_and_clears(self) -> None:
-        status, out, _ = look(DATA / "odd.report", "where", "line", "10.0.0.0/8")
+        words = ("where", "line", "10.0.0.0/8")
+        status, out, _ = look(DATA / "odd.report", "--topology", DATA / "odd.toml", *words)
         self.assertEqual(0, status)
         self.assertEqual([
             "1 set 10.0.0.0/8 metric 110 to r2 by a: new",
@@ -199,6 +199,9 @@ class Entries(unittest.TestCase):
             "9 clear 10.0.0.0/8: takes away entry 7 and takes away entry 8",
             "at the end of the history 10.0.0.0/8 has no route",
         ], out.splitlines())
+        alone = look(DATA / "odd.report", *words)[1]
+        self.assertEqual(alone.removeprefix(out), "note: sets of several metrics came; where the topology says replace = "
+                         '"prefix" of line, each took the place of those before: give --topology\n')
 
     def test_wider_prefixes(self) -> None:
         _, out, _ = look(DATA / "odd.report", "where", "r2", "10.0.0.0/24")
@@ -243,7 +246,7 @@ class Words(unittest.TestCase):
         for cut in range(len(whole)):
             with self.assertRaises(ReportError):
                 read_report(str(self.written(whole[:cut])))
-        for old, new in (("history 10", "history 9"), ("history 10", "history 11"), ("5 feed 2 r2", "5 feed 2 r3"),
+        for old, new in (("history 10", "history 9"), ("history 10", "history 11"), ("5 feed 2 r2", "5 feed 2 line"),
                          ("metric 5 local", "metric 5 here"), ("10.0.0.0/9", "10.0.0.1/9"), ("refused 1", "refused 2"),
                          ("job 2", "job 3"), ("done\n", "done\ndone\n"), ("line 1 at 2", "line 1 at 11")):
             with self.assertRaises(ReportError, msg=new) as caught:
@@ -374,7 +377,7 @@ class Histories(unittest.TestCase):
     def test_broken_histories(self) -> None:
         whole = (EXAMPLES / "first-path" / "report.txt").read_text()
         Brief("report", whole.encode())
-        for old, new in (("history 1", "history 2"), ("1 feed 1 r1", "2 feed 1 r1"), ("1 feed 1 r1", "1 feed 1 r2"),
+        for old, new in (("history 1", "history 2"), ("1 feed 1 r1", "2 feed 1 r1"), ("1 feed 1 r1", "1 feed 2 r1"),
                          ("to r2 by a", "to r2"), ("set 10", "put 10"), ("metric 20 to", "metric to"), ("done\n", "")):
             with self.assertRaises(ReportError, msg=new) as caught:
                 Brief("report", whole.replace(old, new, 1).encode())

@@ -35,6 +35,7 @@ import script
 MANY = "routers = [" + ", ".join(f'"r{number}"' for number in range(1, 65)) + "]\n"
 MANY_FEEDS = [f"r{number}=nowhere" for number in range(1, 65)]
 AFTER_A = 'routers = ["r1", "r2"]\n[[link]]\nname = "a"\nends = ["r1:2", "r2:2"]\n'
+VRF = '[[vrf]]\nrouter = "r1"\ntable = 10\nname = "v1"\n'
 LONG_LINE = b" " * 1_015 + b"take r1 1"
 
 # Files beside those of the first example, whose names are the texts' own.
@@ -134,6 +135,19 @@ TOPOLOGIES: list[tuple[str | bytes, str, str]] = [
     (AFTER_A + '[[edge]]\nat = "r2:2"\n', "edge 1 7 EndTwice", ':6: at = "r2:2"'),
     (AFTER_A + '[[edge]]\nat = "r1:1"\n[[edge]]\nat = "r1:1"\n', "edge 2 7 EndTwice", ':8: at = "r1:1"'),
     (AFTER_A + "edge = [1]\n", "link 1 2 UnknownKey", ":5: edge = [1]"),
+    ('routers = ["r1"]\n[vrf]\n', "top 0 3 MissingKey", ":2: [vrf]"),
+    (AFTER_A + VRF + "device = 1\n", "vrf 1 2 UnknownKey", ":9: device = 1"),
+    (AFTER_A + VRF.replace("10", "true"), "vrf 1 3 MissingKey", ":7: table = true"),
+    (AFTER_A + VRF.replace("v1", "r1"), "vrf 1 5 TwiceNamed", ':8: name = "r1"'),
+    (AFTER_A + VRF.replace("r1", "r9"), "vrf 1 13 NoSuchRouter", ':6: router = "r9"'),
+    (AFTER_A + VRF.replace("10", "254"), "vrf 1 14 BadTable", ":7: table = 254"),
+    (AFTER_A + VRF + VRF.replace("v1", "v2"), "vrf 2 15 TableTwice", ":11: table = 10"),
+    (AFTER_A + VRF + '[[edge]]\nat = "v1:2"\n', "edge 1 7 EndTwice", ':10: at = "v1:2"'),
+    (AFTER_A + VRF + '[[edge]]\nat = "v2:2"\n', "edge 1 6 BadEnd", ':10: at = "v2:2"'),
+    (AFTER_A + '[[router]]\nname = "r3"\n', "router 1 13 NoSuchRouter", ':6: name = "r3"'),
+    (AFTER_A + '[[router]]\nname = "r1"\nreplace = "all"\n', "router 1 11 BadReplace", ':7: replace = "all"'),
+    (AFTER_A + '[[router]]\nname = "r1"\n' * 2, "router 2 12 TwiceMarked", ':8: name = "r1"'),
+    (AFTER_A + VRF + '[[router]]\nname = "v1"\nreplace = "prefix"\n', "", ""),
     ('edge = [1]\nrouters = []\n', "edge 1 3 MissingKey", ""),
     ("\ufeff" + AFTER_A, "", ""),
     ("\ufeff" + AFTER_A + "[[edge]]\nat = 1\n", "edge 1 3 MissingKey", ":6: at = 1"),
@@ -262,6 +276,16 @@ class ErrorLines(unittest.TestCase):
         lines = self.why(["run", "one.toml"])
         self.assertEqual(["error topology edge 1 7 EndTwice", 'one.toml:6: at = "r2:2"',
                           "an interface stands in one link or edge only; r2:2 stands in link a already"], lines)
+
+    def test_vrfs_have_no_feed(self) -> None:
+        self.write("one.toml", AFTER_A + VRF)
+        self.write("one", "take v1 all\n")
+        self.assertEqual(self.why(["run", "one.toml", "r1=r1.fpm", "v1=r1.fpm"]), [
+            "error part 2 UnknownRouter", "part 2: v1=r1.fpm",
+            "a VRF has no feed; v1 is one of r1, in whose feed its routes come: r1=FILE"])
+        self.assertEqual(self.why(["run", "one.toml", "r1=r1.fpm", "@one"]), [
+            "error script 2 line 1 2 TakeUnknown", "one:1: take v1 all", "a script takes from routers that have a feed in this "
+            "run (r1), and v1 is a VRF, whose routes come in the feed of r1"])
 
     def test_single_brackets(self) -> None:
         self.write("one.toml", 'routers = ["r1"]\n[[edge]]\nat = "r1:1"\n[edge]\nat = "r1:2"\n')

@@ -13,11 +13,11 @@ from pathlib import Path
 from random import Random
 
 from frames import Cutter
-from network import Network, parse_topology
+from network import MAIN_TABLE, Network, parse_topology
 from report import address_text
 
 TOP = Path(__file__).resolve().parents[3]
-RECORDED = ("triangle-ospf", "live-triangle", "data-centre")
+RECORDED = ("triangle-ospf", "live-triangle", "data-centre", "vrfs")
 MOST_FRAMES = 30
 MOST_LINES = 14
 MOST_MADE_SCRIPTS = 4
@@ -25,7 +25,11 @@ MOST_MADE_SCRIPTS = 4
 BASES = (0, 0x0A000000, 0x0A000080, 0x0A000100, 0x0A010000, 0x0A020000, 0xAC100300, 0x80000000, 0xFFFFFF00, 0xFFFFFFFF)
 LENGTHS = (0, 1, 8, 8, 16, 16, 24, 24, 25, 31, 32)
 METRICS = (None, 0, 20, 20, 2 ** 32 - 1)
+TABLES = (1, 10, 253, 255, 256, 2 ** 32 - 1)
 ODD_BYTES = (0, 1, 2, 3, 4, 5, 8, 15, 16, 24, 25, 28, 32, 33, 127, 128, 253, 254, 255)
+# What may stand at a key of a topology, mostly not where it does.
+ODD_VALUES = ("0", "1", "254", "4294967296", "1e1", "true", '"key"', '"all"', '"r1"', '"v-10"', '"r9"', '"R"', '"r1:1"', '"v-10:1"',
+              "[]", '["r1:2", "v-10:3"]')
 ODD_LETTERS = "rab019:\"'[]=\n, #{}\\\t\r-@./\x00\xe9"
 
 
@@ -50,7 +54,7 @@ def made_case(number: int, most_scripts: int) -> Case:
     """The run of this number, with at most so many scripts."""
     source = Random(number)
     draft = recorded_draft(source) if source.random() < 0.3 else made_draft(source)
-    topology = spoiled_text(source, draft.topology) if source.random() < 0.1 else draft.topology
+    topology = spoiled_topology(source, draft.topology) if source.random() < 0.15 else draft.topology
     files = {"topology": topology}
     parts = []
     for router, feed in draft.feeds.items():
@@ -90,38 +94,48 @@ def frames_of(feed: bytes) -> list[bytes]:
 
 
 def made_draft(source: Random) -> Draft:
-    """A network of one to six routers, and a feed for most of them."""
-    names = [name for name in ("r1", "r2", "a", "-", "x_9", "n" * 32) if source.random() < 0.8] or ["r1"]
-    taken = dict.fromkeys(names, 0)
+    """A network of one to six devices, some with VRFs, and a feed for most of them."""
+    devices = [name for name in ("r1", "r2", "a", "-", "x_9", "n" * 32) if source.random() < 0.8] or ["r1"]
+    device_of = dict(zip(devices, devices))
+    taken = dict.fromkeys(devices, 0)
 
     def new_end(router: str) -> str:
-        taken[router] += source.choice((1, 1, 1, 300))
-        return f"{router}:{taken[router]}"
+        taken[device_of[router]] += source.choice((1, 1, 1, 300))
+        return f"{router}:{taken[device_of[router]]}"
 
-    lines = ["routers = [" + ", ".join(f'"{name}"' for name in names) + "]"]
+    lines = ["routers = [" + ", ".join(f'"{name}"' for name in devices) + "]"]
+    for table in source.sample(TABLES, source.choice((0, 0, 1, 2))):
+        device, name = source.choice(devices), f"v-{table}"
+        device_of[name] = device
+        lines += ["[[vrf]]", f'router = "{device}"', f"table = {table}", f'name = "{name}"']
+    names = list(device_of)
     for place in range(source.randrange(2 * len(names)) if len(names) > 1 else 0):
         ends = ", ".join(f'"{new_end(router)}"' for router in source.sample(names, 2))
         lines += ["[[link]]", f'name = "l{place}"', f"ends = [{ends}]"]
         lines += [f"unnumbered = {source.choice(('true', 'false'))}"] if source.random() < 0.5 else []
     for router in names:
         lines += ["[[edge]]", f'at = "{new_end(router)}"'] if source.random() < 0.7 else []
+    for router in names:
+        replace = source.choice((['replace = "prefix"'], ['replace = "prefix"'], ['replace = "key"'], []))
+        lines += ["[[router]]", f'name = "{router}"', *replace] if source.random() < 0.15 else []
     text = ("\n".join(lines) + "\n").encode()
     network = parse_topology(text)
-    feeds = {router: made_feed(source, network, router) for router in names if source.random() < 0.85}
+    feeds = {router: made_feed(source, network, router) for router in devices if source.random() < 0.85}
     return Draft(network, text, feeds)
 
 
 def made_feed(source: Random, network: Network, router: str) -> bytes:
     """Sets and deletions of prefixes that lie in each other, and some other messages."""
     interfaces = network.interfaces(router) or [1]
+    tables = [MAIN_TABLE, *network.tables(router)]
     frames = []
     for _ in range(source.randrange(MOST_FRAMES)):
-        messages = [made_message(source, interfaces) for _ in range(source.choice((1, 1, 1, 2, 3, 0)))]
+        messages = [made_message(source, interfaces, tables) for _ in range(source.choice((1, 1, 1, 2, 3, 0)))]
         frames.append(frame(messages, bytes(source.choice((0, 0, 0, 1, 3)))))
     return b"".join(frames)
 
 
-def made_message(source: Random, interfaces: list[int]) -> bytes:
+def made_message(source: Random, interfaces: list[int], tables: list[int]) -> bytes:
     if source.random() < 0.08:
         return odd_message(source)
     length = source.choice(LENGTHS)
@@ -129,19 +143,22 @@ def made_message(source: Random, interfaces: list[int]) -> bytes:
     attributes = [attribute(1, struct.pack(">I", base))]
     metric = source.choice(METRICS)
     attributes += [] if metric is None else [attribute(6, struct.pack("<I", metric))]
+    table = source.choice(tables) if source.random() < 0.97 else source.choice(TABLES)
+    attributes += [attribute(15, struct.pack("<I", table))] if table > 255 else []
+    byte = 0 if table > 255 else table
     if source.random() < 0.3:
-        return message(25, attributes, length)
+        return message(25, attributes, length, table=byte)
     attributes += [attribute(5, b"\xc0\0\2\1")] if source.random() < 0.7 else []
     attributes += [attribute(4, struct.pack("<I", source.choice(interfaces)))]
     source.shuffle(attributes)
-    return message(24, attributes, length, kind=source.choice((1, 1, 1, 1, 1, 2, 6, 7, 8)))
+    return message(24, attributes, length, table=byte, kind=source.choice((1, 1, 1, 1, 1, 2, 6, 7, 8)))
 
 
 def odd_message(source: Random) -> bytes:
     """A message that is skipped or refused."""
     odd = attribute(source.choice((9, 15, 18, 19, 21, 22, 30)), source.choice((bytes(4), b"\xfe\0\0\0", b"", bytes(7))))
     return message(source.choice((16, 24, 24, 25, 104)), [odd], source.choice((0, 0, 0, 8, 33)),
-                   family=source.choice((2, 2, 10)), table=source.choice((254, 254, 0, 100)),
+                   family=source.choice((2, 2, 10)), table=source.choice((254, 254, 0, 10, 100)),
                    kind=source.choice((1, 3, 6)))
 
 
@@ -181,7 +198,8 @@ def made_script(source: Random, network: Network, takes: list[str]) -> bytes:
         if source.random() < 0.25:
             lines.append(f"{source.choice(('down', 'down', 'up'))} {made_link(source, network)}")
         elif takes and source.random() < 0.5:
-            lines.append(f"take {source.choice(takes)} {source.choice((1, 1, 2, 3, 7, 'all', 2 ** 32 - 1))}")
+            router = source.choice(network.routers if source.random() < 0.01 else takes)
+            lines.append(f"take {router} {source.choice((1, 1, 2, 3, 7, 'all', 2 ** 32 - 1))}")
         else:
             lines.append(made_query(source, network))
         if source.random() < 0.1:
@@ -295,6 +313,17 @@ SPOILERS = (turn_bits, turn_bits, put_odd_byte, cut_bytes, insert_bytes, cut_end
             change_frame_length, change_frame_type, change_message_length, change_attribute)
 
 
+def spoiled_topology(source: Random, text: bytes) -> bytes:
+    """A topology with some letters or lines changed, or with another value at one of its keys."""
+    lines = text.split(b"\n")
+    keys = [place for place, line in enumerate(lines) if b" = " in line]
+    if not keys or source.random() < 0.5:
+        return spoiled_text(source, text)
+    place = source.choice(keys)
+    lines[place] = lines[place].partition(b" = ")[0] + b" = " + source.choice(ODD_VALUES).encode()
+    return b"\n".join(lines)
+
+
 def spoiled_text(source: Random, text: bytes) -> bytes:
     """A topology or script with some letters or lines changed."""
     for _ in range(source.choice((1, 1, 2, 3))):
@@ -326,7 +355,8 @@ def spoiled_words(source: Random, words: list[str]) -> list[str]:
     elif change == 2:
         words.insert(place, source.choice((
             "", "-", "--", "-x", "--help", "@", "=", "r1=", "@nowhere", "r1=nowhere", "r1=.", "@.", ".", "r9=topology",
-            "r1=topology", "@topology", "x", "run", "\udcff", "r1=\udcff", "R1=x", "n=\N{SNOWMAN}", "n" * 33 + "=x")))
+            "v-10=topology", "r1=topology", "@topology", "x", "run", "\udcff", "r1=\udcff", "R1=x", "n=\N{SNOWMAN}",
+            "n" * 33 + "=x")))
     elif change == 3:
         words[place] = words[place][:letter] + source.choice("r=@-./ \xe9") + words[place][letter:]
     else:

@@ -181,6 +181,15 @@ def topology_of(routers: int, links: int, edges: int) -> str:
     return "\n".join(text) + "\n"
 
 
+def vrfs_of_one(count: int) -> str:
+    """A device with so many VRFs; each has an edge at an interface of the device, and replaces by prefix."""
+    text = ['routers = ["r0"]']
+    text += [f'[[vrf]]\nrouter = "r0"\ntable = {place + 1_000}\nname = "v{place}"' for place in range(count)]
+    text += [f'[[edge]]\nat = "v{place}:{place + 1}"' for place in range(count)]
+    text += [f'[[router]]\nname = "v{place}"\nreplace = "prefix"' for place in range(count)]
+    return "\n".join(text) + "\n"
+
+
 def large_topologies(folder: str) -> Iterator[Trial]:
     empty = (lines("history 0", "done"),)
     most = topology_of(1_024, 4_096, 16_384)
@@ -189,6 +198,8 @@ def large_topologies(folder: str) -> Iterator[Trial]:
             ("one router more", topology_of(1_025, 4_096, 16_384), 3, (lines("error topology routers 1025 9 TooMany"),)),
             ("one link more", topology_of(1_024, 4_097, 16_384), 3, (lines("error topology link 4097 9 TooMany"),)),
             ("one edge more", topology_of(1_024, 4_096, 16_385), 3, (lines("error topology edge 16385 9 TooMany"),)),
+            ("1,024 routers, 1,023 of them VRFs of one", vrfs_of_one(1_023), 0, empty),
+            ("one VRF more", vrfs_of_one(1_024), 3, (lines("error topology vrf 1024 9 TooMany"),)),
             ("a topology of 2^24 bytes", most + "#" * (LONGEST_TEXT - len(most)), 0, empty),
             ("one byte more of a topology", most + "#" * (LONGEST_TEXT + 1 - len(most)), 3,
              (lines("error topology top 0 10 TooLong"),)),

@@ -5,7 +5,7 @@ ghost use Rattle.base.specs.Delta.{AreChanges, GoesBefore, IsChange};
 ghost use Rattle.delta_graph.specs.Joined.{EndsApart, JoinsLeft, JoinsRight};
 ghost use Rattle.delta_graph.specs.Pushed.{MeetsNone, IsPushed, MeetNone, AreMerged, runs_of};
 
-use crate::join::{goes_before, goes_on, joined, replace};
+use crate::join::{goes_before, goes_on, joined, replace, stands_off};
 use base::{Change, List, OutOfMemory, RouterId, Run};
 use std::alloc::Global;
 use std::marker::Model;
@@ -160,6 +160,9 @@ fn is_behind(changes: &[Change], change: &Change) -> bool
         return true;
     }
     let last = &changes[count - 1];
+    if stands_off(last, change) {
+        return true;
+    }
     if goes_on(last, change) {
         return false;
     }

@@ -1,7 +1,7 @@
 //! Two changes beside each other, and the places that a change has among others.
 
 ghost use Rattle.std.specs.Prelude.{◌≡◌, ◌+◌, ◌-◌, ◌<◌, ◌≤◌, ◌∷◌, ◌++◌, IsTrue, IsFalse, OnOk, OnErr, length, take, drop};
-ghost use Rattle.base.specs.Delta.{GoesBefore, GoesOn};
+ghost use Rattle.base.specs.Delta.{GoesBefore, GoesOn, IsApart};
 
 use base::{Change, OutOfMemory, Run};
 
@@ -24,6 +24,16 @@ pub fn goes_on(first: &Change, second: &Change) -> bool
         && second.run.lo - first.run.hi == 1
         && first.before == second.before
         && first.after == second.after
+}
+
+/// Whether the second change goes behind the first and doesn't touch it, which is seen without a look at the targets.
+pub fn stands_off(first: &Change, second: &Change) -> bool
+    ensures { IsTrue result → IsApart first.now second.now }
+{
+    first.router.0 < second.router.0
+        || (first.router.0 == second.router.0
+            && first.run.hi < second.run.lo
+            && second.run.lo - first.run.hi != 1)
 }
 
 /// Two changes as one, from where the first begins to where the second ends.

@@ -239,18 +239,18 @@ module _ {S : Type 0} (lock : Lock) (left : S → Option (List ℕ)) (faults pla
   }
 
   -- a query was asked, or memory was wanting
-  asked-on : {A E : Type 0} (result : Result A E) (old : Work S) (s : Caller) (told : List Told) (l : ℕ) (q : Question) → IsAtWork lock old → LooksOn old.seat s →
-      OnOk result (Adds old.told told l q (IsOutcomeNow lock.setup.basis.topology s.seen q)) → Works lock left faults place result old (record old { seat = s; told = told }) (line.Ask l q ∷ [])
-  asked-on (Ok o) old s told l q at looks adds = record {
-    on = record { number = refl; saw = looks.saw; shows = shows-still lock.setup.basis.topology old.seat.seen s.seen old.shown looks.saw.seen at.shown; reads = read-none lock.setup.basis.topology left faults place lock.setup.basis.limit old.feeds };
+  asked-on : {A E : Type 0} (result : Result A E) (old : Work S) (s : Caller) (shown : Option Known) (told : List Told) (l : ℕ) (q : Question) → LooksOn old.seat s → ShowsOn lock.setup.basis.topology s.seen old.shown shown →
+      OnOk result (Adds old.told told l q (IsOutcomeNow lock.setup.basis.topology s.seen q)) → Works lock left faults place result old (record old { seat = s; shown = shown; told = told }) (line.Ask l q ∷ [])
+  asked-on (Ok o) old s shown told l q looks shows adds = record {
+    on = record { number = refl; saw = looks.saw; shows = shows; reads = read-none lock.setup.basis.topology left faults place lock.setup.basis.limit old.feeds };
     does = record {
       on = λ start readers before h.
           tracks-ask lock.setup.basis.topology left faults place lock.setup.basis.limit old.seat.number old.number start readers old.feeds old.seat.seen s.seen before old.told told l q looks.saw.seen looks.own adds h;
     };
     breaks = tt;
   }
-  asked-on (Err e) old s told l q at looks adds = record {
-    on = record { number = refl; saw = looks.saw; shows = shows-still lock.setup.basis.topology old.seat.seen s.seen old.shown looks.saw.seen at.shown; reads = read-none lock.setup.basis.topology left faults place lock.setup.basis.limit old.feeds };
+  asked-on (Err e) old s shown told l q looks shows adds = record {
+    on = record { number = refl; saw = looks.saw; shows = shows; reads = read-none lock.setup.basis.topology left faults place lock.setup.basis.limit old.feeds };
     does = tt;
     breaks = record {
       on = λ start readers before h.
@@ -259,13 +259,14 @@ module _ {S : Type 0} (lock : Lock) (left : S → Option (List ℕ)) (faults pla
     };
   }
 
-  pub works-asked : {A E : Type 0} (result : Result A E) (old : Work S) (n : ℕ) (s s' : Caller) (shown : Option Known) (feeds : List (Feed S)) (told told' : List Told) (l : ℕ) (q : Question) →
-      record { number = n; seat = s; shown = shown; feeds = feeds; told = told } ≡ old → IsAtWork lock old → LooksOn s s' → OnOk result (Adds told told' l q (IsOutcomeNow lock.setup.basis.topology s'.seen q)) →
-      Works lock left faults place result old (record { number = n; seat = s'; shown = shown; feeds = feeds; told = told' }) (line.Ask l q ∷ [])
-  works-asked result old n s s' shown feeds told told' l q is at looks adds =
+  pub works-asked : {A E : Type 0} (result : Result A E) (old : Work S) (n : ℕ) (s s' : Caller) (shown shown' : Option Known) (feeds : List (Feed S)) (told told' : List Told) (l : ℕ) (q : Question) →
+      record { number = n; seat = s; shown = shown; feeds = feeds; told = told } ≡ old → LooksOn s s' → ShowsOn lock.setup.basis.topology s'.seen shown shown' →
+      OnOk result (Adds told told' l q (IsOutcomeNow lock.setup.basis.topology s'.seen q)) →
+      Works lock left faults place result old (record { number = n; seat = s'; shown = shown'; feeds = feeds; told = told' }) (line.Ask l q ∷ [])
+  works-asked result old n s s' shown shown' feeds told told' l q is looks shows adds =
       let w : Work S = record { number = n; seat = s; shown = shown; feeds = feeds; told = told } in
-      subst (λ (x : Work S). Works lock left faults place result x (record { number = n; seat = s'; shown = shown; feeds = feeds; told = told' }) (line.Ask l q ∷ [])) is
-      (asked-on result w s' told' l q (subst (λ (x : Work S). IsAtWork lock x) (sym is) at) looks adds)
+      subst (λ (x : Work S). Works lock left faults place result x (record { number = n; seat = s'; shown = shown'; feeds = feeds; told = told' }) (line.Ask l q ∷ [])) is
+      (asked-on result w s' shown' told' l q looks shows adds)
 
   -- ---- a link line
 

@@ -43,6 +43,13 @@ looks_kept old new same seen is keeps = record { saw = record { same = same; see
 pub looks_none : (seat : Caller) → LooksOn seat seat
 looks_none seat = record { saw = saw-none seat; own = refl }
 
+-- a seat that looked twice
+pub looks_more : (old mid new : Caller) → LooksOn old mid → LooksOn mid new → LooksOn old new
+looks_more old mid new a b = record {
+  saw = saw-more old mid new a.saw b.saw;
+  own = subst (λ (n : ℕ). own_of n new.seen ≡ own_of n mid.seen) (saw-number old mid a.saw) b.own ∙ a.own;
+}
+
 -- the own entries once one more update of a feed was applied
 pub own-more : (old mid new : Caller) (n : ℕ) (ops more : List (RouterId × Op)) (u : RouterId × Op) (took : Bool) → SawMore old mid → took ≡ true → more ≡ ops ++ u ∷ [] →
     own_of old.number mid.seen ≡ own_of old.number old.seen ++ entries_by n ops →

@@ -8,10 +8,11 @@ ghost use Rattle.dn_model.specs.Query.{unknown_of};
 ghost use Rattle.dn_model.specs.declared.query.Unknown.{Unknown as UnknownIs};
 ghost use Rattle.version_lock.specs.Callers.{IsSeatOf};
 ghost use Rattle.feed_threads.specs.Seats.{LooksOn};
+ghost use Rattle.feed_threads.specs.Shown.{IsShown, ShowsOn};
 ghost use Rattle.feed_threads.specs.Tells.{Adds, IsOutcomeNow};
 ghost use Rattle.version_store.specs.Asked.{IsAskRefusal};
 
-use crate::desk::Desk;
+use crate::desk::{Desk, Shown};
 use crate::work::Work;
 use dn_formats::{Outcome, Told};
 use dn_io::{Gate, Source};
@@ -74,15 +75,20 @@ pub(crate) fn outcome_over<R: Threads + Sync>(
 }
 
 /// The answer to a query over the history, whose length is its pin; or the query's first unknown name, without a pin:
-/// the seat is as it was.
+/// the seat is as it was. What the job applied is shown to the jobs that read alone before the query is asked, since
+/// its answer may take long.
+#[tactic(auto, using(crate::proofs::SeatLemmas::looks_more, crate::proofs::SeatLemmas::looks_none))]
 fn outcome<G: Gate, R: Threads + Wait + Sync>(
     rt: &R,
     desk: &Desk<'_, G>,
     seat: &mut Seat,
+    shown: &mut Shown,
     query: &Query,
 ) -> Result<Outcome, OutOfMemory>
     requires lock { IsSeatOf desk.now seat.old }
+    requires shown { IsShown desk.now.setup.basis.topology seat.old.seen shown.old }
     ensures looks { LooksOn seat.old seat.new }
+    ensures shows { ShowsOn desk.now.setup.basis.topology seat.new.seen shown.old shown.new }
     ensures unpinned { (u : UnknownIs) → unknown_of desk.now.setup.basis.topology query.now ≡ Some u
         → seat.new ≡ seat.old }
     ensures good { IfOk result (IsOutcomeNow desk.now.setup.basis.topology seat.new.seen query.now) }
@@ -90,6 +96,7 @@ fn outcome<G: Gate, R: Threads + Wait + Sync>(
     if let Some(unknown) = query.unknown(desk.topology()) {
         return Ok(Outcome::Unknown(unknown));
     }
+    desk.show(rt, seat, shown)?;
     let snapshot = desk.look(rt, seat)?;
     desk.pinned();
     let outcome = outcome_over(rt, desk.alloc(), &snapshot, query, desk.asks_by_all())?;
@@ -117,7 +124,7 @@ impl<S: Source> Work<S> {
             (IsOutcomeNow desk.now.setup.basis.topology self.new.seat.seen query.now)) }
         ensures err { OnErr result (self.new.told ≡ self.old.told) }
     {
-        let outcome = outcome(rt, desk, &mut self.seat, query)?;
+        let outcome = outcome(rt, desk, &mut self.seat, &mut self.shown, query)?;
         let query = query.copy(desk.alloc())?;
         self.told.push(Told::Asked {
             line,

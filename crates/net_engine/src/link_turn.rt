@@ -1,6 +1,6 @@
 //! What is shown otherwise once a link has gone down or come up.
 
-ghost use Rattle.std.specs.Prelude.{◌≡◌, ℕ, false, ◌+◌, ◌<◌, ◌≤◌, ◌^◌, IfOk, OnOk, length, slice_index_or};
+ghost use Rattle.std.specs.Prelude.{◌≡◌, ℕ, [], false, ◌+◌, ◌<◌, ◌≤◌, ◌^◌, IfOk, OnOk, length, slice_index_or};
 ghost use Rattle.base.specs.Forwarding.{AreForwarding};
 ghost use Rattle.base.specs.Reach.{is_over};
 ghost use Rattle.base.specs.declared.target.Target.{Target as TargetIs};
@@ -14,7 +14,6 @@ use crate::told::tell;
 use delta_graph::Delta;
 use dn_model::{Change, LinkId, OutOfMemory, RouterId, Run, Target};
 use label_view::{Column, LabelView, PAGE, Rows};
-use std::alloc::Global;
 use std::sync::ledger::Ledger;
 use step_count::Steps;
 
@@ -249,22 +248,23 @@ fn count_rows<L: Ledger>(rows: u64, steps: &mut Steps<L>)
 }
 
 /// What is shown otherwise of rows once other links are down: the changes, of the routers that are marked, of which each
-/// one's rows are read in order. A row takes a step, however many routers are read there. It fails for want of memory
-/// alone.
+/// one's rows are read in order. They are told in the memory of changes that are done with. A row takes a step, however
+/// many routers are read there. It fails for want of memory alone.
 pub fn turn_changes<V: LabelView, L: Ledger>(
-    alloc: Global,
     view: &V,
     marks: &[bool],
     turn: &Turn<'_>,
+    told: Delta,
     steps: &mut Steps<L>,
 ) -> Result<Delta, OutOfMemory>
+    requires none { told ≡ [] }
     requires alike { AreAlikeBut turn.now.before.now turn.now.after.now turn.now.link }
     requires marked { AreMarked turn.now.before.now turn.now.after.now (V.rows view.now) marks.now }
     ensures changes { IfOk result (IsTurnDelta turn.now.before.now turn.now.after.now (V.rows view.now)) }
     ensures cost { steps.new ≤ steps.old + length (V.rows view.now) }
 {
     count_rows(view.atoms(), steps);
-    let mut delta = Delta::new(alloc);
+    let mut delta = told;
     for r in 0..view.routers() {
         tell_if_marked(&mut delta, view, RouterId(r as u16), marks, turn)?;
     }

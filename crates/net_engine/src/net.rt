@@ -38,7 +38,7 @@ pub struct Net {
     /// The runs of an update, in the memory of those of the one before.
     runs: Vec<Run>,
     /// A delta that is done with, in whose memory the next update tells.
-    spare: Delta,
+    pub spare: Delta,
     /// The place of the first atom that the last update looked at.
     near: u64,
 }

@@ -20,6 +20,7 @@ use crate::update::{Update, update_of};
 use delta_graph::Delta;
 use dn_model::{Entry, LinkId, OutOfMemory, Topology};
 use std::alloc::Global;
+use std::mem;
 use std::sync::Arc;
 use std::sync::ledger::Ledger;
 use step_count::Steps;
@@ -70,15 +71,18 @@ impl State {
         Ok(delta)
     }
 
-    /// What is shown otherwise once these links are down, which are those that are but for this one.
+    /// What is shown otherwise once these links are down, which are those that are but for this one. It is told in the
+    /// memory of changes that are done with.
     fn changes_to<L: Ledger>(
         &self,
         alloc: Global,
         link: LinkId,
         after: &LinkSet,
+        told: Delta,
         steps: &mut Steps<L>,
     ) -> Result<Delta, OutOfMemory>
         requires sound { IsSound self.now }
+        requires none { told ≡ [] }
         requires alike { AreAlikeBut self.now.down after.now link }
         ensures changes { IfOk result (AreTold (kept_in self.now) (with_links (kept_in self.now) after.now)) }
         ensures cost { steps.new ≤ steps.old + length (kept_in self.now).atoms }
@@ -90,7 +94,7 @@ impl State {
             after,
             link,
         };
-        turn_changes(alloc, &rows, &marks, &turn, steps)
+        turn_changes(&rows, &marks, &turn, told, steps)
     }
 
     /// A link goes down or comes up. Where it is so already nothing changes.
@@ -110,7 +114,8 @@ impl State {
             return Ok(Delta::new(alloc));
         }
         let after = self.down.with(alloc, link, down)?;
-        let delta = self.changes_to(alloc, link, &after, steps)?;
+        let spare = mem::replace(&mut self.net.spare, Delta::new(alloc));
+        let delta = self.changes_to(alloc, link, &after, spare.emptied(), steps)?;
         self.down = after;
         Ok(delta)
     }

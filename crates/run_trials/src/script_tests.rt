@@ -127,3 +127,37 @@ fn a_reader_pins_each_link_line_that_is_shown(rt: HostRuntime) {
     assert!(rt; !gate.wait.ran_out(), "a job waited in vain");
     compare(&rt, &run, Status::Done, SHOWN_LINKS);
 }
+
+const SHOWN_BEFORE_A_QUERY: &str = "feed 1 r1 updates 1 skipped 0 refused 0 end
+history 1
+1 feed 1 r1 set 10.0.0.0/8 metric 20 to r2 by a
+job 1
+line 1 at 0 path r1 10.1.2.3
+hops r1
+end noroute
+line 2 at 0 path r1 10.1.2.3
+hops r1
+end noroute
+line 3 at 1 path r1 10.1.2.3
+hops r1 r2
+end noroute
+job 2
+line 2 at 1 loops
+none
+done
+";
+
+/// A job that applies shows its update to a job that reads alone before it has an answer to a query of its own.
+#[test]
+fn a_reader_pins_what_is_shown_before_a_query(rt: HostRuntime) {
+    let alloc = rt.alloc();
+    let scripts = [
+        "path r1 10.1.2.3\npath r1 10.1.2.3\npath r1 10.1.2.3\n",
+        "take r1 1\nloops\n",
+    ];
+    let parts = ["r1=f1", "@s1", "@s2"];
+    let gate = ShownGate::new();
+    let run = run_scripts(&rt, alloc, &parts, scripts, &gate);
+    assert!(rt; !gate.wait.ran_out(), "a job waited in vain");
+    compare(&rt, &run, Status::Done, SHOWN_BEFORE_A_QUERY);
+}

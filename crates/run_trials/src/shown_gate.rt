@@ -5,9 +5,9 @@ use crossbeam_utils::atomic::AtomicCell;
 use dn_io::{Gate, Point};
 
 /// A gate that keeps job 2 before its first entry until job 1 has its first pin, after that entry until job 1 has its
-/// second, and before its second entry until job 1 has its third; and job 1 after its first and its second pin until job
-/// 2 stands at the next of these points. So the first entry is in the history at the second pin, and isn't shown; at the
-/// third it is shown, and the second entry isn't there.
+/// second, and before its second entry, or after a pin of its own, until job 1 has its third; and job 1 after its first
+/// and its second pin until job 2 stands at the next of these points. So the first entry is in the history at the second
+/// pin, and isn't shown; at the third it is shown, and a second entry isn't there.
 #[derive(Drop)]
 pub(crate) struct ShownGate {
     pins: AtomicCell<u32>,
@@ -33,8 +33,8 @@ impl ShownGate {
         }
     }
 
-    /// Job 2 is before an entry, or after it.
-    fn at_entry(&self) {
+    /// Job 2 is before an entry, or after it, or has a pin.
+    fn at_point(&self) {
         let before = self.points.fetch_add(1);
         if before < 3 {
             self.wait.hold_until(&self.pins, before + 1);
@@ -46,8 +46,9 @@ impl Gate for ShownGate {
     fn at(&self, job: u32, point: Point) {
         match (job, point) {
             (1, Point::AfterPin) => self.after_pin(),
-            (2, Point::BeforeApply) => self.at_entry(),
-            (2, Point::AfterApply) => self.at_entry(),
+            (2, Point::BeforeApply) => self.at_point(),
+            (2, Point::AfterApply) => self.at_point(),
+            (2, Point::AfterPin) => self.at_point(),
             _ => {}
         }
     }

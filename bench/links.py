@@ -26,8 +26,8 @@ from queries import rows_of
 from ring import ROUTERS, words, write_feeds, write_network
 
 COUNT = 1_000_000
-TURNS = 10  # how often the link goes down and comes up
-SCANS = 10
+TURNS = 20  # how often the link goes down and comes up
+SCANS = 40
 MOST_MS, MOST_RATIO = 20, 1
 LINK, ROUTER = "l0", "m0"
 PATH = f"path {ROUTER} 0.0.0.1"

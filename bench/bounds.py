@@ -20,6 +20,7 @@ Usage: bench/bounds.py PROGRAM PEER [ROW[:INPUT]..] [--old PROGRAM] [--copies PR
     copies            updates with a copy of what stands after every hundredth, eight of them held, over without
     links             a link that a million atoms use goes down or comes up, over a `blackholes` of the same rows
     links-ms          the same in milliseconds, where an update takes a microsecond
+    frames            a million frames of one route, over the older program
     wide              1,024 routers of which 64 have feeds, 10^5 prefixes, over the older program
     metrics           an update of a prefix that has up to 40,000 metrics, over one of a prefix that has up to 5,000
     cycles            an update of a router on 4,000 kept cycles, over one on 1,000
@@ -186,12 +187,13 @@ ROWS = {
     "copies": Row(3, whole(all_files(FEW), with_copies, ALONE)),
     "links": Row(links.MOST_RATIO, a_link(lambda times: times.ratio)),
     "links-ms": Row(links.MOST_MS, a_link(lambda times: times.scaled)),
+    "frames": Row(0.75, whole({"1,000,000 frames": (inputs.of_frames, MANY)}, over=OLD)),
     "wide": Row(0.5, whole({"100,000 prefixes": (inputs.of_wide, FEW)}, over=OLD)),
     "metrics": Row(2, metrics),
     "cycles": Row(1.5, cycles),
     "loops": Row(1.5, loops),
 }
-NEEDED = {"copies": "copies", "wide": "old"}  # which other program a row needs
+NEEDED = {"copies": "copies", "frames": "old", "wide": "old"}  # which other program a row needs
 IN_SECONDS = "beside", "links", "links-ms"  # whose instructions say nothing
 
 

@@ -32,10 +32,14 @@ def write_feed(folder, frame, count):
             out.write(frame * min(10000, count - done))
 
 
+def words_of(folder, count):
+    """The words of the run of a feed that `write_feed` has written."""
+    return [os.path.join(EXAMPLE, "topology.toml"), f"r1={folder}/{count}.fpm", "@" + os.path.join(EXAMPLE, "script")]
+
+
 def measure(folder, frame, count, runs):
     write_feed(folder, frame, count)
-    words = [os.path.join(EXAMPLE, "topology.toml"), f"r1={folder}/{count}.fpm", "@" + os.path.join(EXAMPLE, "script")]
-    best = cheapest(runs, lambda: run(folder, words, *expected(count)))
+    best = cheapest(runs, lambda: run(folder, words_of(folder, count), *expected(count)))
     os.remove(os.path.join(folder, f"{count}.fpm"))
     return best
 

@@ -10,6 +10,7 @@ import struct
 from typing import NamedTuple
 
 import bgp
+import frames
 import prefixes
 import queries
 import wide
@@ -78,6 +79,13 @@ def of_wide(folder, count):
     count -= count % wide.FEEDS
     given, _, _ = wide.write_files(folder, count)
     return Run(["run", *given], count)
+
+
+def of_frames(folder, count):
+    """So many frames, each of which sets the same route again, and the script of `examples/first-path`."""
+    with open(os.path.join(frames.EXAMPLE, "r1.fpm"), "rb") as it:
+        frames.write_feed(folder, it.read(), count)
+    return Run(["run", *frames.words_of(folder, count)], count)
 
 
 # ---- queries
